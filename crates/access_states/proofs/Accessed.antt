@@ -18,7 +18,7 @@ use Rattle.link_verdicts.specs.declared.verdict.Verdict.TheVariants as v
 use Rattle.link_verdicts.specs.declared.verdict.BlockCause.TheVariants as cause
 use Rattle.link_verdicts.specs.declared.access.AccessVerdict.TheVariants as av
 use Rattle.tdi_state.specs.Machine.{Tdi}
-use Rattle.tdi_host.specs.Managers.{number_of}
+use Rattle.tdi_host.specs.Managers.{interface_of_requester}
 use Rattle.tdi_host.specs.Views.{HostTdi, is_requester as is_reader}
 use Rattle.guarded_memory.specs.declared.standing.Standing.{Standing}
 use Rattle.guarded_memory.specs.Standings.{standing_of}
@@ -34,20 +34,15 @@ use Rattle.interface_states.specs.Floors.{place_of, interfaces_before}
 use Rattle.interface_machine.specs.Machine.{Face, grant_of}
 use Rattle.link_history.specs.Due.{is_stream}
 use Rattle.link_history.specs.Guarded.{mmio_if, mmio_shown, mmio_by}
-use Rattle.link_ports.specs.Replies.{reply_by, reply_of, reply_first}
-use Rattle.link_ends.specs.declared.ends.LinkEnds.{LinkEnds}
-use Rattle.link_ends.specs.Hosts.{InterfacesView}
-use Rattle.link_ends.specs.Keepers.{KeeperView}
+use Rattle.link_ports.specs.Replies.{completion_by, completion_of, completion_first}
+use Rattle.world_states.specs.{AreLinks, host_stream, interface_named, InterfacesView, judged_bound, KeeperView}
+use Rattle.world_states.specs.{LinkEnds, mmio_at, policy_in, reader_of, reads_at, replied, reply_at_ends}
+use Rattle.world_states.specs.{reply_numbered, reply_oldest, sizes_at, small_number, standings_of_ends}
 use Rattle.accesses.specs.declared.link.LinkAccesses.{LinkAccesses}
 use Rattle.accesses.specs.{standings_by}
 use Rattle.accesses.specs.Accesses.{standings_from}
-use Rattle.all_ends.specs.States.{AreLinks}
-use Rattle.all_links.specs.Accesses.{policy_in, standings_at, reads_at, sizes_at, bytes_at}
-use Rattle.all_links.specs.Interfaces.{interface_named}
-use Rattle.whole_links.specs.Besides.{judged_bound, reader_of, replied, reply_numbered, small_number, taken_stream}
-use Rattle.whole_links.specs.Besides.{reply_first as first_reply, reply_at_ends}
 use Rattle.whole_machine.specs.Accesses.{standings_on}
-use Rattle.whole_machine.specs.Machine.{Whole, policy_of, completed, reply_in}
+use Rattle.whole_machine.specs.Machine.{Whole, policy_of, completed, completion_in}
 use Rattle.interface_states.proofs.Floors.{planned_on}
 use Rattle.world_states.specs.Accesses.{AreAccesses, seen_at, on_link}
 use Rattle.world_states.specs.Whole.{IsPlaced, IsBeside}
@@ -276,14 +271,14 @@ module _ (plan : Plan) (ends : List LinkEnds) (m : InterfacesView) (memory : Mem
         sym (both_on link (sites plan) w.faces.list w.accesses.floors beside.faced accesses.floored
         ∙ ap (λ fs. standings_both fs (on_link link (sites plan) w.accesses.floors)) none)
 
-    pub standings_are : (link : ℕ) → standings_at (slice_get ends link) (slice_get xs link)
+    pub standings_are : (link : ℕ) → standings_of_ends (slice_get ends link) (slice_get xs link)
         ≡ standings_on link (sites plan) w.faces.list w.accesses.floors
     standings_are link = ⊎_elim
         (λ lt.
         let l = get_there ends link lt in
         let a = get_there xs link (omega (arith, lt, whole)) in
-        (λ i. standings_at (l.1 i) (a.1 i)) ∙ standings_there link l.0 a.0 l.1 a.1)
-        (λ le. ap (λ (o : Option LinkEnds). standings_at o (slice_get xs link)) (slice_get_past ends link le)
+        (λ i. standings_of_ends (l.1 i) (a.1 i)) ∙ standings_there link l.0 a.0 l.1 a.1)
+        (λ le. ap (λ (o : Option LinkEnds). standings_of_ends o (slice_get xs link)) (slice_get_past ends link le)
         ∙ standings_nowhere link le)
         (cases_lt link (length ends))
 
@@ -298,7 +293,7 @@ module _ (plan : Plan) (ends : List LinkEnds) (m : InterfacesView) (memory : Mem
 
     reader_known : (link requester place : ℕ) (x : Site) → slice_get (sites plan) place ≡ Some x
         → reads_there link requester x ≡ true
-        → number_of m link requester ≡ Some place
+        → interface_of_requester m link requester ≡ Some place
     reader_known link requester place x is passes =
         let mine = and_parts (x.link == link) (x.plan.requester == requester) passes in
         let p = beside.placed place x is in
@@ -333,7 +328,7 @@ module _ (plan : Plan) (ends : List LinkEnds) (m : InterfacesView) (memory : Mem
 
     reader_unknown : (link requester : ℕ)
         → ((k : ℕ) (y : Site) → slice_get (sites plan) k ≡ Some y → reads_there link requester y ≡ false)
-        → number_of m link requester ≡ None
+        → interface_of_requester m link requester ≡ None
     reader_unknown link requester fails = position_none (is_reader link requester) m.interfaces
         (λ k y there. none k y there (cases_Bool (is_reader link requester y)))
       where
@@ -393,12 +388,12 @@ module _ (plan : Plan) (ends : List LinkEnds) (m : InterfacesView) (memory : Mem
     module _ (k : KeeperView) (links : AreLinks plan ends k) where
       judged_is : (link : ℕ) (l : LinkEnds) (interface draw : ℕ) (bytes : List ℕ) (bound : Option (ℕ × ℕ))
           → slice_get ends link ≡ Some l
-          → replied (judged_bound (taken_stream l bytes) interface draw bound) bytes
-          ≡ reply_by plan link interface draw bytes bound
+          → replied (judged_bound (host_stream l bytes) interface draw bound) bytes
+          ≡ completion_by plan link interface draw bytes bound
       judged_is link l interface draw bytes None is = refl
       judged_is link l interface draw bytes (Some bound) is =
           let e = links.each_link link l is in
-          by (not (is_stream bound.0 (taken_stream l bytes))) (nat_lt draw bound.1)
+          by (not (is_stream bound.0 (host_stream l bytes))) (nat_lt draw bound.1)
           ∙ (λ i. if not (is_stream bound.0 (stream_taken (outgoing_of (e.host_plans i) (e.host_name i).side bytes)))
           then Err (v.Access (av.Dropped interface cause.WrongStream))
           else if nat_lt draw bound.1 then Err (v.Access (av.Dropped interface cause.Stale))
@@ -416,37 +411,37 @@ module _ (plan : Plan) (ends : List LinkEnds) (m : InterfacesView) (memory : Mem
 
       numbered_is : (link : ℕ) (l : LinkEnds) (r : WaitingRead) (o : Option Site) → slice_get ends link ≡ Some l
           → reply_numbered m l link memory r (option_map (λ (x : Site). x.number) o)
-          ≡ reply_of plan link r.draw (completed w r) (grant_of plan w.faces link r.read.requester) o
+          ≡ completion_of plan link r.draw (completed w r) (grant_of plan w.faces link r.read.requester) o
       numbered_is link l r None is = refl
       numbered_is link l r (Some x) is =
           (λ i. replied (judged_bound
-          (taken_stream l (completion_bytes (λ a. beside.written a i) r.read)) x.number r.draw
+          (host_stream l (completion_bytes (λ a. beside.written a i) r.read)) x.number r.draw
           (grant_is plan ends m memory w beside fits many link r.read.requester i))
           (completion_bytes (λ a. beside.written a i) r.read))
           ∙ judged_is link l x.number r.draw (completed w r)
           (grant_of plan w.faces link r.read.requester) is
 
       first_is : (link : ℕ) (l : LinkEnds) (rs : List WaitingRead) → slice_get ends link ≡ Some l
-          → first_reply m l link memory rs ≡ reply_first plan (grant_of plan w.faces) (completed w) link rs
+          → reply_oldest m l link memory rs ≡ completion_first plan (grant_of plan w.faces) (completed w) link rs
       first_is link l [] is = refl
       first_is link l (r ∷ rs) is =
           ap (reply_numbered m l link memory r) (reader_is link r.read.requester)
           ∙ numbered_is link l r (site_with plan link r.read.requester) is
 
       pub reply_is : (link : ℕ)
-          → reply_at_ends m (slice_get ends link) link memory (reads_at xs link) ≡ reply_in plan w link
+          → reply_at_ends m (slice_get ends link) link memory (reads_at xs link) ≡ completion_in plan w link
       reply_is link = ⊎_elim
           (λ lt.
           let l = get_there ends link lt in
           ap (λ (o : Option LinkEnds). reply_at_ends m o link memory (reads_at xs link)) l.1
           ∙ (first_is link l.0 (reads_at xs link) l.1
-          ∙ (ap (reply_first plan (grant_of plan w.faces) (completed w) link) (accesses.reads link)
-          ∙ sym (ap (λ (b : Bool). if b then reply_first plan (grant_of plan w.faces) (completed w) link
+          ∙ (ap (completion_first plan (grant_of plan w.faces) (completed w) link) (accesses.reads link)
+          ∙ sym (ap (λ (b : Bool). if b then completion_first plan (grant_of plan w.faces) (completed w) link
           (w.accesses.waiting link) else Err v.Nothing)
           (lt-ltb link (length plan.links) (omega (arith, lt, many)))))))
           (λ le.
           ap (λ (o : Option LinkEnds). reply_at_ends m o link memory (reads_at xs link)) (slice_get_past ends link le)
-          ∙ sym (ap (λ (b : Bool). if b then reply_first plan (grant_of plan w.faces) (completed w) link
+          ∙ sym (ap (λ (b : Bool). if b then completion_first plan (grant_of plan w.faces) (completed w) link
           (w.accesses.waiting link) else Err v.Nothing)
           (le-ltb link (length plan.links) (omega (arith, le, many)))))
           (cases_lt link (length ends))
@@ -473,7 +468,7 @@ module _ (plan : Plan) (ends : List LinkEnds) (m : InterfacesView) (memory : Mem
       abbrev shown_by : Option (ℕ × ℕ) → ℕ → ℕ → ℕ → Verdict
       shown_by o bar offset len =
           mmio_if (option_map_or (λ (at : ℕ × ℕ). has_bytes (sizes_at xs at.0) at.1 bar offset len) o false)
-          (option_map_or (λ (at : ℕ × ℕ). bytes_from (bytes_at xs at.0 at.1 bar) offset len) o [])
+          (option_map_or (λ (at : ℕ × ℕ). bytes_from (mmio_at xs at.0 at.1 bar) offset len) o [])
 
       shown_there : (i : ℕ) (x : Site) (p : IsPlaced plan ends m w i x) (bar offset len : ℕ)
           → slice_get (sites plan) i ≡ Some x

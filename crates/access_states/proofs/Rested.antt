@@ -28,7 +28,7 @@ use Rattle.interface_states.specs.Sites.{Site}
 use Rattle.interface_machine.specs.Machine.{Face}
 use Rattle.link_history.specs.Guarded.{happens_by, stored_each}
 use Rattle.link_history.specs.Memory.{plain_of}
-use Rattle.link_history.specs.Sent.{answers, reads_by}
+use Rattle.link_history.specs.Sent.{is_answer_on, reads_by}
 use Rattle.whole_machine.specs.Accesses.{floors_after, waiting_reads_after}
 
 -- ---- reads
@@ -44,7 +44,7 @@ none_queued draw [] = refl
 none_queued draw (effect.Queued ∷ es) = refl
 none_queued draw (e ∷ es) = refl
 
-no_answer : (link : ℕ) (e : Event) → touches_reads e ≡ false → answers link e ≡ false
+no_answer : (link : ℕ) (e : Event) → touches_reads e ≡ false → is_answer_on link e ≡ false
 no_answer link (event.Access (ae.Answer l)) is = absurd cc
 no_answer link e is = refl
 

@@ -10,12 +10,8 @@ use Rattle.interface_joins.specs.Joined.{InterfaceOperationsJoin}
 use Rattle.interface_machine.specs.Machine.{grant_of}
 use Rattle.link_history.specs.Memory.{effects_by}
 use Rattle.whole_machine.specs.Machine.{Whole, beside_of}
-use Rattle.all_ends.specs.AllEnds.{grants_in}
-use Rattle.all_ends.specs.States.{AreLinks}
-use Rattle.all_links.specs.Besides.{answer_of_links, IsAnswered}
-use Rattle.whole_links.specs.declared.whole.WholeLinks.{WholeLinks}
-use Rattle.whole_links.specs.Besides.{beside_whole}
-use Rattle.whole_links.specs.Whole.{IsWhole as EachHasAccesses}
+use Rattle.world_states.specs.{answer_of_links, AreLinks, beside_whole, grants_in, IsAnswered}
+use Rattle.world_states.specs.{IsWhole as EachHasAccesses, WholeLinks}
 use Rattle.world_states.specs.Worlds.{IsWhole, world_of}
 use Rattle.world_states.proofs.Besides.{t_is, grant_is, answer_is}
 use Rattle.access_states.proofs.Accessed.{policy_is, reply_is, shows_is}

@@ -37,16 +37,11 @@ use Rattle.accesses.specs.declared.link.LinkAccesses.{LinkAccesses}
 use Rattle.link_ports.specs.Machine.{Beside, LinkState, Stepped, reset_state}
 unfoldable use Rattle.link_ports.specs.Machine.{step_of}
 use Rattle.link_ports.specs.Stands.{PortsStandFor}
-use Rattle.link_ends.specs.declared.ends.LinkEnds.{LinkEnds}
-use Rattle.all_links.specs.Accesses.{AccessesTurn, AccessesArrive, AreLeftBy, reads_at, floors_at, sizes_at, bytes_at}
-use Rattle.all_links.specs.Accesses.{same_reads, same_floors, nothing_happens, runs_in, device_draw}
-use Rattle.all_links.specs.Interfaces.{interface_named, tdi_named, tdi_of_ends}
-use Rattle.all_links.specs.Sides.{arrival_at}
-use Rattle.all_links.specs.States.{links_state}
-use Rattle.whole_links.specs.declared.whole.WholeLinks.{WholeLinks}
-use Rattle.whole_links.specs.Accesses.{AccessesAfter, AccessesInterface, floors_set, floors_started}
-use Rattle.whole_links.specs.Accesses.{happens_at, bars_named, flr_at, reset_happens}
-use Rattle.whole_links.specs.Accesses.{halted_at as stopped_at}
+use Rattle.world_states.specs.{AccessesAfter, AccessesArrive, AccessesInterface, AccessesTurn, AreLeftBy, arrival_at}
+use Rattle.world_states.specs.{bars_named, device_draw, floors_at, floors_set, floors_started, flr_at, halted_in}
+use Rattle.world_states.specs.{happens_at, interface_named, LinkEnds, links_state, mmio_at, nothing_happens, reads_at}
+use Rattle.world_states.specs.{reset_happens, runs_in, same_floors, same_reads, sizes_at, tdi_named, tdi_of_ends}
+use Rattle.world_states.specs.{WholeLinks}
 use Rattle.whole_machine.specs.Accesses.{device_draw_at, floors_after, standings_on}
 use Rattle.whole_machine.specs.Accesses.{waiting_reads_after}
 use Rattle.whole_machine.specs.Machine.{Whole, beside_of, ended_unit, arrival_of, unit_in, whole_after}
@@ -78,7 +73,7 @@ stays xs ys same = record {
   reads = λ link. ap (λ zs. reads_at zs link) same;
   floors = λ link. ap (λ zs. floors_at zs link) same;
   sizes = λ link. ap (λ zs. sizes_at zs link) same;
-  bytes = λ link older left i b offset. ap (λ zs. bytes_at zs link i b offset) same ∙ left i b offset;
+  bytes = λ link older left i b offset. ap (λ zs. mmio_at zs link i b offset) same ∙ left i b offset;
 }
 
 value_or : (o : Option ℕ) → option_map_or (λ (n : ℕ). n) o 0 ≡ unwrap_or o 0
@@ -160,7 +155,7 @@ module _ (plan : Plan) (old new : WholeLinks) (w : Whole) (verdict : Verdict)
         (are_many e after);
     reads = λ link. turn.reads link ∙ (ap (reads_then link) (before.reads link)
         ∙ reads link (w.accesses.waiting link));
-    bytes = λ link. subst (λ (hs : List (Option Happened)). AreLeftBy (bytes_at new.accesses link)
+    bytes = λ link. subst (λ (hs : List (Option Happened)). AreLeftBy (mmio_at new.accesses link)
         (newest_happened hs (w.accesses.happened link))) (same link)
         (turn.bytes link (w.accesses.happened link) (before.bytes link));
     sizes = λ link p is. turn.sizes link ∙ before.sizes link p is;
@@ -342,11 +337,11 @@ module _ (plan : Plan) (old new : WholeLinks) (w : Whole) (verdict : Verdict)
   flr_happens i w' link = refl
 
   halted : (i : ℕ) (loss : Option Loss) → IsAfter (event.Interface (ie.Halt i loss))
-      → AccessesTurn same_reads same_floors (stopped_at new.links i verdict) old.accesses new.accesses
+      → AccessesTurn same_reads same_floors (halted_in new.links i verdict) old.accesses new.accesses
       → AreAfter (event.Interface (ie.Halt i loss))
   halted i loss after turn =
       let e = event.Interface (ie.Halt i loss) in
-      turned e same_reads same_floors (stopped_at new.links i verdict) after turn
+      turned e same_reads same_floors (halted_in new.links i verdict) after turn
       (λ l rs. reads_rest e verdict l rs refl) (floors_kept e after refl)
       (λ l. happens_there e after i l (carries verdict 1) InterfaceStopped (halted_at plan verdict l) refl (λ x. refl)
       ∙ halt_happens i loss verdict l)

@@ -34,7 +34,8 @@ pub use Rattle.link_verdicts.specs.declared.verdict.UnitName.{UnitName}
 pub use Rattle.link_history.specs.Plan.{has_stream, is_closed, mode_of, streams_by_link, streams_of, with_id}
 unfoldable pub use Rattle.link_history.specs.Plan.{stream_plan}
 pub use Rattle.link_ports.specs.Machine.{Beside, LinkPacket, LinkState, Stepped, stepped_answer, kept_at}
-pub use Rattle.link_ports.specs.Machine.{port_at, port_place, reset_state, status_at, unit_name}
+pub use Rattle.link_ports.specs.Machine.{port_at, port_place, reset_state, status_at}
+pub use Rattle.stream_rules.specs.Stream.{unit_name}
 unfoldable pub use Rattle.link_ports.specs.Machine.{find, find_op, put}
 pub use Rattle.link_ports.specs.Stands.{PortsStandFor, op_at, standing}
 pub use Rattle.link_verdicts.specs.declared.verdict.Effect.{Effect}

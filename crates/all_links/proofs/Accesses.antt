@@ -15,7 +15,7 @@ use Rattle.trusted_memory.specs.{TrustedMemory}
 use Rattle.all_ends.specs.States.{AreLinks, IsBounded}
 use Rattle.all_links.specs.States.{links_state}
 use Rattle.link_history.specs.Plan.{partner}
-use Rattle.all_links.specs.Accesses.{AccessesArrive, AccessesTurn, AreLeftBy, Brings, bytes_at, policy_in}
+use Rattle.all_links.specs.Accesses.{AccessesArrive, AccessesTurn, AreLeftBy, Brings, mmio_at, policy_in}
 use Rattle.all_links.specs.Accesses.{same_floors}
 use Rattle.link_events.specs.declared.event.Event.{Event}
 use Rattle.guarded_memory.specs.Happenings.{Happened, newest_happened}
@@ -72,7 +72,7 @@ nothing_accessed {verdict} old xs e arrival says quiet =
         floors = λ link. refl;
         sizes = λ link. refl;
         bytes = λ link older left.
-            subst (λ (hs : List (Option Happened)). AreLeftBy (bytes_at xs link) (newest_happened hs older))
+            subst (λ (hs : List (Option Happened)). AreLeftBy (mmio_at xs link) (newest_happened hs older))
             (sym (quiet plan v.Nothing link)) left;
       };
     })

@@ -22,7 +22,7 @@ use Rattle.all_links.specs.States.{links_state}
 use Rattle.std.specs.Option.{option_map_or}
 use Rattle.std.proofs.lemmas.List.{length-set}
 use Rattle.all_links.specs.Links.{EndsArriving}
-use Rattle.all_links.specs.Accesses.{Brings, policy_in, standings_at}
+use Rattle.all_links.specs.Accesses.{Brings, policy_in, standings_of_ends}
 use Rattle.link_history.specs.Memory.{Policy}
 use Rattle.all_ends.specs.Verdicts.{effects_from}
 use Rattle.link_events.specs.declared.event.Event.{Event}
@@ -36,7 +36,7 @@ opens_at : (old : Links) (xs : List LinkAccesses) (port : PortName) (b : Beside)
     → AreEffects old xs plan b → Opens b port (effects_at old.trusted.contents.regions old.keeper.interfaces port l a)
 opens_at old xs port b plan l a l_is a_is so unit key iv n ps =
     let policy : Policy = policy_in old.keeper.interfaces old.ends xs in
-    (λ i. effects_from (so.regions i) policy.grants (standings_at (sym l_is i) (sym a_is i))
+    (λ i. effects_from (so.regions i) policy.grants (standings_of_ends (sym l_is i) (sym a_is i))
     (length (option_map_or (λ (x : LinkAccesses). x.reads) (sym a_is i) [])) port unit (opened_from key iv n ps))
     ∙ opens_each plan policy port unit (policy.waiting port.link) key iv n ps
     ∙ (λ i. sym so.effects_are i port unit ps)

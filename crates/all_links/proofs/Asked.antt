@@ -15,7 +15,7 @@ use Rattle.ide_port.specs.{receiving_draw_in}
 use Rattle.interface_states.specs.Devices.{is_run}
 use Rattle.tdi_state.specs.declared.states.TdiState.{TdiState}
 use Rattle.tdi_state.specs.declared.states.TdiState.TheVariants.{ConfigUnlocked, ConfigLocked, Run, Error}
-use Rattle.all_links.specs.Accesses.{stream_of, device_draw, runs_in}
+use Rattle.all_links.specs.Accesses.{planned_stream, device_draw, runs_in}
 use Rattle.link_verdicts.specs.declared.verdict.Verdict.TheVariants as v
 use Rattle.tdi_state.specs.Machine.{Tdi, Call, state_code}
 use Rattle.tdi_device.specs.Replies.{DeviceTdis, called_at}
@@ -271,9 +271,9 @@ pub draw_is : (s : Links) (i link stream : ℕ) (l : LinkEnds) (x : HostTdi) (o 
     ≡ Some l → slice_get s.keeper.interfaces.interfaces i ≡ Some x → stream ≡ x.stream
     → o ≡ receiving_draw_in l.device.port stream Pr → option_map_or (λ (d : ℕ). d) o 0 ≡ device_draw s i link
 draw_is s i link stream l x o l_is x_is stream_is says =
-    let named : stream ≡ stream_of s i =
+    let named : stream ≡ planned_stream s i =
     stream_is ∙ sym (ap (λ (p : Option HostTdi). option_map_or (λ (y : HostTdi). y.stream) p 0) x_is) in
     ap (λ (p : Option ℕ). option_map_or (λ (d : ℕ). d) p 0)
     (says ∙ (λ j. receiving_draw_in l.device.port (named j) Pr)
     ∙ sym (ap (λ (p : Option LinkEnds). option_and_then (λ (y : LinkEnds).
-    receiving_draw_in y.device.port (stream_of s i) Pr) p) l_is))
+    receiving_draw_in y.device.port (planned_stream s i) Pr) p) l_is))

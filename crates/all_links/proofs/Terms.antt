@@ -18,7 +18,7 @@ pub use Rattle.all_ends.specs.Cuts.{cut_packets}
 pub use Rattle.all_links.specs.Events.{altered_bytes, operation_event}
 pub use Rattle.all_ends.specs.Places.{stream_named}
 pub use Rattle.accesses.specs.declared.link.LinkAccesses.{LinkAccesses}
-pub use Rattle.all_links.specs.Accesses.{standings_at, policy_in, Brings}
+pub use Rattle.all_links.specs.Accesses.{standings_of_ends, policy_in, Brings}
 pub use Rattle.all_links.specs.States.{links_state}
 pub use Rattle.all_links.specs.Links.{Ends, EndsIf, EndsArriving, EndsAs, EndsOr, EndsWith, HasNoVerdict}
 pub use Rattle.all_ends.specs.States.{AreLinks, IsBounded, IsLink, name_of, ports_in, state_of}
@@ -40,7 +40,8 @@ pub use Rattle.link_history.specs.Plan.{is_closed, mode_of, partner}
 unfoldable pub use Rattle.link_history.specs.Plan.{stream_plan}
 pub use Rattle.link_ports.specs.Machine.{Beside, LinkPacket, LinkState, Stepped, altered_to, stepped_arrival}
 pub use Rattle.link_ports.specs.Machine.{stepped_cut, cut_short, kept_at, stepped_operation, packet_numbered, passed}
-pub use Rattle.link_ports.specs.Machine.{reset_state, shown_packet, status_at, status_found, stepped_packet, unit_name}
+pub use Rattle.link_ports.specs.Machine.{reset_state, shown_packet, status_at, status_found, stepped_packet}
+pub use Rattle.stream_rules.specs.Stream.{unit_name}
 pub use Rattle.link_ports.specs.Machine.{verdict_of_taken}
 unfoldable pub use Rattle.link_ports.specs.Machine.{find_op, put, step_of}
 pub use Rattle.link_ports.specs.Stands.{PortsStandFor}

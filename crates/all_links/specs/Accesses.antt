@@ -21,7 +21,8 @@ use Rattle.whole_machine.specs.Machine.{unit_in}
 use Rattle.link_ends.specs.declared.ends.LinkEnds.{LinkEnds}
 use Rattle.accesses.specs.declared.link.LinkAccesses.{LinkAccesses}
 use Rattle.all_ends.specs.States.{AreLinks}
-pub use Rattle.link_steps.specs.Accesses.{reads_at, floors_at, sizes_at, bytes_at, standings_at, policy_in, AreLeftBy}
+pub use Rattle.link_steps.specs.Accesses.{reads_at, floors_at, sizes_at, mmio_at, standings_of_ends, policy_in}
+pub use Rattle.link_steps.specs.Accesses.{AreLeftBy}
 pub use Rattle.link_steps.specs.Accesses.{AccessesTurn, AccessesStay, same_reads, same_floors, nothing_happens}
 pub use Rattle.link_steps.specs.Accesses.{Brings}
 use Rattle.all_links.specs.declared.links.Links.{Links}
@@ -32,13 +33,14 @@ use Rattle.all_links.specs.Interfaces.{tdi_named}
 
 -- the draw that an interface of a link begins with: the greatest that is Live at its device's receiver of posted
 -- requests of its stream, else 0
-abbrev pub stream_of : Links → ℕ → ℕ
-stream_of s i = option_map_or (λ x. x.stream) (slice_get s.keeper.interfaces.interfaces i) 0
+abbrev pub planned_stream : Links → ℕ → ℕ
+planned_stream s i = option_map_or (λ x. x.stream) (slice_get s.keeper.interfaces.interfaces i) 0
 
 abbrev pub device_draw : Links → ℕ → ℕ → ℕ
 device_draw s i link =
     option_map_or (λ (draw : ℕ). draw)
-    (option_and_then (λ (l : LinkEnds). receiving_draw_in l.device.port (stream_of s i) Pr) (slice_get s.ends link)) 0
+    (option_and_then (λ (l : LinkEnds). receiving_draw_in l.device.port (planned_stream s i) Pr)
+    (slice_get s.ends link)) 0
 
 -- the interface is in RUN
 abbrev pub runs_in : Links → ℕ → Bool

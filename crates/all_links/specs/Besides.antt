@@ -15,7 +15,7 @@ use Rattle.link_ends.specs.Ends.{trusting_at}
 use Rattle.accesses.specs.declared.link.LinkAccesses.{LinkAccesses}
 use Rattle.all_links.specs.declared.links.Links.{Links}
 use Rattle.all_links.specs.Accesses.{policy_in}
-use Rattle.all_links.specs.Interfaces.{answer_in}
+use Rattle.all_links.specs.Interfaces.{verdict_at_ends}
 
 abbrev pub t_in : Option LinkEnds → Side → HeadView → ℕ → Bool → Bool
 t_in None Host head stream trusted = trusted
@@ -33,7 +33,7 @@ beside_in s b =
 
 -- the verdict of an event on an interface, if it has one
 abbrev pub answer_of_links : Links → InterfaceEvent → Option Verdict
-answer_of_links s e = answer_in s.ends s.keeper.interfaces s.keeper.keys.pool.draws s.trusted.contents e
+answer_of_links s e = verdict_at_ends s.ends s.keeper.interfaces s.keeper.keys.pool.draws s.trusted.contents e
 
 -- If the event is one on an interface, it has a verdict: it is no operation with a bad reply, nor one that lost an
 -- exchange none of whose messages is lost.

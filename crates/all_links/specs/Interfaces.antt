@@ -86,9 +86,9 @@ abbrev pub viewed_as : ℕ → Option HostTdi → Verdict
 viewed_as i None = v.Nothing
 viewed_as i (Some x) = v.Interface (iv.View i (view_shown (view_of x.seen)))
 
-abbrev pub seen_at : InterfaceManagerView → ℕ → Option (ℕ × ℕ) → Option HostTdi
-seen_at m i None = None
-seen_at m i (Some at) = slice_get m.interfaces i
+abbrev pub tdi_seen_at : InterfaceManagerView → ℕ → Option (ℕ × ℕ) → Option HostTdi
+tdi_seen_at m i None = None
+tdi_seen_at m i (Some at) = slice_get m.interfaces i
 
 abbrev pub read_as : Bool → List ℕ → Verdict
 read_as true bytes = v.Interface (iv.Memory bytes)
@@ -97,15 +97,19 @@ read_as false bytes = v.Nothing
 -- ---- all of them
 
 -- each event has a verdict, but for an operation that has none
-abbrev pub answer_in : List LinkEnds → InterfaceManagerView → ℕ → MemoryContents → InterfaceEvent → Option Verdict
-answer_in ends m draws memory (ie.Lock i loss) = verdict_in i op.Lock loss (ended_in m ends draws i op.Lock loss)
-answer_in ends m draws memory (ie.Report i loss) = verdict_in i op.Report loss (ended_in m ends draws i op.Report loss)
-answer_in ends m draws memory (ie.Start i loss) = verdict_in i op.Start loss (ended_in m ends draws i op.Start loss)
-answer_in ends m draws memory (ie.Halt i loss) = verdict_in i op.Halt loss (ended_in m ends draws i op.Halt loss)
-answer_in ends m draws memory (ie.State i loss) = verdict_in i op.State loss (ended_in m ends draws i op.State loss)
-answer_in ends m draws memory (ie.View i) = Some (viewed_as i (seen_at m i (interface_named m ends i)))
-answer_in ends m draws memory (ie.Write i register value) = Some (written_as i register value (tdi_named m ends i))
-answer_in ends m draws memory (ie.Flr i) = Some (flr_as i (tdi_named m ends i))
-answer_in ends m draws memory (ie.Firmware i) = Some (firmware_as i (tdi_named m ends i))
-answer_in ends m draws memory (ie.Memory at len) =
+abbrev pub verdict_at_ends : List LinkEnds → InterfaceManagerView → ℕ → MemoryContents → InterfaceEvent → Option Verdict
+verdict_at_ends ends m draws memory (ie.Lock i loss) = verdict_in i op.Lock loss (ended_in m ends draws i op.Lock loss)
+verdict_at_ends ends m draws memory (ie.Report i loss) = verdict_in i op.Report loss
+    (ended_in m ends draws i op.Report loss)
+verdict_at_ends ends m draws memory (ie.Start i loss) = verdict_in i op.Start loss
+    (ended_in m ends draws i op.Start loss)
+verdict_at_ends ends m draws memory (ie.Halt i loss) = verdict_in i op.Halt loss (ended_in m ends draws i op.Halt loss)
+verdict_at_ends ends m draws memory (ie.State i loss) = verdict_in i op.State loss
+    (ended_in m ends draws i op.State loss)
+verdict_at_ends ends m draws memory (ie.View i) = Some (viewed_as i (tdi_seen_at m i (interface_named m ends i)))
+verdict_at_ends ends m draws memory (ie.Write i register value) = Some
+    (written_as i register value (tdi_named m ends i))
+verdict_at_ends ends m draws memory (ie.Flr i) = Some (flr_as i (tdi_named m ends i))
+verdict_at_ends ends m draws memory (ie.Firmware i) = Some (firmware_as i (tdi_named m ends i))
+verdict_at_ends ends m draws memory (ie.Memory at len) =
     Some (read_as (in_one_region memory.regions at len) (bytes_from (byte_at memory) at len))

@@ -1,8 +1,8 @@
 -- The device's end of a link: its port, what its responder of keys answers, and its interfaces (PCI Express Base 6.0
 -- section 6.33 and chapter 11, in this profile).
 use Rattle.std.specs.Prelude.{ℕ, ◌==◌, Bool, true, false, List, [], ◌∷◌, Option, Some, None, if◌then◌else◌}
+use Rattle.ide_types.specs.Ports.{device_port}
 use Rattle.ide_types.specs.declared.port.Side.TheVariants as side
-use Rattle.ide_types.specs.declared.port.PortName.{PortName}
 use Rattle.ide_types.specs.declared.status.StreamStatus.{StreamStatus}
 use Rattle.ide_types.specs.declared.status.StreamStatus.TheVariants.{Secure}
 use Rattle.ide_plan.specs.declared.interface.InterfacePlan.{InterfacePlan}
@@ -19,9 +19,6 @@ use Rattle.device_side.specs.declared.device.Device.{Device}
 -- its port, the requester ID that it is asked for, and its interfaces
 abbrev pub DeviceEnd : Type 0
 DeviceEnd = Device
-
-abbrev pub device_port : ℕ → PortName
-device_port link = record { side = side.Device; link = link }
 
 abbrev pub new_device : ℕ → List StreamPlan → ℕ → ℕ → List InterfacePlan → List (List ℕ) → DeviceEnd
 new_device link plans limit requester interfaces nonces = record {

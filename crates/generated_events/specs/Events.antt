@@ -1,8 +1,7 @@
 -- The events that a seed and a number of rounds give.
 use Rattle.std.specs.Prelude.{◌≤◌, ◌+◌, ◌*◌, ◌/◌, ◌%◌, ◌==◌, ℕ, zero, suc, nat_lt, false, List, [], ◌∷◌, ◌++◌, Option}
 use Rattle.std.specs.Prelude.{Some, None, if◌then◌else◌}
-use Rattle.ide_types.specs.declared.port.PortName.{PortName}
-use Rattle.ide_types.specs.declared.port.Side.TheVariants.{Device}
+use Rattle.ide_types.specs.Ports.{device_port}
 use Rattle.link_events.specs.declared.event.Event.{Event}
 use Rattle.link_events.specs.declared.event.Event.TheVariants as event
 use Rattle.link_events.specs.declared.event.InterfaceEvent.TheVariants as interface
@@ -50,9 +49,6 @@ write_at address value =
 
 abbrev pub write_bytes : ℕ → ℕ → List ℕ
 write_bytes place value = write_at (268435456 + 4 * (place % 4096)) value
-
-abbrev pub device : PortName
-device = record { side = Device; link = 0 }
 
 abbrev pub refresh : Event
 refresh = event.Refresh 0 5 None
@@ -112,7 +108,7 @@ abbrev pub sending_round : Numbers → Round
 sending_round s =
     let place = following s.x in
     let value = following place in
-    alone (event.Send device (write_bytes (value_of place) (value_of value)) false false)
+    alone (event.Send (device_port 0) (write_bytes (value_of place) (value_of value)) false false)
     (record (numbers_with_packet s) { x = value })
 
 -- a packet arrives; after an altered one all is set up again

@@ -36,16 +36,16 @@ is_locked_or_run state = false
 
 -- ---- of a device interface
 
-abbrev pub state_of : TdiState → InterfaceState
-state_of tdi.ConfigUnlocked = ConfigUnlocked
-state_of (tdi.ConfigLocked lock nonce) = ConfigLocked
-state_of (tdi.Run lock) = Run
-state_of tdi.Error = Error
+abbrev pub interface_state : TdiState → InterfaceState
+interface_state tdi.ConfigUnlocked = ConfigUnlocked
+interface_state (tdi.ConfigLocked lock nonce) = ConfigLocked
+interface_state (tdi.Run lock) = Run
+interface_state tdi.Error = Error
 
 -- memory space is bit 1 of its command register; it is bound to the stream that its lock keeps, with this floor
 abbrev pub standing_of : Tdi → ℕ → Standing
 standing_of t floor = record {
-  state = state_of t.state;
+  state = interface_state t.state;
   memory_space = has_bit 1 t.registers.command;
   bars = bars_of t.plan t.registers;
   bound = option_map (λ stream. (stream, floor)) (bound_stream t.state);

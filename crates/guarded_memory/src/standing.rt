@@ -5,7 +5,7 @@ ghost use Rattle.std.specs.Option.{option_map};
 ghost use Rattle.tdi_state.specs.RegisterValues.{has_bit};
 ghost use Rattle.tdi_state.specs.Machine.{bound_stream};
 ghost use Rattle.guarded_memory.specs.Standings.{is_open_range, has_open_range};
-ghost use Rattle.guarded_memory.specs.Standings.{is_config_unlocked, is_in_run, state_of, standing_of};
+ghost use Rattle.guarded_memory.specs.Standings.{is_config_unlocked, is_in_run, interface_state, standing_of};
 
 use ide_plan::BarPlan;
 use tdi_state::{Interface, Register, TdiState};
@@ -53,7 +53,7 @@ pub fn has_open_range(bars: &[BarPlan], bar: usize) -> bool
 impl InterfaceState {
     /// The state, without what the lock that stands kept.
     pub fn of(state: &TdiState) -> InterfaceState
-        ensures { result ≡ state_of state.now }
+        ensures { result ≡ interface_state state.now }
     {
         match state {
             TdiState::ConfigUnlocked => InterfaceState::ConfigUnlocked,

@@ -16,7 +16,7 @@ use Rattle.key_laws.specs.History.{History}
 use Rattle.link_history.specs.Due.{due}
 use Rattle.text_laws.specs.Runs.{history_with, history_on, text_on, totals_of, sealed_count, accepted_in, failed_in}
 use Rattle.text_laws.specs.Runs.{blocked_in}
-use Rattle.world_states.specs.Worlds.{WorldView, Stands, IsNewWorld, IsStep}
+use Rattle.world.specs.{WorldView, Stands, IsNewWorld, IsStep}
 use Rattle.line_runs.specs.Gain.{Text}
 use Rattle.line_runs.specs.Outcome.{Due}
 use Rattle.line_runs.specs.Pieces.{pieces}

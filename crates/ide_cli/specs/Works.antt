@@ -12,7 +12,7 @@ use Rattle.link_verdicts.specs.Lines.{totals_line_of}
 use Rattle.key_laws.specs.History.{History}
 use Rattle.link_history.specs.Due.{due}
 use Rattle.text_laws.specs.Runs.{history_with, totals_of, sealed_count, accepted_in, failed_in, blocked_in}
-use Rattle.world_states.specs.Worlds.{WorldView, Stands}
+use Rattle.world.specs.{WorldView, Stands}
 use Rattle.packet_lines.specs.Reading.{packet_meaning}
 use Rattle.packet_lines.specs.Showing.{line_shown}
 use Rattle.line_runs.specs.Gain.{Text}

@@ -112,8 +112,7 @@ pub fn run<S: Shelf, O: Sink>(
     // Words that ask for nothing are answered with the usage line, and only those.
     ensures usage { result ≡ Status.Usage → asked (said_words words.now) ≡ None }
     ensures refused { asked (said_words words.now) ≡ None → Ran (End.Usage, usage_line) (O.seen out.old)
-        (O.seen out.new)
-        (outcome_of_status result) }
+        (O.seen out.new) (outcome_of_status result) }
 
     // If the shelf tells its contents, the due status comes with all of the due text, and a fault or want of memory
     // leaves a prefix of it. Each fault has its cause.

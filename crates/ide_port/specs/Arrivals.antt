@@ -1,11 +1,10 @@
 -- What becomes of bytes that arrive at a port.
-use Rattle.std.specs.Prelude.{ℕ, ◌+◌, [], length, Option, Some, None, Result, Ok, Err}
-use Rattle.link_verdicts.specs.declared.verdict.UnitName.{UnitName}
+use Rattle.std.specs.Prelude.{◌+◌, [], length, Option, Some, None, Result, Ok, Err}
 use Rattle.ide_prefix.specs.declared.fault.PacketFault.{PacketFault}
 use Rattle.ide_prefix.specs.Packet.{Packet}
 use Rattle.ide_prefix.specs.Reading.{CutValue, PlainTlp, IdePacket}
 use Rattle.stream_rules.specs.Stream.{Taken, Insecure as IsInsecure, NotKeyed as IsKeyless, Failed, Held as IsHeld}
-use Rattle.stream_rules.specs.Stream.{Accepted as IsAccepted, taken_by, state_after}
+use Rattle.stream_rules.specs.Stream.{Accepted as IsAccepted, taken_by, state_after, unit_name}
 use Rattle.ide_stream.specs.{opened_after}
 use Rattle.ide_port.specs.declared.answer.Arrival.{Arrival}
 use Rattle.ide_port.specs.declared.answer.Arrival.TheVariants.{Malformed, Plain, Unknown, Insecure, NotKeyed, Fail}
@@ -20,9 +19,6 @@ pub record TakeStep : Type 0 where
 -- nothing of a stream changes
 abbrev pub untaken : PortEnd → Arrival → TakeStep
 untaken e answer = record { answer = answer; port = record e { delivered = []; calls = e.calls + 1 } }
-
-abbrev pub unit_name : Packet → ℕ → ℕ → UnitName
-unit_name p draw unit = record { stream = p.prefix.stream; sub = p.prefix.sub; draw = draw; unit = unit }
 
 -- of an accepted unit, how many packets it has
 abbrev pub port_arrival : Packet → Taken → Arrival

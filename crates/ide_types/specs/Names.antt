@@ -1,5 +1,5 @@
 -- Lines of text: words, and those that name ports, sub-streams, failures, states and faults.
-use Rattle.std.specs.Prelude.{ℕ, List, [], ◌∷◌, ◌++◌, codes}
+use Rattle.std.specs.Prelude.{ℕ, nat_le, ◌&&◌, Bool, List, [], ◌∷◌, ◌++◌, codes}
 use Rattle.std.specs.Fmt.{decimal}
 use Rattle.ide_types.specs.declared.sub.SubKind.{SubKind}
 use Rattle.ide_types.specs.declared.sub.SubKind.TheVariants.{Pr, Npr, Cpl}
@@ -16,6 +16,10 @@ use Rattle.ide_types.specs.declared.status.StreamStatus.TheVariants as status
 -- the bytes of a text
 abbrev pub Text : Type 0
 Text = List ℕ
+
+-- a space, or a printed character of ASCII
+abbrev pub is_printable : ℕ → Bool
+is_printable b = nat_le 32 b && nat_le b 126
 
 -- words, each after a space, and a line feed
 abbrev pub joined : List Text → Text

@@ -1,8 +1,7 @@
 -- Worked cases: the events of each, in order, with the verdicts that were worked out by hand.
 use Rattle.std.specs.Prelude.{◌≡◌, ℕ, Bool, false, true, Some, None, List, [], ◌∷◌, ◌++◌, replicate}
+use Rattle.ide_types.specs.Ports.{device_port}
 use Rattle.ide_types.specs.declared.sub.SubKind.TheVariants.{Pr}
-use Rattle.ide_types.specs.declared.port.Side.TheVariants.{Device}
-use Rattle.ide_types.specs.declared.port.PortName.{PortName}
 use Rattle.ide_types.specs.declared.status.StreamStatus.TheVariants as status
 use Rattle.ide_plan.specs.declared.plan.Plan.{Plan}
 use Rattle.ide_plan.specs.declared.stream.Selector.TheVariants.{Selective}
@@ -73,15 +72,12 @@ abbrev pub write : List ℕ
 write =
     0x40 ∷ 0x00 ∷ 0x00 ∷ 0x01 ∷ 0x01 ∷ 0x00 ∷ 0x00 ∷ 0x0f ∷ 0x10 ∷ 0x00 ∷ 0x00 ∷ 0x00 ∷ 0x11 ∷ 0x22 ∷ 0x33 ∷ 0x44 ∷ []
 
-abbrev pub device : PortName
-device = record { side = Device; link = 0 }
-
 -- the first packet of the device
 abbrev pub device_packet : Bool → List SealedPacket
 device_packet t =
     record {
       number = 1;
-      port = device;
+      port = device_port 0;
       stream = 5;
       sub = Pr;
       draw = 0;
@@ -116,7 +112,7 @@ abbrev pub in_doubt : List Event
 in_doubt =
     Establish 0 5 None ∷ Interface (ie.Lock 0 None) ∷ Interface (ie.Report 0 None)
     ∷ Interface (ie.Start 0 (Some (record { exchange = 1; lost = Reply }))) ∷ Interface (ie.View 0)
-    ∷ Send device write false false ∷ Interface (ie.Start 0 None) ∷ Interface (ie.Halt 0 None) ∷ []
+    ∷ Send (device_port 0) write false false ∷ Interface (ie.Start 0 None) ∷ Interface (ie.Halt 0 None) ∷ []
 
 abbrev pub in_doubt_verdicts : List Verdict
 in_doubt_verdicts =
@@ -127,7 +123,7 @@ in_doubt_verdicts =
 -- an interface runs again, once under a key of its own
 abbrev pub again : List Event
 again =
-    run ++ Send device write false false ∷ Interface (ie.Halt 0 None) ∷ Interface (ie.Lock 0 None)
+    run ++ Send (device_port 0) write false false ∷ Interface (ie.Halt 0 None) ∷ Interface (ie.Lock 0 None)
     ∷ Interface (ie.Report 0 None) ∷ Interface (ie.Start 0 None) ∷ Refresh 0 5 None ∷ Interface (ie.Start 0 None)
     ∷ []
 
@@ -141,7 +137,7 @@ again_verdicts =
 abbrev pub written_in_run : List Event
 written_in_run =
     run ++ Interface (ie.Write 0 (Bar 0) 0x40000000) ∷ Interface (ie.Write 0 (Bar 0) 0x40100000)
-    ∷ Interface (ie.State 0 None) ∷ Interface (ie.View 0) ∷ Send device write false false
+    ∷ Interface (ie.State 0 None) ∷ Interface (ie.View 0) ∷ Send (device_port 0) write false false
     ∷ Interface (ie.Write 0 (Bar 1) 0) ∷ Interface (ie.Memory 0x10000000 4) ∷ Interface (ie.Memory 0x1000ffff 2) ∷ []
 
 abbrev pub written_verdicts : List Verdict

@@ -3,7 +3,7 @@
 use Rattle.std.proofs.Common.{◌≡◌, ℕ, ◌+◌, ◌<◌, ◌==◌, ◌&&◌, Bool, true, false, List, [], Option, Some, None}
 use Rattle.std.proofs.Common.{Result, Ok, Err}
 use Rattle.std.proofs.Common.{refl, ap, sym, subst, arith}
-use Rattle.std.specs.Prelude.{slice_set, IfSome, not, if◌then◌else◌}
+use Rattle.std.specs.Prelude.{slice_set, IfSome, not, if◌then◌else◌, is_ok}
 use Rattle.key_laws.proofs.Tests.{same-true}
 use Rattle.ide_types.specs.declared.status.StreamStatus.{StreamStatus}
 use Rattle.ide_types.specs.declared.status.StreamStatus.TheVariants as status
@@ -15,7 +15,7 @@ use Rattle.link_verdicts.specs.declared.verdict.Verdict.{Verdict}
 use Rattle.key_laws.specs.Due.{lost_in, lost_at}
 use Rattle.interface_states.specs.Sites.{Site}
 use Rattle.interface_states.specs.Views.{Managed, on_lock}
-use Rattle.interface_states.specs.Devices.{tdi_if_called, one_if, is_given, lock_call}
+use Rattle.interface_states.specs.Devices.{tdi_if_called, one_if, lock_call}
 use Rattle.interface_states.specs.Exchanges.{carries}
 use Rattle.interface_states.specs.Due.{Standing, locked_as, lock_due}
 use Rattle.tdi_state.specs.declared.states.Lock.{Lock}
@@ -31,7 +31,7 @@ use Rattle.tdi_host.specs.declared.step.Step.TheVariants as step
 use Rattle.tdi_host.specs.Steps.{Read}
 use Rattle.tdi_host.specs.Views.{Seen, IsUnlocked, IsLocked, IsRunning, IsDoubt, IsBroken, nonce_of}
 use Rattle.tdi_host.specs.Views.{lock_outcome, lock_refusal, taken_interface}
-use Rattle.tdi_device.specs.Replies.{DeviceTdis, NamedTdi, next_nonce, used_after, is_given as gives}
+use Rattle.tdi_device.specs.Replies.{DeviceTdis, NamedTdi, next_nonce, used_after}
 use Rattle.tdi_walks.specs.Exchanges.{nonce_due}
 use Rattle.tdi_walks.specs.Operations.{carried, reached, walked_unless_lost, lost_early, stated_once, at_step}
 use Rattle.tdi_walks.specs.Operations.{stated_lock}
@@ -60,15 +60,15 @@ none_given n b = rw (same-true n) refl
 lock_device : (x : Site) (d : DeviceTdis) (place : ℕ) (tdi : Tdi) (lock : Lock) (call : Call) (l : Option Lost)
     (r : Result (List ℕ) ℕ) → slice_set d.interfaces place tdi ≡ d.interfaces
     → tdi_after tdi call ≡ locked_with tdi lock r
-    → reached l d (device_with d place (locked_with tdi lock r) (used_after (gives r) d.used))
+    → reached l d (device_with d place (locked_with tdi lock r) (used_after (is_ok r) d.used))
     ≡ device_with d place (tdi_if_called (carries (by_loss l 3 (locked_as x r)) 3) call tdi)
-    (d.used + one_if ((x.number == x.number) && carries (by_loss l 3 (locked_as x r)) 3 && is_given r))
+    (d.used + one_if ((x.number == x.number) && carries (by_loss l 3 (locked_as x r)) 3 && is_ok r))
 lock_device x d place tdi lock call None (Ok nonce) same after =
     same_device d place _ _ _ _ (sym after) (given d.used x.number true)
 lock_device x d place tdi lock call None (Err code) same after =
     same_device d place _ _ _ _ (sym after) (given d.used x.number false)
 lock_device x d place tdi lock call (Some Request) r same after =
-    left_device d place tdi _ _ same refl (none_given x.number (is_given r))
+    left_device d place tdi _ _ same refl (none_given x.number (is_ok r))
 lock_device x d place tdi lock call (Some Reply) (Ok nonce) same after =
     same_device d place _ _ _ _ (sym after) (given d.used x.number true)
 lock_device x d place tdi lock call (Some Reply) (Err code) same after =

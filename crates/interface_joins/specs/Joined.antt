@@ -9,7 +9,7 @@ use Rattle.link_verdicts.specs.declared.verdict.Verdict.{Verdict}
 use Rattle.interface_states.specs.Sites.{Site, nonce_behind}
 use Rattle.interface_states.specs.Devices.{accepts_lock, one_if}
 use Rattle.interface_states.specs.Due.{asked_due}
-use Rattle.interface_machine.specs.Machine.{Face, Streams, around_of, standing_of, face_after}
+use Rattle.interface_machine.specs.Machine.{Face, Streams, around_of, face_standing, face_after}
 use Rattle.tdi_state.specs.Machine.{Tdi}
 use Rattle.tdi_host.specs.declared.operation.InterfaceOp.{InterfaceOp}
 use Rattle.tdi_host.specs.Views.{HostTdi}
@@ -42,7 +42,7 @@ pub record IsAt (plan : Plan) (s : Streams) (used : ℕ → ℕ) (x : Site) (f :
 pub record IsInterfaceJoined (plan : Plan) (s : Streams) (used : ℕ → ℕ) (x : Site) (f : Face) (number place : ℕ)
     (o : InterfaceOp) (loss : Option Loss) (m : InterfaceManagerView) (d : DeviceTdis) (e : Ended) : Type 0 where
   pub verdict : Verdict
-  pub verdict_is : verdict ≡ asked_due plan x (standing_of plan s used x f) (op_event o number loss)
+  pub verdict_is : verdict ≡ asked_due plan x (face_standing plan s used x f) (op_event o number loss)
   pub ended_is : ended_as number o loss e ≡ Some verdict
   pub interface : HostTdi
   pub tdi : Tdi

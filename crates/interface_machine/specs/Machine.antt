@@ -81,8 +81,8 @@ faces_after plan s secure e w fs = record {
 
 -- ---- what is read from it
 
-abbrev pub standing_of : Plan → Streams → (ℕ → ℕ) → Site → Face → Standing
-standing_of plan s used x f = record {
+abbrev pub face_standing : Plan → Streams → (ℕ → ℕ) → Site → Face → Standing
+face_standing plan s used x f = record {
   around = around_of plan s used x f;
   tdi = f.tdi;
   managed = f.managed;
@@ -93,7 +93,7 @@ standing_of plan s used x f = record {
 
 abbrev pub asked_due_of : Plan → Streams → (ℕ → ℕ) → InterfaceEvent → Option (Site × Face) → Verdict
 asked_due_of plan s used e None = v.Nothing
-asked_due_of plan s used e (Some y) = asked_due plan y.0 (standing_of plan s used y.0 y.1) e
+asked_due_of plan s used e (Some y) = asked_due plan y.0 (face_standing plan s used y.0 y.1) e
 
 abbrev pub answer_to : Plan → Streams → Faces → InterfaceEvent → Option ℕ → Verdict → Verdict
 answer_to plan s fs e None given = given

@@ -2,6 +2,7 @@
 use Rattle.std.proofs.Common.{◌≡◌, ℕ, ◌==◌, ◌&&◌, ◌∷◌, ◌⊎◌, inl, inr, Bool, true, false, List, [], Some, Result, Ok}
 use Rattle.std.proofs.Common.{Err, if◌then◌else◌, refl, ◌∙◌, arith}
 use Rattle.std.proofs.lemmas.Bool.Decides.{nat_tests}
+use Rattle.std.specs.Prelude.{is_ok}
 use Rattle.interface_states.specs.Terms.{Plan, Event, InterfaceEvent, Verdict, History, Registers, Lock, Tdi, lock_of}
 use Rattle.interface_states.specs.Terms.{lock_answer, Call, LockInterface, StartInterface, StopInterface, WriteRegister}
 use Rattle.interface_states.specs.Terms.{LevelReset, FirmwareUpdate, StreamLeft, LinkReset, tdi_after}
@@ -10,7 +11,7 @@ use Rattle.tdi_state.proofs.ListedParts.{listed_is_kept}
 use Rattle.interface_states.specs.Sites.{Site}
 use Rattle.interface_states.specs.Exchanges.{carries, changes_device}
 use Rattle.interface_states.specs.Views.{is_number, number_in}
-use Rattle.interface_states.specs.Devices.{Around, around_at, tdi_if_called, lock_call, tdi_asked, next_tdi, is_given}
+use Rattle.interface_states.specs.Devices.{Around, around_at, tdi_if_called, lock_call, tdi_asked, next_tdi}
 use Rattle.interface_states.specs.Devices.{accepts_lock, leaves, devices, tdi_at, registers_locked, locks_in}
 use Rattle.link_events.specs.declared.event.Event.TheVariants as event
 use Rattle.link_events.specs.declared.event.InterfaceEvent.TheVariants as ie
@@ -93,13 +94,13 @@ Made a x e w tdi l = ((lock_of tdi.state ≡ Some l) × (accepts_lock a x e w td
 
 given_made : (tdi : Tdi) (new l : Lock) (answer : Result (List ℕ) ℕ) → lock_of (locked_with tdi new answer).state
     ≡ Some l
-    → ((lock_of tdi.state ≡ Some l) × (is_given answer ≡ false)) ⊎ ((is_given answer ≡ true) × (l ≡ new))
+    → ((lock_of tdi.state ≡ Some l) × (is_ok answer ≡ false)) ⊎ ((is_ok answer ≡ true) × (l ≡ new))
 given_made tdi new l (Ok nonce) is = inr (refl, grind arith)
 given_made tdi new l (Err code) is = inl (is, refl)
 
 lock_made : (a : Around) (x : Site) (b c : Bool) (tdi : Tdi) (l : Lock)
     → lock_of (if b then tdi_if_called c (lock_call a x) tdi else tdi).state ≡ Some l
-    → let accepts = b && c && is_given (lock_answer tdi x.plan.flags x.plan.offset a.secure a.drawn) in
+    → let accepts = b && c && is_ok (lock_answer tdi x.plan.flags x.plan.offset a.secure a.drawn) in
     ((lock_of tdi.state ≡ Some l) × (accepts ≡ false)) ⊎
     ((accepts ≡ true) × (l ≡ new_lock tdi x.plan.flags x.plan.stream x.plan.offset))
 lock_made a x false c tdi l is = inl (is, refl)

@@ -1,6 +1,6 @@
 -- What each device's interfaces are, over whole histories.
 use Rattle.std.specs.Prelude.{ℕ, ◌+◌, ◌==◌, ◌&&◌, ◌∷◌, Bool, true, false, not, if◌then◌else◌, List, [], Option, Some}
-use Rattle.std.specs.Prelude.{None, Result, Ok, Err}
+use Rattle.std.specs.Prelude.{None, is_ok}
 use Rattle.interface_states.specs.Terms.{list_any, Device, StreamStatus, Plan, Event, InterfaceEvent, Verdict, History}
 use Rattle.interface_states.specs.Terms.{status_of, Registers, TdiState, Run, planned, Tdi, new_tdi, lock_answer, Call}
 use Rattle.interface_states.specs.Terms.{LockInterface, StartInterface, StopInterface, WriteRegister, LevelReset}
@@ -62,14 +62,10 @@ next_tdi a left x (event.Interface e) w tdi = if is_number (number_in e) x.numbe
 next_tdi a left x (event.Reset link) (v.Reset l) tdi = tdi_if_called (link == x.link) LinkReset tdi
 next_tdi a left x e w tdi = tdi_if_called left StreamLeft tdi
 
-abbrev pub is_given : Result (List ℕ) ℕ → Bool
-is_given (Ok nonce) = true
-is_given (Err code) = false
-
 -- the pair brings it a LOCK_INTERFACE that it accepts
 abbrev pub accepts_lock : Around → Site → Event → Verdict → Tdi → Bool
 accepts_lock a x (event.Interface (ie.Lock i loss)) w tdi =
-    (i == x.number) && carries w 3 && is_given (lock_answer tdi x.plan.flags x.plan.offset a.secure a.drawn)
+    (i == x.number) && carries w 3 && is_ok (lock_answer tdi x.plan.flags x.plan.offset a.secure a.drawn)
 accepts_lock a x e w tdi = false
 
 -- ---- all pairs

@@ -24,8 +24,8 @@ greatest_on ks = max (unwrap_or (on_in ks.first) 0) (unwrap_or (on_in ks.second)
 abbrev pub posted_receiver : Site → KeyPlace
 posted_receiver x = record { side = Device; link = x.link; stream = x.plan.stream; sends = false; sub = Pr }
 
-abbrev pub device_draw : History → Site → ℕ
-device_draw h x = greatest_on (keys_there h (posted_receiver x))
+abbrev pub draw_at_device : History → Site → ℕ
+draw_at_device h x = greatest_on (keys_there h (posted_receiver x))
 
 -- ---- the floor
 
@@ -39,7 +39,7 @@ floor_after e x ran runs draw floor = floor
 unfoldable pub device_floor : Plan → History → Site → ℕ
 device_floor plan [] x = 0
 device_floor plan ((e, w) ∷ h) x =
-    floor_after e x (runs_at plan h x) (runs_at plan ((e, w) ∷ h) x) (device_draw h x) (device_floor plan h x)
+    floor_after e x (runs_at plan h x) (runs_at plan ((e, w) ∷ h) x) (draw_at_device h x) (device_floor plan h x)
 
 -- ---- the interfaces of a link
 

@@ -14,7 +14,8 @@ pub use Rattle.key_laws.specs.History.{fails_there}
 pub use Rattle.key_laws.specs.History.{from_at, go_at, has_all, has_key, keeps_live, is_sender, is_within, keyed}
 pub use Rattle.key_laws.specs.History.{keys_there}
 pub use Rattle.key_laws.specs.History.{kept_draw, draw_on_at, on_it, op_of, program_at}
-pub use Rattle.key_laws.specs.History.{sealed_here, status_by, status_of, stopped, touches, when, worked}
+pub use Rattle.key_laws.specs.History.{sealed_here, status_of, stopped, touches, when, worked}
+pub use Rattle.ide_types.specs.Ports.{status_by}
 unfoldable pub use Rattle.key_laws.specs.History.{base, failed_there, manager, moments}
 pub use Rattle.key_laws.specs.Laws.{KeyCauseLaw, GoesKept, GosFindKeys, KeyPlaceFacts, NeverAgain, NeverFalls}
 pub use Rattle.key_laws.specs.Laws.{NoneAbove}
@@ -22,7 +23,7 @@ pub use Rattle.key_laws.specs.Laws.{Settled, SettledAt, StaysSecure, StaysSecure
 pub use Rattle.key_laws.specs.Laws.{StaysGone, has_gone, is_kept_there, is_on_there, was_on, went}
 pub use Rattle.std.specs.Prelude.{if◌then◌else◌, is_some, max, nat_le, nat_lt, not, ◌&&◌, ◌||◌}
 pub use Rattle.key_laws.specs.Keys.{Accept, Clear, Go, Keyed, Keys, Loaded, Off, On, Program, Seal, Stop, Touch}
-pub use Rattle.key_laws.specs.Keys.{is_live_draw, kept_in, key_in, sealing_draw, live_draw_in, no_keys, on_in}
+pub use Rattle.key_laws.specs.Keys.{is_live_draw, kept_in, key_in, sender_draw, live_draw_in, no_keys, on_in}
 pub use Rattle.key_laws.specs.Keys.{refusal_if, refuses}
 pub use Rattle.key_laws.specs.Keys.{without_outlived, slot_from, slot_of, touched}
 unfoldable pub use Rattle.key_laws.specs.Keys.{is_open, keys}

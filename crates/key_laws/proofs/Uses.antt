@@ -3,7 +3,7 @@ use Rattle.key_laws.proofs.Terms.{◌≡◌, ℕ, ◌+◌, ◌<◌, ◌≤◌, B
 use Rattle.key_laws.proofs.Terms.{arith, max, KeyPlace, Touch, Seal, Accept, Keyed, Keys, key_in, on_in, keys}
 use Rattle.key_laws.proofs.Terms.{slot_from}
 use Rattle.key_laws.proofs.Terms.{slot_of, live_draw_in, option_or}
-use Rattle.key_laws.proofs.Terms.{sealing_draw, uses, Op}
+use Rattle.key_laws.proofs.Terms.{sender_draw, uses, Op}
 use Rattle.key_laws.proofs.Shapes.{Marks, marks, started, Shape, Bare, used, IsAt, sealed_shape, is_newer, seals}
 use Rattle.key_laws.proofs.Shapes.{accepts, used_bound, none_above_used, never_more}
 use Rattle.key_laws.proofs.Touches.{TouchFits}
@@ -32,7 +32,7 @@ slot_on_live : (mine other : Keyed) (j : ℕ) → live_draw_in (slot_from true m
 slot_on_live mine other j e = grind arith
 
 -- a Live draw is On
-pub live_is_on : (ks : Keys) (j : ℕ) → sealing_draw ks ≡ Some j → (set : Bool) × (on_in (key_in ks set) ≡ Some j)
+pub live_is_on : (ks : Keys) (j : ℕ) → sender_draw ks ≡ Some j → (set : Bool) × (on_in (key_in ks set) ≡ Some j)
 live_is_on ks j live = by_first (live_draw_in (slot_of true ks false)) refl live
   where
     by_first : (o : Option ℕ) → live_draw_in (slot_of true ks false) ≡ o
@@ -53,7 +53,7 @@ not_bare_on : (s : Bool) (ts : List Touch) (sh : Shape) (k : Bool) (j : ℕ) →
 not_bare_on s ts sh k j is on bare = grind arith
 
 pub seals_fit : (o : Op) (top : ℕ) (p : KeyPlace) (ts : List Touch) (j : ℕ) (m : Bool) → p.sends ≡ true
-    → sealing_draw (keys p.sends ts) ≡ Some j → j < top
+    → sender_draw (keys p.sends ts) ≡ Some j → j < top
     → FitsAt o top p ts → FitsAt o top p (Seal j m ∷ ts)
 unfolding used started
 seals_fit o top p ts j m sends live lt at =

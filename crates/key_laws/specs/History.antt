@@ -1,6 +1,7 @@
 -- What happened to the keys: a history is a list of events with their verdicts, the newest first.
 use Rattle.std.specs.Prelude.{◌+◌, ◌==◌, ◌&&◌, ◌||◌, if◌then◌else◌, ◌∷◌, ◌++◌, ℕ, nat_lt, nat_le, Bool, true, false}
 use Rattle.std.specs.Prelude.{not, Option, Some, None, List, [], length, is_some}
+use Rattle.ide_types.specs.Ports.{status_by}
 use Rattle.key_laws.specs.Terms.{list_any, list_all, Side, Event, Operation, SealedPacket}
 use Rattle.key_laws.specs.Terms.{StreamStatus, Verdict}
 use Rattle.link_events.specs.declared.event.Event.TheVariants as event
@@ -178,12 +179,6 @@ failed_there [] side link stream = false
 failed_there ((e, verdict) ∷ h) side link stream =
     (fails_there side link stream verdict || failed_there h side link stream) && has_key (keys_there ((e, verdict) ∷ h))
     side link stream
-
-abbrev pub status_by : Bool → Bool → Bool → StreamStatus
-status_by true some all = status.Insecure
-status_by false some true = status.Secure
-status_by false true false = status.Partial
-status_by false false false = status.Idle
 
 abbrev pub status_of : History → Side → ℕ → ℕ → StreamStatus
 status_of h side link stream = status_by (failed_there h side link stream) (has_key (keys_there h) side link stream)

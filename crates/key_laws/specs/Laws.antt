@@ -7,7 +7,7 @@ use Rattle.link_verdicts.specs.declared.verdict.Operation.TheVariants as op
 use Rattle.ide_types.specs.declared.status.StreamStatus.TheVariants as status
 use Rattle.link_verdicts.specs.declared.verdict.Verdict.TheVariants as v
 use Rattle.key_laws.specs.Places.{KeyPlan, KeyPlace}
-use Rattle.key_laws.specs.Keys.{Touch, Go, Seal, Accept, Keys, keys, key_in, kept_in, on_in, sealing_draw}
+use Rattle.key_laws.specs.Keys.{Touch, Go, Seal, Accept, Keys, keys, key_in, kept_in, on_in, sender_draw}
 use Rattle.key_laws.specs.Operations.{Idle, Establishing, Up, Refreshing, work_of}
 use Rattle.key_laws.specs.History.{History, op_of, draws, moments, came, kept_draw, draw_on_at, status_of, go_at}
 use Rattle.key_laws.specs.History.{manager}
@@ -18,7 +18,7 @@ use Rattle.key_laws.specs.Due.{key_due}
 
 -- A packet is sealed under the Live key of its sender, a unit accepted under a key that is On at its receiver.
 abbrev pub UseFits : Bool → List Touch → Touch → Type 0
-UseFits sends ts (Seal j m) = sealing_draw (keys sends ts) ≡ Some j
+UseFits sends ts (Seal j m) = sender_draw (keys sends ts) ≡ Some j
 UseFits sends ts (Accept j) = (set : Bool) × (on_in (key_in (keys sends ts) set) ≡ Some j)
 UseFits sends ts _ = Unit {0}
 

@@ -14,7 +14,8 @@ use Rattle.ide_types.specs.Names.{Text}
 use Rattle.link_events.specs.Terms.{Event, Establish, Refresh, Stop, Send, Pass, Alter, Cut, Arrive, Dump, Reset}
 use Rattle.link_events.specs.Terms.{Status, LineFault}
 use Rattle.link_events.specs.Terms.fault
-use Rattle.link_events.specs.Words.{is_printable, words_in, number_of_word, mask_in, bytes_in, port_of_word}
+use Rattle.link_events.specs.Words.{words_in, number_of_word, mask_in, bytes_in, port_of_word}
+use Rattle.ide_types.specs.Names.{is_printable}
 use Rattle.link_events.specs.Parse.{◌>>=◌, lost_exchange_in, loss_in, operation_in, marks_in, send_in, one_number_in}
 use Rattle.link_events.specs.Parse.{two_numbers_in, alter_in, arrive_in, bytes_event_in, last_event_in, event_by}
 use Rattle.link_events.specs.Parse.{event_in, is_comment}

@@ -7,7 +7,8 @@ use Rattle.std.proofs.lemmas.Bool.{and_parts, cases_Bool, ltb-false, eqb-true}
 use Rattle.link_events.specs.Terms.{Event, LineFault}
 use Rattle.link_events.specs.Terms.fault
 use Rattle.ide_types.specs.Names.{Text}
-use Rattle.link_events.specs.Words.{is_printable, words_in}
+use Rattle.link_events.specs.Words.{words_in}
+use Rattle.ide_types.specs.Names.{is_printable}
 use Rattle.link_events.specs.Parse.{◌>>=◌, event_by, event_in, is_comment, line_meaning}
 use Rattle.link_events.specs.Spells.{IsSkipped, NothingIsSkipped}
 use Rattle.link_events.proofs.Steps.{err_ok, ok_ok, none_some}

@@ -9,7 +9,8 @@ pub mod Faults
 -- what clauses and crates above cite
 pub use Rattle.ide_types.specs.Names.{Text}
 pub use Rattle.link_events.specs.Terms.{Event, InterfaceEvent, AccessEvent, Loss, Lost, LineFault, LineError}
-pub use Rattle.link_events.specs.Words.{line_limit, is_printable, words_in, line_fault_word, fault_line_of}
+pub use Rattle.link_events.specs.Words.{line_limit, words_in, line_fault_word, fault_line_of}
+pub use Rattle.ide_types.specs.Names.{is_printable}
 unfoldable pub use Rattle.link_events.specs.Words.{number_of_word, mask_in, bytes_in, port_of_word}
 unfoldable pub use Rattle.link_events.specs.Interfaces.{register_in}
 pub use Rattle.link_events.specs.Interfaces.{InterfaceSpelledBy, IsAllowedInterface}

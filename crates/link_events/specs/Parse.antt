@@ -12,7 +12,8 @@ use Rattle.link_events.specs.Terms.{Status, Interface, InterfaceEvent, Access, A
 use Rattle.link_events.specs.Terms.{Count}
 use Rattle.link_events.specs.Terms.{Number, Hex, TooLong, NotAscii, LineError}
 use Rattle.link_events.specs.Terms.error
-use Rattle.link_events.specs.Words.{line_limit, is_printable, words_in, number_of_word, mask_in, bytes_in, port_of_word}
+use Rattle.link_events.specs.Words.{line_limit, words_in, number_of_word, mask_in, bytes_in, port_of_word}
+use Rattle.ide_types.specs.Names.{is_printable}
 pub use Rattle.link_events.specs.Parts.{◌>>=◌, lost_exchange_in, loss_in, is_loss_long, one_number_in, two_numbers_in}
 use Rattle.link_events.specs.Interfaces.{interface_event_of}
 use Rattle.link_events.specs.Accesses.{access_event_of}

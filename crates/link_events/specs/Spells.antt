@@ -6,7 +6,8 @@ use Rattle.ide_types.specs.declared.port.Side.TheVariants.{Host}
 use Rattle.ide_types.specs.Names.{Text}
 use Rattle.link_events.specs.Terms.{Event, Establish, Refresh, Stop, Send, Pass, Alter, Cut, Arrive, Dump, Reset}
 use Rattle.link_events.specs.Terms.{Status, Interface, Access, Loss}
-use Rattle.link_events.specs.Words.{line_limit, is_printable, words_in, number_of_word, mask_in, bytes_in, port_of_word}
+use Rattle.link_events.specs.Words.{line_limit, words_in, number_of_word, mask_in, bytes_in, port_of_word}
+use Rattle.ide_types.specs.Names.{is_printable}
 pub use Rattle.link_events.specs.Parts.{WordOf, LossSpelledBy, OneSpelledBy, TwoSpelledBy}
 use Rattle.link_events.specs.Interfaces.{InterfaceSpelledBy, IsAllowedInterface}
 use Rattle.link_events.specs.Accesses.{AccessSpelledBy, IsAllowedAccess}

@@ -20,10 +20,6 @@ line_limit = 20000
 
 -- ---- words
 
--- a space, or a printed character
-abbrev pub is_printable : ℕ → Bool
-is_printable b = nat_le 32 b && nat_le b 126
-
 -- the words between spaces
 abbrev pub words_in : Text → List Text
 words_in line = filter (λ w. not (length w == 0)) (slice_split (λ b. b == 32) line)

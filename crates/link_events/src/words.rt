@@ -5,14 +5,8 @@ ghost use Rattle.std.specs.List.{list_all};
 ghost use Rattle.std.specs.Option.{ok_or};
 ghost use Rattle.link_events.specs.declared.event.Lost.{Lost};
 ghost use Rattle.link_events.specs.declared.fault.LineFault.TheVariants as fault;
-ghost use Rattle.link_events.specs.Words.{
-  words_in,
-  is_printable,
-  some_digits_value,
-  digits_in,
-  number_of_word,
-  mask_in,
-};
+ghost use Rattle.link_events.specs.Words.{words_in, some_digits_value, digits_in, number_of_word, mask_in};
+ghost use Rattle.ide_types.specs.Names.{is_printable};
 ghost use Rattle.link_events.specs.Words.{bytes_in, port_of_word, lost_of_word};
 ghost use Rattle.link_events.specs.Parse.{IsLineAnswer};
 

@@ -22,7 +22,8 @@ use Rattle.link_history.proofs.Terms.{held, ◌++◌}
 use Rattle.link_history.proofs.Senders.{AreFalse}
 use Rattle.link_history.proofs.KeyVerdicts.{establish_due_quiet, refresh_due_quiet, stop_due_quiet, interface_due_quiet}
 use Rattle.link_history.proofs.KeyVerdicts.{if_quiet, mmio_quiet}
-use Rattle.link_history.proofs.Terms.{Access, sending_port, answer_due, answer_first, answer_of, answer_by, answer_out}
+use Rattle.link_history.proofs.Terms.{Access, sending_port, answer_due, answer_first, answer_from, answer_by}
+use Rattle.link_history.proofs.Terms.{answer_out}
 use Rattle.link_history.proofs.Terms.{is_stream, is_before, WaitingRead, waiting, Site, site_with, granted_to}
 use Rattle.link_history.proofs.Terms.{live_key, lane_out, Cpl, nat_lt}
 unfoldable use Rattle.link_history.proofs.Terms.{bytes_by}
@@ -184,7 +185,7 @@ answer_by_tells plan h link interface draw (Some bound) =
     (if_tells plan h e (is_before key bound.1) _ _ tt (outgoing_tells plan h e refl false true out refl)))
 
 answer_of_tells : (plan : Plan) (h : History) (link draw : ℕ) (o : Option Site) → let e = Access (ae.Answer link) in
-    Tells plan h e (answer_of plan h (sending_port e) draw o (answer_out plan h link))
+    Tells plan h e (answer_from plan h (sending_port e) draw o (answer_out plan h link))
 answer_of_tells plan h link draw None = tt
 answer_of_tells plan h link draw (Some x) = answer_by_tells plan h link x.number draw (granted_to h (Some x))
 

@@ -24,7 +24,7 @@ pub use Rattle.key_laws.specs.History.{sealed_here}
 pub use Rattle.key_laws.specs.History.{touches, when, worked}
 unfoldable pub use Rattle.key_laws.specs.History.{base, failed_there, manager, moments}
 pub use Rattle.key_laws.specs.Keys.{Accept, Clear as ClearTouch, Go as GoTouch, Loaded, Program as ProgramTouch, Seal}
-pub use Rattle.key_laws.specs.Keys.{Touch, is_on, kept_in, sealing_draw, without_outlived, touched}
+pub use Rattle.key_laws.specs.Keys.{Touch, is_on, kept_in, sender_draw, without_outlived, touched}
 unfoldable pub use Rattle.key_laws.specs.Keys.{is_open, keys}
 pub use Rattle.key_laws.specs.Laws.{KeyCauseLaw, GivenFits, UsesFit}
 pub use Rattle.key_laws.specs.Operations.{Begun, Idle, Manager, Op, Reach, Stopping, Work, op_after, operated, reach_of}
@@ -66,5 +66,6 @@ pub use Rattle.link_history.specs.Terms.{Interface, InterfaceEvent, t_due, owner
 pub use Rattle.link_history.specs.Memory.{memory_due, waiting}
 pub use Rattle.link_history.specs.History.{sending_port}
 unfoldable pub use Rattle.link_history.specs.Sent.{bytes_by}
-pub use Rattle.link_history.specs.Due.{answer_due, answer_first, answer_of, answer_by, answer_out, is_stream, is_before}
+pub use Rattle.link_history.specs.Due.{answer_due, answer_first, answer_from, answer_by, answer_out, is_stream}
+pub use Rattle.link_history.specs.Due.{is_before}
 pub use Rattle.link_history.specs.Terms.{Access, Site, WaitingRead, granted_to, site_with}

@@ -104,15 +104,15 @@ answer_by plan h port interface draw (Some bound) out =
     else if nat_lt draw bound.1 then v.Access (av.Dropped interface cause.Stale)
     else answer_under plan h port bound.1 (live_key h port (lane_out port bound.0 Cpl)) out
 
-abbrev pub answer_of : Plan → History → PortName → ℕ → Option Site → Outgoing → Verdict
-answer_of plan h port draw None out = v.Nothing
-answer_of plan h port draw (Some x) out = answer_by plan h port x.number draw (granted_to h (Some x)) out
+abbrev pub answer_from : Plan → History → PortName → ℕ → Option Site → Outgoing → Verdict
+answer_from plan h port draw None out = v.Nothing
+answer_from plan h port draw (Some x) out = answer_by plan h port x.number draw (granted_to h (Some x)) out
 
 -- the oldest read that waits, and its completion
 abbrev pub answer_first : Plan → History → PortName → List WaitingRead → Outgoing → Verdict
 answer_first plan h port [] out = v.Access (av.Empty port.link)
 answer_first plan h port (r ∷ rs) out =
-    answer_of plan h port r.draw (site_with plan port.link r.read.requester) out
+    answer_from plan h port r.draw (site_with plan port.link r.read.requester) out
 
 -- what the completion comes to at the host's port
 abbrev pub answer_out : Plan → History → ℕ → Outgoing

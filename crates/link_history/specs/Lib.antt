@@ -25,7 +25,7 @@ pub use Rattle.link_history.specs.History.{units_since, ahead_with, ahead_sent, 
 pub use Rattle.link_history.specs.Due.{due}
 pub use Rattle.link_history.specs.Memory.{Policy, policy_at, writes, queued, waiting, effects_of, ContentsFollow}
 pub use Rattle.link_history.specs.Sent.{sending_port}
-unfoldable pub use Rattle.link_history.specs.Sent.{taken, bytes_by}
+unfoldable pub use Rattle.link_history.specs.Sent.{reads_taken, bytes_by}
 pub use Rattle.link_history.specs.Cause.{CauseLaw, OneHistory}
 pub use Rattle.link_history.specs.Laws.{NoForgery, PrefixLaw, DrawsNeverFall, TotalsFit, WholeLaw, OrderIsNoForgery}
 pub use Rattle.link_history.specs.Delivered.{DeliveryLaw, tlps_sent, tlps_got}

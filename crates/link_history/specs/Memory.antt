@@ -11,7 +11,7 @@ use Rattle.link_history.specs.History.{arrived_packet, received_in, held, sealed
 pub use Rattle.link_history.specs.Admission.{Grants, Policy, bound_of, unit_grant, host_effect, device_effect}
 pub use Rattle.link_history.specs.Admission.{effect_by, waiting_then, effects_each, effects_by, admitted_as, admitted}
 pub use Rattle.link_history.specs.Admission.{admitted_each, plain_of, admitted_in}
-use Rattle.link_history.specs.Sent.{queued_in, taken}
+use Rattle.link_history.specs.Sent.{queued_in, reads_taken}
 use Rattle.link_verdicts.specs.declared.verdict.Verdict.TheVariants as v
 use Rattle.link_events.specs.declared.event.InterfaceEvent.TheVariants as ie
 use Rattle.interface_words.specs.declared.verdict.InterfaceVerdict.TheVariants as iv
@@ -24,7 +24,7 @@ queued plan h link = queued_in plan (sealed_packets plan h) h link
 
 -- those that wait for their answer
 abbrev pub waiting : Plan → History → ℕ → List WaitingRead
-waiting plan h link = drop (taken h link) (queued plan h link)
+waiting plan h link = drop (reads_taken h link) (queued plan h link)
 
 -- ---- effects
 

@@ -18,23 +18,25 @@ use Rattle.link_verdicts.specs.declared.verdict.Verdict.TheVariants as v
 -- ---- units that were accepted
 
 -- the packets that were held for unit n, in order
-unfoldable pub held_in : Plan → SealedList → History → SubStream → ℕ → ℕ → List Packet
-held_in plan xs [] s j n = []
-held_in plan xs ((e, Held port unit) ∷ h) s j n =
-    if is_of s j port unit && (unit.unit == n) then held_in plan xs h s j n ++ packet_in (arrived_in plan xs e) ∷ []
-    else held_in plan xs h s j n
-held_in plan xs (_ ∷ h) s j n = held_in plan xs h s j n
+unfoldable pub packets_held : Plan → SealedList → History → SubStream → ℕ → ℕ → List Packet
+packets_held plan xs [] s j n = []
+packets_held plan xs ((e, Held port unit) ∷ h) s j n =
+    if is_of s j port unit && (unit.unit == n) then packets_held plan xs h s j n ++ packet_in (arrived_in plan xs e)
+    ∷ []
+    else packets_held plan xs h s j n
+packets_held plan xs (_ ∷ h) s j n = packets_held plan xs h s j n
 
 -- the unit that an accepted verdict ends
-abbrev pub unit_in : Plan → SealedList → History → Event → PortName → UnitName → List Packet
-unit_in plan xs h e port unit =
-    held_in plan xs h (received_in port unit) unit.draw unit.unit ++ packet_in (arrived_in plan xs e) ∷ []
+abbrev pub unit_accepted : Plan → SealedList → History → Event → PortName → UnitName → List Packet
+unit_accepted plan xs h e port unit =
+    packets_held plan xs h (received_in port unit) unit.draw unit.unit ++ packet_in (arrived_in plan xs e) ∷ []
 
 -- the writes of accepted units that are admitted, the newest first
 unfoldable pub writes_in : Plan → SealedList → History → List Write
 writes_in plan xs [] = []
 writes_in plan xs ((e, Accepted port unit effects) ∷ h) =
-    newest_first (admitted_in plan (grant_at plan h) port unit (unit_in plan xs h e port unit)) (writes_in plan xs h)
+    newest_first (admitted_in plan (grant_at plan h) port unit (unit_accepted plan xs h e port unit))
+    (writes_in plan xs h)
 writes_in plan xs (_ ∷ h) = writes_in plan xs h
 
 -- ---- reads
@@ -58,28 +60,29 @@ reads_by draw _ _ = []
 unfoldable pub queued_in : Plan → SealedList → History → ℕ → List WaitingRead
 queued_in plan xs [] link = []
 queued_in plan xs ((e, Accepted port unit effects) ∷ h) link =
-    if port.link == link then queued_in plan xs h link ++ reads_by unit.draw effects (unit_in plan xs h e port unit)
+    if port.link == link then queued_in plan xs h link ++ reads_by unit.draw effects
+    (unit_accepted plan xs h e port unit)
     else queued_in plan xs h link
 queued_in plan xs ((Reset k, v.Reset l) ∷ h) link = if l == link then [] else queued_in plan xs h link
 queued_in plan xs (_ ∷ h) link = queued_in plan xs h link
 
 -- whether it answers a read of the link
-abbrev pub answers : ℕ → Event → Bool
-answers link (Access (ae.Answer l)) = l == link
-answers link e = false
+abbrev pub is_answer_on : ℕ → Event → Bool
+is_answer_on link (Access (ae.Answer l)) = l == link
+is_answer_on link e = false
 
 -- how many of them an answer took since then: it sealed a completion, or dropped the read
-unfoldable pub taken : History → ℕ → ℕ
-taken [] link = 0
-taken ((e, Sealed ds) ∷ h) link = if answers link e then taken h link + 1 else taken h link
-taken ((e, v.Access (av.Dropped interface cause)) ∷ h) link =
-    if answers link e then taken h link + 1 else taken h link
-taken ((Reset k, v.Reset l) ∷ h) link = if l == link then 0 else taken h link
-taken (_ ∷ h) link = taken h link
+unfoldable pub reads_taken : History → ℕ → ℕ
+reads_taken [] link = 0
+reads_taken ((e, Sealed ds) ∷ h) link = if is_answer_on link e then reads_taken h link + 1 else reads_taken h link
+reads_taken ((e, v.Access (av.Dropped interface cause)) ∷ h) link =
+    if is_answer_on link e then reads_taken h link + 1 else reads_taken h link
+reads_taken ((Reset k, v.Reset l) ∷ h) link = if l == link then 0 else reads_taken h link
+reads_taken (_ ∷ h) link = reads_taken h link
 
 -- the oldest that waits
 abbrev pub oldest_in : Plan → SealedList → History → ℕ → Option WaitingRead
-oldest_in plan xs h link = slice_get (queued_in plan xs h link) (taken h link)
+oldest_in plan xs h link = slice_get (queued_in plan xs h link) (reads_taken h link)
 
 -- ---- what is sealed
 

@@ -9,7 +9,7 @@ use Rattle.link_history.proofs.Terms.{Loss, Operation, PortView, establish_on, p
 use Rattle.link_history.proofs.Terms.{touches_after, came}
 use Rattle.link_history.proofs.Terms.{draws, manager, moments, on_it, op_of, touches, when, worked, ClearTouch, GoTouch}
 use Rattle.link_history.proofs.Terms.{Loaded, ProgramTouch, Touch}
-use Rattle.link_history.proofs.Terms.{is_open, kept_in, keys, sealing_draw, without_outlived, touched, Idle, Op, Reach}
+use Rattle.link_history.proofs.Terms.{is_open, kept_in, keys, sender_draw, without_outlived, touched, Idle, Op, Reach}
 use Rattle.link_history.proofs.Terms.{Stopping}
 use Rattle.link_history.proofs.Terms.{Work, op_after, reach_of, work_of, is_on_stream, is_same_sub, lane, CauseLaw}
 use Rattle.link_history.proofs.Terms.{SealedList, after_ends, ahead_of_packet}
@@ -85,18 +85,18 @@ OnlyKeys (_ ∷ ts) = ⊥
 
 -- the Live draw of an open unit stays Live when a key is programmed, and when one that is kept gets its GO and is no
 -- smaller
-program_keeps : (f : ℕ → Bool) (ks : Keys) (k : Bool) (j i : ℕ) → sealing_draw ks ≡ Some i → f i ≡ true
-    → sealing_draw (without_outlived true f (touched true ks (ProgramTouch k j))) ≡ Some i
+program_keeps : (f : ℕ → Bool) (ks : Keys) (k : Bool) (j i : ℕ) → sender_draw ks ≡ Some i → f i ≡ true
+    → sender_draw (without_outlived true f (touched true ks (ProgramTouch k j))) ≡ Some i
 program_keeps f ks k j i live opens = grind (arith, nat_tests)
 
-go_keeps : (f : ℕ → Bool) (ks : Keys) (k : Bool) (j i : ℕ) → sealing_draw ks ≡ Some i → f i ≡ true
+go_keeps : (f : ℕ → Bool) (ks : Keys) (k : Bool) (j i : ℕ) → sender_draw ks ≡ Some i → f i ≡ true
     → kept_in (key_in ks k)
     ≡ Some j → i ≤ j
-    → sealing_draw (without_outlived true f (touched true ks (GoTouch k j))) ≡ Some i
+    → sender_draw (without_outlived true f (touched true ks (GoTouch k j))) ≡ Some i
 go_keeps f ks k j i live opens kept le = grind (arith, nat_tests)
 
 abbrev Given : Keys → Bool → ℕ → Type 0
-Given ks k j = (kept_in (key_in ks k) ≡ Some j) × ((i : ℕ) → sealing_draw ks ≡ Some i → i ≤ j)
+Given ks k j = (kept_in (key_in ks k) ≡ Some j) × ((i : ℕ) → sender_draw ks ≡ Some i → i ≤ j)
 
 given : (ts : List Touch) (k : Bool) (j : ℕ) (sh : Shape) → Sound true ts sh → Goes k j sh → Given (keys_of sh) k j
 given ts k j _ sound waiting_goes = (ap kept_in (own_key k (Loaded j) Off), λ i live. absurd (live_waiting k j i live))
@@ -107,10 +107,10 @@ given ts k j _ sound (following_goes a) =
 given ts k j _ sound (both_goes a) =
     (ap kept_in (own_key k (On j) (On a)), λ i live. let same = live_both k a j i sound.0 live in omega arith)
 
-live_stays : (ts more : List Touch) → AllCome true ts more → OnlyKeys more → (i : ℕ) → sealing_draw (keys true ts)
+live_stays : (ts more : List Touch) → AllCome true ts more → OnlyKeys more → (i : ℕ) → sender_draw (keys true ts)
     ≡ Some i
     → is_open ts i ≡ true
-    → sealing_draw (keys true (touches_after ts more)) ≡ Some i
+    → sender_draw (keys true (touches_after ts more)) ≡ Some i
 unfolding is_open keys
 live_stays ts [] come only i live opens = live
 live_stays ts (ProgramTouch k j ∷ more) come only i live opens =
@@ -231,7 +231,7 @@ still_stops plan h e w law p is = inl is
 -- ---- a unit is open of the Live draw alone, or else this holds
 
 abbrev OpenIs : Type 0 → ℕ → SealedList → SubStream → Keys → Type 0
-OpenIs X i xs s keys = (open_unit (sent_in xs s i) ≡ []) ⊎ ((sealing_draw keys ≡ Some i) ⊎ X)
+OpenIs X i xs s keys = (open_unit (sent_in xs s i) ≡ []) ⊎ ((sender_draw keys ≡ Some i) ⊎ X)
 
 -- packets of other sub-streams leave it
 abbrev AllOff : SubStream → List SealedPacket → Type 0
@@ -253,13 +253,13 @@ others_leave : (X : Type 0) (i : ℕ) (plan : Plan) (ahead : SealedPacket → Li
 others_leave X i plan ahead bytes port s ds xs ks off opens =
     let sent_is = left_alone (λ ys. sent_in ys s i) _ (λ ys d p other. sent-same ys (d, p) s i other) plan ahead bytes
     ds xs off in
-    subst₂ (λ (ps : List Packet) (new : Keys). (open_unit ps ≡ []) ⊎ ((sealing_draw new ≡ Some i) ⊎ X)) (sym sent_is)
+    subst₂ (λ (ps : List Packet) (new : Keys). (open_unit ps ≡ []) ⊎ ((sender_draw new ≡ Some i) ⊎ X)) (sym sent_is)
     (sym (all_end port s ds ks off)) opens
 
 -- one of the sub-stream is under the Live draw, and ends its unit or leaves the key
 one_open : (X : Type 0) (i : ℕ) (port : PortName) (s : SubStream) (d : SealedPacket) (p : Packet) (xs : SealedList)
     (ks : Keys)
-    → is_same (sub_stream_of d) s ≡ true → ends_at port s d ≡ d.m → p.prefix.m ≡ d.m → sealing_draw ks ≡ Some d.draw
+    → is_same (sub_stream_of d) s ≡ true → ends_at port s d ≡ d.m → p.prefix.m ≡ d.m → sender_draw ks ≡ Some d.draw
     → OpenIs X i xs s ks → OpenIs X i (xs ++ (d, p) ∷ []) s
     (if ends_at port s d then ended_keys ks.first ks.second else ks)
 one_open X i port s d p xs ks here ends m live opens = by_draw (d.draw == i) d.m refl refl
@@ -269,7 +269,7 @@ one_open X i port s d p xs ks here ends m live opens = by_draw (d.draw == i) d.m
     by_draw true true same last = inl
         (ap open_unit (sent_in-snoc xs (d, p) s i ∙ rw (here, same) refl) ∙ open_unit-end (sent_in xs s i) p (m ∙ last))
     by_draw true false same more =
-        let kept = ap (λ (b : Bool). sealing_draw (if b then ended_keys ks.first ks.second else ks)) (ends ∙ more) in
+        let kept = ap (λ (b : Bool). sender_draw (if b then ended_keys ks.first ks.second else ks)) (ends ∙ more) in
         inr (inl (kept ∙ (live ∙ ap (λ (n : ℕ). Some n) (true-same d.draw i same))))
     by_draw false c other any = elim opens [
       | inl none ↦ inl (ap open_unit (sent_in-snoc xs (d, p) s i ∙ rw (here, other) refl) ∙ none)
@@ -317,7 +317,7 @@ all_open X i plan h q t ahead bytes port stream u (d ∷ ds) xs live each opens 
         → OpenIs X i (with_sealed plan ahead bytes (d ∷ ds) xs) s (after_ends port s (d ∷ ds) ks)
     by_test true here more =
         let key = live_here plan h q t d live.0 port stream u here in
-        let is_live : sealing_draw ks ≡ Some d.draw = live_of ks.first ks.second live.0.key key ∙ ap (λ (n : ℕ). Some n)
+        let is_live : sender_draw ks ≡ Some d.draw = live_of ks.first ks.second live.0.key key ∙ ap (λ (n : ℕ). Some n)
         (sym live.0.draw) in
         others_leave X i plan ahead bytes port s ds (xs ++ (d, p) ∷ []) _ (others_off s d ds here each.0)
         (one_open X i port s d p xs ks here (ends_own port stream u d here) (sealed_m plan (ahead d) bytes d _) is_live
@@ -326,7 +326,7 @@ all_open X i plan h q t ahead bytes port stream u (d ∷ ds) xs live each opens 
         subst (λ (b : Bool). OpenIs X i (with_sealed plan ahead bytes (d ∷ ds) xs) s
         (after_ends port s ds (if b then ended_keys ks.first ks.second else ks)))
         (sym (none_ends port s d off)) (more (xs ++ (d, p) ∷ [])
-        (subst (λ (ps : List Packet). (open_unit ps ≡ []) ⊎ ((sealing_draw ks ≡ Some i) ⊎ X))
+        (subst (λ (ps : List Packet). (open_unit ps ≡ []) ⊎ ((sender_draw ks ≡ Some i) ⊎ X))
         (sym (sent-same xs (d, p) s i off)) opens))
 
 -- ---- in every history
@@ -404,7 +404,7 @@ base_up plan h e w law p i le = le
 
 -- no Live draw is below what was sealed
 live_above : (plan : Plan) (h : History) → CauseLaw plan h → (port : PortName) (stream : ℕ) (u : SubKind) (i : ℕ)
-    → sealing_draw (keys_at h port (lane_out port stream u)) ≡ Some i → NoneAbove plan h (lane_out port stream u) i
+    → sender_draw (keys_at h port (lane_out port stream u)) ≡ Some i → NoneAbove plan h (lane_out port stream u) i
 live_above plan h law port stream u i live place x at here =
     let on = live_is_on (keys_at h port (lane_out port stream u)) i live in
     on_above plan h law port stream u on.0 i (on_key _ i on.1) place x at here
@@ -427,7 +427,7 @@ opens_sent plan h e ds law port stream u i opens =
     let keys = sealed plan h e ds law port s in
     elim done [
       | inl none ↦ inl none
-      | inr (inl live) ↦ inr (inl (ap sealing_draw keys ∙ live))
+      | inr (inl live) ↦ inr (inl (ap sender_draw keys ∙ live))
       | inr (inr x) ↦ inr (inr (excuse_sent plan h e ds law port stream u i x))
     ]
 
@@ -438,9 +438,9 @@ none_open = refl
 
 live_moved : (plan : Plan) (h : History) (e : Event) (w : Verdict) → CauseLaw plan ((e, w) ∷ h)
     → (port : PortName) (stream : ℕ) (u : SubKind) (i : ℕ) → let s = lane_out port stream u in
-    OnlyKeys (touches (manager h).ops (draws h) e w (place_in_sub_stream port s true)) → sealing_draw (keys_at h port s)
+    OnlyKeys (touches (manager h).ops (draws h) e w (place_in_sub_stream port s true)) → sender_draw (keys_at h port s)
     ≡ Some i
-    → is_open (moments h (place_in_sub_stream port s true)) i ≡ true → sealing_draw (keys_at ((e, w) ∷ h) port s)
+    → is_open (moments h (place_in_sub_stream port s true)) i ≡ true → sender_draw (keys_at ((e, w) ∷ h) port s)
     ≡ Some i
 unfolding moments
 live_moved plan h e w law port stream u i only live busy =
@@ -448,8 +448,8 @@ live_moved plan h e w law port stream u i only live busy =
     let p = place_in_sub_stream port s true in
     let cause = key_cause plan ((e, w) ∷ h) law in
     let come = (next_fits (key_plan plan) h e w cause p (fits (key_plan plan) h cause.2 p)).come in
-    ap sealing_draw (keys_out ((e, w) ∷ h) port stream u) ∙ live_stays (moments h p)
-    (touches (manager h).ops (draws h) e w p) come only i (ap sealing_draw (sym (keys_out h port stream u)) ∙ live)
+    ap sender_draw (keys_out ((e, w) ∷ h) port stream u) ∙ live_stays (moments h p)
+    (touches (manager h).ops (draws h) e w p) come only i (ap sender_draw (sym (keys_out h port stream u)) ∙ live)
     busy
 
 opens_moved : (plan : Plan) (h : History) (e : Event) (w : Verdict) → seals_none w ≡ true → CauseLaw plan ((e, w) ∷ h)
@@ -479,7 +479,7 @@ opens_moved plan h e w none law port stream u i up opens = elim opens [
     above_still above place x at here = above place x (ap (λ (ys : SealedList). slice_get ys place) (sym xs) ∙ at) here
 
     by_open : (ps : List Packet) → open_unit (sent_in (sealed_packets plan h) (lane_out port stream u) i) ≡ ps
-        → sealing_draw (keys_at h port (lane_out port stream u)) ≡ Some i → Opens plan ((e, w) ∷ h) port stream u i
+        → sender_draw (keys_at h port (lane_out port stream u)) ≡ Some i → Opens plan ((e, w) ∷ h) port stream u i
     by_open [] is live = inl (ap open_unit sent_is ∙ is)
     by_open (q ∷ ps) is live =
         let busy : is_open (moments h p) i ≡ true = sym

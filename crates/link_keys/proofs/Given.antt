@@ -1,7 +1,7 @@
 -- What is sealed and what is accepted is under keys that are Live or On: the rules of keys may suppose it.
 use Rattle.link_history.proofs.Terms.{Bool, List, Some, [], ap, arith, false, refl, subst, sym, true, ℕ, ◌++◌, ◌==◌}
 use Rattle.link_history.proofs.Terms.{◌∙◌, ◌∷◌, ◌≡◌, key_due, came, is_sender, moments, sealed_here, when, Accept}
-use Rattle.link_history.proofs.Terms.{Seal, keys, sealing_draw, GivenFits, KeyCauseLaw, UsesFit, is_on_stream}
+use Rattle.link_history.proofs.Terms.{Seal, keys, sender_draw, GivenFits, KeyCauseLaw, UsesFit, is_on_stream}
 use Rattle.link_history.proofs.Terms.{is_same_side, is_same_sub, CauseLaw, due, keys_at, lesser, live_key, on_draw}
 use Rattle.link_history.proofs.Terms.{place_in_sub_stream, received_in, SubStream, key_plan, lane_out, Accepted, Effect}
 use Rattle.link_history.proofs.Terms.{Establish}
@@ -17,7 +17,7 @@ use Rattle.link_keys.proofs.Seats.{keys_out, keys_into, sender_is, receiver_is, 
 
 -- a place that sealed the packet has its key Live
 live_there : (plan : Plan) (h : History) (port : PortName) (stream : ℕ) (d : SealedPacket) (p : KeyPlace)
-    → IsLive plan h port stream d → is_sender p d ≡ true → sealing_draw (keys p.sends (moments h p)) ≡ Some d.draw
+    → IsLive plan h port stream d → is_sender p d ≡ true → sender_draw (keys p.sends (moments h p)) ≡ Some d.draw
 live_there plan h port stream d p live here =
     let key_there : live_key h d.port (lane_out d.port d.stream d.sub)
     ≡ Some live.key = (λ i. live_key h (live.port_is i) (lane_out (live.port_is i) (live.stream_is i) d.sub)) ∙
@@ -25,9 +25,9 @@ live_there plan h port stream d p live here =
     let ks : Keys = keys_there h (place_in_sub_stream d.port (lane_out d.port d.stream d.sub) true) in
     let least : lesser ks.first ks.second ≡ Some live.key = sym
     (ap (λ (x : Keys). lesser x.first x.second) (keys_out h d.port d.stream d.sub)) ∙ key_there in
-    let at : sealing_draw ks ≡ Some d.draw = live_of ks.first ks.second live.key least ∙ ap (λ (n : ℕ). Some n)
+    let at : sender_draw ks ≡ Some d.draw = live_of ks.first ks.second live.key least ∙ ap (λ (n : ℕ). Some n)
     (sym live.draw) in
-    subst (λ (q : KeyPlace). sealing_draw (keys q.sends (moments h q)) ≡ Some d.draw) (sender_is p d here) at
+    subst (λ (q : KeyPlace). sender_draw (keys q.sends (moments h q)) ≡ Some d.draw) (sender_is p d here) at
 
 other_sub : (p : KeyPlace) (d e : SealedPacket) → (sub_bits d.sub == sub_bits e.sub) ≡ false → is_sender p d ≡ true
     → is_sender p e ≡ false
@@ -38,7 +38,7 @@ Uses h p ds = UsesFit p.sends (moments h p) (sealed_here p ds)
 
 -- a packet, and none after it from the same place
 one_use : (h : History) (p : KeyPlace) (d : SealedPacket) (ds : List SealedPacket)
-    → (is_sender p d ≡ true → sealing_draw (keys p.sends (moments h p)) ≡ Some d.draw)
+    → (is_sender p d ≡ true → sender_draw (keys p.sends (moments h p)) ≡ Some d.draw)
     → (is_sender p d ≡ true → sealed_here p ds ≡ []) → Uses h p ds → Uses h p (d ∷ ds)
 one_use h p d ds live none more = by_test (is_sender p d) refl
   where

@@ -6,7 +6,7 @@ use Rattle.link_history.proofs.Terms.{Bool, List, Some, [], ap, arith, false, re
 use Rattle.link_history.proofs.Terms.{◌∙◌, ◌∷◌, ◌≡◌, ◌≤◌, nat_tests, base, touches_after, came, draws as draws_made}
 use Rattle.link_history.proofs.Terms.{is_sender}
 use Rattle.link_history.proofs.Terms.{manager, moments, sealed_here}
-use Rattle.link_history.proofs.Terms.{touches, when, Accept, Seal, Touch, is_on, keys, sealing_draw, Op, is_on_stream}
+use Rattle.link_history.proofs.Terms.{touches, when, Accept, Seal, Touch, is_on, keys, sender_draw, Op, is_on_stream}
 use Rattle.link_history.proofs.Terms.{is_same_side, is_same_sub, CauseLaw, due, accepted_keys, after_ends, arrived}
 use Rattle.link_history.proofs.Terms.{ended_keys, ends_at, is_keyed, keys_at}
 use Rattle.link_history.proofs.Terms.{keys_by, place_in_sub_stream, received_in, receives_it, sends_it, sub_stream_of}
@@ -87,7 +87,7 @@ end_of ks = ended_keys ks.first ks.second
 ended_both : (sh : Shape) → InOrder sh → end_of (keys_of sh) ≡ keys_of (sealed_shape true sh)
 ended_both sh lt = grind (arith, nat_tests)
 
-one_end : (ts : List Touch) (sh : Shape) (j : ℕ) (m : Bool) → IsAt true ts sh → sealing_draw (keys true ts) ≡ Some j
+one_end : (ts : List Touch) (sh : Shape) (j : ℕ) (m : Bool) → IsAt true ts sh → sender_draw (keys true ts) ≡ Some j
     → (keys true (Seal j m ∷ ts)) ≡ (if m then end_of (keys true ts) else (keys true ts))
 one_end ts sh j true is live = (seals ts sh j true is live).are ∙
     (sym (ended_both sh (in_order true ts sh is.sound)) ∙ ap end_of (sym is.are))

@@ -1,6 +1,6 @@
 -- A port's place in a sub-stream, and the keys there.
 use Rattle.link_history.proofs.Terms.{Bool, Some, ap, arith, false, refl, sym, true, ℕ, ◌∙◌, ◌≡◌, nat_tests, is_sender}
-use Rattle.link_history.proofs.Terms.{sealing_draw, is_on_stream, is_same_side, is_same_sub, KeyName, keys_at, lesser}
+use Rattle.link_history.proofs.Terms.{sender_draw, is_on_stream, is_same_side, is_same_sub, KeyName, keys_at, lesser}
 use Rattle.link_history.proofs.Terms.{live_key, place_in_sub_stream, received_in}
 use Rattle.link_history.proofs.Terms.{sub_stream_of, SubStream, is_same, lane_in, lane_out, History, Keyed, On}
 use Rattle.link_history.proofs.Terms.{KeyPlace}
@@ -50,7 +50,7 @@ receiver_is p port unit is = same_place p (place_in_sub_stream port (received_in
 -- ---- one key
 
 -- the lesser of two that are On is the Live one
-pub live_of : (a b : Keyed) (key : KeyName) → lesser a b ≡ Some key → sealing_draw (record { first = a; second = b })
+pub live_of : (a b : Keyed) (key : KeyName) → lesser a b ≡ Some key → sender_draw (record { first = a; second = b })
     ≡ Some key.draw
 live_of a b key is = grind (arith, nat_tests)
 

@@ -1,5 +1,6 @@
 -- The verdict of an arrival is the one that is due, and the state after it stands for the history with it.
-use Rattle.link_ports.specs.Machine.{Beside, unit_name}
+use Rattle.link_ports.specs.Machine.{Beside}
+use Rattle.stream_rules.specs.Stream.{unit_name}
 use Rattle.link_ports.specs.Stands.{beside_at}
 use Rattle.link_ports.proofs.Terms.{◌≡◌, true, List, [], ◌∷◌, ◌++◌, Option, Some, None, Result, Ok, Err, refl, ap}
 use Rattle.link_ports.proofs.Terms.{sym, ◌∙◌, subst, arith, Accepted, Arrival, arrival_due}

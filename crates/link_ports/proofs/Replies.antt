@@ -1,5 +1,6 @@
 -- An answer to a read that waits gets the verdict that is due, and the state after it stands for the history with it:
 -- the port's key of completions is the history's, and a completion is sent as any TLP is.
+use Rattle.key_laws.specs.Keys.{is_below}
 use Rattle.link_ports.proofs.Terms.{◌≡◌, ℕ, Bool, true, false, not, nat_lt, List, [], ◌∷◌, Option, Some, None}
 use Rattle.link_ports.proofs.Terms.{option_map, Err, Ok, refl, ap, sym, ◌∙◌, subst, arith, nat_tests, if◌then◌else◌}
 use Rattle.link_ports.proofs.Terms.{unwrap_or, Cpl, Event, find, has_stream, History, is_quiet, KeyFacts, KeyName}
@@ -20,10 +21,10 @@ use Rattle.link_verdicts.specs.declared.verdict.Verdict.TheVariants as v
 use Rattle.link_history.specs.Plan.{has_link}
 use Rattle.link_history.specs.History.{sent_bytes}
 use Rattle.link_history.specs.Memory.{waiting}
-use Rattle.link_history.specs.Due.{is_stream, is_before, draw_of, answer_under, answer_by, answer_of, answer_first}
+use Rattle.link_history.specs.Due.{is_stream, is_before, draw_of, answer_under, answer_by, answer_from, answer_first}
 use Rattle.link_history.specs.Due.{answer_out}
 use Rattle.link_history.proofs.Choices.{stream_known}
-use Rattle.link_ports.specs.Replies.{reply_by, reply_of, reply_first, reply_to, is_below}
+use Rattle.link_ports.specs.Replies.{completion_by, completion_of, completion_first, completion_to}
 use Rattle.link_ports.specs.Machine.{port_at, sealing_draw_at, stepped_completion, stepped_reply}
 use Rattle.link_ports.specs.Stands.{beside_at}
 use Rattle.link_ports.proofs.Changes.{Steps, kept_is, not_kept}
@@ -117,7 +118,8 @@ module _ (plan : Plan) (facts : KeyFacts plan) (st : LinkState) (h : History) (s
   by_bound : (number draw : ℕ) (o : Option (ℕ × ℕ))
       → answer_by plan h (host link) number draw o (answer_out plan h link) ≡ due plan h (answering link)
       → Steps plan h (answering link)
-      (stepped_reply plan (beside_at plan h) st (host link) (reply_by plan link number draw (bytes_at plan h link) o))
+      (stepped_reply plan (beside_at plan h) st (host link)
+      (completion_by plan link number draw (bytes_at plan h link) o))
   by_bound number draw None is = quiet_reply (v.Access (av.Dropped number cause.NotRunning)) refl is
   by_bound number draw (Some b) is =
       by (is_stream b.0 (stream_taken (answer_out plan h link))) (nat_lt draw b.1) refl is
@@ -142,10 +144,10 @@ module _ (plan : Plan) (facts : KeyFacts plan) (st : LinkState) (h : History) (s
           (completes b.0 b.1 is)
 
   by_site : (draw : ℕ) (o : Option Site)
-      → answer_of plan h (host link) draw o (answer_out plan h link) ≡ due plan h (answering link)
+      → answer_from plan h (host link) draw o (answer_out plan h link) ≡ due plan h (answering link)
       → Steps plan h (answering link)
       (stepped_reply plan (beside_at plan h) st (host link)
-      (reply_of plan link draw (bytes_at plan h link) (granted_to h o) o))
+      (completion_of plan link draw (bytes_at plan h link) (granted_to h o) o))
   by_site draw None is = quiet_reply v.Nothing refl is
   by_site draw (Some x) is = by_bound x.number draw (granted_to h (Some x)) is
 
@@ -153,20 +155,20 @@ module _ (plan : Plan) (facts : KeyFacts plan) (st : LinkState) (h : History) (s
       → answer_first plan h (host link) rs (answer_out plan h link) ≡ due plan h (answering link)
       → Steps plan h (answering link)
       (stepped_reply plan (beside_at plan h) st (host link)
-      (reply_first plan (grant_at plan h) (λ r. bytes_at plan h link) link rs))
+      (completion_first plan (grant_at plan h) (λ r. bytes_at plan h link) link rs))
   by_waiting [] is = quiet_reply (v.Access (av.Empty link)) refl is
   by_waiting (r ∷ rs) is = by_site r.draw (site_with plan link r.read.requester) is
 
   pub replies : Steps plan h (answering link)
       (stepped_reply plan (beside_at plan h) st (host link)
-      (reply_to plan (grant_at plan h) (λ r. bytes_at plan h link) link (waiting plan h link)))
+      (completion_to plan (grant_at plan h) (λ r. bytes_at plan h link) link (waiting plan h link)))
   unfolding due
   replies = by (has_link plan link) refl
     where
       by : (b : Bool) → (if b then answer_first plan h (host link) (waiting plan h link) (answer_out plan h link)
           else v.Nothing) ≡ due plan h (answering link)
           → Steps plan h (answering link) (stepped_reply plan (beside_at plan h) st (host link)
-          (if b then reply_first plan (grant_at plan h) (λ r. bytes_at plan h link) link (waiting plan h link)
+          (if b then completion_first plan (grant_at plan h) (λ r. bytes_at plan h link) link (waiting plan h link)
           else Err v.Nothing))
       by true is = by_waiting (waiting plan h link) is
       by false is = quiet_reply v.Nothing refl is

@@ -50,7 +50,8 @@ unfoldable pub use Rattle.link_history.specs.Units.{open_unit, units}
 pub use Rattle.link_ports.specs.Machine.{LinkPacket, LinkState, Stepped, altered_to, stepped_answer, changed_by_id}
 pub use Rattle.link_ports.specs.Machine.{cut_short, found_by_id, kept_at, packet_numbered, passed, port_place}
 pub use Rattle.link_ports.specs.Machine.{stepped_on_stream, stepped_send, stepped_packet, stepped_cut, stepped_arrival}
-pub use Rattle.link_ports.specs.Machine.{shown_packet, unit_name, verdict_of_taken}
+pub use Rattle.link_ports.specs.Machine.{shown_packet, verdict_of_taken}
+pub use Rattle.stream_rules.specs.Stream.{unit_name}
 unfoldable pub use Rattle.link_ports.specs.Machine.{find, put, step_of}
 pub use Rattle.link_ports.specs.Stands.{PacketsStand, PortsStand, got_in, is_of_packets, rx_slot, rx_slots, rx_standing}
 pub use Rattle.link_ports.specs.Stands.{sealing_key, standing_if_planned, tx_slot, tx_slots, tx_standing}

@@ -4,6 +4,7 @@ use Rattle.std.specs.Prelude.{List, [], ◌∷◌, ◌++◌, length, map, take, 
 use Rattle.std.specs.Prelude.{Option, Some, None, is_some, unwrap_or, Result, Ok, Err}
 use Rattle.std.specs.List.{slice_index_or}
 use Rattle.std.specs.Option.{option_and_then}
+use Rattle.stream_rules.specs.Stream.{unit_name}
 use Rattle.ide_types.specs.declared.port.PortName.{PortName}
 use Rattle.link_events.specs.declared.event.Event.{Event}
 use Rattle.link_events.specs.declared.event.Event.TheVariants.{Send, Pass, Alter, Cut, Arrive, Dump, Establish, Refresh}
@@ -35,7 +36,7 @@ use Rattle.link_verdicts.specs.declared.verdict.Operation.TheVariants as op
 use Rattle.ide_types.specs.declared.status.StreamStatus.{StreamStatus}
 use Rattle.ide_types.specs.declared.status.StreamStatus.TheVariants as status
 use Rattle.key_laws.specs.Places.{KeyPlace, sent_direction}
-use Rattle.key_laws.specs.Keys.{Touch, refusal_if}
+use Rattle.key_laws.specs.Keys.{Touch, refusal_if, is_below}
 use Rattle.key_laws.specs.Operations.{Op, Idle, Work, Reach, work_of, reach_of, op_after, makes_draw}
 use Rattle.key_laws.specs.History.{worked}
 use Rattle.key_laws.specs.Due.{PortView, establish_on, refresh_on, stop_on}
@@ -49,7 +50,7 @@ use Rattle.link_verdicts.specs.declared.verdict.Effect.{Effect}
 use Rattle.link_events.specs.declared.event.InterfaceEvent.{InterfaceEvent}
 use Rattle.link_history.specs.Due.{Sending, refusals, sealed_by, first_that_holds}
 use Rattle.link_history.specs.History.{Arrival}
-use Rattle.link_ports.specs.Replies.{Reply, is_below}
+use Rattle.link_ports.specs.Replies.{BoundCompletion}
 use Rattle.link_ports.specs.Stream.{LaneSlot, LaneSlots, slot_in_set, LiveKey, Live, StreamState}
 use Rattle.link_ports.specs.Stream.{is_live_slot, slots_at, stream_status, no_stream, sealing_draw, receiving_draw}
 use Rattle.link_ports.specs.Stream.{Taken, Insecure, NotKeyed, Failed, Held, Accepted, lanes_of, sealed_all}
@@ -117,7 +118,7 @@ pub record Beside : Type 0 where
   pub t : PortName → HeadView → ℕ → Bool → Bool
   pub effects : PortName → UnitName → List Packet → List Effect
   pub answer : InterfaceEvent → Verdict
-  pub reply : ℕ → Result Reply Verdict
+  pub reply : ℕ → Result BoundCompletion Verdict
   pub shows : ℕ → ℕ → ℕ → ℕ → Verdict
 
 -- a TLP is refused on its stream, or sealed as these packets
@@ -160,20 +161,17 @@ abbrev pub receiving_draw_at : SubKind → Option StreamState → Option ℕ
 receiving_draw_at u o = option_and_then (λ (x : StreamState). receiving_draw (slots_at false u x)) o
 
 -- under a key of the bound stream from the floor on the completion is sent as any TLP is, with T
-abbrev pub stepped_completion : Plan → Beside → LinkState → PortName → Reply → Option ℕ → Stepped
+abbrev pub stepped_completion : Plan → Beside → LinkState → PortName → BoundCompletion → Option ℕ → Stepped
 stepped_completion plan beside st port r draw =
     if is_below draw r.floor then (v.Interface (iv.RefusedRefreshFirst (unwrap_or draw 0) r.floor), st)
     else stepped_send plan beside st port (outgoing_of (streams_of plan port.link) port.side r.bytes) false true
 
-abbrev pub stepped_reply : Plan → Beside → LinkState → PortName → Result Reply Verdict → Stepped
+abbrev pub stepped_reply : Plan → Beside → LinkState → PortName → Result BoundCompletion Verdict → Stepped
 stepped_reply plan beside st port (Err verdict) = (verdict, st)
 stepped_reply plan beside st port (Ok r) =
     stepped_completion plan beside st port r (sealing_draw_at Cpl (find plan st port r.stream))
 
 -- ---- arrivals
-
-abbrev pub unit_name : Packet → ℕ → ℕ → UnitName
-unit_name p draw unit = record { stream = p.prefix.stream; sub = p.prefix.sub; draw = draw; unit = unit }
 
 abbrev pub verdict_of_taken : Beside → PortName → Packet → Taken → Verdict
 verdict_of_taken beside port p Insecure = v.Insecure port p.prefix.stream

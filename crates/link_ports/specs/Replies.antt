@@ -1,5 +1,5 @@
 -- What the answer to the oldest read of a link that waits comes to, ahead of the ports (this profile).
-use Rattle.std.specs.Prelude.{ℕ, nat_lt, not, Bool, false, if◌then◌else◌, List, [], ◌∷◌, Option, Some, None, Result}
+use Rattle.std.specs.Prelude.{ℕ, nat_lt, not, if◌then◌else◌, List, [], ◌∷◌, Option, Some, None, Result}
 use Rattle.std.specs.Prelude.{Ok, Err}
 use Rattle.ide_types.specs.declared.port.Side.TheVariants.{Host}
 use Rattle.ide_plan.specs.declared.plan.Plan.{Plan}
@@ -15,36 +15,33 @@ use Rattle.link_history.specs.Plan.{has_link, streams_of}
 use Rattle.waiting_reads.specs.declared.queue.WaitingRead.{WaitingRead}
 
 -- a completion, the stream that the reader's interface is bound to, and the least draw that it may be sealed under
-pub record Reply : Type 0 where
+pub record BoundCompletion : Type 0 where
   pub stream : ℕ
   pub floor : ℕ
   pub bytes : List ℕ
 
 -- of an interface with this bound stream and floor, if its view is Running, to a read that came under a draw
-abbrev pub reply_by : Plan → ℕ → ℕ → ℕ → List ℕ → Option (ℕ × ℕ) → Result Reply Verdict
-reply_by plan link interface draw bytes None = Err (v.Access (av.Dropped interface cause.NotRunning))
-reply_by plan link interface draw bytes (Some bound) =
+abbrev pub completion_by : Plan → ℕ → ℕ → ℕ → List ℕ → Option (ℕ × ℕ) → Result BoundCompletion Verdict
+completion_by plan link interface draw bytes None = Err (v.Access (av.Dropped interface cause.NotRunning))
+completion_by plan link interface draw bytes (Some bound) =
     if not (is_stream bound.0 (stream_taken (outgoing_of (streams_of plan link) Host bytes)))
     then Err (v.Access (av.Dropped interface cause.WrongStream))
     else if nat_lt draw bound.1 then Err (v.Access (av.Dropped interface cause.Stale))
     else Ok (record { stream = bound.0; floor = bound.1; bytes = bytes })
 
 -- the interface is that of the reader's requester ID
-abbrev pub reply_of : Plan → ℕ → ℕ → List ℕ → Option (ℕ × ℕ) → Option Site → Result Reply Verdict
-reply_of plan link draw bytes bound None = Err v.Nothing
-reply_of plan link draw bytes bound (Some x) = reply_by plan link x.number draw bytes bound
+abbrev pub completion_of : Plan → ℕ → ℕ → List ℕ → Option (ℕ × ℕ) → Option Site → Result BoundCompletion Verdict
+completion_of plan link draw bytes bound None = Err v.Nothing
+completion_of plan link draw bytes bound (Some x) = completion_by plan link x.number draw bytes bound
 
 -- to the first of the reads that wait, with these bytes for its completion
-abbrev pub reply_first : Plan → Grants → (WaitingRead → List ℕ) → ℕ → List WaitingRead → Result Reply Verdict
-reply_first plan grants bytes link [] = Err (v.Access (av.Empty link))
-reply_first plan grants bytes link (r ∷ rs) =
-    reply_of plan link r.draw (bytes r) (grants link r.read.requester) (site_with plan link r.read.requester)
+abbrev pub completion_first : Plan → Grants → (WaitingRead → List ℕ) → ℕ → List WaitingRead
+    → Result BoundCompletion Verdict
+completion_first plan grants bytes link [] = Err (v.Access (av.Empty link))
+completion_first plan grants bytes link (r ∷ rs) =
+    completion_of plan link r.draw (bytes r) (grants link r.read.requester) (site_with plan link r.read.requester)
 
-abbrev pub reply_to : Plan → Grants → (WaitingRead → List ℕ) → ℕ → List WaitingRead → Result Reply Verdict
-reply_to plan grants bytes link rs =
-    if has_link plan link then reply_first plan grants bytes link rs else Err v.Nothing
-
--- a key of this draw is below a floor
-abbrev pub is_below : Option ℕ → ℕ → Bool
-is_below None floor = false
-is_below (Some draw) floor = nat_lt draw floor
+abbrev pub completion_to : Plan → Grants → (WaitingRead → List ℕ) → ℕ → List WaitingRead
+    → Result BoundCompletion Verdict
+completion_to plan grants bytes link rs =
+    if has_link plan link then completion_first plan grants bytes link rs else Err v.Nothing

@@ -20,7 +20,7 @@ use Rattle.link_history.specs.Memory.{waiting}
 use Rattle.link_history.specs.History.{sent_bytes}
 use Rattle.interface_states.specs.Views.{grant_at}
 use Rattle.link_events.specs.declared.event.AccessEvent.TheVariants as ae
-use Rattle.link_ports.specs.Replies.{reply_to}
+use Rattle.link_ports.specs.Replies.{completion_to}
 use Rattle.link_history.specs.Cause.{CauseLaw}
 use Rattle.link_history.specs.KeyFacts.{KeyFacts}
 use Rattle.link_ports.specs.Stream.{
@@ -138,7 +138,7 @@ beside_at plan h = record {
   t = λ port head stream trusted. t_due plan h port port.side (owner_at plan port.link head) stream trusted;
   effects = effects_of plan h;
   answer = λ e. due plan h (event.Interface e);
-  reply = λ link. reply_to plan (grant_at plan h) (λ r. sent_bytes plan h (event.Access (ae.Answer link))) link
+  reply = λ link. completion_to plan (grant_at plan h) (λ r. sent_bytes plan h (event.Access (ae.Answer link))) link
       (waiting plan h link);
   shows = mmio_due plan h;
 }

@@ -28,9 +28,9 @@ use Rattle.link_ports.specs.Stands.{PortsStandFor}
 use Rattle.link_ends.specs.Ends.{port_in}
 use Rattle.ide_port.specs.{take_step}
 use Rattle.all_ends.specs.Verdicts.{arrival_verdict, of_unit, packet_stored}
-use Rattle.link_steps.specs.Accesses.{AccessesStay, AccessesTurn, AreLeftBy, Brings, bytes_at, floors_at}
+use Rattle.link_steps.specs.Accesses.{AccessesStay, AccessesTurn, AreLeftBy, Brings, mmio_at, floors_at}
 use Rattle.link_steps.specs.Accesses.{nothing_happens, policy_in, reads_at, same_floors, same_reads, sizes_at}
-use Rattle.link_steps.specs.Accesses.{standings_at}
+use Rattle.link_steps.specs.Accesses.{standings_of_ends}
 use Rattle.std.specs.Option.{option_map_or}
 use Rattle.key_laws.proofs.Tests.{same-true, true-same}
 use Rattle.std.proofs.Math.Seq.{drop-append_seam, take-append_seam}
@@ -102,8 +102,8 @@ module _ (reads : ℕ → List WaitingRead → List WaitingRead) (floors : ℕ �
     reads_are : reads_at ys k ≡ reads k (reads_at xs k)
     floors_are : floors_at ys k ≡ floors k (floors_at xs k)
     sizes_are : sizes_at ys k ≡ sizes_at xs k
-    bytes_are : (older : List Happened) → AreLeftBy (bytes_at xs k) older
-        → AreLeftBy (bytes_at ys k) (newest_happened (happening k) older)
+    bytes_are : (older : List Happened) → AreLeftBy (mmio_at xs k) older
+        → AreLeftBy (mmio_at ys k) (newest_happened (happening k) older)
 
   at_this : AtLink link
   at_this =
@@ -139,7 +139,7 @@ module _ (reads : ℕ → List WaitingRead → List WaitingRead) (floors : ℕ �
         bytes_are = λ older left.
             subst (λ (o : Option LinkAccesses). AreLeftBy (bytes_in o) (newest_happened (happening k) older))
             (sym same)
-            (subst (λ (hs : List Happened). AreLeftBy (bytes_at xs k) hs) (sym (r.nothing older)) left);
+            (subst (λ (hs : List Happened). AreLeftBy (mmio_at xs k) hs) (sym (r.nothing older)) left);
       }
 
   at_any : (k : ℕ) (b : Bool) → (link == k) ≡ b → AtLink k
@@ -420,7 +420,7 @@ module _ (plan : Plan) (ends : List LinkEnds) (k : KeeperView) (packets : List L
       (λ unit ps. reads_opened unit.draw (effects unit) _ _ 0 ps)
 
   standings_are : standings port.link ≡ standings_in l a
-  standings_are = (λ i. standings_at (l_is i) (a_is i))
+  standings_are = (λ i. standings_of_ends (l_is i) (a_is i))
 
   stores_agree : (older : List Happened)
       → newest_happened (of_unit answer (λ unit. stored_in (standings_in l a) plan port unit ended)) older

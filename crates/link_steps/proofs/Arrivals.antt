@@ -7,7 +7,8 @@ use Rattle.ide_plan.specs.declared.plan.Region.{Region}
 use Rattle.all_ends.specs.States.{IsBounded, state_of}
 use Rattle.link_ends.specs.Keepers.{KeeperView}
 use Rattle.link_ports.specs.Machine.{Beside, LinkPacket, LinkState, Stepped, altered_to, cut_short, packet_numbered}
-use Rattle.link_ports.specs.Machine.{passed, shown_packet, stepped_arrival, stepped_cut, stepped_packet, unit_name}
+use Rattle.link_ports.specs.Machine.{passed, shown_packet, stepped_arrival, stepped_cut, stepped_packet}
+use Rattle.stream_rules.specs.Stream.{unit_name}
 use Rattle.link_ports.specs.Machine.{verdict_of_taken}
 use Rattle.accesses.specs.declared.link.LinkAccesses.{LinkAccesses}
 use Rattle.stream_rules.specs.Stream.{Accepted, LiveKey, StreamState, Taken, state_after, taken_by}

@@ -28,21 +28,21 @@ abbrev pub sizes_at : List LinkAccesses → ℕ → List (List ℕ)
 sizes_at xs link = option_map_or (λ x. x.guarded.sizes) (slice_get xs link) []
 
 -- the byte by interface, BAR and offset
-abbrev pub bytes_at : List LinkAccesses → ℕ → ℕ → ℕ → ℕ → ℕ
-bytes_at xs link = option_map_or (λ x. mmio_byte x.guarded) (slice_get xs link) (λ i b offset. 0)
+abbrev pub mmio_at : List LinkAccesses → ℕ → ℕ → ℕ → ℕ → ℕ
+mmio_at xs link = option_map_or (λ x. mmio_byte x.guarded) (slice_get xs link) (λ i b offset. 0)
 
 -- ---- what effects depend on
 
 -- how the interfaces of a link's device stand
-abbrev pub standings_at : Option LinkEnds → Option LinkAccesses → List Standing
-standings_at (Some l) (Some a) = standings_in l a
-standings_at l a = []
+abbrev pub standings_of_ends : Option LinkEnds → Option LinkAccesses → List Standing
+standings_of_ends (Some l) (Some a) = standings_in l a
+standings_of_ends l a = []
 
 abbrev pub policy_in : InterfacesView → List LinkEnds → List LinkAccesses → Policy
 policy_in m ends xs = record {
   grants = grants_in m;
   waiting = λ link. length (reads_at xs link);
-  standings = λ link. standings_at (slice_get ends link) (slice_get xs link);
+  standings = λ link. standings_of_ends (slice_get ends link) (slice_get xs link);
 }
 
 -- ---- what becomes of them
@@ -58,8 +58,8 @@ pub record AccessesTurn (reads_after : ℕ → List WaitingRead → List Waiting
   pub reads : (link : ℕ) → reads_at ys link ≡ reads_after link (reads_at xs link)
   pub floors : (link : ℕ) → floors_at ys link ≡ floors_after link (floors_at xs link)
   pub sizes : (link : ℕ) → sizes_at ys link ≡ sizes_at xs link
-  pub bytes : (link : ℕ) (older : List Happened) → AreLeftBy (bytes_at xs link) older
-      → AreLeftBy (bytes_at ys link) (newest_happened (happening link) older)
+  pub bytes : (link : ℕ) (older : List Happened) → AreLeftBy (mmio_at xs link) older
+      → AreLeftBy (mmio_at ys link) (newest_happened (happening link) older)
 
 abbrev pub same_reads : ℕ → List WaitingRead → List WaitingRead
 same_reads link reads = reads

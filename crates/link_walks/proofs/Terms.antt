@@ -57,7 +57,8 @@ pub use Rattle.ide_plan.specs.Fits.{IsKey, FitsPlan, FitsStream}
 pub use Rattle.link_events.specs.declared.event.Loss.{Loss}
 pub use Rattle.link_verdicts.specs.declared.verdict.Verdict.{Verdict}
 pub use Rattle.key_laws.specs.Places.{KeyPlan, lane as lane_number}
-pub use Rattle.key_laws.specs.History.{History, draws, moments, status_of, op_of, status_by}
+pub use Rattle.key_laws.specs.History.{History, draws, moments, status_of, op_of}
+pub use Rattle.ide_types.specs.Ports.{status_by}
 pub use Rattle.key_laws.specs.Due.{PortView, refusal_at, ports_at, performed, stays}
 pub use Rattle.key_laws.specs.Due.{lost_in, cut_at, first_from, done}
 pub use Rattle.key_laws.specs.Keys.{refusal_if}

@@ -26,7 +26,7 @@ use Rattle.link_history.specs.History.{packet_of, sent_in, sealed_packets, poste
 use Rattle.link_history.specs.History.{has_live_in, ahead_of_unit, total_in, arrived, meets_counts, got_since, held}
 use Rattle.link_history.specs.History.{units_got, units_since}
 use Rattle.link_history.specs.Memory.{writes}
-use Rattle.link_history.specs.Sent.{queued_in, taken, held_in, writes_in, bytes_by}
+use Rattle.link_history.specs.Sent.{queued_in, reads_taken, packets_held, writes_in, bytes_by}
 use Rattle.link_history.specs.Guarded.{happened}
 use Rattle.link_history.specs.Due.{due, before_tag, is_verified}
 use Rattle.link_events.specs.declared.event.Event.TheVariants.{Interface}
@@ -46,7 +46,7 @@ unfolding due key_due manager moments keys is_open failed_there base interface_d
     sealed_packets packet_of units open_unit posted_in writes byte_after ahead_of_unit total_in arrived read_head_of
     cut_of key_of before_tag is_verified meets_counts got_since held units_got units_since verifies tag_of ghash
     hash_key blocks counter key_stream masked bits aes cipher rounds add_round_key mixed mix_columns shift_rows
-    sub_bytes key_words temp expansion sub_word sbox open_of queued_in taken held_in writes_in bytes_by
+    sub_bytes key_words temp expansion sub_word sbox open_of queued_in reads_taken packets_held writes_in bytes_by
     completion_bytes device_floor happened
 first_sent = refl
 
@@ -56,7 +56,7 @@ unfolding due key_due manager moments keys is_open failed_there base interface_d
     sealed_packets packet_of units open_unit posted_in writes byte_after ahead_of_unit total_in arrived read_head_of
     cut_of key_of before_tag is_verified meets_counts got_since held units_got units_since verifies tag_of ghash
     hash_key blocks counter key_stream masked bits aes cipher rounds add_round_key mixed mix_columns shift_rows
-    sub_bytes key_words temp expansion sub_word sbox open_of queued_in taken held_in writes_in bytes_by
+    sub_bytes key_words temp expansion sub_word sbox open_of queued_in reads_taken packets_held writes_in bytes_by
     completion_bytes device_floor happened
 first_stored = refl
 
@@ -66,7 +66,7 @@ unfolding due key_due manager moments keys is_open failed_there base interface_d
     sealed_packets packet_of units open_unit posted_in writes byte_after ahead_of_unit total_in arrived read_head_of
     cut_of key_of before_tag is_verified meets_counts got_since held units_got units_since verifies tag_of ghash
     hash_key blocks counter key_stream masked bits aes cipher rounds add_round_key mixed mix_columns shift_rows
-    sub_bytes key_words temp expansion sub_word sbox open_of queued_in taken held_in writes_in bytes_by
+    sub_bytes key_words temp expansion sub_word sbox open_of queued_in reads_taken packets_held writes_in bytes_by
     completion_bytes device_floor happened
 first_shown = refl
 
@@ -76,7 +76,7 @@ unfolding due key_due manager moments keys is_open failed_there base interface_d
     sealed_packets packet_of units open_unit posted_in writes byte_after ahead_of_unit total_in arrived read_head_of
     cut_of key_of before_tag is_verified meets_counts got_since held units_got units_since verifies tag_of ghash
     hash_key blocks counter key_stream masked bits aes cipher rounds add_round_key mixed mix_columns shift_rows
-    sub_bytes key_words temp expansion sub_word sbox open_of queued_in taken held_in writes_in bytes_by
+    sub_bytes key_words temp expansion sub_word sbox open_of queued_in reads_taken packets_held writes_in bytes_by
     completion_bytes device_floor happened
 second_sent = refl
 
@@ -86,7 +86,7 @@ unfolding due key_due manager moments keys is_open failed_there base interface_d
     sealed_packets packet_of units open_unit posted_in writes byte_after ahead_of_unit total_in arrived read_head_of
     cut_of key_of before_tag is_verified meets_counts got_since held units_got units_since verifies tag_of ghash
     hash_key blocks counter key_stream masked bits aes cipher rounds add_round_key mixed mix_columns shift_rows
-    sub_bytes key_words temp expansion sub_word sbox open_of queued_in taken held_in writes_in bytes_by
+    sub_bytes key_words temp expansion sub_word sbox open_of queued_in reads_taken packets_held writes_in bytes_by
     completion_bytes device_floor happened
 second_blocked = refl
 
@@ -96,7 +96,7 @@ unfolding due key_due manager moments keys is_open failed_there base interface_d
     sealed_packets packet_of units open_unit posted_in writes byte_after ahead_of_unit total_in arrived read_head_of
     cut_of key_of before_tag is_verified meets_counts got_since held units_got units_since verifies tag_of ghash
     hash_key blocks counter key_stream masked bits aes cipher rounds add_round_key mixed mix_columns shift_rows
-    sub_bytes key_words temp expansion sub_word sbox open_of queued_in taken held_in writes_in bytes_by
+    sub_bytes key_words temp expansion sub_word sbox open_of queued_in reads_taken packets_held writes_in bytes_by
     completion_bytes device_floor happened
 halted = refl
 
@@ -106,7 +106,7 @@ unfolding due key_due manager moments keys is_open failed_there base interface_d
     sealed_packets packet_of units open_unit posted_in writes byte_after ahead_of_unit total_in arrived read_head_of
     cut_of key_of before_tag is_verified meets_counts got_since held units_got units_since verifies tag_of ghash
     hash_key blocks counter key_stream masked bits aes cipher rounds add_round_key mixed mix_columns shift_rows
-    sub_bytes key_words temp expansion sub_word sbox open_of queued_in taken held_in writes_in bytes_by
+    sub_bytes key_words temp expansion sub_word sbox open_of queued_in reads_taken packets_held writes_in bytes_by
     completion_bytes device_floor happened
 nothing_shown = refl
 
@@ -116,7 +116,7 @@ unfolding due key_due manager moments keys is_open failed_there base interface_d
     sealed_packets packet_of units open_unit posted_in writes byte_after ahead_of_unit total_in arrived read_head_of
     cut_of key_of before_tag is_verified meets_counts got_since held units_got units_since verifies tag_of ghash
     hash_key blocks counter key_stream masked bits aes cipher rounds add_round_key mixed mix_columns shift_rows
-    sub_bytes key_words temp expansion sub_word sbox open_of queued_in taken held_in writes_in bytes_by
+    sub_bytes key_words temp expansion sub_word sbox open_of queued_in reads_taken packets_held writes_in bytes_by
     completion_bytes device_floor happened
 trusted_blocked = refl
 
@@ -126,7 +126,7 @@ unfolding due key_due manager moments keys is_open failed_there base interface_d
     sealed_packets packet_of units open_unit posted_in writes byte_after ahead_of_unit total_in arrived read_head_of
     cut_of key_of before_tag is_verified meets_counts got_since held units_got units_since verifies tag_of ghash
     hash_key blocks counter key_stream masked bits aes cipher rounds add_round_key mixed mix_columns shift_rows
-    sub_bytes key_words temp expansion sub_word sbox open_of queued_in taken held_in writes_in bytes_by
+    sub_bytes key_words temp expansion sub_word sbox open_of queued_in reads_taken packets_held writes_in bytes_by
     completion_bytes device_floor happened
 untrusted_stored = refl
 

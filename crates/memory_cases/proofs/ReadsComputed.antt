@@ -2,6 +2,7 @@
 use Rattle.std.specs.Prelude.{◌≡◌, List, [], ◌∷◌, Option, drop, slice_get}
 use Rattle.std.specs.Option.{option_map_or}
 use Rattle.std.proofs.Common.{refl, ap, ◌∙◌}
+use Rattle.ide_types.specs.Ports.{host_port}
 use Rattle.aes_block.specs.Aes.{key_words, temp, mixed, sbox, sub_bytes, shift_rows, mix_columns, add_round_key}
 use Rattle.aes_block.specs.Aes.{sub_word, expansion, rounds, cipher, aes}
 use Rattle.gcm_seal.specs.Polynomials.{bits}
@@ -29,16 +30,17 @@ use Rattle.link_history.specs.History.{packet_of, sent_in, sealed_packets, poste
 use Rattle.link_history.specs.History.{has_live_in, ahead_of_unit, total_in, arrived, meets_counts, got_since, held}
 use Rattle.link_history.specs.History.{units_got, units_since, sent_bytes}
 use Rattle.link_history.specs.Memory.{writes, admitted_in}
-use Rattle.link_history.specs.Sent.{queued_in, taken, held_in, writes_in, bytes_by, unit_in}
+use Rattle.link_history.specs.Sent.{queued_in, reads_taken, packets_held, writes_in, bytes_by, unit_accepted}
 use Rattle.link_history.specs.Due.{due, before_tag, is_verified, answer_first}
 use Rattle.link_events.specs.declared.event.Event.TheVariants.{Pass}
 use Rattle.link_verdicts.specs.declared.access.AccessVerdict.TheVariants as av
 use Rattle.link_verdicts.specs.declared.verdict.BlockCause.TheVariants.{NotRunning}
 use Rattle.link_verdicts.specs.declared.verdict.Verdict.TheVariants as v
 use Rattle.interface_cases.specs.Cases.{interface_plan}
-use Rattle.memory_cases.specs.Cases.{IsDue, host}
-use Rattle.memory_cases.specs.ReadCases.{ReadCases, OneMore, sealed_request, queued_read, answer, answered, read_unit}
-use Rattle.memory_cases.specs.ReadCases.{written_history, waiting_history, halted_waiting, stored_write, waiting_read}
+use Rattle.memory_cases.specs.Cases.{IsDue}
+use Rattle.memory_cases.specs.ReadCases.{ReadCases, OneMore, sealed_request, queued_read, answer, answered_read}
+use Rattle.memory_cases.specs.ReadCases.{read_unit}
+use Rattle.memory_cases.specs.ReadCases.{written_history, waiting_history, halted_waiting, applied_write, waiting_read}
 use Rattle.memory_cases.specs.ReadCases.{read_completion, trusted_packet}
 
 -- each is a declaration of its own, since the checker counts its steps by declarations
@@ -48,7 +50,7 @@ unfolding due key_due manager moments keys is_open failed_there base interface_d
     sealed_packets packet_of units open_unit posted_in writes byte_after ahead_of_unit total_in arrived read_head_of
     cut_of key_of before_tag is_verified meets_counts got_since held units_got units_since verifies tag_of ghash
     hash_key blocks counter key_stream masked bits aes cipher rounds add_round_key mixed mix_columns shift_rows
-    sub_bytes key_words temp expansion sub_word sbox open_of queued_in taken held_in writes_in bytes_by
+    sub_bytes key_words temp expansion sub_word sbox open_of queued_in reads_taken packets_held writes_in bytes_by
     completion_bytes
 asked_due = refl
 
@@ -58,35 +60,36 @@ unfolding due key_due manager moments keys is_open failed_there base interface_d
     sealed_packets packet_of units open_unit posted_in writes byte_after ahead_of_unit total_in arrived read_head_of
     cut_of key_of before_tag is_verified meets_counts got_since held units_got units_since verifies tag_of ghash
     hash_key blocks counter key_stream masked bits aes cipher rounds add_round_key mixed mix_columns shift_rows
-    sub_bytes key_words temp expansion sub_word sbox open_of queued_in taken held_in writes_in bytes_by
+    sub_bytes key_words temp expansion sub_word sbox open_of queued_in reads_taken packets_held writes_in bytes_by
     completion_bytes
 queued_due = refl
 
 -- ---- what stands in memory, and what waits
 
 of_read : List (Option Write)
-of_read = admitted_in interface_plan (grant_at interface_plan (sealed_request 2 1 ∷ written_history)) host read_unit
-    (unit_in interface_plan (sealed_packets interface_plan waiting_history) (sealed_request 2 1 ∷ written_history)
-    (Pass 2) host read_unit)
+of_read = admitted_in interface_plan (grant_at interface_plan (sealed_request 2 1 ∷ written_history)) (host_port 0)
+    read_unit
+    (unit_accepted interface_plan (sealed_packets interface_plan waiting_history) (sealed_request 2 1 ∷ written_history)
+    (Pass 2) (host_port 0) read_unit)
 
-none_of_read : newest_first of_read (stored_write ∷ []) ≡ stored_write ∷ []
+none_of_read : newest_first of_read (applied_write ∷ []) ≡ applied_write ∷ []
 unfolding due key_due manager moments keys is_open failed_there base interface_due devices managed stream_draw sites
     read_of reading walk_length walked_from outgoing_of choice_of keys_at has_live_out has_live_in stream_plan sent_in
     sealed_packets packet_of units open_unit posted_in writes byte_after ahead_of_unit total_in arrived read_head_of
     cut_of key_of before_tag is_verified meets_counts got_since held units_got units_since verifies tag_of ghash
     hash_key blocks counter key_stream masked bits aes cipher rounds add_round_key mixed mix_columns shift_rows
-    sub_bytes key_words temp expansion sub_word sbox open_of queued_in taken held_in writes_in bytes_by
+    sub_bytes key_words temp expansion sub_word sbox open_of queued_in reads_taken packets_held writes_in bytes_by
     completion_bytes of_read
 none_of_read = refl
 
 before_read : writes_in interface_plan (sealed_packets interface_plan waiting_history) written_history
-    ≡ stored_write ∷ []
+    ≡ applied_write ∷ []
 unfolding due key_due manager moments keys is_open failed_there base interface_due devices managed stream_draw sites
     read_of reading walk_length walked_from outgoing_of choice_of keys_at has_live_out has_live_in stream_plan sent_in
     sealed_packets packet_of units open_unit posted_in writes byte_after ahead_of_unit total_in arrived read_head_of
     cut_of key_of before_tag is_verified meets_counts got_since held units_got units_since verifies tag_of ghash
     hash_key blocks counter key_stream masked bits aes cipher rounds add_round_key mixed mix_columns shift_rows
-    sub_bytes key_words temp expansion sub_word sbox open_of queued_in taken held_in writes_in bytes_by
+    sub_bytes key_words temp expansion sub_word sbox open_of queued_in reads_taken packets_held writes_in bytes_by
     completion_bytes
 before_read = refl
 
@@ -97,7 +100,7 @@ unfolding writes_in of_read
 then_read = refl
 
 writes_are : writes_in interface_plan (sealed_packets interface_plan waiting_history) waiting_history
-    ≡ stored_write ∷ []
+    ≡ applied_write ∷ []
 writes_are = then_read ∙ (ap (newest_first of_read) before_read ∙ none_of_read)
 
 queued_are : queued_in interface_plan (sealed_packets interface_plan waiting_history) waiting_history 0
@@ -107,56 +110,58 @@ unfolding due key_due manager moments keys is_open failed_there base interface_d
     sealed_packets packet_of units open_unit posted_in writes byte_after ahead_of_unit total_in arrived read_head_of
     cut_of key_of before_tag is_verified meets_counts got_since held units_got units_since verifies tag_of ghash
     hash_key blocks counter key_stream masked bits aes cipher rounds add_round_key mixed mix_columns shift_rows
-    sub_bytes key_words temp expansion sub_word sbox open_of queued_in taken held_in writes_in bytes_by
+    sub_bytes key_words temp expansion sub_word sbox open_of queued_in reads_taken packets_held writes_in bytes_by
     completion_bytes
 queued_are = refl
 
 -- ---- the answer
 
 bytes_from_both : sent_bytes interface_plan waiting_history answer ≡ option_map_or
-    (λ (r : WaitingRead). completion_bytes (byte_after (stored_write ∷ [])) r.read)
-    (slice_get (waiting_read ∷ []) (taken waiting_history 0)) []
+    (λ (r : WaitingRead). completion_bytes (byte_after (applied_write ∷ [])) r.read)
+    (slice_get (waiting_read ∷ []) (reads_taken waiting_history 0)) []
 unfolding bytes_by
 bytes_from_both i = option_map_or (λ (r : WaitingRead). completion_bytes (byte_after (writes_are i)) r.read)
-    (slice_get (queued_are i) (taken waiting_history 0)) []
+    (slice_get (queued_are i) (reads_taken waiting_history 0)) []
 
-completed : option_map_or (λ (r : WaitingRead). completion_bytes (byte_after (stored_write ∷ [])) r.read)
-    (slice_get (waiting_read ∷ []) (taken waiting_history 0)) [] ≡ read_completion
-unfolding completion_bytes byte_after taken
+completed : option_map_or (λ (r : WaitingRead). completion_bytes (byte_after (applied_write ∷ [])) r.read)
+    (slice_get (waiting_read ∷ []) (reads_taken waiting_history 0)) [] ≡ read_completion
+unfolding completion_bytes byte_after reads_taken
 completed = refl
 
 bytes_are : sent_bytes interface_plan waiting_history answer ≡ read_completion
 bytes_are = bytes_from_both ∙ completed
 
 due_from_both : due interface_plan waiting_history answer
-    ≡ answer_first interface_plan waiting_history host (drop (taken waiting_history 0) (waiting_read ∷ []))
+    ≡ answer_first interface_plan waiting_history (host_port 0)
+    (drop (reads_taken waiting_history 0) (waiting_read ∷ []))
     (outgoing_of (streams_of interface_plan 0) Host read_completion)
 unfolding due
 due_from_both i =
-    answer_first interface_plan waiting_history host (drop (taken waiting_history 0) (queued_are i))
+    answer_first interface_plan waiting_history (host_port 0) (drop (reads_taken waiting_history 0) (queued_are i))
     (outgoing_of (streams_of interface_plan 0) Host (bytes_are i))
 
-sent_then : answer_first interface_plan waiting_history host (drop (taken waiting_history 0) (waiting_read ∷ []))
-    (outgoing_of (streams_of interface_plan 0) Host read_completion) ≡ v.Sealed (trusted_packet 3 host Cpl 0)
+sent_then : answer_first interface_plan waiting_history (host_port 0)
+    (drop (reads_taken waiting_history 0) (waiting_read ∷ []))
+    (outgoing_of (streams_of interface_plan 0) Host read_completion) ≡ v.Sealed (trusted_packet 3 (host_port 0) Cpl 0)
 unfolding due key_due manager moments keys is_open failed_there base interface_due devices managed stream_draw sites
     read_of reading walk_length walked_from outgoing_of choice_of keys_at has_live_out has_live_in stream_plan sent_in
     sealed_packets packet_of units open_unit posted_in writes byte_after ahead_of_unit total_in arrived read_head_of
     cut_of key_of before_tag is_verified meets_counts got_since held units_got units_since verifies tag_of ghash
     hash_key blocks counter key_stream masked bits aes cipher rounds add_round_key mixed mix_columns shift_rows
-    sub_bytes key_words temp expansion sub_word sbox open_of queued_in taken held_in writes_in bytes_by
+    sub_bytes key_words temp expansion sub_word sbox open_of queued_in reads_taken packets_held writes_in bytes_by
     completion_bytes
 sent_then = refl
 
-answer_due : IsDue waiting_history answered
+answer_due : IsDue waiting_history answered_read
 answer_due = due_from_both ∙ sent_then
 
-empty_due : IsDue (answered ∷ waiting_history) (answer, v.Access (av.Empty 0))
+empty_due : IsDue (answered_read ∷ waiting_history) (answer, v.Access (av.Empty 0))
 unfolding due key_due manager moments keys is_open failed_there base interface_due devices managed stream_draw sites
     read_of reading walk_length walked_from outgoing_of choice_of keys_at has_live_out has_live_in stream_plan sent_in
     sealed_packets packet_of units open_unit posted_in writes byte_after ahead_of_unit total_in arrived read_head_of
     cut_of key_of before_tag is_verified meets_counts got_since held units_got units_since verifies tag_of ghash
     hash_key blocks counter key_stream masked bits aes cipher rounds add_round_key mixed mix_columns shift_rows
-    sub_bytes key_words temp expansion sub_word sbox open_of queued_in taken held_in writes_in bytes_by
+    sub_bytes key_words temp expansion sub_word sbox open_of queued_in reads_taken packets_held writes_in bytes_by
     completion_bytes
 empty_due = refl
 
@@ -168,7 +173,7 @@ unfolding due key_due manager moments keys is_open failed_there base interface_d
     sealed_packets packet_of units open_unit posted_in writes byte_after ahead_of_unit total_in arrived read_head_of
     cut_of key_of before_tag is_verified meets_counts got_since held units_got units_since verifies tag_of ghash
     hash_key blocks counter key_stream masked bits aes cipher rounds add_round_key mixed mix_columns shift_rows
-    sub_bytes key_words temp expansion sub_word sbox open_of queued_in taken held_in writes_in bytes_by
+    sub_bytes key_words temp expansion sub_word sbox open_of queued_in reads_taken packets_held writes_in bytes_by
     completion_bytes
 dropped_due = refl
 

@@ -1,8 +1,7 @@
 -- Worked cases: events with the verdicts that were worked out by hand, in order.
 use Rattle.std.specs.Prelude.{◌≡◌, false, true, Some, None, [], ◌∷◌, replicate}
+use Rattle.ide_types.specs.Ports.{host_port, device_port}
 use Rattle.ide_types.specs.declared.sub.SubKind.TheVariants.{Pr}
-use Rattle.ide_types.specs.declared.port.Side.TheVariants.{Host}
-use Rattle.ide_types.specs.declared.port.PortName.{PortName}
 use Rattle.interface_words.specs.declared.verdict.InterfaceVerdict.TheVariants as iv
 use Rattle.link_events.specs.declared.event.Lost.TheVariants.{Reply}
 use Rattle.link_events.specs.declared.event.Event.{Event}
@@ -15,10 +14,7 @@ use Rattle.link_verdicts.specs.declared.verdict.Verdict.{Verdict}
 use Rattle.link_verdicts.specs.declared.verdict.Verdict.TheVariants as v
 use Rattle.key_laws.specs.History.{History}
 use Rattle.link_history.specs.Due.{due}
-use Rattle.interface_cases.specs.Cases.{interface_plan, device_report, write, device, device_packet}
-
-abbrev pub host : PortName
-host = record { side = Host; link = 0 }
+use Rattle.interface_cases.specs.Cases.{interface_plan, device_report, write, device_packet}
 
 -- the stream is keyed, the interface locked and reported; the newest first
 abbrev pub reported_history : History
@@ -36,11 +32,12 @@ unheard = (Interface (ie.Start 0 (Some (record { exchange = 1; lost = Reply })))
 
 -- the device sends the write
 abbrev pub sealed_write : Event × Verdict
-sealed_write = (Send device write false false, v.Sealed (device_packet true))
+sealed_write = (Send (device_port 0) write false false, v.Sealed (device_packet true))
 
 -- it is accepted, with this effect
 abbrev pub accepted_write : Effect → Event × Verdict
-accepted_write effect = (Pass 1, v.Accepted host (record { stream = 5; sub = Pr; draw = 0; unit = 1 }) (effect ∷ []))
+accepted_write effect =
+    (Pass 1, v.Accepted (host_port 0) (record { stream = 5; sub = Pr; draw = 0; unit = 1 }) (effect ∷ []))
 
 -- what stands there then
 abbrev pub memory_read_back : Event × Verdict

@@ -1,5 +1,6 @@
 -- Worked cases of guarded memory: events with the verdicts that were worked out by hand, in order.
 use Rattle.std.specs.Prelude.{ℕ, Bool, false, true, None, List, [], ◌∷◌}
+use Rattle.ide_types.specs.Ports.{host_port, device_port}
 use Rattle.ide_types.specs.declared.sub.SubKind.TheVariants.{Pr}
 use Rattle.interface_words.specs.declared.verdict.InterfaceVerdict.TheVariants as iv
 use Rattle.link_events.specs.declared.event.Event.{Event}
@@ -14,8 +15,7 @@ use Rattle.link_verdicts.specs.declared.verdict.SealedPacket.{SealedPacket}
 use Rattle.link_verdicts.specs.declared.verdict.Verdict.{Verdict}
 use Rattle.link_verdicts.specs.declared.verdict.Verdict.TheVariants as v
 use Rattle.key_laws.specs.History.{History}
-use Rattle.interface_cases.specs.Cases.{device}
-use Rattle.memory_cases.specs.Cases.{IsDue, host, reported_history, started_event}
+use Rattle.memory_cases.specs.Cases.{IsDue, reported_history, started_event}
 
 -- a write of AA BB CC DD at 40000000h, the first bytes of BAR 0, by the requester 0000h
 abbrev pub bar_write : List ℕ
@@ -27,7 +27,7 @@ abbrev pub host_packet : ℕ → Bool → List SealedPacket
 host_packet n t =
     record {
       number = n;
-      port = host;
+      port = host_port 0;
       stream = 5;
       sub = Pr;
       draw = 0;
@@ -40,12 +40,12 @@ host_packet n t =
     } ∷ []
 
 abbrev pub sent_write : ℕ → Bool → Event × Verdict
-sent_write n t = (Send host bar_write false t, v.Sealed (host_packet n t))
+sent_write n t = (Send (host_port 0) bar_write false t, v.Sealed (host_packet n t))
 
 -- it is accepted, with this effect
 abbrev pub taken_write : ℕ → Effect → Event × Verdict
 taken_write n effect =
-    (Pass n, v.Accepted device (record { stream = 5; sub = Pr; draw = 0; unit = n }) (effect ∷ []))
+    (Pass n, v.Accepted (device_port 0) (record { stream = 5; sub = Pr; draw = 0; unit = n }) (effect ∷ []))
 
 -- what stands in the first four bytes of BAR 0
 abbrev pub shows : List ℕ → Event × Verdict

@@ -1,5 +1,6 @@
 -- Worked cases of trusted reads: events with the verdicts that were worked out by hand, in order.
 use Rattle.std.specs.Prelude.{◌≡◌, ℕ, false, true, Some, None, List, [], ◌∷◌}
+use Rattle.ide_types.specs.Ports.{host_port, device_port}
 use Rattle.ide_types.specs.declared.sub.SubKind.{SubKind}
 use Rattle.ide_types.specs.declared.sub.SubKind.TheVariants.{Npr, Cpl}
 use Rattle.ide_types.specs.declared.port.PortName.{PortName}
@@ -21,8 +22,8 @@ use Rattle.trusted_memory.specs.Writes.{Write}
 use Rattle.waiting_reads.specs.declared.queue.WaitingRead.{WaitingRead}
 use Rattle.link_history.specs.History.{sent_bytes}
 use Rattle.link_history.specs.Memory.{effects_each}
-use Rattle.interface_cases.specs.Cases.{interface_plan, device}
-use Rattle.memory_cases.specs.Cases.{IsDue, host, reported_history, started_event, sealed_write, accepted_write}
+use Rattle.interface_cases.specs.Cases.{interface_plan}
+use Rattle.memory_cases.specs.Cases.{IsDue, reported_history, started_event, sealed_write, accepted_write}
 
 -- a read of 4 bytes at 10000000h by the requester 0100h, with tag 1
 abbrev pub read_request : List ℕ
@@ -53,13 +54,13 @@ trusted_packet number port sub posted =
 -- the device sends the read, and it arrives
 abbrev pub sealed_request : ℕ → ℕ → Event × Verdict
 sealed_request number posted =
-    (Send device read_request false false, v.Sealed (trusted_packet number device Npr posted))
+    (Send (device_port 0) read_request false false, v.Sealed (trusted_packet number (device_port 0) Npr posted))
 
 abbrev pub read_unit : UnitName
 read_unit = record { stream = 5; sub = Npr; draw = 0; unit = 1 }
 
 abbrev pub queued_read : ℕ → Event × Verdict
-queued_read number = (Pass number, v.Accepted host read_unit (Queued ∷ []))
+queued_read number = (Pass number, v.Accepted (host_port 0) read_unit (Queued ∷ []))
 
 abbrev pub answer : Event
 answer = Access (ae.Answer 0)
@@ -73,8 +74,8 @@ abbrev pub waiting_history : History
 waiting_history = queued_read 2 ∷ sealed_request 2 1 ∷ written_history
 
 -- the write that was applied, and the read that waits
-abbrev pub stored_write : Write
-stored_write = record {
+abbrev pub applied_write : Write
+applied_write = record {
   span = record { address = 0x10000000; first_be = 15; last_be = 0; length = 1 };
   payload = 0x11 ∷ 0x22 ∷ 0x33 ∷ 0x44 ∷ [];
 }
@@ -91,8 +92,8 @@ waiting_read = record {
   draw = 0;
 }
 
-abbrev pub answered : Event × Verdict
-answered = (answer, v.Sealed (trusted_packet 3 host Cpl 0))
+abbrev pub answered_read : Event × Verdict
+answered_read = (answer, v.Sealed (trusted_packet 3 (host_port 0) Cpl 0))
 
 -- ---- the interface is halted before the answer
 
@@ -103,8 +104,8 @@ halted_waiting = (Interface (ie.Halt 0 None), v.Interface (iv.Halted 0 1)) ∷ q
 
 -- ---- two reads of one unit, while one more may wait
 
-abbrev pub trusted_read : Packet
-trusted_read =
+abbrev pub read_packet : Packet
+read_packet =
     record {
       prefix = record { m = false; k = false; t = true; sub = Npr; stream = 5; posted = 0 };
       head = read_request;
@@ -116,7 +117,7 @@ abbrev pub OneMore : Type 0
 OneMore =
     effects_each interface_plan
     (record { grants = λ link requester. Some (5, 0); waiting = λ link. 63; standings = λ link. [] })
-    63 host read_unit (trusted_read ∷ trusted_read ∷ [])
+    63 (host_port 0) read_unit (read_packet ∷ read_packet ∷ [])
     ≡ Queued ∷ Blocked Full ∷ []
 
 -- A read waits until it is answered from memory, once. If its interface has been halted it is dropped. The second read
@@ -125,8 +126,8 @@ abbrev pub ReadCases : Type 0
 ReadCases =
     IsDue written_history (sealed_request 2 1)
     × IsDue (sealed_request 2 1 ∷ written_history) (queued_read 2)
-    × IsDue waiting_history answered
+    × IsDue waiting_history answered_read
     × (sent_bytes interface_plan waiting_history answer ≡ read_completion)
-    × IsDue (answered ∷ waiting_history) (answer, v.Access (av.Empty 0))
+    × IsDue (answered_read ∷ waiting_history) (answer, v.Access (av.Empty 0))
     × IsDue halted_waiting (answer, v.Access (av.Dropped 0 NotRunning))
     × OneMore

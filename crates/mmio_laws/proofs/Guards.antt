@@ -46,14 +46,15 @@ use Rattle.trusted_memory.specs.Writes.{payload_byte}
 use Rattle.trusted_memory.proofs.Turns.{byte_after-next}
 use Rattle.guarded_memory.specs.declared.standing.Standing.{Standing}
 use Rattle.guarded_memory.specs.declared.claims.Claim.{Claim}
-use Rattle.guarded_memory.specs.Standings.{is_open_range, has_open_range, is_in_run, is_locked_or_run, state_of}
+use Rattle.guarded_memory.specs.Standings.{is_open_range, has_open_range, is_in_run, is_locked_or_run, interface_state}
 use Rattle.guarded_memory.specs.Claims.{claim_of}
 use Rattle.guarded_memory.specs.Causes.{mmio_cause, cause_effect, claim_effect, mmio_effect}
 use Rattle.guarded_memory.specs.Happenings.{WriteStored, contents_by}
 use Rattle.guarded_memory.specs.Stored.{stored_by, stored_by_claim, stored_unless, write_from}
 use Rattle.guarded_memory.specs.Laws.{is_guarded, is_admitted}
 use Rattle.guarded_memory.proofs.Guarding.{stays}
-use Rattle.mmio_laws.specs.Stored.{write_read, if_claims, claimed_write, if_stored, stored_to, device_port, stores}
+use Rattle.mmio_laws.specs.Stored.{write_read, if_claims, claimed_write, if_stored, stored_to, stores}
+use Rattle.ide_types.specs.Ports.{device_port}
 use Rattle.mmio_laws.specs.Stored.{asked_zero, sets_to_zero}
 unfoldable use Rattle.mmio_laws.specs.Stored.{stored_since}
 use Rattle.mmio_laws.specs.Mmio.{IsStoredInRun, GuardsBytes}
@@ -246,7 +247,7 @@ by_stays xs t stream draw place bar offset w x happening enabled there guarded =
 
 -- ---- how the interface stands
 
-held_state : (s : TdiState) → Held s → is_locked_or_run (state_of s) ≡ true
+held_state : (s : TdiState) → Held s → is_locked_or_run (interface_state s) ≡ true
 held_state tdi.ConfigUnlocked (inl e) = absurd cc
 held_state tdi.ConfigUnlocked (inr e) = absurd cc
 held_state (tdi.ConfigLocked lock nonce) h = refl
@@ -254,7 +255,7 @@ held_state (tdi.Run lock) h = refl
 held_state tdi.Error (inl e) = absurd cc
 held_state tdi.Error (inr e) = absurd cc
 
-run_state : (s : TdiState) → is_in_run (state_of s) ≡ true → is_run s ≡ true
+run_state : (s : TdiState) → is_in_run (interface_state s) ≡ true → is_run s ≡ true
 run_state tdi.ConfigUnlocked e = absurd (true≢false (sym e))
 run_state (tdi.ConfigLocked lock nonce) e = absurd (true≢false (sym e))
 run_state (tdi.Run lock) e = refl
@@ -317,8 +318,8 @@ in_run : (plan : Plan) (h : History) (x : Site) (t : Bool) (stream draw : ℕ)
 in_run plan h x t stream draw is =
     let state = (tdi_at plan h x).state in
     let bound = option_map (λ s. (s, device_floor plan h x)) (bound_stream state) in
-    let parts = both t (is_in_run (state_of state) && is_on_bound stream draw bound) is in
-    let run = both (is_in_run (state_of state)) (is_on_bound stream draw bound) parts.1 in
+    let parts = both t (is_in_run (interface_state state) && is_on_bound stream draw bound) is in
+    let run = both (is_in_run (interface_state state)) (is_on_bound stream draw bound) parts.1 in
     let on = bound_by (bound_stream state) (device_floor plan h x) stream draw run.1 in
     record {
       trusted = parts.0;

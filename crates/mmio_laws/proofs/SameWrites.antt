@@ -22,7 +22,8 @@ use Rattle.guarded_memory.specs.declared.standing.Standing.{Standing}
 use Rattle.guarded_memory.specs.Standings.{has_open_range}
 use Rattle.guarded_memory.specs.Happenings.{Happened, InterfaceReset, AllReset, InterfaceStopped, clears, stored_write}
 use Rattle.guarded_memory.specs.Happenings.{writes_since, newest_happened}
-use Rattle.mmio_laws.specs.Stored.{stored_to, device_port, stores, asked_zero, sets_to_zero}
+use Rattle.mmio_laws.specs.Stored.{stored_to, stores, asked_zero, sets_to_zero}
+use Rattle.ide_types.specs.Ports.{device_port}
 unfoldable use Rattle.mmio_laws.specs.Stored.{stored_since}
 use Rattle.mmio_laws.proofs.Units.{unit_stores}
 use Rattle.link_events.specs.declared.event.Event.TheVariants as event

@@ -3,12 +3,14 @@ use Rattle.std.proofs.Common.{◌≡◌, ℕ, ◌==◌, ◌&&◌, ◌∷◌, ◌
 use Rattle.std.proofs.Common.{refl, sym, ap, ◌∙◌, inl, inr, arith}
 use Rattle.std.proofs.lemmas.Bool.{true≢false}
 use Rattle.std.proofs.lemmas.Bool.Decides.{nat_tests}
+use Rattle.std.specs.Prelude.{is_ok}
 use Rattle.ide_types.specs.declared.sub.SubKind.TheVariants.{Pr, Npr, Cpl}
 use Rattle.ide_types.specs.declared.port.Side.TheVariants.{Device}
 use Rattle.key_laws.specs.Keys.{Keys}
 use Rattle.key_laws.specs.Places.{KeyPlace, key_place_at}
 use Rattle.key_laws.specs.History.{History, touches, keys_there, has_key, has_all}
-use Rattle.key_laws.specs.History.{fails_there, status_by, draws, came}
+use Rattle.key_laws.specs.History.{fails_there, draws, came}
+use Rattle.ide_types.specs.Ports.{status_by}
 unfoldable use Rattle.key_laws.specs.History.{moments, failed_there, manager}
 use Rattle.link_history.specs.Terms.{Plan, Event, Verdict}
 use Rattle.link_history.specs.Cause.{CauseLaw}
@@ -19,7 +21,7 @@ use Rattle.interface_states.specs.Sites.{Site}
 use Rattle.interface_states.specs.Exchanges.{carries}
 unfoldable use Rattle.interface_states.specs.Devices.{devices}
 use Rattle.interface_states.specs.Devices.{Around, around_at, tdi_at, tdi_if_called, next_tdi, leaves, is_secure}
-use Rattle.interface_states.specs.Devices.{has_secure_stream, accepts_lock, is_given}
+use Rattle.interface_states.specs.Devices.{has_secure_stream, accepts_lock}
 use Rattle.interface_states.specs.Laws.{IsLocked}
 use Rattle.interface_states.proofs.Locks.{Made, next_made}
 use Rattle.tdi_state.specs.declared.states.Lock.{Lock}
@@ -70,14 +72,14 @@ not_failed tdi.Error (inr e) = absurd cc
 
 -- a lock is accepted only if the stream is Secure
 given_secure : (t : Tdi) (flags offset : ℕ) (secure : Bool) (drawn : Option (List ℕ))
-    → is_given (lock_answer t flags offset secure drawn) ≡ true → secure ≡ true
+    → is_ok (lock_answer t flags offset secure drawn) ≡ true → secure ≡ true
 given_secure t flags offset true drawn is = refl
 given_secure t flags offset false drawn is = grind arith
 
 accepts_secure : (a : Around) (x : Site) (e : Event) (w : Verdict) (t : Tdi) → accepts_lock a x e w t ≡ true
     → a.secure ≡ true
 accepts_secure a x (event.Interface (ie.Lock i loss)) w t is =
-    let given = is_given (lock_answer t x.plan.flags x.plan.offset a.secure a.drawn) in
+    let given = is_ok (lock_answer t x.plan.flags x.plan.offset a.secure a.drawn) in
     given_secure t x.plan.flags x.plan.offset a.secure a.drawn (both ((i == x.number) && carries w 3) given is).1
 accepts_secure a x e w t is = absurd (true≢false (sym is))
 

@@ -16,7 +16,7 @@ use Rattle.interface_states.specs.Views.{is_number, number_in}
 unfoldable use Rattle.interface_states.specs.Devices.{devices}
 use Rattle.interface_states.specs.Devices.{Around, around_at, tdi_at, tdi_if_called, next_tdi, leaves, is_run}
 use Rattle.interface_states.specs.Devices.{runs_at, has_secure_stream, lock_call}
-use Rattle.interface_states.specs.Floors.{greatest_on, posted_receiver, device_draw, floor_after}
+use Rattle.interface_states.specs.Floors.{greatest_on, posted_receiver, draw_at_device, floor_after}
 unfoldable use Rattle.interface_states.specs.Floors.{device_floor}
 use Rattle.tdi_state.specs.declared.states.TdiState.{TdiState}
 use Rattle.tdi_state.specs.declared.states.TdiState.TheVariants as tdi
@@ -182,7 +182,7 @@ floor_stays e x draw floor = refl
 
 floor_next : (plan : Plan) (h : History) (e : Event) (w : Verdict) (x : Site) (ran : Bool) → runs_at plan h x ≡ ran
     → runs_at plan ((e, w) ∷ h) x ≡ true
-    → device_floor plan ((e, w) ∷ h) x ≡ floor_after e x ran true (device_draw h x) (device_floor plan h x)
+    → device_floor plan ((e, w) ∷ h) x ≡ floor_after e x ran true (draw_at_device h x) (device_floor plan h x)
 unfolding device_floor
 floor_next plan h e w x ran before now = rw (before, now) refl
 
@@ -206,9 +206,9 @@ just_started : (plan : Plan) (h : History) (e : Event) (w : Verdict) (x : Site) 
     → IsStartedUnder plan ((e, w) ∷ h) x (device_floor plan ((e, w) ∷ h) x)
 unfolding devices
 just_started plan h e w x cause rests runs =
-    let it = starts_it (around_at plan h x) (leaves h e w x) e w x (tdi_at plan h x) (device_draw h x)
+    let it = starts_it (around_at plan h x) (leaves h e w x) e w x (tdi_at plan h x) (draw_at_device h x)
     (device_floor plan h x) rests runs in
-    let floor : device_draw h x ≡ device_floor plan ((e, w) ∷ h) x =
+    let floor : draw_at_device h x ≡ device_floor plan ((e, w) ∷ h) x =
     sym (floor_next plan h e w x false rests runs ∙ it.floor_is) in
     let on = secure_on h x (locked_secure plan h cause x it.held) in
     record {
@@ -230,7 +230,7 @@ keeps_floors plan [] cause i x at runs = absurd (true≢false (sym runs))
 keeps_floors plan ((e, w) ∷ h) cause i x at runs = elim (cases_Bool (runs_at plan h x)) [
   | inl ran ↦
       kept_on plan h e w x (device_floor plan ((e, w) ∷ h) x)
-      (sym (floor_next plan h e w x true ran runs ∙ floor_stays e x (device_draw h x) (device_floor plan h x)))
+      (sym (floor_next plan h e w x true ran runs ∙ floor_stays e x (draw_at_device h x) (device_floor plan h x)))
       (keeps_floors plan h cause.1 i x at ran)
   | inr rests ↦ just_started plan h e w x cause.1 rests runs
 ]

@@ -18,7 +18,8 @@ use Rattle.guarded_memory.specs.Claims.{claim_of}
 use Rattle.guarded_memory.specs.Causes.{mmio_cause, cause_effect, claim_effect, mmio_effect}
 use Rattle.guarded_memory.specs.Happenings.{Happened, writes_since, newest_happened}
 use Rattle.guarded_memory.specs.Stored.{stored_unless, stored_by_claim, stored_by}
-use Rattle.mmio_laws.specs.Stored.{write_read, if_claims, claimed_write, if_stored, stored_to, device_port}
+use Rattle.mmio_laws.specs.Stored.{write_read, if_claims, claimed_write, if_stored, stored_to}
+use Rattle.ide_types.specs.Ports.{device_port}
 
 -- ---- one packet
 

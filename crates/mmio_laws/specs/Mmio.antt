@@ -7,12 +7,13 @@ use Rattle.link_history.specs.Memory.{unit_ended}
 use Rattle.key_laws.specs.History.{draw_on_at}
 use Rattle.interface_states.specs.Sites.{Site, site_at}
 use Rattle.interface_states.specs.Devices.{tdi_at, runs_at}
-use Rattle.interface_states.specs.Floors.{posted_receiver, device_draw, device_floor}
+use Rattle.interface_states.specs.Floors.{posted_receiver, draw_at_device, device_floor}
 use Rattle.interface_states.specs.Laws.{IsLocked}
 use Rattle.tdi_state.specs.Machine.{bound_stream}
 use Rattle.trusted_memory.specs.Spans.{enables}
 use Rattle.guarded_memory.specs.Standings.{has_open_range}
-use Rattle.mmio_laws.specs.Stored.{device_port, stores, stored_byte}
+use Rattle.mmio_laws.specs.Stored.{stores, stored_byte}
+use Rattle.ide_types.specs.Ports.{device_port}
 use Rattle.link_events.specs.declared.event.Event.TheVariants as event
 use Rattle.link_events.specs.declared.event.AccessEvent.TheVariants as ae
 use Rattle.link_verdicts.specs.declared.verdict.Effect.TheVariants as effect
@@ -77,7 +78,7 @@ pub record IsStartedUnder (plan : Plan) (h : History) (x : Site) (floor : ℕ) :
   pub came : since ++ (event, verdict) ∷ older ≡ h
   pub rested : runs_at plan older x ≡ false
   pub runs : runs_at plan ((event, verdict) ∷ older) x ≡ true
-  pub greatest : device_draw older x ≡ floor
+  pub greatest : draw_at_device older x ≡ floor
   pub set : Bool
   pub on : draw_on_at older (posted_receiver x) set ≡ Some floor
 

@@ -1,8 +1,9 @@
 -- The writes that stand in the range of a BAR of an interface, by the effects in verdicts.
 use Rattle.std.specs.Prelude.{◌==◌, ◌&&◌, ◌∷◌, Bool, false, Err, List, None, Ok, Option, Result, Some, [], drop}
 use Rattle.std.specs.Prelude.{length, not, take, if◌then◌else◌, ℕ}
-use Rattle.link_history.specs.Terms.{PortName, Plan, Event, Effect, Verdict, Accepted, read_head_of, TlpFault}
-use Rattle.link_history.specs.Terms.{Packet, History, Device, Write, memory_write, newest_first, byte_after}
+use Rattle.ide_types.specs.Ports.{device_port}
+use Rattle.link_history.specs.Terms.{Plan, Event, Effect, Verdict, Accepted, read_head_of, TlpFault}
+use Rattle.link_history.specs.Terms.{Packet, History, Write, memory_write, newest_first, byte_after}
 use Rattle.link_history.specs.Plan.{is_same_port}
 use Rattle.link_history.specs.Memory.{unit_ended, plain_of}
 use Rattle.tlp_layout.specs.declared.head.HeadView.{HeadView}
@@ -50,9 +51,6 @@ stored_to xs place bar plain (e ∷ es) (p ∷ ps) =
 stored_to xs place bar plain _ _ = []
 
 -- ---- all pairs
-
-abbrev pub device_port : ℕ → PortName
-device_port link = record { side = Device; link = link }
 
 -- what a pair stores in the range of a BAR of an interface, packet by packet of the unit that it ends
 abbrev pub stores : Plan → History → Event → Verdict → Site → ℕ → List (Option Write)

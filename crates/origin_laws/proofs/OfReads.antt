@@ -18,7 +18,7 @@ use Rattle.tlp_layout.specs.declared.head.Fields.{Fields}
 use Rattle.tlp_layout.specs.declared.head.Fields.TheVariants.{Memory, Config, Message, Completion}
 use Rattle.tlp_layout.specs.declared.head.Routing.{Routing}
 use Rattle.association.specs.Outgoing.{Outgoing, NoTlp, OnNone, OnStream, stream_taken}
-use Rattle.link_history.proofs.Terms.{Access, WaitingRead, Site, site_with, granted_to, answer_due, answer_of}
+use Rattle.link_history.proofs.Terms.{Access, WaitingRead, Site, site_with, granted_to, answer_due, answer_from}
 use Rattle.link_history.proofs.Terms.{answer_by, answer_out, is_stream, is_before}
 use Rattle.link_history.specs.Due.{send_due, draw_of, first_that_holds, refusals}
 use Rattle.link_history.specs.Memory.{writes}
@@ -53,7 +53,7 @@ record Owned (plan : Plan) (h : History) (link : ℕ) (w : Verdict) (read : Wait
 
 owned_means : (plan : Plan) (h : History) (link : ℕ) (w : Verdict) (read : WaitingRead) (o : Option Site)
     → takes w ≡ true → site_with plan link read.read.requester ≡ o
-    → w ≡ answer_of plan h (sending_port (Access (ae.Answer link))) read.draw o (answer_out plan h link)
+    → w ≡ answer_from plan h (sending_port (Access (ae.Answer link))) read.draw o (answer_out plan h link)
     → Owned plan h link w read
 owned_means plan h link w read None take owns is = absurd (clash w v.Nothing take refl is)
 owned_means plan h link w read (Some x) take owns is = record { site = x; owns = owns; is = is }

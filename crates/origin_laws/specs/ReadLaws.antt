@@ -4,7 +4,7 @@ use Rattle.link_history.specs.Terms.{AllByRecursion, Host, Plan, Event, Access, 
 use Rattle.link_history.specs.Terms.{Packet, History, Tlp, read_of, byte_after, completion_bytes, WaitingRead}
 use Rattle.link_history.specs.History.{sent_bytes, got, received_in}
 use Rattle.link_history.specs.Memory.{queued, writes, unit_ended}
-use Rattle.link_history.specs.Sent.{taken}
+use Rattle.link_history.specs.Sent.{reads_taken}
 use Rattle.interface_states.specs.Sites.{Site, site_at}
 use Rattle.interface_states.specs.Terms.{Running}
 use Rattle.interface_states.specs.Views.{view_at, floor_at}
@@ -22,7 +22,7 @@ use Rattle.origin_laws.specs.Origin.{IsFrom}
 -- the link's last reset it is the one behind those that answers took.
 pub record IsOldest (plan : Plan) (h : History) (link : ℕ) : Type 0 where
   pub read : WaitingRead
-  pub oldest : slice_get (queued plan h link) (taken h link) ≡ Some read
+  pub oldest : slice_get (queued plan h link) (reads_taken h link) ≡ Some read
   pub interface : Site
   pub known : site_at plan interface.number ≡ Some interface
   pub link_is : interface.link ≡ link

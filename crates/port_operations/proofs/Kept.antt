@@ -1,6 +1,6 @@
 -- A send, an answer to a read or an arrival leaves the manager's operations and the draws.
 use Rattle.link_ports.specs.Machine.{Beside, port_at, sealing_draw_at, stepped_completion, stepped_reply}
-use Rattle.link_ports.specs.Replies.{Reply, is_below}
+use Rattle.link_ports.specs.Replies.{BoundCompletion}
 use Rattle.link_events.specs.declared.event.Event.TheVariants.{Access}
 use Rattle.link_events.specs.declared.event.AccessEvent.TheVariants as ae
 use Rattle.interface_words.specs.declared.verdict.InterfaceVerdict.TheVariants as iv
@@ -8,6 +8,7 @@ use Rattle.ide_types.specs.declared.port.Side.TheVariants.{Host}
 use Rattle.ide_types.specs.declared.sub.SubKind.TheVariants.{Cpl}
 use Rattle.port_operations.proofs.Terms.{◌≡◌, ℕ, Bool, true, false, List, Option, Some, None, Result, Ok, Err, refl}
 use Rattle.std.specs.Prelude.{unwrap_or}
+use Rattle.key_laws.specs.Keys.{is_below}
 use Rattle.port_operations.proofs.Terms.{arith, if◌then◌else◌, Alter, stepped_answer, Arrival, Arrive, stepped_arrival}
 use Rattle.port_operations.proofs.Terms.{Cut}
 use Rattle.port_operations.proofs.Terms.{Dump, Event, find, has_port, is_of_packets, LinkState, Pass, Plan, PortName}
@@ -54,7 +55,8 @@ send_kept plan beside st port (OnStream t stream) more trusted true =
     }) t (find plan st port stream)
 send_kept plan beside st port o more trusted false = (refl, refl)
 
-completed_kept : (plan : Plan) (beside : Beside) (st : LinkState) (port : PortName) (r : Reply) (draw : Option ℕ)
+completed_kept : (plan : Plan) (beside : Beside) (st : LinkState) (port : PortName) (r : BoundCompletion)
+    (draw : Option ℕ)
     → Kept st (stepped_completion plan beside st port r draw)
 completed_kept plan beside st port r draw = by (is_below draw r.floor)
   where
@@ -63,7 +65,7 @@ completed_kept plan beside st port r draw = by (is_below draw r.floor)
     by true = (refl, refl)
     by false = send_kept plan beside st port (outgoing_of (streams_of plan port.link) port.side r.bytes) false true true
 
-reply_kept : (plan : Plan) (beside : Beside) (st : LinkState) (port : PortName) (r : Result Reply Verdict)
+reply_kept : (plan : Plan) (beside : Beside) (st : LinkState) (port : PortName) (r : Result BoundCompletion Verdict)
     → Kept st (stepped_reply plan beside st port r)
 reply_kept plan beside st port (Err w) = (refl, refl)
 reply_kept plan beside st port (Ok r) =

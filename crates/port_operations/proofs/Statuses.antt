@@ -7,7 +7,6 @@ use Rattle.port_operations.proofs.Terms.{LinkState, Npr, out_keyed, Plan, port_a
 use Rattle.port_operations.proofs.Terms.{sealed_packets, Side, has_some_live, standing, standing_if_planned, status_at}
 use Rattle.port_operations.proofs.Terms.{status_by}
 use Rattle.port_operations.proofs.Terms.{status_of, status_if_planned, SubKind, tx_slots}
-use Rattle.stream_rules.specs.Slots.{status_by as slots_status}
 use Rattle.port_operations.proofs.SlotTouches.{live_in_is, live_out_is}
 
 -- ---- six tests
@@ -87,9 +86,6 @@ standing_failed : (plan : Plan) (h : History) (side : Side) (link stream : ℕ)
 unfolding standing
 standing_failed plan h side link stream = refl
 
-same_status : (failed some all : Bool) → slots_status failed some all ≡ status_by failed some all
-same_status failed some all = grind arith
-
 pub status_is : (plan : Plan) (st : LinkState) (h : History) → PortsStand plan st h → (side : Side) (link stream : ℕ)
     → has_stream plan (port_at side link) stream ≡ true → status_at plan st side link stream
     ≡ status_of h side link stream
@@ -97,7 +93,5 @@ status_is plan st h stands side link stream known =
     let here : standing_if_planned plan h (port_at side link) stream
     ≡ Some (standing plan h (port_at side link) stream) = rw known refl in
     ap status_if_planned (stands.streams (port_at side link) stream ∙ here)
-    ∙ ((λ i. slots_status (standing_failed plan h side link stream i) (some_is plan h side link stream i)
+    ∙ (λ i. status_by (standing_failed plan h side link stream i) (some_is plan h side link stream i)
     (all_is plan h side link stream i))
-    ∙ same_status (failed_there h side link stream) (has_key (keys_there h) side link stream)
-    (has_all (keys_there h) side link stream))

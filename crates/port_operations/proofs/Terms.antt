@@ -41,7 +41,8 @@ pub use Rattle.key_laws.proofs.Touches.{AllCome, Comes, Goes}
 pub use Rattle.key_laws.specs.Due.{PortView, establish_on, ports_at, refresh_on, stop_on}
 unfoldable pub use Rattle.key_laws.specs.Due.{key_due}
 pub use Rattle.key_laws.specs.History.{touches_after, draws as draws_made, has_all, has_key, keeps_live as keyed_there}
-pub use Rattle.key_laws.specs.History.{kept_draw, keys_there, on_it, op_of, status_by, status_of, touches}
+pub use Rattle.key_laws.specs.History.{kept_draw, keys_there, on_it, op_of, status_of, touches}
+pub use Rattle.ide_types.specs.Ports.{status_by}
 pub use Rattle.key_laws.specs.History.{worked}
 unfoldable pub use Rattle.key_laws.specs.History.{base, manager, moments}
 pub use Rattle.key_laws.specs.Keys.{Clear as ClearTouch, Go as GoTouch, Program as ProgramTouch, Stop as StopTouch}

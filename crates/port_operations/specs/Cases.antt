@@ -1,8 +1,7 @@
 -- Worked cases: operations among sends, by the definitions and by the machine.
 use Rattle.std.specs.Prelude.{◌≡◌, Some, None, ℕ, Bool, false, true, List, [], ◌∷◌, map, replicate, Err}
+use Rattle.ide_types.specs.Ports.{device_port}
 use Rattle.ide_types.specs.declared.sub.SubKind.TheVariants.{Pr}
-use Rattle.ide_types.specs.declared.port.Side.TheVariants.{Device}
-use Rattle.ide_types.specs.declared.port.PortName.{PortName}
 use Rattle.link_events.specs.declared.event.Lost.TheVariants.{Request, Reply}
 use Rattle.link_events.specs.declared.event.Event.{Event}
 use Rattle.link_events.specs.declared.event.Event.TheVariants.{Send, Establish, Refresh, Stop, Reset, Status}
@@ -40,14 +39,11 @@ abbrev pub write : List ℕ
 write =
     0x40 ∷ 0x00 ∷ 0x00 ∷ 0x01 ∷ 0x01 ∷ 0x00 ∷ 0x00 ∷ 0x0f ∷ 0x10 ∷ 0x00 ∷ 0x00 ∷ 0x00 ∷ 0x11 ∷ 0x22 ∷ 0x33 ∷ 0x44 ∷ []
 
-abbrev pub device : PortName
-device = record { side = Device; link = 0 }
-
 abbrev pub packet_of_port : ℕ → ℕ → ℕ → Bool → Bool → SealedPacket
 packet_of_port number draw unit m k =
     record {
       number = number;
-      port = device;
+      port = device_port 0;
       stream = 5;
       sub = Pr;
       draw = draw;
@@ -80,7 +76,8 @@ answers_on st (e ∷ es) = let r = step_of port_plan no_interfaces st e in r.0 �
 -- a refresh of a set whose unit is unfinished at the device is refused there, and goes on once the unit ended
 abbrev pub held_up : List Event
 held_up =
-    Establish 0 5 None ∷ Send device write true false ∷ Refresh 0 5 None ∷ Refresh 0 5 None ∷ Send device write false
+    Establish 0 5 None ∷ Send (device_port 0) write true false ∷ Refresh 0 5 None ∷ Refresh 0 5 None
+    ∷ Send (device_port 0) write false
     false ∷ Refresh 0 5 None ∷ []
 
 abbrev pub held_up_verdicts : List Verdict

@@ -13,8 +13,8 @@ use Rattle.std.specs.Prelude.{option_map}
 use Rattle.link_history.specs.History.{arrived_in, brought, altered, shortened, is_of}
 use Rattle.link_history.specs.Memory.{admitted_in, unit_ended}
 unfoldable use Rattle.link_history.specs.Memory.{writes}
-use Rattle.link_history.specs.Sent.{unit_in, reads_by}
-unfoldable use Rattle.link_history.specs.Sent.{held_in, writes_in, queued_in}
+use Rattle.link_history.specs.Sent.{unit_accepted, reads_by}
+unfoldable use Rattle.link_history.specs.Sent.{packets_held, writes_in, queued_in}
 use Rattle.ide_prefix.specs.Packet.{packet_bytes}
 use Rattle.link_verdicts.specs.declared.verdict.Verdict.TheVariants as v
 
@@ -72,8 +72,8 @@ arrived_same plan h e a xs is behind =
 -- ---- units
 
 pub held_same : (plan : Plan) (h : History) → CauseLaw plan h → (xs : SealedList) → IsBehind plan h xs
-    → (s : SubStream) (j n : ℕ) → held_in plan xs h s j n ≡ held plan h s j n
-unfolding held held_in
+    → (s : SubStream) (j n : ℕ) → packets_held plan xs h s j n ≡ held plan h s j n
+unfolding held packets_held
 held_same plan [] cause xs behind s j n = refl
 held_same plan ((e, Held port unit) ∷ h) cause xs behind s j n =
     let earlier = behind_earlier plan h e (Held port unit) xs behind in
@@ -86,7 +86,7 @@ held_same plan ((e, w) ∷ h) cause xs behind s j n = held_same plan h cause.1 x
 
 pub unit_same : (plan : Plan) (h : History) (e : Event) (port : PortName) (unit : UnitName) (effects : List Effect)
     → CauseLaw plan ((e, Accepted port unit effects) ∷ h) → (xs : SealedList) → IsBehind plan h xs
-    → unit_in plan xs h e port unit ≡ unit_ended plan h e port unit
+    → unit_accepted plan xs h e port unit ≡ unit_ended plan h e port unit
 unit_same plan h e port unit effects cause xs behind =
     let by = accepted_by plan h e port unit effects cause.0 in
     let before = held_same plan h cause.1 xs behind (received_in port unit) unit.draw unit.unit in
@@ -127,7 +127,7 @@ queued_same plan ((e, w) ∷ h) cause xs ys left right link = queued_same plan h
 -- by the packets that had been sealed when the pair was there
 pub unit_again : (plan : Plan) (h : History) (e : Event) (port : PortName) (unit : UnitName) (effects : List Effect)
     → CauseLaw plan ((e, Accepted port unit effects) ∷ h)
-    → unit_in plan (sealed_packets plan ((e, Accepted port unit effects) ∷ h)) h e port unit
+    → unit_accepted plan (sealed_packets plan ((e, Accepted port unit effects) ∷ h)) h e port unit
     ≡ unit_ended plan h e port unit
 unit_again plan h e port unit effects cause =
     let grown = packets_grow plan h e (Accepted port unit effects) in

@@ -17,14 +17,14 @@ use Rattle.link_history.proofs.Terms.{
 }
 use Rattle.link_history.proofs.Terms.{refl, ap, sym, ◌∙◌, if◌then◌else◌, append-nil, Plan, History, Verdict}
 use Rattle.link_history.proofs.Terms.{Sealed, CauseLaw, Access, WaitingRead, waiting, has_link, sending_port}
-use Rattle.link_history.proofs.Terms.{sealed_packets, sent_bytes, site_with, answer_due, answer_first, answer_of}
+use Rattle.link_history.proofs.Terms.{sealed_packets, sent_bytes, site_with, answer_due, answer_first, answer_from}
 use Rattle.link_history.proofs.Terms.{answer_out}
 unfoldable use Rattle.link_history.proofs.Terms.{bytes_by}
 use Rattle.std.specs.Option.{option_map_or}
 use Rattle.std.proofs.lemmas.Bool.{true≢false}
 use Rattle.link_history.specs.Terms.{Write}
 use Rattle.link_history.specs.Memory.{queued, writes}
-use Rattle.link_history.specs.Sent.{taken, writes_in}
+use Rattle.link_history.specs.Sent.{reads_taken, writes_in}
 use Rattle.trusted_memory.specs.Writes.{byte_after}
 use Rattle.waiting_reads.specs.Completions.{completion_bytes}
 use Rattle.link_events.specs.declared.event.AccessEvent.TheVariants as ae
@@ -51,8 +51,8 @@ clash w x a b is = true≢false (sym a ∙ ap takes is ∙ b)
 -- the read that it takes, and what it then comes to
 pub record First (plan : Plan) (h : History) (link : ℕ) (w : Verdict) : Type 0 where
   pub read : WaitingRead
-  pub oldest : slice_get (queued plan h link) (taken h link) ≡ Some read
-  pub is : w ≡ answer_of plan h (sending_port (Access (ae.Answer link))) read.draw
+  pub oldest : slice_get (queued plan h link) (reads_taken h link) ≡ Some read
+  pub is : w ≡ answer_from plan h (sending_port (Access (ae.Answer link))) read.draw
       (site_with plan link read.read.requester) (answer_out plan h link)
 
 pub first_means : (plan : Plan) (h : History) (link : ℕ) (w : Verdict) → takes w ≡ true → w ≡ answer_due plan h link
@@ -65,11 +65,11 @@ first_means plan h link w take is = by (has_link plan link) (waiting plan h link
     by false rs waits is = absurd (clash w v.Nothing take refl is)
     by true [] waits is = absurd (clash w (v.Access (av.Empty link)) take refl is)
     by true (r ∷ rs) waits is = record
-        { read = r; oldest = drop_first (taken h link) (queued plan h link) r rs waits; is = is }
+        { read = r; oldest = drop_first (reads_taken h link) (queued plan h link) r rs waits; is = is }
 
 -- the bytes that it seals: the completion, from what the writes so far left in memory
 pub bytes_are : (plan : Plan) (h : History) (link : ℕ) (read : WaitingRead) → CauseLaw plan h
-    → slice_get (queued plan h link) (taken h link) ≡ Some read
+    → slice_get (queued plan h link) (reads_taken h link) ≡ Some read
     → sent_bytes plan h (Access (ae.Answer link)) ≡ completion_bytes (byte_after (writes plan h)) read.read
 unfolding bytes_by
 bytes_are plan h link read cause oldest =

@@ -39,8 +39,8 @@ use Rattle.guarded_memory.specs.Claims.{claim_of}
 use Rattle.guarded_memory.specs.Causes.{mmio_cause, cause_effect, claim_effect, mmio_effect}
 use Rattle.link_history.specs.Memory.{Policy, policy_at, effect_by, effects_each, waiting_then, unit_grant, host_effect}
 use Rattle.link_history.specs.Memory.{device_effect, unit_ended, queued}
-unfoldable use Rattle.link_history.specs.Sent.{taken, queued_in}
-use Rattle.link_history.specs.Sent.{answers, unit_in, reads_by, read_in, read_under}
+unfoldable use Rattle.link_history.specs.Sent.{reads_taken, queued_in}
+use Rattle.link_history.specs.Sent.{is_answer_on, unit_accepted, reads_by, read_in, read_under}
 use Rattle.link_verdicts.specs.declared.verdict.BlockCause.{BlockCause}
 use Rattle.link_verdicts.specs.declared.verdict.BlockCause.TheVariants as blocks
 use Rattle.link_verdicts.specs.declared.verdict.Effect.TheVariants as effect
@@ -61,26 +61,26 @@ here_after plan h e w cause link =
 
 -- an answer that took a read found one
 found : (plan : Plan) (h : History) (e : Event) (w : Verdict) (link : ℕ) → CauseLaw plan ((e, w) ∷ h) → takes w ≡ true
-    → answers link e ≡ true → taken h link < length (queued plan h link)
+    → is_answer_on link e ≡ true → reads_taken h link < length (queued plan h link)
 unfolding due
 found plan h (Access (ae.Answer l)) w link cause take is =
     let same : l ≡ link = same_number l link is in
     let first = first_means plan h l w take cause.0 in
-    subst (λ (k : ℕ). taken h k < length (queued plan h k)) same
-    (at_front (queued plan h l) [] (taken h l) first.read first.oldest).1
+    subst (λ (k : ℕ). reads_taken h k < length (queued plan h k)) same
+    (at_front (queued plan h l) [] (reads_taken h l) first.read first.oldest).1
 found plan h e w link cause take is = absurd cc
 
 took_one : (plan : Plan) (h : History) (e : Event) (w : Verdict) (link n : ℕ) → CauseLaw plan ((e, w) ∷ h) → takes w
-    ≡ true → n ≡ length (queued plan h link) → taken h link ≤ length (queued plan h link)
-    → (if answers link e then taken h link + 1 else taken h link) ≤ n
-took_one plan h e w link n cause take same le = by (answers link e) refl
+    ≡ true → n ≡ length (queued plan h link) → reads_taken h link ≤ length (queued plan h link)
+    → (if is_answer_on link e then reads_taken h link + 1 else reads_taken h link) ≤ n
+took_one plan h e w link n cause take same le = by (is_answer_on link e) refl
   where
-    by : (b : Bool) → answers link e ≡ b → (if b then taken h link + 1 else taken h link) ≤ n
+    by : (b : Bool) → is_answer_on link e ≡ b → (if b then reads_taken h link + 1 else reads_taken h link) ≤ n
     by true is = let less = found plan h e w link cause take is in omega (arith, less, same)
     by false is = omega (arith, le, same)
 
 pub takes_first : (plan : Plan) (h : History) → CauseLaw plan h → TakesFirst plan h
-unfolding taken queued_in
+unfolding reads_taken queued_in
 takes_first plan [] cause link = omega arith
 takes_first plan ((e, Sealed ds) ∷ h) cause link =
     took_one plan h e (Sealed ds) link _ cause refl (ap length (here_after plan h e (Sealed ds) cause link))
@@ -97,18 +97,18 @@ takes_first plan ((e, Accepted port unit effects) ∷ h) cause link =
     xs : List (SealedPacket × Packet)
     xs = sealed_packets plan ((e, Accepted port unit effects) ∷ h)
 
-    by : (b : Bool) → taken h link ≤ length
+    by : (b : Bool) → reads_taken h link ≤ length
         (queued_in plan (sealed_packets plan ((e, Accepted port unit effects) ∷ h)) h link)
-        → taken h link ≤ length
+        → reads_taken h link ≤ length
         (if b then queued_in plan (sealed_packets plan ((e, Accepted port unit effects) ∷ h)) h link
         ++ reads_by unit.draw effects
-        (unit_in plan (sealed_packets plan ((e, Accepted port unit effects) ∷ h)) h e port unit)
+        (unit_accepted plan (sealed_packets plan ((e, Accepted port unit effects) ∷ h)) h e port unit)
         else queued_in plan (sealed_packets plan ((e, Accepted port unit effects) ∷ h)) h link)
     by true le = omega (
       arith,
       le,
       length-append (queued_in plan xs h link)
-          (reads_by unit.draw effects (unit_in plan xs h e port unit)),
+          (reads_by unit.draw effects (unit_accepted plan xs h e port unit)),
     )
     by false le = le
 takes_first plan ((Reset k, v.Reset l) ∷ h) cause link =
@@ -116,8 +116,9 @@ takes_first plan ((Reset k, v.Reset l) ∷ h) cause link =
     let same = ap length (here_after plan h (Reset k) (v.Reset l) cause link) in
     by (l == link) (omega (arith, le, same))
   where
-    by : (b : Bool) → taken h link ≤ length (queued_in plan (sealed_packets plan ((Reset k, v.Reset l) ∷ h)) h link)
-        → (if b then 0 else taken h link) ≤ length
+    by : (b : Bool) → reads_taken h link ≤ length
+        (queued_in plan (sealed_packets plan ((Reset k, v.Reset l) ∷ h)) h link)
+        → (if b then 0 else reads_taken h link) ≤ length
         (if b then [] else queued_in plan (sealed_packets plan ((Reset k, v.Reset l) ∷ h)) h link)
     by true le = omega arith
     by false le = le
@@ -256,28 +257,31 @@ unit_few plan h e port unit effects cause link same few =
     (reads_by unit.draw es (unit_ended plan h e port unit)) ≤ 64) (sym (effects_are ∙ at)) room
 
 -- so many wait at most
-few_more : (plan : Plan) (h : History) → CauseLaw plan h → (link : ℕ) → length (queued plan h link) ≤ taken h link + 64
-unfolding taken queued_in
+few_more : (plan : Plan) (h : History) → CauseLaw plan h → (link : ℕ)
+    → length (queued plan h link) ≤ reads_taken h link + 64
+unfolding reads_taken queued_in
 few_more plan [] cause link = omega arith
 few_more plan ((e, Sealed ds) ∷ h) cause link =
     let le = few_more plan h cause.1 link in
     let same = ap length (here_after plan h e (Sealed ds) cause link) in
-    by (answers link e) (omega (arith, le, same))
+    by (is_answer_on link e) (omega (arith, le, same))
   where
-    by : (b : Bool) → length (queued_in plan (sealed_packets plan ((e, Sealed ds) ∷ h)) h link) ≤ taken h link + 64
+    by : (b : Bool) → length (queued_in plan (sealed_packets plan ((e, Sealed ds) ∷ h)) h link) ≤ reads_taken h link +
+        64
         → length (queued_in plan (sealed_packets plan ((e, Sealed ds) ∷ h)) h link) ≤
-        (if b then taken h link + 1 else taken h link) + 64
+        (if b then reads_taken h link + 1 else reads_taken h link) + 64
     by true le = omega (arith, le)
     by false le = le
 few_more plan ((e, v.Access (av.Dropped i c)) ∷ h) cause link =
     let le = few_more plan h cause.1 link in
     let same = ap length (here_after plan h e (v.Access (av.Dropped i c)) cause link) in
-    by (answers link e) (omega (arith, le, same))
+    by (is_answer_on link e) (omega (arith, le, same))
   where
-    by : (b : Bool) → length (queued_in plan (sealed_packets plan ((e, v.Access (av.Dropped i c)) ∷ h)) h link) ≤ taken
+    by : (b : Bool) → length (queued_in plan (sealed_packets plan ((e, v.Access (av.Dropped i c)) ∷ h)) h link) ≤
+        reads_taken
         h link + 64
         → length (queued_in plan (sealed_packets plan ((e, v.Access (av.Dropped i c)) ∷ h)) h link) ≤
-        (if b then taken h link + 1 else taken h link) + 64
+        (if b then reads_taken h link + 1 else reads_taken h link) + 64
     by true le = omega (arith, le)
     by false le = le
 few_more plan ((Reset k, v.Reset l) ∷ h) cause link =
@@ -285,10 +289,11 @@ few_more plan ((Reset k, v.Reset l) ∷ h) cause link =
     let same = ap length (here_after plan h (Reset k) (v.Reset l) cause link) in
     by (l == link) (omega (arith, le, same))
   where
-    by : (b : Bool) → length (queued_in plan (sealed_packets plan ((Reset k, v.Reset l) ∷ h)) h link) ≤ taken h link +
+    by : (b : Bool) → length (queued_in plan (sealed_packets plan ((Reset k, v.Reset l) ∷ h)) h link) ≤ reads_taken h
+        link +
         64
         → length (if b then [] else queued_in plan (sealed_packets plan ((Reset k, v.Reset l) ∷ h)) h link) ≤
-        (if b then 0 else taken h link) + 64
+        (if b then 0 else reads_taken h link) + 64
     by true le = omega arith
     by false le = le
 few_more plan ((e, Accepted port unit effects) ∷ h) cause link =
@@ -303,16 +308,17 @@ few_more plan ((e, Accepted port unit effects) ∷ h) cause link =
     behind = let grown = packets_grow plan h e (Accepted port unit effects) in (grown.0, grown.1)
 
     by : (b : Bool) → (port.link == link) ≡ b → length
-        (queued_in plan (sealed_packets plan ((e, Accepted port unit effects) ∷ h)) h link) ≤ taken h link + 64
-        → length (queued plan h link) ≤ taken h link + 64
+        (queued_in plan (sealed_packets plan ((e, Accepted port unit effects) ∷ h)) h link) ≤ reads_taken h link + 64
+        → length (queued plan h link) ≤ reads_taken h link + 64
         → length (queued_in plan (sealed_packets plan ((e, Accepted port unit effects) ∷ h)) h link)
         ≡ length (queued plan h link)
         → length (if b then queued_in plan (sealed_packets plan ((e, Accepted port unit effects) ∷ h)) h link
         ++ reads_by unit.draw effects
-        (unit_in plan (sealed_packets plan ((e, Accepted port unit effects) ∷ h)) h e port unit)
-        else queued_in plan (sealed_packets plan ((e, Accepted port unit effects) ∷ h)) h link) ≤ taken h link + 64
+        (unit_accepted plan (sealed_packets plan ((e, Accepted port unit effects) ∷ h)) h e port unit)
+        else queued_in plan (sealed_packets plan ((e, Accepted port unit effects) ∷ h)) h link) ≤ reads_taken h link +
+        64
     by true here le few same =
-        let drops = length-drop (taken h link) (queued plan h link) in
+        let drops = length-drop (reads_taken h link) (queued plan h link) in
         let first = takes_first plan h cause.1 link in
         let room = unit_few plan h e port unit effects cause link (same_number port.link link here)
         (omega (arith, drops, few)) in
@@ -326,7 +332,7 @@ few_more plan ((e, Accepted port unit effects) ∷ h) cause link =
           drops,
           first,
           length-append (queued_in plan xs h link)
-              (reads_by unit.draw effects (unit_in plan xs h e port unit)),
+              (reads_by unit.draw effects (unit_accepted plan xs h e port unit)),
         )
     by false here le few same = le
 few_more plan ((e, w) ∷ h) cause link =
@@ -336,7 +342,7 @@ few_more plan ((e, w) ∷ h) cause link =
 
 few_wait : (plan : Plan) (h : History) → CauseLaw plan h → FewWait plan h
 few_wait plan h cause link =
-    let le = few_more plan h cause link in omega (arith, le, length-drop (taken h link) (queued plan h link))
+    let le = few_more plan h cause link in omega (arith, le, length-drop (reads_taken h link) (queued plan h link))
 
 pub reads_in_order : ReadsInOrder
 reads_in_order plan h cause = (takes_first plan h cause, few_wait plan h cause)

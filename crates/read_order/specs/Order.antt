@@ -4,11 +4,11 @@ use Rattle.ide_plan.specs.declared.plan.Plan.{Plan}
 use Rattle.key_laws.specs.History.{History}
 use Rattle.link_history.specs.Cause.{CauseLaw}
 use Rattle.link_history.specs.Memory.{queued, waiting}
-use Rattle.link_history.specs.Sent.{taken}
+use Rattle.link_history.specs.Sent.{reads_taken}
 
 -- what answers took since a link's last reset are the first of the reads that were queued there since then
 abbrev pub TakesFirst : Plan → History → Type 0
-TakesFirst plan h = (link : ℕ) → taken h link ≤ length (queued plan h link)
+TakesFirst plan h = (link : ℕ) → reads_taken h link ≤ length (queued plan h link)
 
 -- no more wait than may
 abbrev pub FewWait : Plan → History → Type 0

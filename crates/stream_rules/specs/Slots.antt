@@ -1,6 +1,7 @@
 -- What keys do to slots: a key is put in, gets GO, or is taken out; and what all slots of a stream come to.
 use Rattle.std.specs.Prelude.{ℕ, Bool, true, false, ◌&&◌, ◌||◌, nat_lt, [], length, if◌then◌else◌}
 use Rattle.std.specs.Prelude.{Option, Some, None, option_map}
+use Rattle.ide_types.specs.Ports.{status_by}
 use Rattle.ide_types.specs.declared.sub.SubKind.{SubKind}
 use Rattle.ide_types.specs.declared.status.StreamStatus.{StreamStatus}
 use Rattle.ide_types.specs.declared.status.StreamStatus.TheVariants as status
@@ -110,13 +111,6 @@ abbrev pub has_some_live : StreamState → Bool
 has_some_live st =
     any_live st.tx.pr.slots || any_live st.tx.npr.slots || any_live st.tx.cpl.slots
     || any_live st.rx.pr.slots || any_live st.rx.npr.slots || any_live st.rx.cpl.slots
-
--- failed; or keyed throughout, in part, or not at all
-abbrev pub status_by : Bool → Bool → Bool → StreamStatus
-status_by true some all = status.Insecure
-status_by false some true = status.Secure
-status_by false true false = status.Partial
-status_by false false false = status.Idle
 
 abbrev pub stream_status : StreamState → StreamStatus
 stream_status st = status_by st.failed (has_some_live st) (has_all_live st)

@@ -7,6 +7,7 @@ use Rattle.ide_types.specs.declared.sub.SubKind.TheVariants.{Pr, Npr, Cpl}
 use Rattle.ide_types.specs.declared.sub.FailCause.{FailCause}
 use Rattle.ide_types.specs.declared.sub.FailCause.TheVariants as fail
 use Rattle.link_verdicts.specs.declared.verdict.SealedPacket.{SealedPacket}
+use Rattle.link_verdicts.specs.declared.verdict.UnitName.{UnitName}
 use Rattle.gcm_seal.specs.Gcm.{masked, tag_of, verifies}
 use Rattle.ide_prefix.specs.Packet.{Packet, sync_head}
 use Rattle.ide_prefix.specs.Iv.{iv_of}
@@ -183,6 +184,10 @@ sealed_all closed head payload (d ∷ ds) tx =
     (one.0 ∷ rest.0, rest.1)
 
 -- ---- arrivals
+
+-- the unit of this number and draw that a packet goes on with or ends
+abbrev pub unit_name : Packet → ℕ → ℕ → UnitName
+unit_name p draw unit = record { stream = p.prefix.stream; sub = p.prefix.sub; draw = draw; unit = unit }
 
 -- what becomes of an arrival: of a held packet the draw and the unit, of an accepted one its packets too
 pub data Taken : Type 0 where

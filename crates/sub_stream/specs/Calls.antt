@@ -16,7 +16,8 @@ use Rattle.stream_rules.specs.Stream.{
   StreamState,
 }
 use Rattle.stream_rules.specs.Slots.{both_slots, begun, slot_gone, woken_slot, rested_stream}
-pub use Rattle.stream_rules.specs.Slots.{slots_at, no_stream, has_all_live, has_some_live, status_by, stream_status}
+pub use Rattle.stream_rules.specs.Slots.{slots_at, no_stream, has_all_live, has_some_live, stream_status}
+pub use Rattle.ide_types.specs.Ports.{status_by}
 
 -- whether a port of this side sends in the direction: 0 is from the host to the device
 abbrev pub sends_in : Side → ℕ → Bool

@@ -1,7 +1,7 @@
 -- What an answer makes of the interfaces.
 use Rattle.std.proofs.Common.{◌≡◌, ℕ, suc, zero, ◌<◌, Bool, true, false, List, [], ◌∷◌, ◌++◌, length, get_or, Option}
 use Rattle.std.proofs.Common.{Some, None, refl, ap, sym, ◌∙◌, arith}
-use Rattle.std.specs.Prelude.{slice_set, slice_get, IsSome, IfSome}
+use Rattle.std.specs.Prelude.{slice_set, slice_get, IsSome, IfSome, is_ok}
 use Rattle.tdisp_codec.specs.declared.request.RequestView.{RequestView}
 use Rattle.tdisp_codec.specs.declared.request.RequestView.TheVariants.{GetVersion, GetCapabilities, LockInterface}
 use Rattle.tdisp_codec.specs.declared.request.RequestView.TheVariants.{GetDeviceInterfaceReport}
@@ -9,11 +9,11 @@ use Rattle.tdisp_codec.specs.declared.request.RequestView.TheVariants.{GetDevice
 use Rattle.tdisp_codec.specs.declared.request.RequestView.TheVariants.{StopInterface}
 use Rattle.tdisp_codec.specs.Replies.{reply_spelling}
 use Rattle.tdi_state.specs.Machine.{Tdi, lock_answer}
-use Rattle.tdi_device.specs.Replies.{DeviceTdis, next_nonce, tdi_call, tdi_called, tdi_reply, is_given, takes_nonce}
+use Rattle.tdi_device.specs.Replies.{DeviceTdis, next_nonce, tdi_call, tdi_called, tdi_reply, takes_nonce}
 use Rattle.tdi_device.specs.Replies.{used_after, asked_at}
 
 -- a lock that is accepted had a nonce
-given_some : (tdi : Tdi) (flags offset : ℕ) (secure : Bool) → is_given (lock_answer tdi flags offset secure None)
+given_some : (tdi : Tdi) (flags offset : ℕ) (secure : Bool) → is_ok (lock_answer tdi flags offset secure None)
     ≡ false
 given_some tdi flags offset secure = grind arith
 

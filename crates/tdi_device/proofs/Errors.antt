@@ -1,7 +1,7 @@
 -- An ERROR changes nothing.
 use Rattle.std.proofs.Common.{◌≡◌, ℕ, suc, zero, Bool, true, false, List, [], ◌∷◌, Option, Some, None, Result, Ok, Err}
 use Rattle.std.proofs.Common.{refl, ap, subst, ◌∙◌}
-use Rattle.std.specs.Prelude.{slice_get, slice_set, if◌then◌else◌}
+use Rattle.std.specs.Prelude.{slice_get, slice_set, if◌then◌else◌, is_ok}
 use Rattle.std.specs.Str.{bytes_eq}
 use Rattle.tdisp_codec.specs.declared.request.RequestView.{RequestView}
 use Rattle.tdisp_codec.specs.declared.request.RequestView.TheVariants.{GetVersion, GetCapabilities, LockInterface}
@@ -16,9 +16,8 @@ use Rattle.tdi_state.specs.declared.states.TdiState.TheVariants.{ConfigUnlocked,
 use Rattle.tdi_state.specs.Machine.{Tdi, with_state, new_lock, locked_with, lock_answer, start_answer, after_start}
 use Rattle.tdi_device.specs.Replies.{DeviceTdis, NamedTdi, named_tdi, named_tdi_in, named_tdi_at, tdi_place, next_nonce}
 use Rattle.tdi_device.specs.Replies.{tdi_call}
-use Rattle.tdi_device.specs.Replies.{tdi_called, lock_reply, start_reply, tdi_reply, takes_nonce, is_given, used_after}
-use Rattle.tdi_device.specs.Replies.{asked_at, tdis_asked_by, asked_tdis, reply_by, reply_to, request_checked, answered}
-use Rattle.tdi_device.specs.Replies.{tdi_answer}
+use Rattle.tdi_device.specs.Replies.{tdi_called, lock_reply, start_reply, tdi_reply, takes_nonce, used_after}
+use Rattle.tdi_device.specs.Replies.{tdis_asked_by, reply_by, request_checked}
 use Rattle.tdi_device.specs.Laws.{ErrorsChangeNothing}
 
 -- ---- the interface that is meant
@@ -54,7 +53,7 @@ lock_same : (tdi : Tdi) (function flags stream offset mask f code value : ℕ) (
 lock_same tdi function flags stream offset mask f code value secure drawn (Ok nonce) is e = absurd cc
 lock_same tdi function flags stream offset mask f code value secure drawn (Err c) is e = record {
   same = ap (locked_with tdi (new_lock tdi flags stream offset)) is;
-  kept = ap is_given is;
+  kept = ap is_ok is;
 }
 
 start_by : (tdi : Tdi) (function f code value : ℕ) (nonce : List ℕ) (secure : Bool) (drawn : Option (List ℕ))

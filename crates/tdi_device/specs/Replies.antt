@@ -2,7 +2,7 @@
 -- profile).
 use Rattle.std.specs.Prelude.{ℕ, ◌≡◌, ◌≤◌, ◌+◌, ◌/◌, ◌%◌, ◌^◌, ◌==◌, ◌&&◌, nat_lt, Bool, true, false, not, List, []}
 use Rattle.std.specs.Prelude.{◌∷◌, length, map, replicate, position, is_some, slice_get, slice_set, Option, Some, None}
-use Rattle.std.specs.Prelude.{Result, Ok, Err, if◌then◌else◌}
+use Rattle.std.specs.Prelude.{Result, Ok, Err, if◌then◌else◌, is_ok}
 use Rattle.std.specs.Option.{unwrap_or}
 use Rattle.ide_plan.specs.declared.interface.InterfacePlan.{InterfacePlan}
 use Rattle.tdisp_codec.specs.declared.fault.TdispFault.{TdispFault}
@@ -134,14 +134,10 @@ IsShortReply r = Unit {0}
 
 -- ---- a request that is read
 
-abbrev pub is_given : Result (List ℕ) ℕ → Bool
-is_given (Ok nonce) = true
-is_given (Err code) = false
-
 -- a lock that is accepted takes the nonce
 abbrev pub takes_nonce : Tdi → RequestView → Bool → Option (List ℕ) → Bool
 takes_nonce tdi (LockInterface function flags stream offset mask) secure drawn =
-    is_given (lock_answer tdi flags offset secure drawn)
+    is_ok (lock_answer tdi flags offset secure drawn)
 takes_nonce tdi request secure drawn = false
 
 abbrev pub used_after : Bool → ℕ → ℕ

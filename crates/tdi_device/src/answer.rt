@@ -2,21 +2,11 @@
 
 ghost use Rattle.std.specs.Prelude.{◌≡◌, ◌+◌, ◌≤◌, ◌++◌, true, IsSome, vec_len, vec_capacity};
 ghost use Rattle.tdisp_codec.specs.Replies.{reply_spelling};
-ghost use Rattle.tdi_device.specs.Replies.{tdi_call, tdi_called, tdi_reply, is_given, takes_nonce};
+ghost use Rattle.tdi_device.specs.Replies.{tdi_call, tdi_called, tdi_reply, takes_nonce};
 
 use crate::replies::{append, append_versions, capabilities, locked, reported, started};
 use tdi_state::Interface;
 use tdisp_codec::{ReplyView, RequestView};
-
-// Whether a lock was accepted.
-fn is_given(answer: Result<[u8; 32], u32>) -> bool
-    ensures { result ≡ is_given answer }
-{
-    match answer {
-        Ok(_) => true,
-        Err(_) => false,
-    }
-}
 
 /// Answers a request to an interface, for which `nonce` is the next of the device's list, and says whether it was
 /// given. `secure` says that the stream which a LOCK_INTERFACE names is known and Secure at the device's port.
@@ -52,7 +42,7 @@ pub(crate) fn answer_one(
         } => {
             let answer = interface.lock(flags, stream, offset, secure, nonce.as_ref());
             append(&locked(function, answer), reply);
-            is_given(answer)
+            answer.is_ok()
         }
         RequestView::GetDeviceInterfaceReport {
             function,

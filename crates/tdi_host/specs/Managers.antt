@@ -134,5 +134,5 @@ granted m link requester = granted_at m.interfaces (position (is_granted link re
 -- ---- names
 
 -- the number of the interface of the link with this requester ID
-abbrev pub number_of : InterfaceManagerView → ℕ → ℕ → Option ℕ
-number_of m link requester = position (is_requester link requester) m.interfaces
+abbrev pub interface_of_requester : InterfaceManagerView → ℕ → ℕ → Option ℕ
+interface_of_requester m link requester = position (is_requester link requester) m.interfaces

@@ -126,7 +126,7 @@ impl Interfaces {
       stream_keyed,
       reset_interface_manager,
       granted,
-      number_of,
+      interface_of_requester,
     };
 
     /// A manager of the interfaces of these links, up to 8 links; no interface is locked. It asks for a report in
@@ -191,7 +191,7 @@ impl Interfaces {
 
     /// The number of the interface of this link with this requester ID; `None` if there is none.
     pub fn number(&self, link: u8, requester: u16) -> Option<usize>
-        ensures { result ≡ number_of self.now link requester }
+        ensures { result ≡ interface_of_requester self.now link requester }
     {
         self.interfaces
             .iter()

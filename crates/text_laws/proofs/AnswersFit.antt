@@ -25,7 +25,7 @@ use Rattle.link_history.specs.Plan.{has_link, lane_out, streams_of}
 use Rattle.link_history.specs.History.{KeyName, live_key, sent_bytes, sending_port}
 use Rattle.link_history.specs.Memory.{waiting}
 use Rattle.link_history.specs.Cause.{CauseLaw}
-use Rattle.link_history.specs.Due.{send_due, is_stream, is_before, draw_of, answer_first, answer_of, answer_by}
+use Rattle.link_history.specs.Due.{send_due, is_stream, is_before, draw_of, answer_first, answer_from, answer_by}
 use Rattle.link_history.specs.Due.{answer_out, answer_due, no_key}
 use Rattle.text_laws.proofs.SendsFit.{on_stream_fits, live_few, port_fits}
 use Rattle.text_laws.proofs.SitesFit.{SiteFits, found_site_fits}
@@ -78,7 +78,7 @@ by_fits plan fits h cause few port bytes x site draw (Some b) is out comes =
 of_fits : (plan : Plan) → FitsPlan plan → (h : History) → CauseLaw plan h → length h < 2 ^ 28
     → (port : PortName) (bytes : List ℕ) (draw : ℕ) (o : Option Site) → ((x : Site) → o ≡ Some x → SiteFits x)
     → (out : Outgoing) → outgoing_of (streams_of plan port.link) port.side bytes ≡ out
-    → Fits (answer_of plan h port draw o out)
+    → Fits (answer_from plan h port draw o out)
 of_fits plan fits h cause few port bytes draw None site out comes = tt
 of_fits plan fits h cause few port bytes draw (Some x) site out comes =
     by_fits plan fits h cause few port bytes x (site x refl) draw (granted_to h (Some x)) refl out comes

@@ -9,7 +9,8 @@ use Rattle.std.specs.List.{All, list_any}
 use Rattle.std.proofs.lemmas.List.Elements.{All-nil, All-cons, All-append, All-from_recursion}
 use Rattle.std.proofs.lemmas.Bool.{true≢false, and_parts, and_from, le-leb, eqb-true, ltb-true, ltb-false, lt-ltb}
 use Rattle.std.proofs.lemmas.Bool.Decides.{nat_tests}
-use Rattle.toml_walk.specs.Shown.{is_bare, is_bare_byte, is_quoted_byte, is_printable, upper_digit, four_digits}
+use Rattle.toml_walk.specs.Shown.{is_bare, is_bare_byte, is_quoted_byte, upper_digit, four_digits}
+use Rattle.ide_types.specs.Names.{is_printable}
 use Rattle.toml_walk.specs.Shown.{numbered_escape, shown_char, quoted, spelled_key}
 
 -- ---- a reader of what is shown of characters

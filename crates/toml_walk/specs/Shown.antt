@@ -3,6 +3,7 @@ use Rattle.std.specs.Prelude.{ℕ, ◌+◌, ◌/◌, ◌%◌, ◌==◌, ◌&&◌
 use Rattle.std.specs.Prelude.{length, flat_map, if◌then◌else◌, codes}
 use Rattle.std.specs.List.{list_any}
 use Rattle.std.specs.Str.{chars}
+use Rattle.ide_types.specs.Names.{is_printable}
 
 -- a letter, a digit, '_' or '-'
 abbrev pub is_bare_byte : ℕ → Bool
@@ -31,9 +32,6 @@ abbrev pub numbered_escape : ℕ → List ℕ
 numbered_escape c =
     if nat_lt c 65536 then codes "\\u" ++ four_digits c
     else codes "\\U" ++ four_digits (c / 65536) ++ four_digits c
-
-abbrev pub is_printable : ℕ → Bool
-is_printable c = nat_le 32 c && nat_le c 126
 
 -- a character of a basic string: an escape of its own, itself if it is printable ASCII, or by its number (TOML 1.0,
 -- strings)

@@ -2,7 +2,8 @@
 
 ghost use Rattle.std.specs.Prelude.{◌≡◌, All, List, Some, true, ℕ};
 ghost use Rattle.std.specs.Str.{IsUtf8};
-ghost use Rattle.toml_walk.specs.Shown.{is_printable, spelled_key};
+ghost use Rattle.toml_walk.specs.Shown.{spelled_key};
+ghost use Rattle.ide_types.specs.Names.{is_printable};
 ghost use Rattle.toml_walk.specs.Walk.{Text, unknown_in, Ascend, IsLeastUnknown};
 
 /// The unknown key that is refused is the least in byte order, since the keys of a table ascend.

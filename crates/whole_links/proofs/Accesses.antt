@@ -15,7 +15,7 @@ use Rattle.accesses.specs.declared.link.LinkAccesses.{LinkAccesses}
 use Rattle.whole_machine.specs.Accesses.{waiting_reads_after}
 use Rattle.all_links.specs.declared.links.Links.{Links}
 use Rattle.all_links.specs.Interfaces.{interface_named}
-use Rattle.all_links.specs.Accesses.{is_sending, device_draw, AreLeftBy, bytes_at, AccessesTurn, same_reads}
+use Rattle.all_links.specs.Accesses.{is_sending, device_draw, AreLeftBy, mmio_at, AccessesTurn, same_reads}
 use Rattle.all_links.specs.Accesses.{same_floors, nothing_happens}
 use Rattle.std.specs.Prelude.{IfSome, IfOk, Result, Ok, Err}
 use Rattle.ide_types.specs.declared.memory.Memory.{Memory}
@@ -42,7 +42,7 @@ rests_all reads floors happening xs rests = record {
   floors = λ k. sym ((rests k).floors_rest _);
   sizes = λ k. refl;
   bytes = λ k older left.
-      subst (λ (hs : List Happened). AreLeftBy (bytes_at xs k) hs) (sym ((rests k).nothing older)) left;
+      subst (λ (hs : List Happened). AreLeftBy (mmio_at xs k) hs) (sym ((rests k).nothing older)) left;
 }
 
 -- ---- answers to reads

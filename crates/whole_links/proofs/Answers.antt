@@ -5,6 +5,7 @@ use Rattle.std.proofs.lemmas.Bool.Decides.{nat_tests}
 use Rattle.std.specs.Prelude.{Option, Some, None, Result, Ok, Err, unwrap_or, slice_get, nat_lt, if◌then◌else◌}
 use Rattle.std.specs.Option.{option_map, option_map_or, option_and_then}
 use Rattle.std.proofs.lemmas.Option.{none-some, slice_get_within}
+use Rattle.key_laws.specs.Keys.{is_below}
 use Rattle.ide_types.specs.declared.memory.Memory.{Memory}
 use Rattle.ide_types.specs.declared.port.Side.TheVariants.{Host}
 use Rattle.ide_types.specs.declared.sub.SubKind.{SubKind}
@@ -20,7 +21,7 @@ use Rattle.association.specs.Outgoing.{outgoing_of}
 use Rattle.link_history.specs.Plan.{streams_of}
 use Rattle.stream_rules.specs.Stream.{StreamState, at_sub}
 use Rattle.stream_rules.specs.Slots.{sealing_draw}
-use Rattle.link_ports.specs.Replies.{Reply, is_below}
+use Rattle.link_ports.specs.Replies.{BoundCompletion}
 use Rattle.link_ports.specs.Machine.{Beside, LinkState, Stepped, port_at, sealing_draw_at, stepped_completion}
 use Rattle.link_ports.specs.Machine.{stepped_reply, stepped_send}
 unfoldable use Rattle.link_ports.specs.Machine.{find, step_of}
@@ -31,24 +32,25 @@ use Rattle.all_ends.proofs.Finds.{find_at, port_is}
 use Rattle.all_links.specs.declared.links.Links.{Links}
 use Rattle.all_links.specs.States.{links_state}
 use Rattle.all_links.specs.Links.{Ends, EndsIf, EndsWith, EndsOr}
-use Rattle.all_links.specs.Accesses.{reads_at, sizes_at, bytes_at}
+use Rattle.all_links.specs.Accesses.{reads_at, sizes_at, mmio_at}
 use Rattle.trusted_memory.specs.{bytes_from}
 use Rattle.guarded_memory.specs.Contents.{has_bytes}
 use Rattle.all_links.specs.Besides.{beside_in}
 use Rattle.all_links.proofs.Finds.{nothing_changes}
 use Rattle.all_links.proofs.Sends.{given}
 use Rattle.whole_links.specs.declared.whole.WholeLinks.{WholeLinks}
-use Rattle.whole_links.specs.Besides.{reply_at_ends, reply_in, draw_below, shown_in, place_of}
+use Rattle.whole_links.specs.Besides.{reply_at_ends, reply_on, draw_below, shown_in, place_named}
 use Rattle.whole_links.specs.Besides.{has_shown, bytes_shown}
 use Rattle.whole_links.specs.Whole.{IsBoundedWhole, WholeEnds, WholeEndsOr}
 use Rattle.whole_links.proofs.Ends.{ends_if, stays_with}
 
 -- ---- the machine's step
 
-answer_step : (plan : Plan) (b : Beside) (st : LinkState) (link : ℕ) (o : Result Reply Verdict) → b.reply link ≡ o
-    → step_of plan b st (Access (ae.Answer link)) ≡ stepped_reply plan b st (port_at Host link) o
+answer_step : (plan : Plan) (b : Beside) (st : LinkState) (link : ℕ) (o : Result BoundCompletion Verdict)
+    → b.reply link ≡ o → step_of plan b st (Access (ae.Answer link)) ≡ stepped_reply plan b st (port_at Host link) o
 unfolding step_of
-answer_step plan b st link o is = ap (λ (r : Result Reply Verdict). stepped_reply plan b st (port_at Host link) r) is
+answer_step plan b st link o is =
+    ap (λ (r : Result BoundCompletion Verdict). stepped_reply plan b st (port_at Host link) r) is
 
 -- the draw that the host's port seals completions under
 found_at : (x : StreamState) (u : SubKind) → sealing_draw_at u (Some x) ≡ sealing_draw (at_sub x.tx u).slots
@@ -74,7 +76,7 @@ draw_same s plan link l stream links is =
 
 -- ---- a verdict ahead of the ports
 
-pub answer_only : {verdict w : Verdict} {old new : WholeLinks} (link : ℕ) → reply_in old link ≡ Err w → verdict ≡ w
+pub answer_only : {verdict w : Verdict} {old new : WholeLinks} (link : ℕ) → reply_on old link ≡ Err w → verdict ≡ w
     → new.links ≡ record old.links { steps = old.links.steps + 1 } → new.accesses ≡ old.accesses → IsBoundedWhole old
     → WholeEnds verdict old new (Access (ae.Answer link))
 answer_only {verdict} {w} {old} {new} link due says is same bounded =
@@ -94,7 +96,7 @@ not_below : (o : Option ℕ) (floor : ℕ) → draw_below o floor ≡ None → i
 not_below None floor is = refl
 not_below (Some d) floor is = grind arith
 
-module _ (plan : Plan) (b : Beside) (st : LinkState) (link : ℕ) (r : Reply) (o : Option ℕ) where
+module _ (plan : Plan) (b : Beside) (st : LinkState) (link : ℕ) (r : BoundCompletion) (o : Option ℕ) where
   abbrev sends : Stepped
   sends = stepped_send plan b st (port_at Host link) (outgoing_of (streams_of plan link) Host r.bytes) false true
 
@@ -109,8 +111,8 @@ module _ (plan : Plan) (b : Beside) (st : LinkState) (link : ℕ) (r : Reply) (o
       let none : is_below o r.floor ≡ false = not_below o r.floor below in
       (λ i. if none i then (v.Interface (iv.RefusedRefreshFirst (unwrap_or o 0) r.floor), st) else sends)
 
-pub answer_older : {verdict : Verdict} {old new : WholeLinks} (link : ℕ) (r : Reply) (l : LinkEnds) (draw : ℕ)
-    → reply_in old link ≡ Ok r → slice_get old.links.ends link ≡ Some l
+pub answer_older : {verdict : Verdict} {old new : WholeLinks} (link : ℕ) (r : BoundCompletion) (l : LinkEnds) (draw : ℕ)
+    → reply_on old link ≡ Ok r → slice_get old.links.ends link ≡ Some l
     → draw_below (sealing_draw_in l.host r.stream Cpl) r.floor ≡ Some draw
     → verdict ≡ v.Interface (iv.RefusedRefreshFirst draw r.floor)
     → new.links ≡ record old.links { steps = old.links.steps + 1 } → new.accesses ≡ old.accesses → IsBoundedWhole old
@@ -129,7 +131,7 @@ answer_older {verdict} {old} {new} link r l draw due l_is below says is same bou
 
 -- ---- the send
 
-sent_as_answer : {verdict : Verdict} (old new : WholeLinks) (link : ℕ) (r : Reply) (l : LinkEnds)
+sent_as_answer : {verdict : Verdict} (old new : WholeLinks) (link : ℕ) (r : BoundCompletion) (l : LinkEnds)
     → slice_get old.links.ends link ≡ Some l → link < length old.links.ends
     → draw_below (sealing_draw_in l.host r.stream Cpl) r.floor ≡ None
     → EndsWith verdict old.links new.links (Send (port_at Host link) r.bytes false true)
@@ -152,8 +154,8 @@ sent_as_answer {verdict} old new link r l l_is here below x = record {
       (x.ends b plan (λ f on. absurd cc) h links stands);
 }
 
-pub answer_sent : {verdict : Verdict} (old new : WholeLinks) (link : ℕ) (r : Reply) (l : LinkEnds)
-    → reply_in old link ≡ Ok r → slice_get old.links.ends link ≡ Some l → link < length old.links.ends
+pub answer_sent : {verdict : Verdict} (old new : WholeLinks) (link : ℕ) (r : BoundCompletion) (l : LinkEnds)
+    → reply_on old link ≡ Ok r → slice_get old.links.ends link ≡ Some l → link < length old.links.ends
     → draw_below (sealing_draw_in l.host r.stream Cpl) r.floor ≡ None
     → EndsWith verdict old.links new.links (Send (port_at Host link) r.bytes false true)
     → new.accesses ≡ old.accesses → IsBoundedWhole old → WholeEnds verdict old new (Access (ae.Answer link))
@@ -161,8 +163,9 @@ answer_sent {verdict} old new link r l due l_is here below x same bounded =
     ends_if (sent_as_answer old new link r l l_is here below x) bounded.whole (ap length same)
     (λ answer by plan regions. due)
 
-pub answer_sent_or : (r : Result Verdict Memory) (old new : WholeLinks) (link : ℕ) (reply : Reply) (l : LinkEnds)
-    → reply_in old link ≡ Ok reply → slice_get old.links.ends link ≡ Some l → link < length old.links.ends
+pub answer_sent_or : (r : Result Verdict Memory) (old new : WholeLinks) (link : ℕ) (reply : BoundCompletion)
+    (l : LinkEnds)
+    → reply_on old link ≡ Ok reply → slice_get old.links.ends link ≡ Some l → link < length old.links.ends
     → draw_below (sealing_draw_in l.host reply.stream Cpl) reply.floor ≡ None
     → EndsOr r old.links new.links (Send (port_at Host link) reply.bytes false true)
     → new.accesses ≡ old.accesses → IsBoundedWhole old → WholeEndsOr r old new (Access (ae.Answer link))
@@ -178,7 +181,7 @@ pub answer_nowhere : {verdict : Verdict} {old new : WholeLinks} (link : ℕ) →
 answer_nowhere {verdict} {old} {new} link nowhere says is same bounded =
     answer_only link (by_ends (slice_get old.links.ends link) refl) says is same bounded
   where
-    by_ends : (o : Option LinkEnds) → slice_get old.links.ends link ≡ o → reply_in old link ≡ Err v.Nothing
+    by_ends : (o : Option LinkEnds) → slice_get old.links.ends link ≡ o → reply_on old link ≡ Err v.Nothing
     by_ends None at =
         ap (λ (p : Option LinkEnds). reply_at_ends old.links.keeper.interfaces p link old.links.trusted.contents
         (reads_at old.accesses link)) at
@@ -210,10 +213,10 @@ length-bytes f at (suc n) = ap (λ (k : ℕ). suc k) (length-bytes f (at + 1) n)
 
 pub length-shown : (s : WholeLinks) (i bar offset n : ℕ) → has_shown s i bar offset n ≡ true
     → length (bytes_shown s i bar offset n) ≡ n
-length-shown s i bar offset n has = by_place (place_of s i) has
+length-shown s i bar offset n has = by_place (place_named s i) has
   where
     by_place : (o : Option (ℕ × ℕ))
         → option_map_or (λ (at : ℕ × ℕ). has_bytes (sizes_at s.accesses at.0) at.1 bar offset n) o false ≡ true
-        → length (option_map_or (λ (at : ℕ × ℕ). bytes_from (bytes_at s.accesses at.0 at.1 bar) offset n) o []) ≡ n
+        → length (option_map_or (λ (at : ℕ × ℕ). bytes_from (mmio_at s.accesses at.0 at.1 bar) offset n) o []) ≡ n
     by_place None has = absurd cc
-    by_place (Some at) has = length-bytes (bytes_at s.accesses at.0 at.1 bar) offset n
+    by_place (Some at) has = length-bytes (mmio_at s.accesses at.0 at.1 bar) offset n

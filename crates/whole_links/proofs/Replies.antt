@@ -7,61 +7,61 @@ use Rattle.link_verdicts.specs.declared.access.AccessVerdict.TheVariants as av
 use Rattle.link_verdicts.specs.declared.verdict.Verdict.{Verdict}
 use Rattle.link_verdicts.specs.declared.verdict.Verdict.TheVariants as v
 use Rattle.waiting_reads.specs.declared.queue.WaitingRead.{WaitingRead}
-use Rattle.link_ports.specs.Replies.{Reply}
+use Rattle.link_ports.specs.Replies.{BoundCompletion}
 use Rattle.link_ends.specs.declared.ends.LinkEnds.{LinkEnds}
 use Rattle.accesses.specs.declared.link.LinkAccesses.{LinkAccesses}
 use Rattle.all_links.specs.Accesses.{reads_at}
 use Rattle.whole_links.specs.declared.whole.WholeLinks.{WholeLinks}
 use Rattle.whole_links.specs.Accesses.{takes_read}
-use Rattle.whole_links.specs.Besides.{reply_at_ends, reply_first, reply_numbered, reader_of, reply_in}
+use Rattle.whole_links.specs.Besides.{reply_at_ends, reply_oldest, reply_numbered, reader_of, reply_on}
 
 module _ (s : WholeLinks) (link : ℕ) (l : LinkEnds) (a : LinkAccesses) (l_is : slice_get s.links.ends link ≡ Some l)
     (a_is : slice_get s.accesses link ≡ Some a) where
-  here : reply_in s link
-      ≡ reply_first s.links.keeper.interfaces l link s.links.trusted.contents a.reads
+  here : reply_on s link
+      ≡ reply_oldest s.links.keeper.interfaces l link s.links.trusted.contents a.reads
   here =
       (λ i. reply_at_ends s.links.keeper.interfaces (l_is i) link s.links.trusted.contents
       (option_map_or (λ (x : LinkAccesses). x.reads) (a_is i) []))
 
-  pub reply_empty : None ≡ slice_get a.reads 0 → Err (v.Access (av.Empty link)) ≡ reply_in s link
+  pub reply_empty : None ≡ slice_get a.reads 0 → Err (v.Access (av.Empty link)) ≡ reply_on s link
   reply_empty none = by_reads a.reads none ∙ sym here
     where
       by_reads : (rs : List WaitingRead) → None ≡ slice_get rs 0 → Err (v.Access (av.Empty link))
-          ≡ reply_first s.links.keeper.interfaces l link s.links.trusted.contents rs
+          ≡ reply_oldest s.links.keeper.interfaces l link s.links.trusted.contents rs
       by_reads [] none = refl
       by_reads (r ∷ rs) none = absurd (none-some r none)
 
   pub reply_read : (r : WaitingRead) → Some r ≡ slice_get a.reads 0
       → reply_numbered s.links.keeper.interfaces l link s.links.trusted.contents r
-      (reader_of s.links.keeper.interfaces link r.read.requester) ≡ reply_in s link
+      (reader_of s.links.keeper.interfaces link r.read.requester) ≡ reply_on s link
   reply_read r first = by_reads a.reads first ∙ sym here
     where
       by_reads : (rs : List WaitingRead) → Some r ≡ slice_get rs 0
           → reply_numbered s.links.keeper.interfaces l link s.links.trusted.contents r
           (reader_of s.links.keeper.interfaces link r.read.requester)
-          ≡ reply_first s.links.keeper.interfaces l link s.links.trusted.contents rs
+          ≡ reply_oldest s.links.keeper.interfaces l link s.links.trusted.contents rs
       by_reads [] first = absurd (none-some r (sym first))
       by_reads (q ∷ rs) first =
           ap (λ (x : WaitingRead). reply_numbered s.links.keeper.interfaces l link s.links.trusted.contents x
           (reader_of s.links.keeper.interfaces link x.read.requester)) (same_Some r q first)
 
   -- a read is taken only if one waits
-  pub waits_if : (w : Verdict) → reply_in s link ≡ Err w → takes_read w ≡ true → 1 ≤ length (reads_at s.accesses link)
+  pub waits_if : (w : Verdict) → reply_on s link ≡ Err w → takes_read w ≡ true → 1 ≤ length (reads_at s.accesses link)
   waits_if w is takes =
       subst (λ (o : Option LinkAccesses). 1 ≤ length (option_map_or (λ (x : LinkAccesses). x.reads) o [])) (sym a_is)
       (by_reads a.reads (sym here ∙ is))
     where
       by_reads : (rs : List WaitingRead)
-          → reply_first s.links.keeper.interfaces l link s.links.trusted.contents rs ≡ Err w → 1 ≤ length rs
+          → reply_oldest s.links.keeper.interfaces l link s.links.trusted.contents rs ≡ Err w → 1 ≤ length rs
       by_reads [] same = absurd (grind (arith, same, takes))
       by_reads (r ∷ rs) same = omega arith
 
-  pub waits_with : (r : Reply) → reply_in s link ≡ Ok r → 1 ≤ length (reads_at s.accesses link)
+  pub waits_with : (r : BoundCompletion) → reply_on s link ≡ Ok r → 1 ≤ length (reads_at s.accesses link)
   waits_with r is =
       subst (λ (o : Option LinkAccesses). 1 ≤ length (option_map_or (λ (x : LinkAccesses). x.reads) o [])) (sym a_is)
       (by_reads a.reads (sym here ∙ is))
     where
       by_reads : (rs : List WaitingRead)
-          → reply_first s.links.keeper.interfaces l link s.links.trusted.contents rs ≡ Ok r → 1 ≤ length rs
+          → reply_oldest s.links.keeper.interfaces l link s.links.trusted.contents rs ≡ Ok r → 1 ≤ length rs
       by_reads [] same = absurd (grind (arith, same))
       by_reads (q ∷ rs) same = omega arith

@@ -55,8 +55,8 @@ happens_at happens (Some at) which link = if happens && (at.0 == link) then Some
 abbrev pub bars_named : Links → ℕ → List BarPlan
 bars_named s i = option_map_or (λ (t : Tdi). t.plan.bars) (tdi_named s.keeper.interfaces s.ends i) []
 
-abbrev pub halted_at : Links → ℕ → Verdict → ℕ → List (Option Happened)
-halted_at s i verdict link =
+abbrev pub halted_in : Links → ℕ → Verdict → ℕ → List (Option Happened)
+halted_in s i verdict link =
     happens_at (carries verdict 1) (interface_named s.keeper.interfaces s.ends i)
     (λ place. InterfaceStopped place (bars_named s i)) link
 
@@ -74,7 +74,7 @@ abbrev pub AccessesInterface : InterfaceEvent → Verdict → WholeLinks → Who
 AccessesInterface (ie.Start i loss) verdict old new =
     AccessesTurn same_reads (floors_started old.links new.links i) nothing_happens old.accesses new.accesses
 AccessesInterface (ie.Halt i loss) verdict old new =
-    AccessesTurn same_reads same_floors (halted_at new.links i verdict) old.accesses new.accesses
+    AccessesTurn same_reads same_floors (halted_in new.links i verdict) old.accesses new.accesses
 AccessesInterface (ie.Flr i) verdict old new =
     AccessesTurn same_reads same_floors (flr_at new.links i verdict) old.accesses new.accesses
 AccessesInterface e verdict old new = new.accesses ≡ old.accesses

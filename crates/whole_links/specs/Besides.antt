@@ -14,16 +14,17 @@ use Rattle.trusted_memory.specs.{MemoryContents, byte_at, bytes_from}
 use Rattle.waiting_reads.specs.declared.queue.WaitingRead.{WaitingRead}
 unfoldable use Rattle.waiting_reads.specs.{completion_bytes}
 use Rattle.guarded_memory.specs.Contents.{has_bytes}
-use Rattle.tdi_host.specs.Managers.{granted, number_of}
+use Rattle.tdi_host.specs.Managers.{granted, interface_of_requester}
 use Rattle.link_ends.specs.declared.ends.LinkEnds.{LinkEnds}
 use Rattle.link_ends.specs.Hosts.{InterfacesView}
 use Rattle.link_history.specs.Memory.{effects_by}
 use Rattle.link_history.specs.Due.{is_stream}
 use Rattle.link_history.specs.Guarded.{mmio_if}
 use Rattle.link_ports.specs.Machine.{Beside}
-use Rattle.link_ports.specs.Replies.{Reply, is_below}
+use Rattle.link_ports.specs.Replies.{BoundCompletion}
 use Rattle.std.specs.Option.{option_map_or, option_and_then}
-use Rattle.all_links.specs.Accesses.{reads_at, sizes_at, bytes_at, policy_in}
+use Rattle.key_laws.specs.Keys.{is_below}
+use Rattle.all_links.specs.Accesses.{reads_at, sizes_at, mmio_at, policy_in}
 use Rattle.all_links.specs.Besides.{beside_in}
 use Rattle.all_links.specs.Interfaces.{interface_named}
 use Rattle.whole_links.specs.declared.whole.WholeLinks.{WholeLinks}
@@ -31,8 +32,8 @@ use Rattle.whole_links.specs.declared.whole.WholeLinks.{WholeLinks}
 -- ---- answers to reads
 
 -- the stream that a TLP takes at the host's port, if it takes one
-abbrev pub taken_stream : LinkEnds → List ℕ → Option ℕ
-taken_stream l bytes = stream_taken (outgoing_of l.host.plans l.host.name.side bytes)
+abbrev pub host_stream : LinkEnds → List ℕ → Option ℕ
+host_stream l bytes = stream_taken (outgoing_of l.host.plans l.host.name.side bytes)
 
 -- of a read of an interface that came under this draw: by what the manager says of the interface, by its bound stream
 -- and floor, and by the stream that the completion takes
@@ -44,36 +45,37 @@ judged_bound taken interface draw (Some bound) =
     else Ok bound
 
 -- with the completion's bytes
-abbrev pub replied : Result (ℕ × ℕ) Verdict → List ℕ → Result Reply Verdict
+abbrev pub replied : Result (ℕ × ℕ) Verdict → List ℕ → Result BoundCompletion Verdict
 replied (Err verdict) bytes = Err verdict
 replied (Ok bound) bytes = Ok (record { stream = bound.0; floor = bound.1; bytes = bytes })
 
 abbrev pub reply_numbered : InterfacesView → LinkEnds → ℕ → MemoryContents → WaitingRead → Option ℕ
-    → Result Reply Verdict
+    → Result BoundCompletion Verdict
 reply_numbered m l link memory r None = Err v.Nothing
 reply_numbered m l link memory r (Some interface) =
     let bytes = completion_bytes (byte_at memory) r.read in
-    replied (judged_bound (taken_stream l bytes) interface r.draw (granted m link r.read.requester)) bytes
+    replied (judged_bound (host_stream l bytes) interface r.draw (granted m link r.read.requester)) bytes
 
 -- the number of the interface of a link with this requester ID
 abbrev pub small_number : ℕ → Option ℕ
 small_number n = if nat_le n 255 then Some n else None
 
 abbrev pub reader_of : InterfacesView → ℕ → ℕ → Option ℕ
-reader_of m link requester = option_and_then small_number (number_of m link requester)
+reader_of m link requester = option_and_then small_number (interface_of_requester m link requester)
 
 -- the oldest read that waits, and its completion from memory as it is now
-abbrev pub reply_first : InterfacesView → LinkEnds → ℕ → MemoryContents → List WaitingRead → Result Reply Verdict
-reply_first m l link memory [] = Err (v.Access (av.Empty link))
-reply_first m l link memory (r ∷ rs) = reply_numbered m l link memory r (reader_of m link r.read.requester)
+abbrev pub reply_oldest : InterfacesView → LinkEnds → ℕ → MemoryContents → List WaitingRead
+    → Result BoundCompletion Verdict
+reply_oldest m l link memory [] = Err (v.Access (av.Empty link))
+reply_oldest m l link memory (r ∷ rs) = reply_numbered m l link memory r (reader_of m link r.read.requester)
 
 abbrev pub reply_at_ends : InterfacesView → Option LinkEnds → ℕ → MemoryContents → List WaitingRead
-    → Result Reply Verdict
+    → Result BoundCompletion Verdict
 reply_at_ends m None link memory reads = Err v.Nothing
-reply_at_ends m (Some l) link memory reads = reply_first m l link memory reads
+reply_at_ends m (Some l) link memory reads = reply_oldest m l link memory reads
 
-abbrev pub reply_in : WholeLinks → ℕ → Result Reply Verdict
-reply_in s link =
+abbrev pub reply_on : WholeLinks → ℕ → Result BoundCompletion Verdict
+reply_on s link =
     reply_at_ends s.links.keeper.interfaces (slice_get s.links.ends link) link s.links.trusted.contents
     (reads_at s.accesses link)
 
@@ -83,17 +85,17 @@ draw_below draw floor = if is_below draw floor then draw else None
 
 -- ---- the memory of devices
 
-abbrev pub place_of : WholeLinks → ℕ → Option (ℕ × ℕ)
-place_of s i = interface_named s.links.keeper.interfaces s.links.ends i
+abbrev pub place_named : WholeLinks → ℕ → Option (ℕ × ℕ)
+place_named s i = interface_named s.links.keeper.interfaces s.links.ends i
 
 -- the range of a BAR of an interface has all these bytes
 abbrev pub has_shown : WholeLinks → ℕ → ℕ → ℕ → ℕ → Bool
 has_shown s i bar offset len =
-    option_map_or (λ (at : ℕ × ℕ). has_bytes (sizes_at s.accesses at.0) at.1 bar offset len) (place_of s i) false
+    option_map_or (λ (at : ℕ × ℕ). has_bytes (sizes_at s.accesses at.0) at.1 bar offset len) (place_named s i) false
 
 abbrev pub bytes_shown : WholeLinks → ℕ → ℕ → ℕ → ℕ → List ℕ
 bytes_shown s i bar offset len =
-    option_map_or (λ (at : ℕ × ℕ). bytes_from (bytes_at s.accesses at.0 at.1 bar) offset len) (place_of s i) []
+    option_map_or (λ (at : ℕ × ℕ). bytes_from (mmio_at s.accesses at.0 at.1 bar) offset len) (place_named s i) []
 
 abbrev pub shown_in : WholeLinks → ℕ → ℕ → ℕ → ℕ → Verdict
 shown_in s i bar offset len = mmio_if (has_shown s i bar offset len) (bytes_shown s i bar offset len)
@@ -107,6 +109,6 @@ beside_whole plan s answer =
       t = λ port head stream trusted. trusted;
       effects = effects_by plan (policy_in s.links.keeper.interfaces s.links.ends s.accesses);
       answer = answer;
-      reply = reply_in s;
+      reply = reply_on s;
       shows = shown_in s;
     })

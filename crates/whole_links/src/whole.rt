@@ -39,12 +39,12 @@ pub struct WholeLinks {
 }
 
 impl WholeLinks {
-    ghost use Rattle.whole_links.specs.Besides.{replied, reply_numbered, reply_in};
+    ghost use Rattle.whole_links.specs.Besides.{replied, reply_numbered, reply_on};
     ghost use Rattle.whole_links.specs.Besides.{reader_of};
     ghost use Rattle.whole_links.specs.Besides.{has_shown, bytes_shown};
     ghost use Rattle.whole_links.specs.Whole.{IsFirstWhole, IsWhole, IsBoundedWhole, WholeEnds, WholeEndsAs};
     ghost use Rattle.whole_links.specs.Whole.{WholeEndsOr, WholeEndsAsOr};
-    ghost use Rattle.whole_links.specs.Accesses.{takes_read, floors_if, halted_at, flr_at};
+    ghost use Rattle.whole_links.specs.Accesses.{takes_read, floors_if, halted_in, flr_at};
     ghost use Rattle.whole_links.specs.Accesses.{AccessesInterface, AccessesAfter};
 
     /// The links of the plan before the first event, with no read that waits, and 0 in all ranges of its devices.
@@ -120,7 +120,7 @@ impl WholeLinks {
         requires whole { IsWhole self.now }
         requires empty { bytes.old.items ≡ [] }
         requires room { vec_len bytes.old + 4108 ≤ vec_capacity bytes.old }
-        ensures { replied result bytes.new.items ≡ reply_in self.now link }
+        ensures { replied result bytes.new.items ≡ reply_on self.now link }
     {
         match self.accesses.at(link).reads.first() {
             None => Err(Verdict::Access {
@@ -150,7 +150,7 @@ impl WholeLinks {
         requires steps { self.old.links.steps < 2 ^ 28 }
         requires bounded { IsBoundedWhole self.old }
         requires here { link < length self.old.links.ends }
-        requires due { reply_in self.old link ≡ replied (Ok bound) bytes.now }
+        requires due { reply_on self.old link ≡ replied (Ok bound) bytes.now }
         ensures ends { WholeEndsOr result self.old self.new (Event.Access (AccessEvent.Answer link)) }
         ensures sides { IfOk result (λ v. SidesKeep self.old.links self.new.links) }
         ensures accesses { self.new.accesses ≡ self.old.accesses }
@@ -299,7 +299,7 @@ impl WholeLinks {
     fn note_halt(&mut self, interface: u64, verdict: &Verdict)
         requires bounded { IsBoundedWhole self.old }
         ensures links { self.new.links ≡ self.old.links }
-        ensures accesses { AccessesTurn same_reads same_floors (halted_at self.old.links interface verdict.now)
+        ensures accesses { AccessesTurn same_reads same_floors (halted_in self.old.links interface verdict.now)
             self.old.accesses self.new.accesses }
     {
         if !reaches(verdict) {

@@ -19,7 +19,7 @@ use Rattle.key_laws.specs.Keys.{Keys, Keyed, On}
 use Rattle.key_laws.specs.History.{History}
 use Rattle.interface_states.specs.Sites.{Site, sites}
 unfoldable use Rattle.interface_states.specs.Floors.{device_floor}
-use Rattle.interface_states.specs.Floors.{greatest_on, posted_receiver, device_draw, device_standing, standings_at}
+use Rattle.interface_states.specs.Floors.{greatest_on, posted_receiver, draw_at_device, device_standing, standings_at}
 use Rattle.interface_machine.specs.Machine.{Face}
 use Rattle.interface_machine.specs.Stands.{face_at}
 use Rattle.guarded_memory.specs.declared.standing.Standing.{Standing}
@@ -29,8 +29,8 @@ use Rattle.link_history.specs.Plan.{SubStream, lane_in, stream_plan}
 use Rattle.link_history.specs.Cause.{CauseLaw}
 use Rattle.link_history.specs.History.{SealedList, sealed_packets, keys_at}
 use Rattle.link_history.specs.Memory.{queued, waiting, unit_ended}
-unfoldable use Rattle.link_history.specs.Sent.{taken, queued_in}
-use Rattle.link_history.specs.Sent.{answers, reads_by, unit_in as unit_by}
+unfoldable use Rattle.link_history.specs.Sent.{reads_taken, queued_in}
+use Rattle.link_history.specs.Sent.{is_answer_on, reads_by, unit_accepted}
 unfoldable use Rattle.link_history.specs.Guarded.{happened}
 use Rattle.link_history.specs.Guarded.{happens_by, unit_of}
 use Rattle.link_keys.proofs.Unplanned.{unplanned_keys}
@@ -65,7 +65,7 @@ one_taken false n xs ys same = ap (drop n) (sym same)
 pub waiting_is : (plan : Plan) (h : History) (e : Event) (w : Verdict) (ps : List Packet)
     → CauseLaw plan ((e, w) ∷ h) → AreEnded plan h ps e w
     → (link : ℕ) → waiting_reads_after ps e w link (waiting plan h link) ≡ waiting plan ((e, w) ∷ h) link
-unfolding taken queued_in
+unfolding reads_taken queued_in
 waiting_is plan h e (v.Accepted port unit effects) ps law units link =
     by (port.link == link) (here_after plan h e (v.Accepted port unit effects) law link)
     (units ∙ sym (unit_again plan h e port unit effects law))
@@ -75,33 +75,34 @@ waiting_is plan h e (v.Accepted port unit effects) ps law units link =
 
     by : (b : Bool) → queued_in plan (sealed_packets plan ((e, v.Accepted port unit effects) ∷ h)) h link
         ≡ queued plan h link
-        → ps ≡ unit_by plan (sealed_packets plan ((e, v.Accepted port unit effects) ∷ h)) h e port unit
+        → ps ≡ unit_accepted plan (sealed_packets plan ((e, v.Accepted port unit effects) ∷ h)) h e port unit
         → (if b then waiting plan h link ++ reads_by unit.draw effects ps else waiting plan h link)
-        ≡ drop (taken h link)
+        ≡ drop (reads_taken h link)
         (if b then queued_in plan (sealed_packets plan ((e, v.Accepted port unit effects) ∷ h)) h link
         ++ reads_by unit.draw effects
-        (unit_by plan (sealed_packets plan ((e, v.Accepted port unit effects) ∷ h)) h e port unit)
+        (unit_accepted plan (sealed_packets plan ((e, v.Accepted port unit effects) ∷ h)) h e port unit)
         else queued_in plan (sealed_packets plan ((e, v.Accepted port unit effects) ∷ h)) h link)
     by true here same =
         ap (λ (us : List Packet). waiting plan h link ++ reads_by unit.draw effects us) same
-        ∙ (sym (drop-append-le (taken h link) (queued plan h link) _ (takes_first plan h law.1 link))
-        ∙ ap (λ (ys : List WaitingRead). drop (taken h link)
-        (ys ++ reads_by unit.draw effects (unit_by plan xs h e port unit))) (sym here))
-    by false here same = ap (drop (taken h link)) (sym here)
+        ∙ (sym (drop-append-le (reads_taken h link) (queued plan h link) _ (takes_first plan h law.1 link))
+        ∙ ap (λ (ys : List WaitingRead). drop (reads_taken h link)
+        (ys ++ reads_by unit.draw effects (unit_accepted plan xs h e port unit))) (sym here))
+    by false here same = ap (drop (reads_taken h link)) (sym here)
 waiting_is plan h e (v.Sealed ds) ps law units link =
-    one_taken (answers link e) (taken h link) (queued plan h link) _ (here_after plan h e (v.Sealed ds) law link)
+    one_taken (is_answer_on link e) (reads_taken h link) (queued plan h link) _
+    (here_after plan h e (v.Sealed ds) law link)
 waiting_is plan h e (v.Access (av.Dropped i c)) ps law units link =
-    one_taken (answers link e) (taken h link) (queued plan h link) _
+    one_taken (is_answer_on link e) (reads_taken h link) (queued plan h link) _
     (here_after plan h e (v.Access (av.Dropped i c)) law link)
 waiting_is plan h (event.Reset k) (v.Reset l) ps law units link = by (l == link)
     (here_after plan h (event.Reset k) (v.Reset l) law link)
   where
     by : (b : Bool) → queued_in plan (sealed_packets plan ((event.Reset k, v.Reset l) ∷ h)) h link ≡ queued plan h link
-        → (if b then [] else waiting plan h link) ≡ drop (if b then 0 else taken h link)
+        → (if b then [] else waiting plan h link) ≡ drop (if b then 0 else reads_taken h link)
         (if b then [] else queued_in plan (sealed_packets plan ((event.Reset k, v.Reset l) ∷ h)) h link)
     by true here = refl
-    by false here = ap (drop (taken h link)) (sym here)
-waiting_is plan h e w ps law units link = ap (drop (taken h link)) (sym (here_after plan h e w law link))
+    by false here = ap (drop (reads_taken h link)) (sym here)
+waiting_is plan h e w ps law units link = ap (drop (reads_taken h link)) (sym (here_after plan h e w law link))
 
 -- ---- the floors
 
@@ -116,7 +117,7 @@ greatest_is plan h s ks = by ks.first ks.second
     by a b = grind arith
 
 device_draw_is : (plan : Plan) (st : LinkState) (h : History) → PortsStand plan st h → (x : Site)
-    → device_draw_at plan st x ≡ device_draw h x
+    → device_draw_at plan st x ≡ draw_at_device h x
 unfolding standing
 device_draw_is plan st h stands x = elim (cases_Bool (is_some (stream_plan plan x.link x.plan.stream))) [
   | inl known ↦
@@ -135,7 +136,7 @@ device_draw_is plan st h stands x = elim (cases_Bool (is_some (stream_plan plan 
 ]
 
 floors_map : (plan : Plan) (h : History) (e : Event) (w : Verdict) (xs : List Site)
-    → floors_after e (device_draw h) xs (map (face_at plan h) xs) (map (face_at plan ((e, w) ∷ h)) xs)
+    → floors_after e (draw_at_device h) xs (map (face_at plan h) xs) (map (face_at plan ((e, w) ∷ h)) xs)
     (map (device_floor plan h) xs) ≡ map (device_floor plan ((e, w) ∷ h)) xs
 unfolding device_floor
 floors_map plan h e w [] = refl

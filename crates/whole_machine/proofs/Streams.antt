@@ -8,7 +8,8 @@ use Rattle.ide_types.specs.declared.sub.SubKind.TheVariants.{Pr, Npr, Cpl}
 use Rattle.ide_plan.specs.declared.plan.Plan.{Plan}
 use Rattle.key_laws.specs.Places.{KeyPlace, key_place_at}
 use Rattle.key_laws.specs.Keys.{Keys}
-use Rattle.key_laws.specs.History.{History, op_of, keys_there, keeps_live, has_key, has_all, status_by, status_of}
+use Rattle.key_laws.specs.History.{History, op_of, keys_there, keeps_live, has_key, has_all, status_of}
+use Rattle.ide_types.specs.Ports.{status_by}
 unfoldable use Rattle.key_laws.specs.History.{failed_there}
 use Rattle.link_history.specs.Plan.{key_plan, stream_plan}
 use Rattle.link_history.specs.Cause.{CauseLaw}

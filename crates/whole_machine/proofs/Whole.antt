@@ -24,7 +24,7 @@ use Rattle.link_history.specs.Cause.{CauseLaw}
 use Rattle.link_history.specs.Plan.{has_link}
 use Rattle.link_history.specs.History.{sent_bytes}
 use Rattle.link_history.specs.Memory.{policy_at, effects_by, admitted_in, shown_if, memory_due, queued, waiting}
-unfoldable use Rattle.link_history.specs.Sent.{taken, queued_in}
+unfoldable use Rattle.link_history.specs.Sent.{reads_taken, queued_in}
 unfoldable use Rattle.link_history.specs.Guarded.{happened}
 use Rattle.link_history.specs.Guarded.{mmio_by, happens_by}
 use Rattle.guarded_memory.specs.Happenings.{newest_happened}
@@ -33,7 +33,7 @@ use Rattle.interface_states.specs.Sites.{sites, site_with}
 use Rattle.waiting_reads.specs.declared.queue.WaitingRead.{WaitingRead}
 unfoldable use Rattle.waiting_reads.specs.Completions.{completion_bytes}
 use Rattle.link_events.specs.declared.event.AccessEvent.TheVariants as ae
-use Rattle.link_ports.specs.Replies.{reply_of, reply_first, reply_to}
+use Rattle.link_ports.specs.Replies.{completion_of, completion_first, completion_to}
 use Rattle.read_order.proofs.Oldest.{drop_first, bytes_are}
 unfoldable use Rattle.link_history.specs.Memory.{writes}
 use Rattle.trusted_memory.specs.Writes.{Write, newest_first}
@@ -47,7 +47,7 @@ use Rattle.link_ports.specs.Stands.{beside_at, PortsStandFor}
 use Rattle.port_operations.proofs.AllSteps.{steps}
 use Rattle.port_operations.proofs.Resets.{begins as first}
 use Rattle.whole_machine.specs.Machine.{Whole, t_by, memory_shown, written_after, beside_of, whole_streams, draw_after}
-use Rattle.whole_machine.specs.Machine.{policy_of, completed, reply_in, ended_unit, whole_faces_after, whole_after}
+use Rattle.whole_machine.specs.Machine.{policy_of, completed, completion_in, ended_unit, whole_faces_after, whole_after}
 use Rattle.whole_machine.specs.Accesses.{standings_on, waiting_reads_after, accesses_after}
 use Rattle.whole_machine.specs.Stands.{AccessesStandFor, StandsFor, WholeBegins, WholeSteps}
 use Rattle.whole_machine.proofs.Units.{unit_is}
@@ -92,28 +92,29 @@ policy_is plan w h stands = λ i. record {
 -- the completion of the first of the reads that wait is what an answer seals
 completed_is : (plan : Plan) (w : Whole) (h : History) → StandsFor plan w h → (link : ℕ) (rs : List WaitingRead)
     → waiting plan h link ≡ rs
-    → reply_first plan (grant_of plan w.faces) (completed w) link rs
-    ≡ reply_first plan (grant_at plan h) (λ r. sent_bytes plan h (event.Access (ae.Answer link))) link rs
+    → completion_first plan (grant_of plan w.faces) (completed w) link rs
+    ≡ completion_first plan (grant_at plan h) (λ r. sent_bytes plan h (event.Access (ae.Answer link))) link rs
 completed_is plan w h stands link [] waits = refl
 completed_is plan w h stands link (r ∷ rs) waits =
-    let oldest = drop_first (taken h link) (queued plan h link) r rs waits in
+    let oldest = drop_first (reads_taken h link) (queued plan h link) r rs waits in
     let bytes = ap (λ (ws : List Write). completion_bytes (byte_after ws) r.read) stands.written
     ∙ sym (bytes_are plan h link r stands.links.ports_stand.cause oldest) in
-    λ i. reply_of plan link r.draw (bytes i)
+    λ i. completion_of plan link r.draw (bytes i)
     (grants_are plan w.faces h stands.faces i link r.read.requester) (site_with plan link r.read.requester)
 
 reply_is : (plan : Plan) (w : Whole) (h : History) → StandsFor plan w h → (link : ℕ)
-    → reply_in plan w link
-    ≡ reply_to plan (grant_at plan h) (λ r. sent_bytes plan h (event.Access (ae.Answer link))) link
+    → completion_in plan w link
+    ≡ completion_to plan (grant_at plan h) (λ r. sent_bytes plan h (event.Access (ae.Answer link))) link
     (waiting plan h link)
 reply_is plan w h stands link =
-    ap (reply_to plan (grant_of plan w.faces) (completed w) link) (stands.accesses.waiting link)
+    ap (completion_to plan (grant_of plan w.faces) (completed w) link) (stands.accesses.waiting link)
     ∙ by (has_link plan link)
   where
     by : (b : Bool)
-        → (if b then reply_first plan (grant_of plan w.faces) (completed w) link (waiting plan h link)
+        → (if b then completion_first plan (grant_of plan w.faces) (completed w) link (waiting plan h link)
         else Err v.Nothing)
-        ≡ (if b then reply_first plan (grant_at plan h) (λ r. sent_bytes plan h (event.Access (ae.Answer link))) link
+        ≡ (if b then completion_first plan (grant_at plan h) (λ r. sent_bytes plan h (event.Access (ae.Answer link)))
+        link
         (waiting plan h link) else Err v.Nothing)
     by true = completed_is plan w h stands link (waiting plan h link) refl
     by false = refl
@@ -211,7 +212,7 @@ pub whole_steps : WholeSteps
 whole_steps plan w h e stands = at_step plan w h e (beside_of plan w) (beside_is plan w h stands) stands
 
 pub whole_begins : WholeBegins
-unfolding stream_draw writes taken queued_in device_floor happened
+unfolding stream_draw writes reads_taken queued_in device_floor happened
 whole_begins plan = record {
   links = first plan;
   faces = faces_stand.first plan;

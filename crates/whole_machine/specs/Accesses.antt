@@ -17,7 +17,7 @@ use Rattle.waiting_reads.specs.declared.queue.WaitingRead.{WaitingRead}
 use Rattle.guarded_memory.specs.declared.standing.Standing.{Standing}
 use Rattle.guarded_memory.specs.Standings.{standing_of}
 use Rattle.guarded_memory.specs.Happenings.{Happened, newest_happened}
-use Rattle.link_history.specs.Sent.{answers, reads_by}
+use Rattle.link_history.specs.Sent.{is_answer_on, reads_by}
 use Rattle.link_history.specs.Guarded.{happens_by}
 use Rattle.link_ports.specs.Machine.{LinkState, find, port_at, receiving_draw_at}
 
@@ -28,8 +28,8 @@ pub record Accesses : Type 0 where
   pub floors : List ℕ
   pub happened : ℕ → List Happened
 
-abbrev pub new_accesses : Plan → Accesses
-new_accesses plan = record { waiting = λ link. []; floors = map (λ x. 0) (sites plan); happened = λ link. [] }
+abbrev pub first_accesses : Plan → Accesses
+first_accesses plan = record { waiting = λ link. []; floors = map (λ x. 0) (sites plan); happened = λ link. [] }
 
 -- ---- how a device's interfaces stand
 
@@ -44,8 +44,8 @@ standings_on link _ _ _ = []
 abbrev pub waiting_reads_after : List Packet → Event → Verdict → ℕ → List WaitingRead → List WaitingRead
 waiting_reads_after ps e (v.Accepted port unit effects) link rs =
     if port.link == link then rs ++ reads_by unit.draw effects ps else rs
-waiting_reads_after ps e (v.Sealed ds) link rs = if answers link e then drop 1 rs else rs
-waiting_reads_after ps e (v.Access (av.Dropped interface cause)) link rs = if answers link e then drop 1 rs else rs
+waiting_reads_after ps e (v.Sealed ds) link rs = if is_answer_on link e then drop 1 rs else rs
+waiting_reads_after ps e (v.Access (av.Dropped interface cause)) link rs = if is_answer_on link e then drop 1 rs else rs
 waiting_reads_after ps (event.Reset k) (v.Reset l) link rs = if l == link then [] else rs
 waiting_reads_after ps e w link rs = rs
 

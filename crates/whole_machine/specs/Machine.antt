@@ -31,11 +31,11 @@ use Rattle.link_events.specs.declared.event.InterfaceEvent.TheVariants as ie
 use Rattle.link_ports.specs.Stream.{StreamState, Taken, Accepted, taken_by}
 use Rattle.link_ports.specs.Machine.{Beside, LinkState, find, find_op, status_at, step_of, first_state, passed}
 use Rattle.link_ports.specs.Machine.{altered_to, cut_short, packet_numbered}
-use Rattle.link_ports.specs.Replies.{Reply, reply_to}
+use Rattle.link_ports.specs.Replies.{BoundCompletion, completion_to}
 use Rattle.interface_states.specs.Sites.{sites}
 use Rattle.waiting_reads.specs.declared.queue.WaitingRead.{WaitingRead}
 unfoldable use Rattle.waiting_reads.specs.Completions.{completion_bytes}
-use Rattle.whole_machine.specs.Accesses.{Accesses, new_accesses, standings_on, accesses_after}
+use Rattle.whole_machine.specs.Accesses.{Accesses, first_accesses, standings_on, accesses_after}
 
 -- ---- what is kept
 
@@ -54,7 +54,7 @@ new_whole plan = record {
   faces = new_faces plan;
   draw = λ link stream. 0;
   written = [];
-  accesses = new_accesses plan;
+  accesses = first_accesses plan;
 }
 
 -- ---- what each part reads of the other
@@ -128,15 +128,15 @@ policy_of plan w = record {
 abbrev pub completed : Whole → WaitingRead → List ℕ
 completed w r = completion_bytes (byte_after w.written) r.read
 
-abbrev pub reply_in : Plan → Whole → ℕ → Result Reply Verdict
-reply_in plan w link = reply_to plan (grant_of plan w.faces) (completed w) link (w.accesses.waiting link)
+abbrev pub completion_in : Plan → Whole → ℕ → Result BoundCompletion Verdict
+completion_in plan w link = completion_to plan (grant_of plan w.faces) (completed w) link (w.accesses.waiting link)
 
 abbrev pub beside_of : Plan → Whole → Beside
 beside_of plan w = record {
   t = λ port head stream trusted. t_by plan w.faces port port.side head stream trusted;
   effects = effects_by plan (policy_of plan w);
   answer = λ e. interface_answer plan (whole_streams plan w) w.faces e (memory_shown plan w.written e);
-  reply = reply_in plan w;
+  reply = completion_in plan w;
   shows = mmio_by plan w.accesses.happened;
 }
 

@@ -1,6 +1,7 @@
 -- The verdict of an arrival, from the packet that it brings and whether its tag verifies.
 use Rattle.std.proofs.Common.{◌≡◌, ℕ, Bool, Option, Some, Ok, Err, ap, ◌∙◌, not}
 use Rattle.std.specs.Prelude.{if◌then◌else◌}
+use Rattle.ide_types.specs.Ports.{host_port}
 use Rattle.ide_prefix.specs.Packet.{Packet, packet_bytes}
 use Rattle.ide_types.specs.declared.port.PortName.{PortName}
 use Rattle.ide_types.specs.declared.sub.SubKind.{SubKind}
@@ -11,11 +12,10 @@ use Rattle.link_verdicts.specs.declared.verdict.Verdict.{Verdict}
 use Rattle.link_verdicts.specs.declared.verdict.Verdict.TheVariants as v
 use Rattle.link_history.specs.History.{Arrival, meets_counts, received_in}
 use Rattle.link_history.specs.Due.{Ending, before_tag, is_verified, ended, ending_due, arrival_due, effects_of}
-use Rattle.worked_cases.specs.Cases.{host}
 
 -- a packet at the host's port, and the unit that it ends there
 abbrev pub comes : Packet → Option Arrival
-comes p = Some (record { port = host; bytes = packet_bytes p })
+comes p = Some (record { port = host_port 0; bytes = packet_bytes p })
 
 abbrev pub ending : Packet → SubKind → ℕ → ℕ → Ending
 ending p sub draw unit = record { packet = p; unit = record { stream = 5; sub = sub; draw = draw; unit = unit } }
@@ -30,14 +30,14 @@ ends_as plan h port x verified =
 -- the packet ends a unit
 pub ends : (plan : Plan) (h : History) (o : Option Arrival) (p : Packet) (sub : SubKind) (draw unit : ℕ)
     (verified : Bool) → o ≡ comes p
-    → before_tag plan h (record { port = host; bytes = packet_bytes p }) ≡ Ok (ending p sub draw unit)
-    → is_verified plan h host (ending p sub draw unit) ≡ verified
-    → arrival_due plan h o ≡ ends_as plan h host (ending p sub draw unit) verified
+    → before_tag plan h (record { port = host_port 0; bytes = packet_bytes p }) ≡ Ok (ending p sub draw unit)
+    → is_verified plan h (host_port 0) (ending p sub draw unit) ≡ verified
+    → arrival_due plan h o ≡ ends_as plan h (host_port 0) (ending p sub draw unit) verified
 ends plan h o p sub draw unit verified brings passes is =
     ap (arrival_due plan h) brings
-    ∙ (ap (ending_due plan h host) passes ∙ ap (ends_as plan h host (ending p sub draw unit)) is)
+    ∙ (ap (ending_due plan h (host_port 0)) passes ∙ ap (ends_as plan h (host_port 0) (ending p sub draw unit)) is)
 
 -- it has its verdict without a look at the tag
 pub stops : (plan : Plan) (h : History) (o : Option Arrival) (p : Packet) (w : Verdict) → o ≡ comes p
-    → before_tag plan h (record { port = host; bytes = packet_bytes p }) ≡ Err w → arrival_due plan h o ≡ w
-stops plan h o p w brings before = ap (arrival_due plan h) brings ∙ ap (ending_due plan h host) before
+    → before_tag plan h (record { port = host_port 0; bytes = packet_bytes p }) ≡ Err w → arrival_due plan h o ≡ w
+stops plan h o p w brings before = ap (arrival_due plan h) brings ∙ ap (ending_due plan h (host_port 0)) before

@@ -1,6 +1,7 @@
 -- The packets of the cases as the cipher makes them. Each body and each tag is computed once, here.
 use Rattle.std.proofs.Common.{◌≡◌, ℕ, [], ◌∷◌, ◌++◌, List, Bool, true, false, refl, ap, ◌∙◌}
 use Rattle.std.specs.Prelude.{take}
+use Rattle.interface_cases.specs.Cases.{write, small_key}
 use Rattle.aes_block.specs.Aes.{key_words, temp, mixed, sbox, sub_bytes, shift_rows, mix_columns, add_round_key}
 use Rattle.aes_block.specs.Aes.{sub_word, expansion, rounds, cipher, aes}
 use Rattle.gcm_seal.specs.Polynomials.{bits}
@@ -14,7 +15,7 @@ use Rattle.ide_types.specs.declared.sub.SubKind.{SubKind}
 use Rattle.ide_types.specs.declared.sub.SubKind.TheVariants.{Pr, Npr}
 use Rattle.link_history.specs.Plan.{key_of}
 use Rattle.link_history.specs.History.{packet_of}
-use Rattle.worked_cases.specs.Cases.{plan, small_key, write, read, packet}
+use Rattle.worked_cases.specs.Cases.{plan, read, packet}
 
 -- the prefix of a packet of stream 5
 abbrev pub prefix : Bool → Bool → Bool → SubKind → ℕ → Prefix

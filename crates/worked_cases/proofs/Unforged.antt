@@ -1,5 +1,7 @@
 -- In the shortest good history no tag verified on a unit that its partner had not sealed.
 use Rattle.std.proofs.Common.{◌≡◌, [], ◌∷◌, true, false, Option, Some, None, Result, Ok, refl, subst, ap}
+use Rattle.interface_cases.specs.Cases.{write}
+use Rattle.ide_types.specs.Ports.{host_port}
 use Rattle.first_fault.specs.Walks.{walked_from, walk_length, reading}
 use Rattle.tlp_layout.specs.Reading.{read_of, read_head_of}
 use Rattle.ide_prefix.specs.Packet.{Packet, packet_bytes}
@@ -19,7 +21,7 @@ use Rattle.link_history.specs.Due.{Ending, before_tag}
 use Rattle.link_history.specs.Laws.{WasSealed, NotForged, NoForgery, last_tag}
 use Rattle.worked_cases.proofs.Ends.{comes, ending as ending_of}
 use Rattle.worked_cases.proofs.Packets.{write_1, write_1_is}
-use Rattle.worked_cases.specs.Cases.{plan, write, host, packet, established, sealed, accepted_unit}
+use Rattle.worked_cases.specs.Cases.{plan, packet, established, sealed, accepted_unit}
 
 abbrev past : History
 past = sealed 1 0 1 ∷ established ∷ []
@@ -32,7 +34,7 @@ abbrev first_packet : Packet
 first_packet = write_1
 
 abbrev arrival : Arrival
-arrival = record { port = host; bytes = packet_bytes first_packet }
+arrival = record { port = host_port 0; bytes = packet_bytes first_packet }
 
 abbrev ending : Ending
 ending = ending_of first_packet Pr 0 1
@@ -46,7 +48,7 @@ unfolding before_tag is_open keys manager moments base failed_there keys_at stre
     read_head_of reading walk_length walked_from
 passes = refl
 
-was : WasSealed (plan 1 false) past host ending
+was : WasSealed (plan 1 false) past (host_port 0) ending
 unfolding arrived sealed_packets bytes_by packet_of ahead_of_unit ahead_sent stream_plan sent_in units open_unit
     total_in held
     units_got units_since base
@@ -77,7 +79,7 @@ arrival_not_forged a x is before verified =
     (one_arrival (arrived (plan 1 false) past (Pass 1)) a arrival is arrives) before in
     let same_ending = one_ending (before_tag (plan 1 false) past arrival) ending x passes before_here in
     subst (λ (b : Arrival). WasSealed (plan 1 false) past b.port x) same
-    (subst (WasSealed (plan 1 false) past host) same_ending was)
+    (subst (WasSealed (plan 1 false) past (host_port 0)) same_ending was)
 
 send_not_forged : NotForged (plan 1 false) (established ∷ []) (sealed 1 0 1).0
 unfolding arrived

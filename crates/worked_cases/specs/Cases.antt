@@ -1,10 +1,11 @@
 -- Worked cases: the events of each, in order, with the verdicts that were worked out by hand.
-use Rattle.std.specs.Prelude.{ℕ, zero, suc, ◌==◌, Bool, false, true, Some, None, List, [], ◌∷◌, replicate, ◌++◌}
+use Rattle.std.specs.Prelude.{ℕ, zero, suc, ◌==◌, Bool, false, true, Some, None, List, [], ◌∷◌, ◌++◌}
+use Rattle.interface_cases.specs.Cases.{write, small_key}
+use Rattle.ide_types.specs.Ports.{device_port, host_port}
 use Rattle.ide_types.specs.declared.sub.SubKind.{SubKind}
 use Rattle.ide_types.specs.declared.sub.SubKind.TheVariants.{Pr, Npr, Cpl}
 use Rattle.ide_types.specs.declared.sub.FailCause.TheVariants as fail
 use Rattle.ide_types.specs.declared.port.Side.TheVariants.{Host, Device}
-use Rattle.ide_types.specs.declared.port.PortName.{PortName}
 use Rattle.ide_plan.specs.declared.plan.Plan.{Plan}
 use Rattle.ide_plan.specs.declared.stream.Selector.TheVariants.{Selective}
 use Rattle.link_events.specs.declared.event.Lost.TheVariants.{Reply}
@@ -21,10 +22,6 @@ use Rattle.key_laws.specs.History.{History}
 use Rattle.key_laws.specs.Places.{KeyPlace}
 
 -- ---- what there is
-
--- 31 zero bytes and this one
-abbrev pub small_key : ℕ → List ℕ
-small_key n = replicate 31 0 ++ n ∷ []
 
 -- link 0 has stream 5, which takes every TLP; the pool has two draws
 abbrev pub plan : ℕ → Bool → Plan
@@ -44,19 +41,9 @@ plan mode closed = record {
   memory = [];
 }
 
--- the write of 11 22 33 44 at 10000000h, and a read there, both by the requester 0100h
-abbrev pub write : List ℕ
-write =
-    0x40 ∷ 0x00 ∷ 0x00 ∷ 0x01 ∷ 0x01 ∷ 0x00 ∷ 0x00 ∷ 0x0f ∷ 0x10 ∷ 0x00 ∷ 0x00 ∷ 0x00 ∷ 0x11 ∷ 0x22 ∷ 0x33 ∷ 0x44 ∷ []
-
+-- a read at 10000000h by the requester 0100h
 abbrev pub read : List ℕ
 read = 0x00 ∷ 0x00 ∷ 0x00 ∷ 0x01 ∷ 0x01 ∷ 0x00 ∷ 0x01 ∷ 0x0f ∷ 0x10 ∷ 0x00 ∷ 0x00 ∷ 0x00 ∷ []
-
-abbrev pub host : PortName
-host = record { side = Host; link = 0 }
-
-abbrev pub device : PortName
-device = record { side = Device; link = 0 }
 
 -- where the device's port seals posted TLPs, and where the host's receives them
 abbrev pub sender : KeyPlace
@@ -71,7 +58,7 @@ receiver = record { side = Host; link = 0; stream = 5; sends = false; sub = Pr }
 abbrev pub packet : ℕ → SubKind → ℕ → ℕ → Bool → ℕ → SealedPacket
 packet number sub draw unit m posted = record {
   number = number;
-  port = device;
+  port = device_port 0;
   stream = 5;
   sub = sub;
   draw = draw;
@@ -100,17 +87,17 @@ pool_is_empty = (Establish 0 5 None, v.RefusedPoolEmpty 2)
 
 -- a write that is a unit of its own
 abbrev pub sealed : ℕ → ℕ → ℕ → Event × Verdict
-sealed number draw unit = (Send device write false false, v.Sealed (packet number Pr draw unit true 0 ∷ []))
+sealed number draw unit = (Send (device_port 0) write false false, v.Sealed (packet number Pr draw unit true 0 ∷ []))
 
 -- a read whose unit goes on if it has room
 abbrev pub sealed_on : ℕ → Bool → Event × Verdict
-sealed_on number m = (Send device read true false, v.Sealed (packet number Npr 0 1 m 0 ∷ []))
+sealed_on number m = (Send (device_port 0) read true false, v.Sealed (packet number Npr 0 1 m 0 ∷ []))
 
 -- the write of this number, which is blocked since it has no T
 abbrev pub accepted_unit : ℕ → ℕ → ℕ → Event × Verdict
 accepted_unit number draw unit = (
   Pass number,
-  v.Accepted host (record {
+  v.Accepted (host_port 0) (record {
     stream = 5;
     sub = Pr;
     draw = draw;
@@ -123,33 +110,33 @@ abbrev pub reads : UnitName
 reads = record { stream = 5; sub = Npr; draw = 0; unit = 1 }
 
 abbrev pub held_packet : Event × Verdict
-held_packet = (Pass 1, v.Held host reads)
+held_packet = (Pass 1, v.Held (host_port 0) reads)
 
 abbrev pub both_accepted : Event × Verdict
-both_accepted = (Pass 2, v.Accepted host reads (Delivered ∷ Delivered ∷ []))
+both_accepted = (Pass 2, v.Accepted (host_port 0) reads (Delivered ∷ Delivered ∷ []))
 
 -- a write whose unit goes on, and a read after it
 abbrev pub unfinished_write : Event × Verdict
-unfinished_write = (Send device write true false, v.Sealed (packet 3 Pr 0 1 false 0 ∷ []))
+unfinished_write = (Send (device_port 0) write true false, v.Sealed (packet 3 Pr 0 1 false 0 ∷ []))
 
 abbrev pub fails : Event → Event × Verdict
-fails e = (e, v.Fail host 5 Pr fail.Tag)
+fails e = (e, v.Fail (host_port 0) 5 Pr fail.Tag)
 
 abbrev pub fails_key : Event → Event × Verdict
-fails_key e = (e, v.Fail host 5 Pr fail.Key)
+fails_key e = (e, v.Fail (host_port 0) 5 Pr fail.Key)
 
 abbrev pub insecure : Event × Verdict
-insecure = (Pass 1, v.Insecure host 5)
+insecure = (Pass 1, v.Insecure (host_port 0) 5)
 
 -- the read, after one write, and that it arrives before it
 abbrev pub sealed_read : Event × Verdict
-sealed_read = (Send device read false false, v.Sealed (packet 2 Npr 0 1 true 1 ∷ []))
+sealed_read = (Send (device_port 0) read false false, v.Sealed (packet 2 Npr 0 1 true 1 ∷ []))
 
 abbrev pub fails_order : Event × Verdict
-fails_order = (Pass 2, v.Fail host 5 Npr fail.Order)
+fails_order = (Pass 2, v.Fail (host_port 0) 5 Npr fail.Order)
 
 abbrev pub unfinished : Event × Verdict
-unfinished = (Send device read false false, v.RefusedUnfinished)
+unfinished = (Send (device_port 0) read false false, v.RefusedUnfinished)
 
 abbrev pub reply_9_lost : Event × Verdict
 reply_9_lost = (Refresh 0 5 (Some (record { exchange = 9; lost = Reply })), v.LostReply 9)
@@ -160,7 +147,7 @@ busy = (Establish 0 5 None, v.RefusedBusy op.Refresh)
 -- NPR and CPL go first with the count of 255 posted packets, then the 256th
 abbrev pub count_reached : Event × Verdict
 count_reached = (
-  Send device write false false,
+  Send (device_port 0) write false false,
   v.Sealed (sync_packet 256 Npr 255 ∷ sync_packet 257 Cpl 255 ∷ packet 258 Pr 0 256 true 0 ∷ []),
 )
 

@@ -13,13 +13,8 @@ use Rattle.interface_machine.specs.Machine.{Face, around_of, grant_of}
 use Rattle.link_ports.specs.Machine.{LinkState}
 use Rattle.link_ports.specs.Stands.{PortsStandFor}
 use Rattle.whole_machine.specs.Machine.{Whole, secure_in, whole_streams, arrival_of, written_after, whole_after}
-use Rattle.link_ends.specs.declared.ends.LinkEnds.{LinkEnds}
-use Rattle.link_ends.specs.Hosts.{InterfacesView}
-use Rattle.all_links.specs.declared.links.Links.{Links}
-use Rattle.all_ends.specs.AllEnds.{grants_in}
-use Rattle.all_links.specs.States.{links_state}
-use Rattle.all_links.specs.Sides.{SidesArrive, AllFollow, arrival_at}
-use Rattle.all_ends.specs.Writes.{writes_by}
+use Rattle.whole_links.specs.{AllFollow, arrival_at, grants_in, InterfacesView, LinkEnds, Links, links_state}
+use Rattle.whole_links.specs.{SidesArrive, writes_by}
 use Rattle.world_states.specs.Whole.{IsBeside}
 use Rattle.world_states.proofs.Statuses.{secure_is}
 use Rattle.world_states.proofs.Rests.{is_of_ports, is_of_packets, of_ports, next_of_ports, none_of_ports}

@@ -24,11 +24,8 @@ use Rattle.link_ports.specs.Machine.{LinkState, Stepped, step_of, status_at}
 use Rattle.interface_joins.specs.Faces.{IsFace}
 use Rattle.interface_joins.specs.Joined.{IsInterfaceJoined, InterfaceOperationsJoin}
 use Rattle.interface_joins.specs.Verdicts.{op_event}
-use Rattle.link_ends.specs.Hosts.{InterfacesView, operated_on}
+use Rattle.whole_links.specs.{InterfacesView, Links, links_state, operated_on, SidesAsk}
 use Rattle.whole_machine.specs.Machine.{Whole, secure_in, whole_streams, beside_of, whole_after}
-use Rattle.all_links.specs.declared.links.Links.{Links}
-use Rattle.all_links.specs.States.{links_state}
-use Rattle.all_links.specs.Sides.{SidesAsk}
 use Rattle.world_states.specs.Whole.{IsPlaced, IsBeside}
 use Rattle.world_states.proofs.Places.{get_there}
 use Rattle.world_states.proofs.Sites.{is_at, interface_there, interface_absent}

@@ -36,7 +36,7 @@ use Rattle.interface_states.specs.Views.{Managed, is_number, number_in, on_opera
 use Rattle.interface_states.specs.Devices.{Around, tdi_if_called, lock_call, tdi_asked, accepts_lock, one_if}
 use Rattle.interface_states.specs.Due.{Standing, asked_due}
 use Rattle.interface_machine.specs.Machine.{Face, Streams, around_of, face_after, gives_nonce}
-use Rattle.interface_machine.specs.Machine.{with_each, is_true, standing_of, asked_due_of, answer_to}
+use Rattle.interface_machine.specs.Machine.{with_each, is_true, face_standing, asked_due_of, answer_to}
 use Rattle.link_ports.specs.Machine.{LinkState, Stepped}
 unfoldable use Rattle.link_ports.specs.Machine.{step_of}
 use Rattle.whole_machine.specs.Machine.{Whole, secure_in, whole_streams, beside_of, whole_after}
@@ -45,13 +45,8 @@ use Rattle.interface_joins.specs.Faces.{IsFace, IsManaged}
 use Rattle.tdi_device.specs.Replies.{called_at}
 use Rattle.tdi_host.specs.Views.{HostTdi}
 use Rattle.trusted_memory.specs.{MemoryContents, IsLeftBy}
-use Rattle.link_ends.specs.declared.ends.LinkEnds.{LinkEnds}
-use Rattle.link_ends.specs.Hosts.{InterfacesView}
+use Rattle.whole_links.specs.{InterfacesView, LinkEnds, Links, links_state, located, SidesCall, SidesKeep}
 use Rattle.link_ends.proofs.Lists.{set_read}
-use Rattle.all_links.specs.declared.links.Links.{Links}
-use Rattle.all_links.specs.States.{links_state}
-use Rattle.all_ends.specs.Places.{located}
-use Rattle.all_links.specs.Sides.{SidesKeep, SidesCall}
 use Rattle.world_states.specs.Whole.{IsPlaced, IsDevice, IsBeside}
 use Rattle.world_states.proofs.Places.{get_there}
 use Rattle.world_states.proofs.Sites.{site_numbered, face_found, located_apart, located_kept, interface_there}
@@ -484,7 +479,7 @@ module _ (plan : Plan) (ends : List LinkEnds) (m : InterfacesView) (memory : Mem
 -- the verdict of an event on an interface that is there
 pub answer_there : (plan : Plan) (w : Whole) (e : InterfaceEvent) (i : ℕ) (x : Site) (f : Face) → number_in e ≡ Some i
     → slice_get (sites plan) i ≡ Some x → slice_get w.faces.list i ≡ Some f
-    → (beside_of plan w).answer e ≡ asked_due plan x (standing_of plan (whole_streams plan w) w.faces.used x f) e
+    → (beside_of plan w).answer e ≡ asked_due plan x (face_standing plan (whole_streams plan w) w.faces.used x f) e
 answer_there plan w e i x f number at there =
     ap (λ (o : Option ℕ). answer_to plan (whole_streams plan w) w.faces e o (memory_shown plan w.written e)) number
     ∙ ap (asked_due_of plan (whole_streams plan w) w.faces.used e) (face_found plan w.faces.list i x f at there)
@@ -589,7 +584,7 @@ module _ (plan : Plan) (old new : Links) (w : Whole) (verdict : Verdict) (both :
       let around = around_of plan (whole_streams plan w) w.faces.used x p.face in
       let applied : changes_device verdict ≡ test p.tdi =
       ap changes_device due ∙ c.applies plan x
-      (standing_of plan (whole_streams plan w) w.faces.used x p.face) p.tdi p.keeps.layout in
+      (face_standing plan (whole_streams plan w) w.faces.used x p.face) p.tdi p.keeps.layout in
       record {
         tdi = tdi_if_called (test p.tdi) call p.tdi;
         interface = p.interface;

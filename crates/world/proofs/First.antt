@@ -28,7 +28,7 @@ use Rattle.interface_machine.specs.Machine.{new_face}
 use Rattle.guarded_memory.specs.{page_counts}
 use Rattle.accesses.specs.declared.link.LinkAccesses.{LinkAccesses}
 use Rattle.accesses.specs.{new_link_accesses, new_accesses}
-use Rattle.whole_machine.specs.Accesses.{new_accesses as machine_accesses}
+use Rattle.whole_machine.specs.Accesses.{first_accesses}
 use Rattle.whole_machine.specs.Machine.{new_whole}
 use Rattle.tdi_state.specs.Machine.{Tdi, new_tdi}
 use Rattle.tdi_host.specs.Views.{new_interface}
@@ -46,22 +46,11 @@ use Rattle.tsm_host.specs.Managers.{new_manager, new_streams, streams_from}
 use Rattle.link_history.specs.Plan.{streams_of}
 use Rattle.link_walks.specs.Joined.{KeysKept}
 use Rattle.link_ports.specs.Machine.{first_ports, first_state}
-use Rattle.link_ends.specs.declared.ends.LinkEnds.{LinkEnds}
-use Rattle.link_ends.specs.Ends.{new_ends}
-use Rattle.link_ends.specs.Keepers.{KeeperView}
-use Rattle.link_ends.specs.Hosts.{InterfacesView}
-use Rattle.all_ends.specs.AllEnds.{ends_from}
-use Rattle.all_ends.specs.Places.{located}
-use Rattle.all_links.specs.Links.{IsFirst}
-use Rattle.all_links.specs.Accesses.{reads_at, floors_at, sizes_at, bytes_at}
-use Rattle.all_links.specs.States.{links_state}
+use Rattle.whole_links.specs.{AreLinks, ends_from, floors_at, InterfacesView, IsBounded, IsFirst, IsLink, KeeperView}
+use Rattle.whole_links.specs.{LinkEnds, Links, links_state, located, mmio_at, name_of, names_from, names_of, new_ends}
+use Rattle.whole_links.specs.{ops_in, ops_of, ports_in, reads_at, requester_of, sizes_at, state_of, views_after}
 use Rattle.whole_links.specs.declared.whole.WholeLinks.{WholeLinks}
 use Rattle.whole_links.specs.Whole.{IsFirstWhole}
-use Rattle.all_ends.specs.Requester.{requester_of}
-use Rattle.all_ends.specs.States.{ports_in, ops_in, ops_of, views_after, name_of, names_of, names_from, state_of}
-use Rattle.all_ends.specs.States.{IsBounded}
-use Rattle.all_ends.specs.States.{IsLink, AreLinks}
-use Rattle.all_links.specs.declared.links.Links.{Links}
 use Rattle.world_states.specs.Accesses.{AreAccesses, on_link, seen_at}
 use Rattle.world_states.specs.Whole.{IsPlaced, IsDevice, IsBeside}
 use Rattle.world_states.specs.Worlds.{Stands, IsNewWorld, world_of, IsWorld}
@@ -456,7 +445,7 @@ none_read [] link = refl
 none_read (l ∷ ls) zero = refl
 none_read (l ∷ ls) (suc link) = none_read ls link
 
-none_written : (ls : List LinkPlan) (link i b offset : ℕ) → bytes_at (new_accesses ls) link i b offset ≡ 0
+none_written : (ls : List LinkPlan) (link i b offset : ℕ) → mmio_at (new_accesses ls) link i b offset ≡ 0
 none_written [] link i b offset = refl
 none_written (l ∷ ls) zero i b offset = refl
 none_written (l ∷ ls) (suc link) i b offset = none_written ls link i b offset
@@ -467,7 +456,7 @@ sizes_of [] link p is = absurd (none-some p is)
 sizes_of (l ∷ ls) zero p is = ap (λ (q : LinkPlan). map page_counts q.interfaces) (same_Some l p is)
 sizes_of (l ∷ ls) (suc link) p is = sizes_of ls link p is
 
-accesses_first : (plan : Plan) → AreAccesses plan (seen_at (new_accesses plan.links)) (machine_accesses plan)
+accesses_first : (plan : Plan) → AreAccesses plan (seen_at (new_accesses plan.links)) (first_accesses plan)
 accesses_first plan = record {
   floored = length-map (sites plan) first_floor;
   reads = λ link. none_read plan.links link;
@@ -499,7 +488,7 @@ first_stands plan s begins is =
             (sym at.interfaces)
             (subst (λ (es : List LinkEnds). IsBeside plan es (new_host plan.links plan.portion)
             (new_contents plan.memory) (new_whole plan)) (sym at.ends) (beside_first plan)));
-        accesses = subst (λ (xs : List LinkAccesses). AreAccesses plan (seen_at xs) (machine_accesses plan))
+        accesses = subst (λ (xs : List LinkAccesses). AreAccesses plan (seen_at xs) (first_accesses plan))
             (sym is.accesses) (accesses_first plan);
       };
       stands = begins plan;

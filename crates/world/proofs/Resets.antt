@@ -25,14 +25,8 @@ use Rattle.trusted_memory.specs.{MemoryContents, IsLeftBy}
 use Rattle.interface_joins.specs.Faces.{SeenAs, IsManaged}
 use Rattle.link_ports.specs.Machine.{Beside, LinkState, Stepped, reset_state}
 unfoldable use Rattle.link_ports.specs.Machine.{step_of}
-use Rattle.link_ends.specs.declared.ends.LinkEnds.{LinkEnds}
-use Rattle.link_ends.specs.Ends.{reset_ends}
-use Rattle.link_ends.specs.Hosts.{InterfacesView}
+use Rattle.whole_links.specs.{InterfacesView, LinkEnds, Links, links_state, located, reset_ends, SidesReset}
 use Rattle.whole_machine.specs.Machine.{Whole, secure_in, whole_streams, beside_of, whole_after}
-use Rattle.all_links.specs.declared.links.Links.{Links}
-use Rattle.all_links.specs.States.{links_state}
-use Rattle.all_ends.specs.Places.{located}
-use Rattle.all_links.specs.Sides.{SidesReset}
 use Rattle.world_states.specs.Whole.{IsPlaced, IsDevice, IsBeside}
 use Rattle.world_states.proofs.Places.{get_there}
 use Rattle.world_states.proofs.Statuses.{secure_is}

@@ -15,12 +15,8 @@ use Rattle.port_operations.specs.Points.{PointsStand}
 use Rattle.whole_machine.specs.Machine.{Whole, beside_of, whole_after, whole_step}
 use Rattle.whole_machine.specs.Stands.{StandsFor, WholeSteps}
 use Rattle.interface_joins.specs.Joined.{InterfaceOperationsJoin}
-use Rattle.link_ends.specs.declared.ends.LinkEnds.{LinkEnds}
-use Rattle.link_ends.specs.declared.host.HostKeeper.{HostKeeper}
-use Rattle.all_ends.specs.States.{AreLinks, IsBounded, state_of}
-use Rattle.all_links.specs.Links.{StandsForSome, Ends, HasNoVerdict}
-use Rattle.all_links.specs.Sides.{Sides}
-use Rattle.all_links.specs.States.{links_state}
+use Rattle.whole_links.specs.{AreLinks, Ends, HasNoVerdict, HostKeeper, IsBounded, LinkEnds, links_state, Sides}
+use Rattle.whole_links.specs.{StandsForSome, state_of}
 use Rattle.whole_links.specs.declared.whole.WholeLinks.{WholeLinks}
 use Rattle.whole_links.specs.Accesses.{AccessesAfter}
 use Rattle.whole_links.specs.Besides.{beside_whole}

@@ -41,7 +41,7 @@ use Rattle.interface_states.specs.Devices.{is_run}
 use Rattle.interface_states.specs.Due.{asked_due, code_after, write_due}
 use Rattle.interface_states.specs.Sites.{Site, sites}
 use Rattle.interface_states.specs.Views.{Managed, bound_if}
-use Rattle.interface_machine.specs.Machine.{Face, find_face, standing_of, asked_due_of, interface_answer}
+use Rattle.interface_machine.specs.Machine.{Face, find_face, face_standing, asked_due_of, interface_answer}
 use Rattle.interface_machine.specs.Machine.{with_requester}
 use Rattle.interface_machine.specs.Machine.{grant_of, t_of}
 use Rattle.interface_joins.specs.Faces.{SeenAs}
@@ -52,16 +52,11 @@ use Rattle.ide_port.specs.{status_in}
 use Rattle.tsm_host.specs.Streams.{status_or_idle}
 use Rattle.link_history.specs.Memory.{shown_if}
 use Rattle.link_ports.specs.Machine.{LinkPacket, LinkState, status_at}
-use Rattle.link_ends.specs.declared.ends.LinkEnds.{LinkEnds}
-use Rattle.link_ends.specs.Hosts.{InterfacesView, operated_on}
-use Rattle.link_ends.specs.Keepers.{KeeperView}
+use Rattle.whole_links.specs.{AreLinks, code_behind, device_interfaces, ended_at, ended_in, ended_on, firmware_as}
+use Rattle.whole_links.specs.{flr_as, interface_named, InterfacesView, KeeperView, LinkEnds, operated_on, read_as}
+use Rattle.whole_links.specs.{state_of, t_in, tdi_of_ends, tdi_seen_at, verdict_at_ends, verdict_in, viewed_as}
+use Rattle.whole_links.specs.{written_as}
 use Rattle.whole_machine.specs.Machine.{Whole, memory_shown, secure_in, whole_streams, t_by}
-use Rattle.all_links.specs.Besides.{t_in}
-use Rattle.all_links.specs.Interfaces.{interface_named, answer_in, ended_in, ended_at, ended_on}
-use Rattle.all_ends.specs.Places.{code_behind}
-use Rattle.all_links.specs.Interfaces.{written_as, flr_as, firmware_as, viewed_as, read_as, tdi_of_ends, seen_at}
-use Rattle.all_links.specs.Interfaces.{device_interfaces, verdict_in}
-use Rattle.all_ends.specs.States.{AreLinks, state_of}
 use Rattle.world_states.specs.Whole.{IsPlaced, IsBeside}
 use Rattle.world_states.proofs.Places.{face_first, face_nowhere, position_at, position_none, IsSomeSite, site_or_none}
 use Rattle.world_states.proofs.Places.{get_there}
@@ -408,7 +403,7 @@ module _ (plan : Plan) (ends : List LinkEnds) (m : InterfacesView) (memory : Mem
   answered : (i : ℕ) (e : InterfaceEvent) (given : Option (ℕ × ℕ) → Option Verdict) → given None ≡ Some v.Nothing
       → ((x : Site) (p : IsPlaced plan ends m w i x) → slice_get (sites plan) i ≡ Some x
       → given (Some (x.link, p.place))
-      ≡ Some (asked_due plan x (standing_of plan (whole_streams plan w) w.faces.used x p.face) e))
+      ≡ Some (asked_due plan x (face_standing plan (whole_streams plan w) w.faces.used x p.face) e))
       → given (interface_named m ends i) ≡ due_at i e
   answered i e given absent there = ⊎_elim here nowhere (cases_lt i (length (sites plan)))
     where
@@ -491,7 +486,7 @@ module _ (plan : Plan) (ends : List LinkEnds) (m : InterfacesView) (memory : Mem
     verdict_is : (i : ℕ) (o : InterfaceOp) (loss : Option Loss) (x : Site) (p : IsPlaced plan ends m w i x)
         → slice_get (sites plan) i ≡ Some x
         → verdict_in i o loss (ended_at m ends k.pool.draws i o loss (Some (x.link, p.place)))
-        ≡ Some (asked_due plan x (standing_of plan (whole_streams plan w) w.faces.used x p.face) (op_event o i loss))
+        ≡ Some (asked_due plan x (face_standing plan (whole_streams plan w) w.faces.used x p.face) (op_event o i loss))
     verdict_is i o loss x p is =
         let j = joins plan (whole_streams plan w) w.faces.used x p.face i p.place o loss m p.link_ends.device.interfaces
         p.interface p.tdi (is_at plan ends m memory w i x p beside fits is) in
@@ -506,7 +501,7 @@ module _ (plan : Plan) (ends : List LinkEnds) (m : InterfacesView) (memory : Mem
         (verdict_is i o loss)
 
     -- every event has the verdict that the machine answers it with
-    pub answer_is : (e : InterfaceEvent) → answer_in ends m k.pool.draws memory e
+    pub answer_is : (e : InterfaceEvent) → verdict_at_ends ends m k.pool.draws memory e
         ≡ Some (interface_answer plan (whole_streams plan w) w.faces e (memory_shown plan w.written e))
     answer_is (ie.Lock i loss) = operation_is i op.Lock loss
     answer_is (ie.Report i loss) = operation_is i op.Report loss
@@ -514,7 +509,8 @@ module _ (plan : Plan) (ends : List LinkEnds) (m : InterfacesView) (memory : Mem
     answer_is (ie.Halt i loss) = operation_is i op.Halt loss
     answer_is (ie.State i loss) = operation_is i op.State loss
     answer_is (ie.View i) =
-        answered i (ie.View i) (λ at. Some (viewed_as i (seen_at m i at))) refl (λ x p is. ap Some (view_is i x p is))
+        answered i (ie.View i) (λ at. Some (viewed_as i (tdi_seen_at m i at))) refl
+        (λ x p is. ap Some (view_is i x p is))
     answer_is (ie.Write i register value) =
         answered i (ie.Write i register value)
         (λ at. Some (written_as i register value (option_and_then (tdi_of_ends ends) at))) refl

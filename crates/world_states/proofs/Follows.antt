@@ -21,10 +21,7 @@ use Rattle.interface_machine.specs.Machine.{Face, around_of, face_after}
 use Rattle.interface_joins.specs.Faces.{IsManaged}
 use Rattle.whole_machine.specs.Machine.{Whole, secure_in, whole_streams, draw_after, written_after, whole_after}
 use Rattle.link_ports.specs.Machine.{LinkState}
-use Rattle.link_ends.specs.declared.ends.LinkEnds.{LinkEnds}
-use Rattle.link_ends.specs.Hosts.{InterfacesView}
-use Rattle.all_ends.specs.Places.{located}
-use Rattle.all_links.specs.Sides.{IsSettledOrSame}
+use Rattle.whole_links.specs.{InterfacesView, IsSettledOrSame, LinkEnds, located}
 use Rattle.world_states.specs.Whole.{IsPlaced, IsDevice, IsBeside}
 use Rattle.world_states.proofs.Places.{get_there}
 use Rattle.world_states.proofs.Sites.{located_kept}

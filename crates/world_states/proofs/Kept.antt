@@ -26,12 +26,7 @@ use Rattle.link_ports.specs.Machine.{Beside, LinkState, Stepped, status_found}
 unfoldable use Rattle.link_ports.specs.Machine.{find_op, step_of}
 use Rattle.whole_machine.specs.Machine.{Whole, secure_in, whole_streams, arrival_of, draw_after, written_after}
 use Rattle.whole_machine.specs.Machine.{beside_of, whole_after}
-use Rattle.link_ends.specs.Hosts.{InterfacesView}
-use Rattle.all_links.specs.declared.links.Links.{Links}
-use Rattle.all_ends.specs.States.{AreLinks}
-use Rattle.all_links.specs.States.{links_state}
-use Rattle.all_links.specs.Sides.{SidesKeep}
-use Rattle.all_ends.specs.Writes.{writes_by}
+use Rattle.whole_links.specs.{AreLinks, InterfacesView, Links, links_state, SidesKeep, writes_by}
 use Rattle.world_states.specs.Whole.{IsBeside}
 use Rattle.world_states.proofs.Settled.{leaves, stays_is}
 use Rattle.world_states.proofs.Secure.{answer_kept, secure_kept}

@@ -4,6 +4,7 @@
 use Rattle.std.proofs.Common.{◌≡◌, ℕ, ◌+◌, ◌==◌, ◌&&◌, Bool, true, false, List, [], ◌∷◌, length, Option, Some, None}
 use Rattle.std.proofs.Common.{refl, ap, sym, ◌∙◌, subst, arith}
 use Rattle.std.specs.Prelude.{not, if◌then◌else◌, is_some, unwrap_or, Result, Ok, Err}
+use Rattle.key_laws.specs.Keys.{is_below}
 use Rattle.ide_types.specs.declared.port.PortName.{PortName}
 use Rattle.ide_types.specs.declared.port.Side.TheVariants.{Device, Host}
 use Rattle.ide_types.specs.declared.sub.SubKind.{SubKind}
@@ -38,13 +39,14 @@ use Rattle.stream_rules.specs.Stream.{
 }
 use Rattle.stream_rules.specs.Stream.{counted_unit, ended_slots, sealed_slots, sealed_sub, sealed_one, sealed_all}
 use Rattle.stream_rules.specs.Stream.{lanes_of}
-use Rattle.stream_rules.specs.Slots.{is_live_slot, any_live, has_all_live, has_some_live, status_by}
+use Rattle.stream_rules.specs.Slots.{is_live_slot, any_live, has_all_live, has_some_live}
+use Rattle.ide_types.specs.Ports.{status_by}
 use Rattle.interface_states.specs.Devices.{is_secure}
 use Rattle.whole_machine.specs.Machine.{secure_in}
 use Rattle.link_ports.specs.Machine.{Beside, LinkState, LinkPacket, port_at, status_if_planned}
 use Rattle.link_ports.specs.Machine.{sealing_draw_at, stepped_answer, stepped_completion, stepped_on_stream}
 use Rattle.link_ports.specs.Machine.{stepped_reply, stepped_send}
-use Rattle.link_ports.specs.Replies.{Reply, is_below}
+use Rattle.link_ports.specs.Replies.{BoundCompletion}
 unfoldable use Rattle.link_ports.specs.Machine.{find, put, step_of}
 use Rattle.link_ports.proofs.Puts.{find-put, find-put_other}
 use Rattle.link_ports.proofs.Changes.{at_place}
@@ -213,7 +215,8 @@ secure_kept plan beside st port bytes more trusted link stream is =
     port_kept plan beside st port bytes more trusted (has_port plan port) refl (port_at Device link) stream is
 
 -- an answer to a read is a send, or leaves the ports as they are
-completion_kept : (plan : Plan) (beside : Beside) (st : LinkState) (port : PortName) (r : Reply) (draw : Option ℕ)
+completion_kept : (plan : Plan) (beside : Beside) (st : LinkState) (port : PortName) (r : BoundCompletion)
+    (draw : Option ℕ)
     (older : Bool) → is_below draw r.floor ≡ older
     → StaySecure plan st (stepped_completion plan beside st port r draw).1
 completion_kept plan beside st port r draw true older q n is =
@@ -230,7 +233,7 @@ completion_kept plan beside st port r draw false older q n is =
     ≡ true) (sym older)
     (send_kept plan beside st port (outgoing_of (streams_of plan port.link) port.side r.bytes) false true q n is)
 
-reply_kept : (plan : Plan) (beside : Beside) (st : LinkState) (port : PortName) (o : Result Reply Verdict)
+reply_kept : (plan : Plan) (beside : Beside) (st : LinkState) (port : PortName) (o : Result BoundCompletion Verdict)
     → StaySecure plan st (stepped_reply plan beside st port o).1
 reply_kept plan beside st port (Err w) q n is = is
 reply_kept plan beside st port (Ok r) q n is =

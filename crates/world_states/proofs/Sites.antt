@@ -18,12 +18,9 @@ use Rattle.tdi_state.specs.Machine.{Tdi}
 use Rattle.tdi_device.specs.Replies.{DeviceTdis, named_tdi, named_tdi_in, named_tdi_at, is_elsewhere, requester_in}
 use Rattle.tdi_device.specs.Replies.{has_requester}
 use Rattle.trusted_memory.specs.{MemoryContents}
-use Rattle.link_ends.specs.declared.ends.LinkEnds.{LinkEnds}
-use Rattle.link_ends.specs.Hosts.{InterfacesView}
+use Rattle.whole_links.specs.{interface_named, InterfacesView, LinkEnds, located}
 use Rattle.whole_machine.specs.Machine.{Whole, whole_streams}
 use Rattle.interface_joins.specs.Joined.{IsAt}
-use Rattle.all_links.specs.Interfaces.{interface_named}
-use Rattle.all_ends.specs.Places.{located}
 use Rattle.world_states.specs.Whole.{IsPlaced, IsBeside}
 use Rattle.world_states.proofs.Places.{get_there, position_at}
 pub use Rattle.world_states.proofs.Places.{site_numbered, site_planned, sites_many, sites_few, site_apart}

@@ -26,11 +26,8 @@ unfoldable use Rattle.link_ports.specs.Machine.{find}
 use Rattle.link_ports.specs.Machine as machine
 use Rattle.interface_states.specs.Devices.{is_secure}
 use Rattle.whole_machine.specs.Machine.{secure_in}
-use Rattle.link_ends.specs.declared.ends.LinkEnds.{LinkEnds}
-use Rattle.link_ends.specs.Ends.{port_in}
-use Rattle.link_ends.specs.Keepers.{KeeperView}
+use Rattle.whole_links.specs.{AreLinks, IsLink, KeeperView, LinkEnds, port_in, ports_in, state_of}
 use Rattle.link_ends.proofs.Streams.{machine_found}
-use Rattle.all_ends.specs.States.{ports_in, state_of, IsLink, AreLinks}
 
 -- ---- the states of one port
 

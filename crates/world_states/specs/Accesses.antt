@@ -7,7 +7,7 @@ use Rattle.waiting_reads.specs.declared.queue.WaitingRead.{WaitingRead}
 use Rattle.guarded_memory.specs.{page_counts}
 use Rattle.whole_machine.specs.Accesses.{Accesses}
 use Rattle.accesses.specs.declared.link.LinkAccesses.{LinkAccesses}
-use Rattle.all_links.specs.Accesses.{reads_at, floors_at, sizes_at, bytes_at, AreLeftBy}
+use Rattle.whole_links.specs.{AreLeftBy, floors_at, mmio_at, reads_at, sizes_at}
 
 -- What is seen of a link. How many pages are spare is no part of it.
 pub record LinkSeen : Type 0 where
@@ -21,7 +21,7 @@ seen_at xs link = record {
   reads = reads_at xs link;
   floors = floors_at xs link;
   sizes = sizes_at xs link;
-  bytes = bytes_at xs link;
+  bytes = mmio_at xs link;
 }
 
 -- of the interfaces of a link, in order, what is kept of each in the topology's order

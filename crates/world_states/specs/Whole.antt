@@ -9,9 +9,7 @@ use Rattle.tdi_state.specs.Machine.{Tdi, bound_stream}
 use Rattle.tdi_host.specs.Views.{HostTdi}
 use Rattle.interface_joins.specs.Faces.{IsFace}
 use Rattle.trusted_memory.specs.{MemoryContents, IsLeftBy}
-use Rattle.link_ends.specs.declared.ends.LinkEnds.{LinkEnds}
-use Rattle.link_ends.specs.Hosts.{InterfacesView}
-use Rattle.all_ends.specs.Places.{located}
+use Rattle.whole_links.specs.{InterfacesView, LinkEnds, located}
 
 -- Interface number `i` at the manager and at the device of its link: they keep of it what the machine keeps, and a lock
 -- stands only while its stream is Secure at the device's port.

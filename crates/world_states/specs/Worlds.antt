@@ -9,11 +9,8 @@ use Rattle.link_ports.specs.Machine.{LinkState}
 use Rattle.port_operations.specs.Points.{StreamPoints}
 use Rattle.whole_machine.specs.Machine.{Whole}
 use Rattle.whole_machine.specs.Stands.{StandsFor}
-use Rattle.link_ends.specs.declared.ends.LinkEnds.{LinkEnds}
-use Rattle.link_ends.specs.Hosts.{InterfacesView}
+use Rattle.whole_links.specs.{AreLinks, InterfacesView, LinkEnds, links_state}
 use Rattle.trusted_memory.specs.{MemoryContents}
-use Rattle.all_ends.specs.States.{AreLinks}
-use Rattle.all_links.specs.States.{links_state}
 use Rattle.whole_links.specs.declared.whole.WholeLinks.{WholeLinks}
 use Rattle.whole_links.specs.Whole.{IsBoundedWhole}
 use Rattle.world_states.specs.Whole.{IsBeside}

@@ -4,7 +4,7 @@ use Rattle.link_verdicts.specs.declared.verdict.Verdict.{Verdict}
 use Rattle.tdi_host.specs.Managers.{InterfaceManagerView, granted}
 use Rattle.trusted_memory.specs.{byte_at}
 unfoldable use Rattle.waiting_reads.specs.{completion_bytes}
-use Rattle.whole_links.specs.Besides.{judged_bound, replied, taken_stream}
+use Rattle.whole_links.specs.Besides.{judged_bound, replied, host_stream}
 use Rattle.whole_links.proofs.whole.WholeLinks.granted.Goals as goal
 
 pub returns-in-None : goal.returns-in-None
@@ -12,7 +12,7 @@ returns-in-None c = λ l is.
     let bytes : List ℕ = completion_bytes (byte_at c.args.self.now.links.trusted.contents) c.args.waiting.now.read in
     ap (λ (w : Verdict). replied (Err w) bytes) c.dropped.ensures
     ∙ ap (λ (o : Option (ℕ × ℕ)). replied
-    (judged_bound (taken_stream l bytes) c.args.interface c.args.waiting.now.draw o)
+    (judged_bound (host_stream l bytes) c.args.interface c.args.waiting.now.draw o)
     bytes)
     (c.in-None.ensures ∙ ap (λ (m : InterfaceManagerView). granted m c.args.link c.args.waiting.now.read.requester)
     c.manager.ensures)
@@ -22,8 +22,8 @@ returns-in-Some c = λ l is.
     let bytes : List ℕ = completion_bytes (byte_at c.args.self.now.links.trusted.contents) c.args.waiting.now.read in
     let made : c.complete.new.out.items ≡ bytes =
     c.complete.ensures.bytes ∙ ap (λ (bs : List ℕ). bs ++ bytes) c.requires.empty in
-    let taken : c.outgoing_stream-taken.result ≡ taken_stream l bytes =
-    c.outgoing_stream-taken.ensures l is ∙ ap (taken_stream l) (c.deref.ensures.value ∙ made) in
+    let taken : c.outgoing_stream-taken.result ≡ host_stream l bytes =
+    c.outgoing_stream-taken.ensures l is ∙ ap (host_stream l) (c.deref.ensures.value ∙ made) in
     let bound : Some c.in-Some.bound ≡ granted c.args.self.now.links.keeper.interfaces c.args.link
     c.args.waiting.now.read.requester =
     c.in-Some.ensures ∙ ap (λ (m : InterfaceManagerView). granted m c.args.link c.args.waiting.now.read.requester)

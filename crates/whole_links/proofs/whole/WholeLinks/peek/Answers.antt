@@ -5,7 +5,7 @@ use Rattle.std.specs.Bool.{OnTrue}
 use Rattle.trusted_memory.specs.{bytes_from}
 use Rattle.guarded_memory.specs.Contents.{has_bytes, mmio_byte}
 use Rattle.accesses.specs.declared.link.LinkAccesses.{LinkAccesses}
-use Rattle.all_links.specs.Accesses.{sizes_at, bytes_at}
+use Rattle.all_links.specs.Accesses.{sizes_at, mmio_at}
 use Rattle.all_links.proofs.Asked.{is_there}
 use Rattle.whole_links.proofs.whole.WholeLinks.peek.Goals as goal
 
@@ -33,6 +33,6 @@ returns-in-Some-clause-bytes c =
     let same =
     sym (λ i. bytes_from (option_map_or (λ (x : LinkAccesses). mmio_byte x.guarded) (c.at.ensures i) (λ j b offset. 0)
     c.in-Some.place c.args.bar) c.args.offset (length c.args.buf.now))
-    ∙ ap (λ (o : Option (ℕ × ℕ)). option_map_or (λ (at : ℕ × ℕ). bytes_from (bytes_at c.args.self.now.accesses at.0 at.1
+    ∙ ap (λ (o : Option (ℕ × ℕ)). option_map_or (λ (at : ℕ × ℕ). bytes_from (mmio_at c.args.self.now.accesses at.0 at.1
     c.args.bar) c.args.offset (length c.args.buf.now)) o []) c.in-Some.ensures in
     subst (λ (bs : List ℕ). OnTrue c.peek.result (c.peek.new.buf ≡ bs)) same c.peek.ensures.bytes
