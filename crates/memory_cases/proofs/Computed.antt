@@ -1,113 +1,92 @@
--- The worked cases by computation.
-use Rattle.std.proofs.Common.{◌∷◌, refl}
-use Rattle.aes_block.specs.Aes.{key_words, temp, mixed, sbox, sub_bytes, shift_rows, mix_columns, add_round_key}
-use Rattle.aes_block.specs.Aes.{sub_word, expansion, rounds, cipher, aes}
-use Rattle.gcm_seal.specs.Polynomials.{bits}
-use Rattle.gcm_seal.specs.Gcm.{counter, key_stream, masked, hash_key, blocks, ghash, tag_of, verifies, open_of}
-use Rattle.first_fault.specs.Walks.{walked_from, walk_length, reading}
-use Rattle.tlp_layout.specs.Reading.{read_of, read_head_of}
-use Rattle.ide_prefix.specs.Reading.{cut_of}
-use Rattle.association.specs.Choice.{choice_of}
-use Rattle.association.specs.Outgoing.{outgoing_of}
-use Rattle.key_laws.specs.Keys.{is_open, keys}
-use Rattle.key_laws.specs.History.{manager, moments, base, failed_there}
-use Rattle.key_laws.specs.Due.{key_due}
-use Rattle.interface_states.specs.Sites.{sites}
-use Rattle.interface_states.specs.Views.{managed, stream_draw}
-use Rattle.interface_states.specs.Devices.{devices}
+-- The worked cases, from the packets that were computed once.
+use Rattle.std.proofs.Common.{◌≡◌, ℕ, List, [], ◌∷◌, Option, true, refl, ap, ◌∙◌}
+use Rattle.std.specs.Prelude.{bytes_eq}
+use Rattle.ide_types.specs.Ports.{host_port, device_port}
+use Rattle.ide_types.specs.declared.sub.SubKind.TheVariants.{Pr}
+use Rattle.link_events.specs.declared.event.InterfaceEvent.TheVariants as ie
+use Rattle.link_verdicts.specs.declared.verdict.UnitName.{UnitName}
+use Rattle.trusted_memory.specs.Regions.{in_one_region}
+use Rattle.trusted_memory.specs.Memory.{bytes_from}
+use Rattle.interface_cases.specs.Cases.{interface_plan, write}
+use Rattle.memory_cases.specs.ReadCases.{applied_write}
+use Rattle.worked_cases.proofs.Ends.{comes_at, ends_at}
+use Rattle.memory_cases.proofs.Packets.{described, device_write, device_write_is, device_tag, device_tag_is}
+use Rattle.memory_cases.proofs.Packets.{device_opened}
+use Rattle.interface_states.specs.Views.{grant_at}
 use Rattle.interface_states.specs.Due.{interface_verdict_due as interface_due}
-use Rattle.trusted_memory.specs.Writes.{byte_after}
-use Rattle.link_history.specs.Plan.{stream_plan, key_of}
-use Rattle.link_history.specs.Units.{units, open_unit}
-use Rattle.link_history.specs.History.{packet_of, sent_in, sealed_packets, posted_in, keys_at, has_live_out}
-use Rattle.link_history.specs.History.{has_live_in, ahead_of_unit, total_in, arrived, meets_counts, got_since, held}
-use Rattle.link_history.specs.History.{units_got, units_since}
-use Rattle.link_history.specs.Memory.{writes}
-use Rattle.link_history.specs.Sent.{bytes_by}
-use Rattle.link_history.specs.Due.{due, before_tag, is_verified}
+use Rattle.trusted_memory.specs.Writes.{Write, byte_after, newest_first}
+use Rattle.link_history.specs.History.{packet_of}
+use Rattle.link_history.specs.Memory.{admitted_in, admitted_each, shown_if}
+use Rattle.link_history.specs.Packets.{Arrival, packet_in}
 use Rattle.link_verdicts.specs.declared.verdict.Effect.TheVariants.{Applied, Blocked}
 use Rattle.link_verdicts.specs.declared.verdict.BlockCause.TheVariants.{NotRunning, Stale}
 use Rattle.memory_cases.specs.Cases.{IsDue, MemoryCases, reported_history, started_event, unheard, sealed_write}
 use Rattle.memory_cases.specs.Cases.{accepted_write, memory_read_back, halted_history}
 use Rattle.memory_cases.specs.Cases.{run_again}
+use Rattle.interface_cases.proofs.Literals.{due_on_literals}
+
+abbrev pub write_unit : UnitName
+write_unit = record { stream = 5; sub = Pr; draw = 0; unit = 1 }
+
+-- what the accepted write leaves in memory
+pub write_admitted : newest_first
+    (admitted_in interface_plan (grant_at interface_plan (sealed_write ∷ started_event ∷ reported_history))
+    (host_port 0) write_unit
+    (packet_in (comes_at (host_port 0) (packet_of interface_plan [] write (described 1 (device_port 0) Pr 1 true 0) []))
+    ∷ [])) []
+    ≡ applied_write ∷ []
+unfolding due_on_literals
+write_admitted =
+    ap (λ (o : Option Arrival). newest_first
+    (admitted_in interface_plan (grant_at interface_plan (sealed_write ∷ started_event ∷ reported_history))
+    (host_port 0) write_unit (packet_in o ∷ [])) [])
+    (ap (comes_at (host_port 0)) device_write_is)
+    ∙ ap (λ (plain : List ℕ). newest_first
+    (admitted_each interface_plan (grant_at interface_plan (sealed_write ∷ started_event ∷ reported_history))
+    (host_port 0) write_unit plain (device_write ∷ [])) [])
+    device_opened
 
 -- each is a declaration of its own, since the checker counts its steps by declarations
 sealed_due : IsDue (started_event ∷ reported_history) sealed_write
-unfolding due key_due manager moments keys is_open failed_there base interface_due devices managed stream_draw sites
-    read_of reading walk_length walked_from outgoing_of choice_of keys_at has_live_out has_live_in stream_plan sent_in
-    sealed_packets bytes_by packet_of units open_unit posted_in writes byte_after ahead_of_unit total_in arrived
-    read_head_of
-    cut_of
-    key_of before_tag is_verified meets_counts got_since held units_got units_since verifies tag_of ghash hash_key
-    blocks counter key_stream masked bits aes cipher rounds add_round_key mixed mix_columns shift_rows sub_bytes
-    key_words temp expansion sub_word sbox open_of
+unfolding due_on_literals
 sealed_due = refl
 
 applied_due : IsDue (sealed_write ∷ started_event ∷ reported_history) (accepted_write Applied)
-unfolding due key_due manager moments keys is_open failed_there base interface_due devices managed stream_draw sites
-    read_of reading walk_length walked_from outgoing_of choice_of keys_at has_live_out has_live_in stream_plan sent_in
-    sealed_packets bytes_by packet_of units open_unit posted_in writes byte_after ahead_of_unit total_in arrived
-    read_head_of
-    cut_of
-    key_of before_tag is_verified meets_counts got_since held units_got units_since verifies tag_of ghash hash_key
-    blocks counter key_stream masked bits aes cipher rounds add_round_key mixed mix_columns shift_rows sub_bytes
-    key_words temp expansion sub_word sbox open_of
-applied_due = refl
+unfolding due_on_literals
+applied_due =
+    ends_at interface_plan (sealed_write ∷ started_event ∷ reported_history) _ (host_port 0) device_write write_unit
+    true
+    (ap (comes_at (host_port 0)) device_write_is) refl (ap (bytes_eq device_tag) device_tag_is)
 
 shown_due : IsDue (accepted_write Applied ∷ sealed_write ∷ started_event ∷ reported_history) memory_read_back
-unfolding due key_due manager moments keys is_open failed_there base interface_due devices managed stream_draw sites
-    read_of reading walk_length walked_from outgoing_of choice_of keys_at has_live_out has_live_in stream_plan sent_in
-    sealed_packets bytes_by packet_of units open_unit posted_in writes byte_after ahead_of_unit total_in arrived
-    read_head_of
-    cut_of
-    key_of before_tag is_verified meets_counts got_since held units_got units_since verifies tag_of ghash hash_key
-    blocks counter key_stream masked bits aes cipher rounds add_round_key mixed mix_columns shift_rows sub_bytes
-    key_words temp expansion sub_word sbox open_of
-shown_due = refl
+unfolding due_on_literals
+shown_due =
+    ap (λ (ws : List Write). interface_due interface_plan
+    (accepted_write Applied ∷ sealed_write ∷ started_event ∷ reported_history) (ie.Memory 0x10000000 6)
+    (shown_if (in_one_region interface_plan.memory 0x10000000 6) (bytes_from (byte_after ws) 0x10000000 6)))
+    write_admitted
 
 unheard_due : IsDue (unheard ∷ reported_history) sealed_write
-unfolding due key_due manager moments keys is_open failed_there base interface_due devices managed stream_draw sites
-    read_of reading walk_length walked_from outgoing_of choice_of keys_at has_live_out has_live_in stream_plan sent_in
-    sealed_packets bytes_by packet_of units open_unit posted_in writes byte_after ahead_of_unit total_in arrived
-    read_head_of
-    cut_of
-    key_of before_tag is_verified meets_counts got_since held units_got units_since verifies tag_of ghash hash_key
-    blocks counter key_stream masked bits aes cipher rounds add_round_key mixed mix_columns shift_rows sub_bytes
-    key_words temp expansion sub_word sbox open_of
+unfolding due_on_literals
 unheard_due = refl
 
 blocked_due : IsDue (sealed_write ∷ unheard ∷ reported_history) (accepted_write (Blocked NotRunning))
-unfolding due key_due manager moments keys is_open failed_there base interface_due devices managed stream_draw sites
-    read_of reading walk_length walked_from outgoing_of choice_of keys_at has_live_out has_live_in stream_plan sent_in
-    sealed_packets bytes_by packet_of units open_unit posted_in writes byte_after ahead_of_unit total_in arrived
-    read_head_of
-    cut_of
-    key_of before_tag is_verified meets_counts got_since held units_got units_since verifies tag_of ghash hash_key
-    blocks counter key_stream masked bits aes cipher rounds add_round_key mixed mix_columns shift_rows sub_bytes
-    key_words temp expansion sub_word sbox open_of
-blocked_due = refl
+unfolding due_on_literals
+blocked_due =
+    ends_at interface_plan (sealed_write ∷ unheard ∷ reported_history) _ (host_port 0) device_write write_unit true
+    (ap (comes_at (host_port 0)) device_write_is) refl (ap (bytes_eq device_tag) device_tag_is)
 
 halted_due : IsDue halted_history (accepted_write (Blocked NotRunning))
-unfolding due key_due manager moments keys is_open failed_there base interface_due devices managed stream_draw sites
-    read_of reading walk_length walked_from outgoing_of choice_of keys_at has_live_out has_live_in stream_plan sent_in
-    sealed_packets bytes_by packet_of units open_unit posted_in writes byte_after ahead_of_unit total_in arrived
-    read_head_of
-    cut_of
-    key_of before_tag is_verified meets_counts got_since held units_got units_since verifies tag_of ghash hash_key
-    blocks counter key_stream masked bits aes cipher rounds add_round_key mixed mix_columns shift_rows sub_bytes
-    key_words temp expansion sub_word sbox open_of
-halted_due = refl
+unfolding due_on_literals
+halted_due =
+    ends_at interface_plan (halted_history) _ (host_port 0) device_write write_unit true
+    (ap (comes_at (host_port 0)) device_write_is) refl (ap (bytes_eq device_tag) device_tag_is)
 
 stale_due : IsDue run_again (accepted_write (Blocked Stale))
-unfolding due key_due manager moments keys is_open failed_there base interface_due devices managed stream_draw sites
-    read_of reading walk_length walked_from outgoing_of choice_of keys_at has_live_out has_live_in stream_plan sent_in
-    sealed_packets bytes_by packet_of units open_unit posted_in writes byte_after ahead_of_unit total_in arrived
-    read_head_of
-    cut_of
-    key_of before_tag is_verified meets_counts got_since held units_got units_since verifies tag_of ghash hash_key
-    blocks counter key_stream masked bits aes cipher rounds add_round_key mixed mix_columns shift_rows sub_bytes
-    key_words temp expansion sub_word sbox open_of
-stale_due = refl
+unfolding due_on_literals
+stale_due =
+    ends_at interface_plan (run_again) _ (host_port 0) device_write write_unit true
+    (ap (comes_at (host_port 0)) device_write_is) refl (ap (bytes_eq device_tag) device_tag_is)
 
 pub computed : MemoryCases
 computed = (sealed_due, applied_due, shown_due, unheard_due, blocked_due, halted_due, stale_due)

@@ -1,35 +1,20 @@
 -- The worked cases of guarded memory by computation.
-use Rattle.std.specs.Prelude.{false, true, None, [], ◌∷◌}
-use Rattle.std.proofs.Common.{refl}
+use Rattle.std.specs.Prelude.{ℕ, List, false, true, None, [], ◌∷◌, bytes_eq}
+use Rattle.std.proofs.Common.{refl, ap}
 use Rattle.aes_block.specs.Aes.{key_words, temp, mixed, sbox, sub_bytes, shift_rows, mix_columns, add_round_key}
 use Rattle.aes_block.specs.Aes.{sub_word, expansion, rounds, cipher, aes}
-use Rattle.gcm_seal.specs.Polynomials.{bits}
-use Rattle.gcm_seal.specs.Gcm.{counter, key_stream, masked, hash_key, blocks, ghash, tag_of, verifies, open_of}
-use Rattle.first_fault.specs.Walks.{walked_from, walk_length, reading}
-use Rattle.tlp_layout.specs.Reading.{read_of, read_head_of}
-use Rattle.ide_prefix.specs.Reading.{cut_of}
-use Rattle.association.specs.Choice.{choice_of}
-use Rattle.association.specs.Outgoing.{outgoing_of}
-use Rattle.key_laws.specs.Keys.{is_open, keys}
-use Rattle.key_laws.specs.History.{manager, moments, base, failed_there}
-use Rattle.key_laws.specs.Due.{key_due}
-use Rattle.interface_states.specs.Sites.{sites}
-use Rattle.interface_states.specs.Devices.{devices}
-use Rattle.interface_states.specs.Due.{interface_verdict_due as interface_due}
-use Rattle.interface_states.specs.Views.{managed, stream_draw}
-use Rattle.interface_states.specs.Floors.{device_floor}
-use Rattle.trusted_memory.specs.Writes.{byte_after}
-use Rattle.waiting_reads.specs.Completions.{completion_bytes}
-use Rattle.link_history.specs.Plan.{stream_plan, key_of}
-use Rattle.link_history.specs.Units.{units, open_unit}
-use Rattle.link_history.specs.History.{packet_of, sent_in, sealed_packets, posted_in, keys_at, has_live_out}
-use Rattle.link_history.specs.History.{has_live_in, ahead_of_unit, total_in, arrived, meets_counts, got_since, held}
-use Rattle.link_history.specs.History.{units_got, units_since}
-use Rattle.link_history.specs.Memory.{writes}
-use Rattle.link_history.specs.Sent.{queued_in, reads_taken, packets_held, writes_in, bytes_by}
-use Rattle.link_history.specs.Guarded.{happened}
-use Rattle.link_history.specs.Due.{due, before_tag, is_verified}
-use Rattle.link_events.specs.declared.event.Event.TheVariants.{Interface}
+use Rattle.gcm_seal.specs.Gcm.{counter, key_stream, masked, open_of}
+use Rattle.ide_prefix.specs.Packet.{packet_bytes}
+use Rattle.ide_types.specs.Ports.{device_port}
+use Rattle.ide_types.specs.declared.sub.SubKind.TheVariants.{Pr}
+use Rattle.key_laws.specs.History.{History}
+use Rattle.link_verdicts.specs.declared.verdict.UnitName.{UnitName}
+use Rattle.interface_cases.specs.Cases.{interface_plan}
+use Rattle.worked_cases.proofs.Ends.{comes_at, ends_at}
+use Rattle.memory_cases.proofs.Packets.{host_1_write, host_1_write_is, host_1_tag, host_1_tag_is}
+use Rattle.memory_cases.proofs.Packets.{host_2_write, host_2_write_is, host_2_tag, host_2_tag_is}
+use Rattle.link_history.specs.Guarded.{happened, mmio_by}
+use Rattle.link_events.specs.declared.event.Event.TheVariants.{Arrive, Interface}
 use Rattle.link_events.specs.declared.event.InterfaceEvent.TheVariants as ie
 use Rattle.interface_words.specs.declared.verdict.InterfaceVerdict.TheVariants as iv
 use Rattle.link_verdicts.specs.declared.verdict.Effect.TheVariants.{Stored, Blocked}
@@ -38,97 +23,63 @@ use Rattle.link_verdicts.specs.declared.verdict.Verdict.TheVariants as v
 use Rattle.memory_cases.specs.Cases.{IsDue}
 use Rattle.memory_cases.specs.MmioCases.{MmioCases, sent_write, taken_write, shows, running_history, stored_history}
 use Rattle.memory_cases.specs.MmioCases.{blocked_history, stopped_history, keyed_history, refused_history}
+use Rattle.interface_cases.proofs.Literals.{due_on_literals}
+
+abbrev write_unit : ℕ → UnitName
+write_unit n = record { stream = 5; sub = Pr; draw = 0; unit = n }
+
+-- the first write is stored, if these bytes bring it
+abbrev stored_from : List ℕ → History
+stored_from bytes =
+    (Arrive (device_port 0) bytes, (taken_write 1 Stored).1) ∷ sent_write 1 true ∷ running_history
 
 -- each is a declaration of its own, since the checker counts its steps by declarations
 first_sent : IsDue running_history (sent_write 1 true)
-unfolding due key_due manager moments keys is_open failed_there base interface_due devices managed stream_draw sites
-    read_of reading walk_length walked_from outgoing_of choice_of keys_at has_live_out has_live_in stream_plan sent_in
-    sealed_packets packet_of units open_unit posted_in writes byte_after ahead_of_unit total_in arrived read_head_of
-    cut_of key_of before_tag is_verified meets_counts got_since held units_got units_since verifies tag_of ghash
-    hash_key blocks counter key_stream masked bits aes cipher rounds add_round_key mixed mix_columns shift_rows
-    sub_bytes key_words temp expansion sub_word sbox open_of queued_in reads_taken packets_held writes_in bytes_by
-    completion_bytes device_floor happened
+unfolding due_on_literals
 first_sent = refl
 
 first_stored : IsDue (sent_write 1 true ∷ running_history) (taken_write 1 Stored)
-unfolding due key_due manager moments keys is_open failed_there base interface_due devices managed stream_draw sites
-    read_of reading walk_length walked_from outgoing_of choice_of keys_at has_live_out has_live_in stream_plan sent_in
-    sealed_packets packet_of units open_unit posted_in writes byte_after ahead_of_unit total_in arrived read_head_of
-    cut_of key_of before_tag is_verified meets_counts got_since held units_got units_since verifies tag_of ghash
-    hash_key blocks counter key_stream masked bits aes cipher rounds add_round_key mixed mix_columns shift_rows
-    sub_bytes key_words temp expansion sub_word sbox open_of queued_in reads_taken packets_held writes_in bytes_by
-    completion_bytes device_floor happened
-first_stored = refl
+unfolding due_on_literals
+first_stored =
+    ends_at interface_plan (sent_write 1 true ∷ running_history) _ (device_port 0) host_1_write (write_unit 1) true
+    (ap (comes_at (device_port 0)) host_1_write_is) refl (ap (bytes_eq host_1_tag) host_1_tag_is)
 
 first_shown : IsDue stored_history (shows (0xaa ∷ 0xbb ∷ 0xcc ∷ 0xdd ∷ []))
-unfolding due key_due manager moments keys is_open failed_there base interface_due devices managed stream_draw sites
-    read_of reading walk_length walked_from outgoing_of choice_of keys_at has_live_out has_live_in stream_plan sent_in
-    sealed_packets packet_of units open_unit posted_in writes byte_after ahead_of_unit total_in arrived read_head_of
-    cut_of key_of before_tag is_verified meets_counts got_since held units_got units_since verifies tag_of ghash
-    hash_key blocks counter key_stream masked bits aes cipher rounds add_round_key mixed mix_columns shift_rows
-    sub_bytes key_words temp expansion sub_word sbox open_of queued_in reads_taken packets_held writes_in bytes_by
-    completion_bytes device_floor happened
-first_shown = refl
+unfolding due_on_literals open_of masked counter key_stream aes cipher rounds sub_bytes shift_rows mix_columns mixed
+    add_round_key expansion key_words temp sub_word sbox
+first_shown =
+    ap (λ (bytes : List ℕ). mmio_by interface_plan (happened interface_plan (stored_from bytes)) 0 0 0 4)
+    (ap packet_bytes host_1_write_is)
 
 second_sent : IsDue stored_history (sent_write 2 false)
-unfolding due key_due manager moments keys is_open failed_there base interface_due devices managed stream_draw sites
-    read_of reading walk_length walked_from outgoing_of choice_of keys_at has_live_out has_live_in stream_plan sent_in
-    sealed_packets packet_of units open_unit posted_in writes byte_after ahead_of_unit total_in arrived read_head_of
-    cut_of key_of before_tag is_verified meets_counts got_since held units_got units_since verifies tag_of ghash
-    hash_key blocks counter key_stream masked bits aes cipher rounds add_round_key mixed mix_columns shift_rows
-    sub_bytes key_words temp expansion sub_word sbox open_of queued_in reads_taken packets_held writes_in bytes_by
-    completion_bytes device_floor happened
+unfolding due_on_literals
 second_sent = refl
 
 second_blocked : IsDue (sent_write 2 false ∷ stored_history) (taken_write 2 (Blocked NotTrusted))
-unfolding due key_due manager moments keys is_open failed_there base interface_due devices managed stream_draw sites
-    read_of reading walk_length walked_from outgoing_of choice_of keys_at has_live_out has_live_in stream_plan sent_in
-    sealed_packets packet_of units open_unit posted_in writes byte_after ahead_of_unit total_in arrived read_head_of
-    cut_of key_of before_tag is_verified meets_counts got_since held units_got units_since verifies tag_of ghash
-    hash_key blocks counter key_stream masked bits aes cipher rounds add_round_key mixed mix_columns shift_rows
-    sub_bytes key_words temp expansion sub_word sbox open_of queued_in reads_taken packets_held writes_in bytes_by
-    completion_bytes device_floor happened
-second_blocked = refl
+unfolding due_on_literals
+second_blocked =
+    ends_at interface_plan (sent_write 2 false ∷ stored_history) _ (device_port 0) host_2_write (write_unit 2) true
+    (ap (comes_at (device_port 0)) host_2_write_is) refl (ap (bytes_eq host_2_tag) host_2_tag_is)
 
 halted : IsDue blocked_history (Interface (ie.Halt 0 None), v.Interface (iv.Halted 0 1))
-unfolding due key_due manager moments keys is_open failed_there base interface_due devices managed stream_draw sites
-    read_of reading walk_length walked_from outgoing_of choice_of keys_at has_live_out has_live_in stream_plan sent_in
-    sealed_packets packet_of units open_unit posted_in writes byte_after ahead_of_unit total_in arrived read_head_of
-    cut_of key_of before_tag is_verified meets_counts got_since held units_got units_since verifies tag_of ghash
-    hash_key blocks counter key_stream masked bits aes cipher rounds add_round_key mixed mix_columns shift_rows
-    sub_bytes key_words temp expansion sub_word sbox open_of queued_in reads_taken packets_held writes_in bytes_by
-    completion_bytes device_floor happened
+unfolding due_on_literals
 halted = refl
 
 nothing_shown : IsDue stopped_history (shows (0 ∷ 0 ∷ 0 ∷ 0 ∷ []))
-unfolding due key_due manager moments keys is_open failed_there base interface_due devices managed stream_draw sites
-    read_of reading walk_length walked_from outgoing_of choice_of keys_at has_live_out has_live_in stream_plan sent_in
-    sealed_packets packet_of units open_unit posted_in writes byte_after ahead_of_unit total_in arrived read_head_of
-    cut_of key_of before_tag is_verified meets_counts got_since held units_got units_since verifies tag_of ghash
-    hash_key blocks counter key_stream masked bits aes cipher rounds add_round_key mixed mix_columns shift_rows
-    sub_bytes key_words temp expansion sub_word sbox open_of queued_in reads_taken packets_held writes_in bytes_by
-    completion_bytes device_floor happened
+unfolding due_on_literals
 nothing_shown = refl
 
 trusted_blocked : IsDue (sent_write 1 true ∷ keyed_history) (taken_write 1 (Blocked NotRunning))
-unfolding due key_due manager moments keys is_open failed_there base interface_due devices managed stream_draw sites
-    read_of reading walk_length walked_from outgoing_of choice_of keys_at has_live_out has_live_in stream_plan sent_in
-    sealed_packets packet_of units open_unit posted_in writes byte_after ahead_of_unit total_in arrived read_head_of
-    cut_of key_of before_tag is_verified meets_counts got_since held units_got units_since verifies tag_of ghash
-    hash_key blocks counter key_stream masked bits aes cipher rounds add_round_key mixed mix_columns shift_rows
-    sub_bytes key_words temp expansion sub_word sbox open_of queued_in reads_taken packets_held writes_in bytes_by
-    completion_bytes device_floor happened
-trusted_blocked = refl
+unfolding due_on_literals
+trusted_blocked =
+    ends_at interface_plan (sent_write 1 true ∷ keyed_history) _ (device_port 0) host_1_write (write_unit 1) true
+    (ap (comes_at (device_port 0)) host_1_write_is) refl (ap (bytes_eq host_1_tag) host_1_tag_is)
 
 untrusted_stored : IsDue (sent_write 2 false ∷ refused_history) (taken_write 2 Stored)
-unfolding due key_due manager moments keys is_open failed_there base interface_due devices managed stream_draw sites
-    read_of reading walk_length walked_from outgoing_of choice_of keys_at has_live_out has_live_in stream_plan sent_in
-    sealed_packets packet_of units open_unit posted_in writes byte_after ahead_of_unit total_in arrived read_head_of
-    cut_of key_of before_tag is_verified meets_counts got_since held units_got units_since verifies tag_of ghash
-    hash_key blocks counter key_stream masked bits aes cipher rounds add_round_key mixed mix_columns shift_rows
-    sub_bytes key_words temp expansion sub_word sbox open_of queued_in reads_taken packets_held writes_in bytes_by
-    completion_bytes device_floor happened
-untrusted_stored = refl
+unfolding due_on_literals
+untrusted_stored =
+    ends_at interface_plan (sent_write 2 false ∷ refused_history) _ (device_port 0) host_2_write (write_unit 2) true
+    (ap (comes_at (device_port 0)) host_2_write_is) refl (ap (bytes_eq host_2_tag) host_2_tag_is)
 
 pub mmio_computed : MmioCases
 mmio_computed = (

@@ -1,39 +1,27 @@
 -- The worked cases of reads by computation.
-use Rattle.std.specs.Prelude.{◌≡◌, List, [], ◌∷◌, Option, drop, slice_get}
+use Rattle.std.specs.Prelude.{◌≡◌, List, [], ◌∷◌, Option, true, drop, slice_get, bytes_eq}
 use Rattle.std.specs.Option.{option_map_or}
 use Rattle.std.proofs.Common.{refl, ap, ◌∙◌}
 use Rattle.ide_types.specs.Ports.{host_port}
-use Rattle.aes_block.specs.Aes.{key_words, temp, mixed, sbox, sub_bytes, shift_rows, mix_columns, add_round_key}
-use Rattle.aes_block.specs.Aes.{sub_word, expansion, rounds, cipher, aes}
-use Rattle.gcm_seal.specs.Polynomials.{bits}
-use Rattle.gcm_seal.specs.Gcm.{counter, key_stream, masked, hash_key, blocks, ghash, tag_of, verifies, open_of}
 use Rattle.first_fault.specs.Walks.{walked_from, walk_length, reading}
-use Rattle.tlp_layout.specs.Reading.{read_of, read_head_of}
-use Rattle.ide_prefix.specs.Reading.{cut_of}
+use Rattle.tlp_layout.specs.Reading.{read_head_of}
 use Rattle.ide_types.specs.declared.port.Side.TheVariants.{Host}
 use Rattle.ide_types.specs.declared.sub.SubKind.TheVariants.{Cpl}
-use Rattle.association.specs.Choice.{choice_of}
 use Rattle.association.specs.Outgoing.{outgoing_of}
-use Rattle.key_laws.specs.Keys.{is_open, keys}
-use Rattle.key_laws.specs.History.{manager, moments, base, failed_there}
-use Rattle.key_laws.specs.Due.{key_due}
-use Rattle.interface_states.specs.Sites.{sites}
-use Rattle.interface_states.specs.Views.{managed, stream_draw, grant_at}
-use Rattle.interface_states.specs.Devices.{devices}
-use Rattle.interface_states.specs.Due.{interface_verdict_due as interface_due}
+use Rattle.interface_states.specs.Views.{grant_at}
 use Rattle.trusted_memory.specs.Writes.{Write, byte_after, newest_first}
 use Rattle.waiting_reads.specs.declared.queue.WaitingRead.{WaitingRead}
 use Rattle.waiting_reads.specs.Completions.{completion_bytes}
-use Rattle.link_history.specs.Plan.{stream_plan, key_of, streams_of}
-use Rattle.link_history.specs.Units.{units, open_unit}
-use Rattle.link_history.specs.History.{packet_of, sent_in, sealed_packets, posted_in, keys_at, has_live_out}
-use Rattle.link_history.specs.History.{has_live_in, ahead_of_unit, total_in, arrived, meets_counts, got_since, held}
-use Rattle.link_history.specs.History.{units_got, units_since, sent_bytes}
-use Rattle.link_history.specs.Memory.{writes, admitted_in}
-use Rattle.link_history.specs.Sent.{queued_in, reads_taken, packets_held, writes_in, bytes_by, unit_accepted}
-use Rattle.link_history.specs.Due.{due, before_tag, is_verified, answer_first}
+use Rattle.link_history.specs.Plan.{streams_of}
+use Rattle.link_history.specs.History.{sealed_packets}
+use Rattle.link_history.specs.History.{sent_bytes}
+use Rattle.link_history.specs.Packets.{Arrival, packet_in}
+use Rattle.link_history.specs.Memory.{admitted_in}
+use Rattle.link_history.specs.Sent.{queued_in, reads_taken, reads_by, writes_in, bytes_by, unit_accepted}
+use Rattle.link_history.specs.Due.{due, answer_first, answer_out}
 use Rattle.link_events.specs.declared.event.Event.TheVariants.{Pass}
 use Rattle.link_verdicts.specs.declared.access.AccessVerdict.TheVariants as av
+use Rattle.link_verdicts.specs.declared.verdict.Effect.TheVariants.{Queued}
 use Rattle.link_verdicts.specs.declared.verdict.BlockCause.TheVariants.{NotRunning}
 use Rattle.link_verdicts.specs.declared.verdict.Verdict.TheVariants as v
 use Rattle.interface_cases.specs.Cases.{interface_plan}
@@ -42,27 +30,21 @@ use Rattle.memory_cases.specs.ReadCases.{ReadCases, OneMore, sealed_request, que
 use Rattle.memory_cases.specs.ReadCases.{read_unit}
 use Rattle.memory_cases.specs.ReadCases.{written_history, waiting_history, halted_waiting, applied_write, waiting_read}
 use Rattle.memory_cases.specs.ReadCases.{read_completion, trusted_packet}
+use Rattle.worked_cases.proofs.Ends.{comes_at, ends_at}
+use Rattle.memory_cases.proofs.Packets.{later_read, later_read_is, later_read_tag, later_read_tag_is, first_read_is}
+use Rattle.memory_cases.proofs.Computed.{write_admitted}
+use Rattle.interface_cases.proofs.Literals.{due_on_literals}
 
 -- each is a declaration of its own, since the checker counts its steps by declarations
 asked_due : IsDue written_history (sealed_request 2 1)
-unfolding due key_due manager moments keys is_open failed_there base interface_due devices managed stream_draw sites
-    read_of reading walk_length walked_from outgoing_of choice_of keys_at has_live_out has_live_in stream_plan sent_in
-    sealed_packets packet_of units open_unit posted_in writes byte_after ahead_of_unit total_in arrived read_head_of
-    cut_of key_of before_tag is_verified meets_counts got_since held units_got units_since verifies tag_of ghash
-    hash_key blocks counter key_stream masked bits aes cipher rounds add_round_key mixed mix_columns shift_rows
-    sub_bytes key_words temp expansion sub_word sbox open_of queued_in reads_taken packets_held writes_in bytes_by
-    completion_bytes
+unfolding due_on_literals
 asked_due = refl
 
 queued_due : IsDue (sealed_request 2 1 ∷ written_history) (queued_read 2)
-unfolding due key_due manager moments keys is_open failed_there base interface_due devices managed stream_draw sites
-    read_of reading walk_length walked_from outgoing_of choice_of keys_at has_live_out has_live_in stream_plan sent_in
-    sealed_packets packet_of units open_unit posted_in writes byte_after ahead_of_unit total_in arrived read_head_of
-    cut_of key_of before_tag is_verified meets_counts got_since held units_got units_since verifies tag_of ghash
-    hash_key blocks counter key_stream masked bits aes cipher rounds add_round_key mixed mix_columns shift_rows
-    sub_bytes key_words temp expansion sub_word sbox open_of queued_in reads_taken packets_held writes_in bytes_by
-    completion_bytes
-queued_due = refl
+unfolding due_on_literals
+queued_due =
+    ends_at interface_plan (sealed_request 2 1 ∷ written_history) _ (host_port 0) later_read read_unit true
+    (ap (comes_at (host_port 0)) later_read_is) refl (ap (bytes_eq later_read_tag) later_read_tag_is)
 
 -- ---- what stands in memory, and what waits
 
@@ -73,25 +55,17 @@ of_read = admitted_in interface_plan (grant_at interface_plan (sealed_request 2 
     (Pass 2) (host_port 0) read_unit)
 
 none_of_read : newest_first of_read (applied_write ∷ []) ≡ applied_write ∷ []
-unfolding due key_due manager moments keys is_open failed_there base interface_due devices managed stream_draw sites
-    read_of reading walk_length walked_from outgoing_of choice_of keys_at has_live_out has_live_in stream_plan sent_in
-    sealed_packets packet_of units open_unit posted_in writes byte_after ahead_of_unit total_in arrived read_head_of
-    cut_of key_of before_tag is_verified meets_counts got_since held units_got units_since verifies tag_of ghash
-    hash_key blocks counter key_stream masked bits aes cipher rounds add_round_key mixed mix_columns shift_rows
-    sub_bytes key_words temp expansion sub_word sbox open_of queued_in reads_taken packets_held writes_in bytes_by
-    completion_bytes of_read
-none_of_read = refl
+unfolding due_on_literals of_read
+none_of_read =
+    ap (λ (o : Option Arrival). newest_first
+    (admitted_in interface_plan (grant_at interface_plan (sealed_request 2 1 ∷ written_history)) (host_port 0)
+    read_unit (packet_in o ∷ [])) (applied_write ∷ []))
+    (ap (comes_at (host_port 0)) later_read_is)
 
 before_read : writes_in interface_plan (sealed_packets interface_plan waiting_history) written_history
     ≡ applied_write ∷ []
-unfolding due key_due manager moments keys is_open failed_there base interface_due devices managed stream_draw sites
-    read_of reading walk_length walked_from outgoing_of choice_of keys_at has_live_out has_live_in stream_plan sent_in
-    sealed_packets packet_of units open_unit posted_in writes byte_after ahead_of_unit total_in arrived read_head_of
-    cut_of key_of before_tag is_verified meets_counts got_since held units_got units_since verifies tag_of ghash
-    hash_key blocks counter key_stream masked bits aes cipher rounds add_round_key mixed mix_columns shift_rows
-    sub_bytes key_words temp expansion sub_word sbox open_of queued_in reads_taken packets_held writes_in bytes_by
-    completion_bytes
-before_read = refl
+unfolding due_on_literals
+before_read = write_admitted
 
 then_read : writes_in interface_plan (sealed_packets interface_plan waiting_history) waiting_history
     ≡ newest_first of_read
@@ -105,14 +79,9 @@ writes_are = then_read ∙ (ap (newest_first of_read) before_read ∙ none_of_re
 
 queued_are : queued_in interface_plan (sealed_packets interface_plan waiting_history) waiting_history 0
     ≡ waiting_read ∷ []
-unfolding due key_due manager moments keys is_open failed_there base interface_due devices managed stream_draw sites
-    read_of reading walk_length walked_from outgoing_of choice_of keys_at has_live_out has_live_in stream_plan sent_in
-    sealed_packets packet_of units open_unit posted_in writes byte_after ahead_of_unit total_in arrived read_head_of
-    cut_of key_of before_tag is_verified meets_counts got_since held units_got units_since verifies tag_of ghash
-    hash_key blocks counter key_stream masked bits aes cipher rounds add_round_key mixed mix_columns shift_rows
-    sub_bytes key_words temp expansion sub_word sbox open_of queued_in reads_taken packets_held writes_in bytes_by
-    completion_bytes
-queued_are = refl
+unfolding due_on_literals
+queued_are =
+    ap (λ (o : Option Arrival). reads_by 0 (Queued ∷ []) (packet_in o ∷ [])) (ap (comes_at (host_port 0)) later_read_is)
 
 -- ---- the answer
 
@@ -135,7 +104,7 @@ due_from_both : due interface_plan waiting_history answer
     ≡ answer_first interface_plan waiting_history (host_port 0)
     (drop (reads_taken waiting_history 0) (waiting_read ∷ []))
     (outgoing_of (streams_of interface_plan 0) Host read_completion)
-unfolding due
+unfolding due_on_literals
 due_from_both i =
     answer_first interface_plan waiting_history (host_port 0) (drop (reads_taken waiting_history 0) (queued_are i))
     (outgoing_of (streams_of interface_plan 0) Host (bytes_are i))
@@ -143,39 +112,40 @@ due_from_both i =
 sent_then : answer_first interface_plan waiting_history (host_port 0)
     (drop (reads_taken waiting_history 0) (waiting_read ∷ []))
     (outgoing_of (streams_of interface_plan 0) Host read_completion) ≡ v.Sealed (trusted_packet 3 (host_port 0) Cpl 0)
-unfolding due key_due manager moments keys is_open failed_there base interface_due devices managed stream_draw sites
-    read_of reading walk_length walked_from outgoing_of choice_of keys_at has_live_out has_live_in stream_plan sent_in
-    sealed_packets packet_of units open_unit posted_in writes byte_after ahead_of_unit total_in arrived read_head_of
-    cut_of key_of before_tag is_verified meets_counts got_since held units_got units_since verifies tag_of ghash
-    hash_key blocks counter key_stream masked bits aes cipher rounds add_round_key mixed mix_columns shift_rows
-    sub_bytes key_words temp expansion sub_word sbox open_of queued_in reads_taken packets_held writes_in bytes_by
-    completion_bytes
+unfolding due_on_literals
 sent_then = refl
 
 answer_due : IsDue waiting_history answered_read
 answer_due = due_from_both ∙ sent_then
 
+queued_still : queued_in interface_plan (sealed_packets interface_plan (answered_read ∷ waiting_history))
+    (answered_read ∷ waiting_history) 0 ≡ waiting_read ∷ []
+unfolding due_on_literals
+queued_still =
+    ap (λ (o : Option Arrival). reads_by 0 (Queued ∷ []) (packet_in o ∷ [])) (ap (comes_at (host_port 0)) later_read_is)
+
 empty_due : IsDue (answered_read ∷ waiting_history) (answer, v.Access (av.Empty 0))
-unfolding due key_due manager moments keys is_open failed_there base interface_due devices managed stream_draw sites
-    read_of reading walk_length walked_from outgoing_of choice_of keys_at has_live_out has_live_in stream_plan sent_in
-    sealed_packets packet_of units open_unit posted_in writes byte_after ahead_of_unit total_in arrived read_head_of
-    cut_of key_of before_tag is_verified meets_counts got_since held units_got units_since verifies tag_of ghash
-    hash_key blocks counter key_stream masked bits aes cipher rounds add_round_key mixed mix_columns shift_rows
-    sub_bytes key_words temp expansion sub_word sbox open_of queued_in reads_taken packets_held writes_in bytes_by
-    completion_bytes
-empty_due = refl
+unfolding due_on_literals
+empty_due =
+    ap (λ (rs : List WaitingRead). answer_first interface_plan (answered_read ∷ waiting_history) (host_port 0)
+    (drop (reads_taken (answered_read ∷ waiting_history) 0) rs)
+    (answer_out interface_plan (answered_read ∷ waiting_history) 0))
+    queued_still
 
 -- ---- of a halted interface, and of one unit
 
+queued_halted : queued_in interface_plan (sealed_packets interface_plan halted_waiting) halted_waiting 0
+    ≡ waiting_read ∷ []
+unfolding due_on_literals
+queued_halted =
+    ap (λ (o : Option Arrival). reads_by 0 (Queued ∷ []) (packet_in o ∷ [])) (ap (comes_at (host_port 0)) first_read_is)
+
 dropped_due : IsDue halted_waiting (answer, v.Access (av.Dropped 0 NotRunning))
-unfolding due key_due manager moments keys is_open failed_there base interface_due devices managed stream_draw sites
-    read_of reading walk_length walked_from outgoing_of choice_of keys_at has_live_out has_live_in stream_plan sent_in
-    sealed_packets packet_of units open_unit posted_in writes byte_after ahead_of_unit total_in arrived read_head_of
-    cut_of key_of before_tag is_verified meets_counts got_since held units_got units_since verifies tag_of ghash
-    hash_key blocks counter key_stream masked bits aes cipher rounds add_round_key mixed mix_columns shift_rows
-    sub_bytes key_words temp expansion sub_word sbox open_of queued_in reads_taken packets_held writes_in bytes_by
-    completion_bytes
-dropped_due = refl
+unfolding due_on_literals
+dropped_due =
+    ap (λ (rs : List WaitingRead). answer_first interface_plan halted_waiting (host_port 0)
+    (drop (reads_taken halted_waiting 0) rs) (answer_out interface_plan halted_waiting 0))
+    queued_halted
 
 one_more : OneMore
 unfolding read_head_of reading walk_length walked_from

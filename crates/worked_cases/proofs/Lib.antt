@@ -1,5 +1,7 @@
+pub mod Cipher
+mod Keys
 mod Packets
-mod Ends
+pub mod Ends
 mod Writes
 mod Counted
 mod Unit

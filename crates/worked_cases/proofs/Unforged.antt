@@ -2,26 +2,20 @@
 use Rattle.std.proofs.Common.{◌≡◌, [], ◌∷◌, true, false, Option, Some, None, Result, Ok, refl, subst, ap}
 use Rattle.interface_cases.specs.Cases.{write}
 use Rattle.ide_types.specs.Ports.{host_port}
-use Rattle.first_fault.specs.Walks.{walked_from, walk_length, reading}
-use Rattle.tlp_layout.specs.Reading.{read_of, read_head_of}
 use Rattle.ide_prefix.specs.Packet.{Packet, packet_bytes}
 use Rattle.ide_prefix.specs.Units.{authenticated, encrypted}
-use Rattle.ide_prefix.specs.Reading.{cut_of}
 use Rattle.ide_types.specs.declared.sub.SubKind.TheVariants.{Pr}
-use Rattle.key_laws.specs.Keys.{is_open, keys}
-use Rattle.key_laws.specs.History.{History, manager, moments, base, failed_there}
+use Rattle.key_laws.specs.History.{History}
 use Rattle.link_events.specs.declared.event.Event.TheVariants.{Pass}
 use Rattle.link_verdicts.specs.declared.verdict.Verdict.{Verdict}
-use Rattle.link_history.specs.Plan.{stream_plan}
-use Rattle.link_history.specs.Units.{units, open_unit}
-use Rattle.link_history.specs.History.{Arrival, packet_of, sent_in, sealed_packets, keys_at, ahead_of_unit, ahead_sent}
-use Rattle.link_history.specs.History.{total_in, arrived, held, units_got, units_since}
-use Rattle.link_history.specs.Sent.{bytes_by}
+use Rattle.link_history.specs.History.{Arrival, packet_of, ahead_sent}
+use Rattle.link_history.specs.History.{arrived}
 use Rattle.link_history.specs.Due.{Ending, before_tag}
 use Rattle.link_history.specs.Laws.{WasSealed, NotForged, NoForgery, last_tag}
 use Rattle.worked_cases.proofs.Ends.{comes, ending as ending_of}
 use Rattle.worked_cases.proofs.Packets.{write_1, write_1_is}
 use Rattle.worked_cases.specs.Cases.{plan, packet, established, sealed, accepted_unit}
+use Rattle.interface_cases.proofs.Literals.{due_on_literals}
 
 abbrev past : History
 past = sealed 1 0 1 ∷ established ∷ []
@@ -40,18 +34,15 @@ abbrev ending : Ending
 ending = ending_of first_packet Pr 0 1
 
 arrives : arrived (plan 1 false) past (Pass 1) ≡ Some arrival
-unfolding arrived sealed_packets bytes_by ahead_of_unit stream_plan sent_in units open_unit total_in
+unfolding due_on_literals
 arrives = ap comes write_1_is
 
 passes : before_tag (plan 1 false) past arrival ≡ Ok ending
-unfolding before_tag is_open keys manager moments base failed_there keys_at stream_plan held units_got cut_of read_of
-    read_head_of reading walk_length walked_from
+unfolding due_on_literals
 passes = refl
 
 was : WasSealed (plan 1 false) past (host_port 0) ending
-unfolding arrived sealed_packets bytes_by packet_of ahead_of_unit ahead_sent stream_plan sent_in units open_unit
-    total_in held
-    units_got units_since base
+unfolding due_on_literals ahead_sent
 was = record {
   unit = sealed_packet ∷ [];
   place = 0;

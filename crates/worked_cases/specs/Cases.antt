@@ -1,5 +1,5 @@
 -- Worked cases: the events of each, in order, with the verdicts that were worked out by hand.
-use Rattle.std.specs.Prelude.{ℕ, zero, suc, ◌==◌, Bool, false, true, Some, None, List, [], ◌∷◌, ◌++◌}
+use Rattle.std.specs.Prelude.{ℕ, zero, suc, ◌==◌, Bool, false, true, Some, None, List, [], ◌∷◌}
 use Rattle.interface_cases.specs.Cases.{write, small_key}
 use Rattle.ide_types.specs.Ports.{device_port, host_port}
 use Rattle.ide_types.specs.declared.sub.SubKind.{SubKind}
