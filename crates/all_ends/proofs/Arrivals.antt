@@ -22,10 +22,6 @@ state_taken plan ends k packets link Device e l =
     ap (λ (ps : List (List StreamState)). record (state_of plan ends k packets) { ports = ps })
     (ports_same ends link (taken_ends Device e l) (with_port Device e l) refl refl)
 
-pub port_taken : (side : Side) (e : PortEnd) (l : LinkEnds) → port_in side (taken_ends side e l) ≡ e
-port_taken Host e l = refl
-port_taken Device e l = refl
-
 pub keeps_taken : (side : Side) (e : PortEnd) (l : LinkEnds) → KeepsEnds l (with_port side e l)
     → KeepsEnds l (taken_ends side e l)
 keeps_taken Host e l keeps = keeps

@@ -164,20 +164,6 @@ or-false : (b : Bool) → (b || false) ≡ b
 or-false true = refl
 or-false false = refl
 
-pub keeps_put : (name : PageName) (new : List ℕ) (es es' : List (PageName × List ℕ)) → PutsPage name new es es'
-    → (q : PageName) → is_some (lookup (is_page_name q) es')
-    ≡ (is_some (lookup (is_page_name q) es) || is_page_name name q)
-keeps_put name new es es' puts q = elim (cases_Bool (is_page_name name q)) [
-  | inl e ↦
-      ap (λ (o : Option (List ℕ)). is_some o) (found name q true new es es' puts e)
-      ∙ sym (or-true (is_some (lookup (is_page_name q) es)))
-      ∙ ap (λ (t : Bool). is_some (lookup (is_page_name q) es) || t) (sym e)
-  | inr e ↦
-      ap (λ (o : Option (List ℕ)). is_some o) (found name q false new es es' puts e)
-      ∙ sym (or-false (is_some (lookup (is_page_name q) es)))
-      ∙ ap (λ (t : Bool). is_some (lookup (is_page_name q) es) || t) (sym e)
-]
-
 -- a page that was there is put
 pub keeps_same : (name : PageName) (new : List ℕ) (es es' : List (PageName × List ℕ)) → PutsPage name new es es'
     → is_some (lookup (is_page_name name) es) ≡ true

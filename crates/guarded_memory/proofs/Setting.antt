@@ -1,33 +1,16 @@
 -- The bytes of a payload, set one by one.
-use Rattle.std.proofs.Common.{◌≡◌, ◌≢◌, ℕ, ◌+◌, ◌-◌, ◌/◌, ◌<◌, ◌≤◌, Bool, true, false, cond, ◌&&◌, leb, ltb, eqb}
-use Rattle.std.proofs.Common.{get_or, refl, sym, ◌∙◌, ◌⊎◌, inl, inr, subst, arith}
+use Rattle.std.proofs.Common.{◌≡◌, ◌≢◌, ℕ, ◌+◌, ◌-◌, Bool, true, false, cond, ◌&&◌, leb, ltb, eqb}
+use Rattle.std.proofs.Common.{get_or, refl, sym, ◌∙◌, inl, inr, subst, arith}
 use Rattle.std.proofs.lemmas.Bool.{cases_Bool, eqb-true, eqb-false}
 use Rattle.std.proofs.lemmas.Bool.Decides.{nat_tests}
-use Rattle.trusted_memory.specs.Spans.{span_byte_count, is_enabled}
+use Rattle.trusted_memory.specs.Spans.{is_enabled}
 use Rattle.trusted_memory.specs.Writes.{Write}
-use Rattle.guarded_memory.specs.Happenings.{WriteStored, contents_after}
-use Rattle.guarded_memory.specs.Stored.{write_to}
 
 -- the byte at a place once the first n bytes of the payload are set, from an offset of a range on
 abbrev pub set_to : ℕ → ℕ → ℕ → Write → ℕ → (ℕ → ℕ → ℕ → ℕ) → ℕ → ℕ → ℕ → ℕ
 set_to i b offset w n old j c a =
     cond ((eqb i j && eqb b c) && ((leb offset a && ltb a (offset + n)) && is_enabled w.span (a - offset)))
     (get_or w.payload (a - offset) 0) (old j c a)
-
-set_none : (p leq e : Bool) (v x : ℕ) → cond (p && ((leq && false) && e)) v x ≡ x
-set_none true true e v x = refl
-set_none true false e v x = refl
-set_none false leq e v x = refl
-
-ltb-none : (a offset : ℕ) → (leb offset a && ltb a (offset + 0)) ≡ (leb offset a && false)
-ltb-none a offset = grind (arith, nat_tests)
-
-pub set_first : (i b offset : ℕ) (w : Write) (old : ℕ → ℕ → ℕ → ℕ) (j c a : ℕ) → old j c a
-    ≡ set_to i b offset w 0 old j c a
-set_first i b offset w old j c a =
-    rw (ltb-none a offset)
-    (sym (set_none (eqb i j && eqb b c) (leb offset a) (is_enabled w.span (a - offset))
-    (get_or w.payload (a - offset) 0) (old j c a)))
 
 -- ---- one more
 
@@ -82,35 +65,4 @@ set_next i b offset w n old now next before is j c a = elim (cases_Bool (eqb (of
       let other : a ≢ offset + n = λ same. eqb-false (offset + n) a e (sym same) in
       is j c a ∙ rw e (elsewhere (eqb i j && eqb b c) (is_enabled w.span n) (get_or w.payload n 0) (now j c a))
       ∙ before j c a ∙ rw (ltb-other a offset n other) refl
-]
-
--- ---- all
-
-nested : (p r : Bool) (v x : ℕ) → cond (p && r) v x ≡ cond p (cond r v x) x
-nested true r v x = refl
-nested false r v x = refl
-
-pub set_last : (i b offset : ℕ) (w : Write) (old : ℕ → ℕ → ℕ → ℕ) (j c a : ℕ)
-    → set_to i b offset w (span_byte_count w.span) old j c a
-    ≡ contents_after (WriteStored i b (write_to offset w)) old j c a
-set_last i b offset w old j c a =
-    nested (eqb i j && eqb b c)
-    ((leb offset a && ltb a (offset + span_byte_count w.span)) && is_enabled w.span (a - offset))
-    (get_or w.payload (a - offset) 0) (old j c a)
-
--- ---- the pages of its bytes
-
-two_pages : (offset size n : ℕ) → size ≤ 4096 → n < size
-    → ((offset + n) / 4096 ≡ offset / 4096) ⊎ ((offset + n) / 4096 ≡ ((offset + size) - 1) / 4096)
-two_pages offset size n short less = elim (cases_Bool (eqb ((offset + n) / 4096) (offset / 4096))) [
-  | inl e ↦ inl (eqb-true _ _ e)
-  | inr e ↦ let other = eqb-false ((offset + n) / 4096) (offset / 4096) e in inr (omega arith)
-]
-
--- the page of each byte is that of the first or of the last
-pub has_both : (P : ℕ → Type 0) (offset size n : ℕ) → size ≤ 4096 → n < size → P (offset / 4096)
-    → P (((offset + size) - 1) / 4096) → P ((offset + n) / 4096)
-has_both P offset size n short less first last = elim (two_pages offset size n short less) [
-  | inl e ↦ subst P (sym e) first
-  | inr e ↦ subst P (sym e) last
 ]

@@ -1,5 +1,5 @@
 -- Generated events that are given to the world one after another: what is left of them is run on, until none is.
-use Rattle.std.proofs.Common.{◌≡◌, ◌∙◌, ◌≤◌, ◌+◌, ℕ, List, [], ◌∷◌, length, Option, Some, Ok, refl, sym, ap, subst}
+use Rattle.std.proofs.Common.{◌≡◌, ◌∙◌, ◌≤◌, ◌+◌, ℕ, List, [], ◌∷◌, length, Option, Some, Ok, sym, ap, subst}
 use Rattle.std.proofs.Common.{arith}
 use Rattle.std.specs.List.{AllByRecursion}
 use Rattle.generated_events.specs.Left.{Takes}
@@ -31,9 +31,6 @@ follows_first plan world r plan_is new is =
     (subst (λ (x : RunningView). Follows x (record { plan = plan; history = [] })) (sym is)
     (follows_nothing plan world new))
 
-pub runs_first : (all : List Event) (r : RunningView) → Follows r (past_of []) → RunsOn all r all
-runs_first all r follows = record { history = []; follows = follows; goes_on = refl }
-
 -- one event more
 pub runs_next : (all : List Event) (r now : RunningView) (before left : List Event) (e : Event) → RunsOn all r before
     → before ≡ e ∷ left
@@ -45,12 +42,6 @@ runs_next all r now before left e runs taken step = record {
   follows = step (past_of runs.history) runs.follows;
   goes_on = ap (history_on the_plan runs.history) (sym taken) ∙ runs.goes_on;
 }
-
--- none is left
-pub runs_all : (all : List Event) (r : RunningView) (left : List Event) → RunsOn all r left → left ≡ []
-    → Follows r (past_of (history_on the_plan [] all))
-runs_all all r left runs none = subst (λ (h : History). Follows r (past_of h))
-    (ap (history_on the_plan runs.history) (sym none) ∙ runs.goes_on) runs.follows
 
 -- ---- one event that is taken
 

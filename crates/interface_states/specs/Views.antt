@@ -121,9 +121,6 @@ managed ((e, w) ∷ h) x = managed_after (op_of h) (draws h) x e w (managed h x)
 abbrev pub view_at : History → Site → View
 view_at h x = (managed h x).view
 
-abbrev pub reported_at : History → Site → Bool
-reported_at h x = (managed h x).reported
-
 abbrev pub floor_at : History → Site → ℕ
 floor_at h x = (managed h x).floor
 

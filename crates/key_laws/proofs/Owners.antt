@@ -6,7 +6,7 @@ use Rattle.key_laws.proofs.Terms.{Clear, Keyed, Off, Loaded, On, Keys, key_in, k
 use Rattle.key_laws.proofs.Terms.{without_outlived, keys, Op, Idle, Establishing, Up, Refreshing, Stopping, Work, Reach}
 use Rattle.key_laws.proofs.Terms.{Manager}
 use Rattle.key_laws.proofs.Terms.{Begun, work_of, reach_of, op_after}
-use Rattle.key_laws.proofs.Terms.{makes_draw, begun_after, operated, manager_after, History, manager, begun_under, when}
+use Rattle.key_laws.proofs.Terms.{begun_after, operated, manager_after, History, manager, begun_under, when}
 use Rattle.key_laws.proofs.Terms.{worked, on_it, sealed_here, came, touches, touches_after, moments, nat_tests}
 use Rattle.link_events.specs.declared.event.Event.TheVariants as event
 use Rattle.link_verdicts.specs.declared.verdict.Operation.TheVariants as op
@@ -141,11 +141,6 @@ after_longer m e verdict j x is = grind (arith, begun_more)
 
 pub cleared_owned : (O : Bool → ℕ → Type 0) (f : Bool) → AllOwned O (when f Clear)
 cleared_owned O f = grind arith
-
-pub worked_owned : (O : Bool → ℕ → Type 0) (w : Work) (r : Option Reach) (p : KeyPlace) (o : Operation) → w.operation
-    ≡ o
-    → (makes_draw o ≡ true → O w.set w.draw) → AllOwned O (worked w r p)
-worked_owned O w r p o is mine = grind arith
 
 sealed_owned : (O : Bool → ℕ → Type 0) (p : KeyPlace) (ds : List SealedPacket) → AllOwned O (sealed_here p ds)
 sealed_owned O p [] = tt

@@ -34,10 +34,6 @@ abbrev pub begun_under : List Begun → ℕ → Option Begun
 begun_under [] j = None
 begun_under (b ∷ bs) j = if length bs == j then Some b else begun_under bs j
 
--- the operation that began with a draw
-abbrev pub operation_of : History → ℕ → Option Begun
-operation_of h j = begun_under (manager h).begun j
-
 -- whether an establish of the stream began
 abbrev pub begins_keyed : Op → ℕ → Verdict → Bool
 begins_keyed q next verdict = (work_of op.Establish q next).begins && is_some (reach_of op.Establish verdict)

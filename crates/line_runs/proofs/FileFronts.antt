@@ -177,14 +177,6 @@ end_in_piece advance closing first name at n s before piece s0 s1 o0 o1 o2 r f r
     o2 r over left (piece_ahead advance closing first s0.contents name at n s before piece o0 o1 f) refl
     (ran over left))
 
--- a run that writes ends in no read fault
-pub not_read : (due : Due) (o0 o1 : SinkSeen) (r : Result End Fault) (X : Type 0) → Ran due o0 o1 r
-    → IfErr r (λ e. e ≡ fault.Read → X)
-not_read due o0 o1 (Ok e) X ran = tt
-not_read due o0 o1 (Err fault.Read) X ran = absurd ran.0
-not_read due o0 o1 (Err fault.Write) X ran = λ is. absurd cc
-not_read due o0 o1 (Err fault.Memory) X ran = λ is. absurd cc
-
 -- ---- the end of the file
 
 whole_in : {S : Type 0} (advance : S → ℕ → Text → Result (S × Text) LineFault) (closing : S → Text) (first : S)

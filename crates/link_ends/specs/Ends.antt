@@ -5,7 +5,7 @@ use Rattle.ide_types.specs.declared.port.Side.TheVariants.{Host, Device}
 use Rattle.ide_plan.specs.declared.stream.StreamPlan.{StreamPlan}
 use Rattle.ide_plan.specs.declared.interface.InterfacePlan.{InterfacePlan}
 use Rattle.ide_port.specs.{PortEnd, Trusting, new_port, reset_port}
-use Rattle.device_side.specs.Ends.{new_device, device_with_port as device_with, settled_device, device_trusting}
+use Rattle.device_side.specs.Ends.{new_device, device_with_port as device_with, device_trusting}
 use Rattle.device_side.specs.Ends.{reset_device}
 use Rattle.link_ports.specs.Machine.{port_at}
 use Rattle.link_ends.specs.declared.ends.LinkEnds.{LinkEnds}
@@ -31,10 +31,6 @@ with_port Device e l = record l { device = record l.device { port = e } }
 abbrev pub taken_ends : Side → PortEnd → LinkEnds → LinkEnds
 taken_ends Host e l = record l { host = e }
 taken_ends Device e l = record l { device = device_with l.device e }
-
--- with the interfaces settled by the device's port
-abbrev pub settled_ends : LinkEnds → LinkEnds
-settled_ends l = record l { device = settled_device l.device }
 
 -- T at the port of a side, if a host is asked for it
 abbrev pub trusting_at : Side → LinkEnds → Bool → Trusting

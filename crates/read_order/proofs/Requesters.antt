@@ -1,5 +1,5 @@
 -- The interface of a link that has a requester ID.
-use Rattle.std.proofs.Common.{◌≡◌, ℕ, ◌==◌, ◌&&◌, Bool, true, false, List, [], ◌∷◌, Some, ap, subst, ◌∙◌}
+use Rattle.std.proofs.Common.{◌≡◌, ℕ, ◌==◌, ◌&&◌, Bool, true, false, List, [], ◌∷◌, Some, subst}
 use Rattle.std.proofs.Common.{arith, refl}
 use Rattle.std.proofs.lemmas.Bool.Decides.{nat_tests}
 use Rattle.std.specs.Prelude.{find, if◌then◌else◌}
@@ -31,8 +31,3 @@ requester_meets plan link rid x is =
     let test : Site → Bool = λ y. (y.link == link) && (y.plan.requester == rid) in
     let meets = both_hold (x.link == link) (x.plan.requester == rid) (found_meets test (sites plan) x is) in
     (same_number x.link link meets.0, same_number x.plan.requester rid meets.1)
-
--- it is that of its own ID
-pub requester_again : (plan : Plan) (link rid : ℕ) (x : Site) → site_with plan link rid ≡ Some x
-    → site_with plan link x.plan.requester ≡ Some x
-requester_again plan link rid x is = ap (site_with plan link) (requester_meets plan link rid x is).1 ∙ is

@@ -3,7 +3,6 @@ use Rattle.std.specs.Prelude.{ℕ, zero, suc, ◌≡◌, Bool, length, Option, S
 use Rattle.ide_types.specs.declared.status.StreamStatus.{StreamStatus}
 use Rattle.link_events.specs.declared.event.Loss.{Loss}
 use Rattle.link_events.specs.declared.event.Lost.{Lost}
-use Rattle.tdi_host.specs.declared.interfaces.Asking.{Asking}
 use Rattle.tdi_host.specs.declared.operation.InterfaceOp.{InterfaceOp}
 use Rattle.tdi_host.specs.declared.operation.Outcome.{Outcome}
 use Rattle.tdi_host.specs.declared.operation.Outcome.TheVariants as outcome
@@ -83,15 +82,6 @@ interface_operated place op status draws secure loss m d i =
     (manager_walk 1140 secure loss (begun_interface_manager m place op status draws i) d)
 
 -- ---- the law
-
--- the manager after a walk of one of its interfaces
-abbrev pub manager_after_walk : InterfaceManagerView → ℕ → Option Asking → WalkedInterface → InterfaceManagerView
-manager_after_walk m place asking w = record {
-  interfaces = slice_set m.interfaces place w.interface;
-  portion = m.portion;
-  asking = asking;
-  read = w.read;
-}
 
 abbrev pub walking_at : InterfaceManagerView → CurrentInterface → DeviceTdis → Walking
 walking_at m c d = record { interface = c.interface; step = c.asking.step; read = m.read; device = d }

@@ -1,6 +1,6 @@
 -- What a write changes of the listed registers.
-use Rattle.std.proofs.Common.{◌≡◌, ◌≢◌, ℕ, ◌<◌, ◌==◌, Bool, true, false, not, ◌&&◌, ◌↔◌, List, length, Option, Some}
-use Rattle.std.proofs.Common.{None, Result, Ok, Err, if◌then◌else◌, refl, sym, ap, ◌∙◌, arith, slice_set, slice_index}
+use Rattle.std.proofs.Common.{◌≡◌, ◌≢◌, ℕ, ◌<◌, Bool, true, false, List, length, Option, Some}
+use Rattle.std.proofs.Common.{Result, Ok, Err, if◌then◌else◌, refl, sym, ap, ◌∙◌, arith, slice_set, slice_index}
 use Rattle.std.proofs.lemmas.Bool.Decides.{nat_tests}
 use Rattle.std.specs.Str.{bytes_eq}
 use Rattle.std.specs.Option.{option_map_or}
@@ -23,11 +23,6 @@ set_back bars n value e = ap (λ (v : ℕ). slice_set bars n v) e ∙ set-get_or
 set_changes : (bars : List ℕ) (n value : ℕ) → n < length bars → slice_set bars n value ≡ bars → value
     ≡ slice_index bars n
 set_changes bars n value lt e = sym (get_or-set_same bars n value 0 lt) ∙ ap (λ (x : List ℕ). slice_index x n) e
-
-same_option : (b : Bool) (value held : ℕ) → ((b && not (value == held)) ≡ false) ↔
-    ((if b then Some value else None) ≡ (if b then Some held else None))
-same_option true value held = (λ e. grind arith, λ e. grind arith)
-same_option false value held = (λ e. refl, λ e. refl)
 
 pub unchanged : (flags : ℕ) (registers : Registers) (register : Register) (value : ℕ)
     → changes_listed flags registers register value ≡ false → listed flags (with_value registers register value)

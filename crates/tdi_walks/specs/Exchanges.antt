@@ -1,5 +1,5 @@
 -- One exchange of the manager with the device.
-use Rattle.std.specs.Prelude.{ℕ, ◌≡◌, ◌≢◌, ◌<◌, ◌≤◌, ◌^◌, Bool, List, length, All, Option, Some, None, IfSome, Result}
+use Rattle.std.specs.Prelude.{ℕ, ◌≡◌, ◌≢◌, ◌<◌, ◌≤◌, ◌^◌, Bool, List, length, All, Option, Some, IfSome, Result}
 use Rattle.std.specs.Prelude.{Ok, Err}
 use Rattle.tdisp_codec.specs.Requests.{request_spelling}
 use Rattle.tdisp_codec.specs.Replies.{reply_reading}
@@ -8,8 +8,7 @@ use Rattle.ide_plan.specs.Fits.{AreBytes}
 use Rattle.tdi_state.specs.declared.states.Lock.{Lock}
 use Rattle.tdi_state.specs.Held.{FitsTdi}
 use Rattle.tdi_state.specs.Kept.{kept_report}
-use Rattle.tdi_state.specs.Machine.{Tdi, lock_of, state_code, lock_answer, portion_answer, start_answer, Call}
-use Rattle.tdi_state.specs.Machine.{LockInterface, StartInterface, StopInterface}
+use Rattle.tdi_state.specs.Machine.{Tdi, lock_of, state_code, lock_answer, portion_answer, start_answer}
 use Rattle.tdi_host.specs.declared.step.Step.{Step}
 use Rattle.tdi_host.specs.declared.step.Step.TheVariants as step
 use Rattle.tdi_host.specs.Judging.{Judged, Passed, Nonce, Portion, State, Refused, Bad, interface_reply_judged}
@@ -55,13 +54,6 @@ judged_due step.Report portion read i tdi secure drawn = portion_due (portion_an
 judged_due step.Start portion read i tdi secure drawn = start_judged (start_answer tdi.state (nonce_of i.seen))
 judged_due step.Halt portion read i tdi secure drawn = Passed
 judged_due step.State portion read i tdi secure drawn = State (state_code tdi.state)
-
--- the call of the interface that the exchange makes
-abbrev pub call_due : Step → HostTdi → Bool → Option (List ℕ) → Option Call
-call_due step.Lock i secure drawn = Some (LockInterface i.flags i.stream i.offset secure drawn)
-call_due step.Start i secure drawn = Some (StartInterface (nonce_of i.seen))
-call_due step.Halt i secure drawn = Some StopInterface
-call_due s i secure drawn = None
 
 -- ---- both ends
 

@@ -105,13 +105,6 @@ text_deep n path d x s e = none_deep n (depth d) (flat_text d x (given (as_str d
 truth_deep : (n : ℕ) → Deep n truth
 truth_deep n path d x s e = none_deep n (depth d) (flat_truth d x (given (as_bool d) _ x e))
 
--- a reading, and a further one of what it gave
-then_deep : {A B : Type 0} (n : ℕ) (read : Reader A) (more : Text → A → Result B PlanFault) → Deep n read
-    → Deep n (λ path d. read path d >>= more path)
-then_deep n read more h path d x s e =
-    let a = first (read path d) (more path) x e in
-    h path d a.0 s a.1
-
 number_deep : (n : ℕ) (b : Bounds) → Deep n (number b)
 number_deep n b path d x s e =
     let a = first (any_integer path d) _ x e in

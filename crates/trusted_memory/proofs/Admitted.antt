@@ -69,11 +69,6 @@ pub admitted_if_none : (regions : List Region) (t : Bool) (g : Grant) (w : Write
     → admitted_write regions t g (Some w) ≡ Some w
 admitted_if_none regions t g w = (by_effect _ _ w (cause_says regions w.span t g)).0
 
-pub none_if_blocked : (regions : List Region) (t : Bool) (g : Grant) (w : Write) (x : BlockCause)
-    → block_cause regions w.span t g ≡ Some x
-    → admitted_write regions t g (Some w) ≡ None
-none_if_blocked regions t g w = (by_effect _ _ w (cause_says regions w.span t g)).1
-
 -- ---- packets in turn
 
 pub leads_applied : (m n : MemoryContents) (o : Option Write) (w : Write) → o ≡ Some w
@@ -82,9 +77,6 @@ leads_applied m n o w is h older left a =
     let same : newest_first (o ∷ []) older ≡ w ∷ older = ap (λ (p : Option Write). newest_first (p ∷ []) older) is in
     rw same (h a ∙ ap (λ (b : ℕ). cond (enables w.span a) (payload_byte w a) b) (left a) ∙ sym
     (byte_after-next w older a))
-
-pub leads_blocked : (m : MemoryContents) (o : Option Write) → o ≡ None → Leads m (o ∷ []) m
-leads_blocked m o is older left = rw is left
 
 newest_first-append : (os ps : List (Option Write)) (older : List Write) → newest_first (os ++ ps) older
     ≡ newest_first ps (newest_first os older)

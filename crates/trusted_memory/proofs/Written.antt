@@ -188,9 +188,6 @@ contents-same rs es es' h i = record { regions = rs; bytes = map (λ r. bytes_fr
 abbrev pub SamePages : List (ℕ × List ℕ) → List (ℕ × List ℕ) → Type 0
 SamePages es es' = (q : ℕ) → lookup (eqb q) es' ≡ lookup (eqb q) es
 
-pub paged-same : (es es' : List (ℕ × List ℕ)) → SamePages es es' → (a : ℕ) → paged_byte es' a ≡ paged_byte es a
-paged-same es es' same a = ap (λ (o : Option (List ℕ)). get_or (unwrap_or o []) (a % 4096) 0) (same (a / 4096))
-
 -- ---- which pages are there
 
 pub has_page-lookup : (rs : List Region) (es : List (ℕ × List ℕ)) (spare n : ℕ) → has_page (memory_seen rs es spare) n

@@ -1,7 +1,7 @@
 -- What events make of the accesses of all links: of one link, or of none.
 use Rattle.std.proofs.Common.{◌≡◌, ℕ, ◌==◌, Bool, true, false, List, [], ◌∷◌, refl, ap, sym, subst, ◌∙◌, arith}
 use Rattle.std.proofs.Common.{drop}
-use Rattle.std.specs.Prelude.{◌&&◌, is_some, Option, Some, None, slice_get, slice_set, if◌then◌else◌}
+use Rattle.std.specs.Prelude.{Option, Some, None, slice_get, slice_set, if◌then◌else◌}
 use Rattle.ide_plan.specs.declared.interface.BarPlan.{BarPlan}
 use Rattle.link_events.specs.declared.event.Event.TheVariants.{Access, Reset}
 use Rattle.link_events.specs.declared.event.AccessEvent.TheVariants as ae
@@ -15,7 +15,7 @@ use Rattle.accesses.specs.declared.link.LinkAccesses.{LinkAccesses}
 use Rattle.whole_machine.specs.Accesses.{waiting_reads_after}
 use Rattle.all_links.specs.declared.links.Links.{Links}
 use Rattle.all_links.specs.Interfaces.{interface_named}
-use Rattle.all_links.specs.Accesses.{is_sending, device_draw, AreLeftBy, mmio_at, AccessesTurn, same_reads}
+use Rattle.all_links.specs.Accesses.{is_sending, AreLeftBy, mmio_at, AccessesTurn, same_reads}
 use Rattle.all_links.specs.Accesses.{same_floors, nothing_happens}
 use Rattle.std.specs.Prelude.{IfSome, IfOk, Result, Ok, Err}
 use Rattle.ide_types.specs.declared.memory.Memory.{Memory}
@@ -28,7 +28,7 @@ use Rattle.tdi_state.specs.Machine.{Tdi}
 use Rattle.link_ends.specs.declared.ends.LinkEnds.{LinkEnds}
 use Rattle.all_links.proofs.Asked.{if_some, is_found}
 use Rattle.all_links.proofs.Accesses.{RestsAt, turn_at}
-use Rattle.whole_links.specs.Accesses.{takes_read, floors_set, floors_if, happens_at, bars_named}
+use Rattle.whole_links.specs.Accesses.{takes_read, happens_at, bars_named}
 use Rattle.whole_links.specs.Accesses.{reset_happens, AccessesInterface}
 
 -- ---- no link changes
@@ -86,52 +86,6 @@ answer_takes xs link a a' w is after takes =
       nothing = λ older. refl;
     })
 
--- ---- a start
-
-pub starts_nowhere : (s : Links) (i : ℕ) (xs : List LinkAccesses) (came : Bool)
-    → came && is_some (interface_named s.keeper.interfaces s.ends i) ≡ false
-    → AccessesTurn same_reads (floors_if came s i) nothing_happens xs xs
-starts_nowhere s i xs came nowhere =
-    rests_all same_reads _ nothing_happens xs (λ k. record {
-      reads_rest = λ ws. refl;
-      floors_rest = λ ns. none k ns came (interface_named s.keeper.interfaces s.ends i) nowhere;
-      nothing = λ older. refl;
-    })
-  where
-    none : (k : ℕ) (ns : List ℕ) (b : Bool) (o : Option (ℕ × ℕ)) → b && is_some o ≡ false
-        → (if b then floors_set s i o k ns else ns) ≡ ns
-    none k ns false o is = refl
-    none k ns true None is = refl
-    none k ns true (Some at) is = absurd cc
-
-pub starts_at : (s : Links) (i : ℕ) (at : ℕ × ℕ) (xs : List LinkAccesses) (a a' : LinkAccesses) (came : Bool)
-    → came ≡ true → Some at ≡ interface_named s.keeper.interfaces s.ends i → slice_get xs at.0 ≡ Some a
-    → a' ≡ record a { floors = slice_set a.floors at.1 (device_draw s i at.0) }
-    → AccessesTurn same_reads (floors_if came s i) nothing_happens xs (slice_set xs at.0 a')
-starts_at s i at xs a a' came happens_is named is after =
-    turn_at same_reads (floors_if came s i) nothing_happens xs at.0 a a' is
-    (record {
-      reads_are = ap (λ (x : LinkAccesses). x.reads) after;
-      floors_are = ap (λ (x : LinkAccesses). x.floors) after
-          ∙ sym (floors_are at.0 a.floors
-          ∙ ap (λ (b : Bool). if b then slice_set a.floors at.1 (device_draw s i at.0) else a.floors)
-          (same-true at.0));
-      sizes_are = ap (λ (x : LinkAccesses). x.guarded.sizes) after;
-      leads = subst (λ (g : GuardedMemory). MmioLeads a.guarded [] g)
-          (sym (ap (λ (x : LinkAccesses). x.guarded) after)) (λ older left. left);
-    })
-    (λ k other. record {
-      reads_rest = λ ws. refl;
-      floors_rest = λ ns. floors_are k ns
-          ∙ ap (λ (b : Bool). if b then slice_set ns at.1 (device_draw s i at.0) else ns) other;
-      nothing = λ older. refl;
-    })
-  where
-    floors_are : (k : ℕ) (ns : List ℕ) → floors_if came s i k ns
-        ≡ (if at.0 == k then slice_set ns at.1 (device_draw s i at.0) else ns)
-    floors_are k ns =
-        (λ j. if happens_is j then floors_set s i (sym named j) k ns else ns)
-
 -- ---- what happens to the memory of devices
 
 -- the base address registers that the topology lays out
@@ -145,21 +99,6 @@ bars_at s n at bars named says =
     (if_some (λ (l : LinkEnds). IfSome (slice_get l.device.interfaces.interfaces at.1)
     (λ (t : Tdi). bars ≡ t.plan.bars)) (slice_get s.ends at.0) x.ends_at x.link_there says)
     ∙ sym (ap (λ (o : Option Tdi). option_map_or (λ (t : Tdi). t.plan.bars) o []) x.named_is)
-
--- at an interface, or at none
-pub happens_nowhere : (happens : Bool) (o : Option (ℕ × ℕ)) (which : ℕ → Happened) (xs : List LinkAccesses)
-    → happens && is_some o ≡ false → AccessesTurn same_reads same_floors (happens_at happens o which) xs xs
-happens_nowhere happens o which xs nowhere =
-    rests_all same_reads same_floors _ xs (λ k. record {
-      reads_rest = λ ws. refl;
-      floors_rest = λ ns. refl;
-      nothing = λ older. ap (λ (hs : List (Option Happened)). newest_happened hs older) (none k happens o nowhere);
-    })
-  where
-    none : (k : ℕ) (b : Bool) (o : Option (ℕ × ℕ)) → b && is_some o ≡ false → happens_at b o which k ≡ []
-    none k b None is = refl
-    none k false (Some at) is = refl
-    none k true (Some at) is = absurd cc
 
 pub happens_here : (happens : Bool) (o : Option (ℕ × ℕ)) (which : ℕ → Happened) (at : ℕ × ℕ) (xs : List LinkAccesses)
     (a a' : LinkAccesses) → happens ≡ true → Some at ≡ o → slice_get xs at.0 ≡ Some a
@@ -187,14 +126,6 @@ happens_here happens o which at xs a a' happens_is named is after sizes leads =
     happens_are k = (λ j. happens_at (happens_is j) (sym named j) which k)
 
 -- ---- a reset
-
-pub resets_nowhere : (xs : List LinkAccesses) (link : ℕ) (w : Verdict) → w ≡ v.Nothing
-    → AccessesTurn (waiting_reads_after [] (Reset link) w) same_floors (reset_happens w) xs xs
-resets_nowhere xs link w says =
-    subst (λ (x : Verdict). AccessesTurn (waiting_reads_after [] (Reset link) x) same_floors (reset_happens x) xs xs)
-    (sym says)
-    (rests_all _ same_floors _ xs
-    (λ k. record { reads_rest = λ ws. refl; floors_rest = λ ns. refl; nothing = λ older. refl }))
 
 pub resets_at : (xs : List LinkAccesses) (link : ℕ) (a a' : LinkAccesses) (w : Verdict) → w ≡ v.Reset link
     → slice_get xs link ≡ Some a → a' ≡ record a { reads = []; guarded = a'.guarded }

@@ -10,12 +10,12 @@ use Rattle.link_ports.specs.Machine.{Beside, step_of}
 use Rattle.all_ends.specs.States.{IsBounded}
 use Rattle.all_links.specs.declared.links.Links.{Links}
 use Rattle.all_links.specs.States.{links_state}
-use Rattle.all_links.specs.Links.{Ends, EndsIf, EndsWith, EndsArriving, EndsAs, EndsAsOr, EndsOr, Stays}
+use Rattle.all_links.specs.Links.{Ends, EndsIf, EndsWith, EndsArriving, EndsAs, EndsAsOr, Stays}
 use Rattle.all_links.specs.Accesses.{AccessesStay}
 use Rattle.accesses.specs.declared.link.LinkAccesses.{LinkAccesses}
 use Rattle.whole_links.specs.declared.whole.WholeLinks.{WholeLinks}
 use Rattle.whole_links.specs.Besides.{beside_whole}
-use Rattle.whole_links.specs.Whole.{IsWhole, IsBoundedWhole, IsSaid, WholeEnds, WholeStays, WholeEndsAs, WholeEndsOr}
+use Rattle.whole_links.specs.Whole.{IsWhole, IsBoundedWhole, IsSaid, WholeEnds, WholeStays, WholeEndsAs}
 use Rattle.whole_links.specs.Whole.{WholeEndsAsOr}
 
 -- what is said beside the ports is so
@@ -102,11 +102,6 @@ stays_with {old} {new} x same = record {
   links = x;
   accesses = subst (λ (ys : List LinkAccesses). AccessesStay old.accesses ys) (sym same) (stays_all old.accesses);
 }
-
-pub ends_or : (r : Result Verdict Memory) (old new : WholeLinks) (event : Event) → EndsOr r old.links new.links event
-    → IsWhole old → new.accesses ≡ old.accesses → WholeEndsOr r old new event
-ends_or (Ok verdict) old new event x whole same = ends_with x whole same
-ends_or (Err e) old new event x whole same = stays_with x same
 
 pub ends_as_or : (r : Result (Option Verdict) Memory) (old new : WholeLinks) (event : Event)
     → EndsAsOr r old.links new.links event → IsWhole old → new.accesses ≡ old.accesses → WholeEndsAsOr r old new event

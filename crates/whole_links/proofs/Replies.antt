@@ -1,18 +1,14 @@
 -- What a reply comes to, by the reads that wait and the number of the reader.
-use Rattle.std.proofs.Common.{◌≡◌, ℕ, ◌∷◌, true, List, [], ◌≤◌, length, refl, ap, sym, ◌∙◌, subst, arith}
-use Rattle.std.specs.Prelude.{Option, Some, None, Ok, Err, slice_get}
+use Rattle.std.proofs.Common.{◌≡◌, ℕ, ◌∷◌, List, [], refl, ap, sym, ◌∙◌}
+use Rattle.std.specs.Prelude.{Some, None, Err, slice_get}
 use Rattle.std.specs.Option.{option_map_or}
 use Rattle.std.proofs.lemmas.Option.{none-some, same_Some}
 use Rattle.link_verdicts.specs.declared.access.AccessVerdict.TheVariants as av
-use Rattle.link_verdicts.specs.declared.verdict.Verdict.{Verdict}
 use Rattle.link_verdicts.specs.declared.verdict.Verdict.TheVariants as v
 use Rattle.waiting_reads.specs.declared.queue.WaitingRead.{WaitingRead}
-use Rattle.link_ports.specs.Replies.{BoundCompletion}
 use Rattle.link_ends.specs.declared.ends.LinkEnds.{LinkEnds}
 use Rattle.accesses.specs.declared.link.LinkAccesses.{LinkAccesses}
-use Rattle.all_links.specs.Accesses.{reads_at}
 use Rattle.whole_links.specs.declared.whole.WholeLinks.{WholeLinks}
-use Rattle.whole_links.specs.Accesses.{takes_read}
 use Rattle.whole_links.specs.Besides.{reply_at_ends, reply_oldest, reply_numbered, reader_of, reply_on}
 
 module _ (s : WholeLinks) (link : ℕ) (l : LinkEnds) (a : LinkAccesses) (l_is : slice_get s.links.ends link ≡ Some l)
@@ -44,24 +40,3 @@ module _ (s : WholeLinks) (link : ℕ) (l : LinkEnds) (a : LinkAccesses) (l_is :
       by_reads (q ∷ rs) first =
           ap (λ (x : WaitingRead). reply_numbered s.links.keeper.interfaces l link s.links.trusted.contents x
           (reader_of s.links.keeper.interfaces link x.read.requester)) (same_Some r q first)
-
-  -- a read is taken only if one waits
-  pub waits_if : (w : Verdict) → reply_on s link ≡ Err w → takes_read w ≡ true → 1 ≤ length (reads_at s.accesses link)
-  waits_if w is takes =
-      subst (λ (o : Option LinkAccesses). 1 ≤ length (option_map_or (λ (x : LinkAccesses). x.reads) o [])) (sym a_is)
-      (by_reads a.reads (sym here ∙ is))
-    where
-      by_reads : (rs : List WaitingRead)
-          → reply_oldest s.links.keeper.interfaces l link s.links.trusted.contents rs ≡ Err w → 1 ≤ length rs
-      by_reads [] same = absurd (grind (arith, same, takes))
-      by_reads (r ∷ rs) same = omega arith
-
-  pub waits_with : (r : BoundCompletion) → reply_on s link ≡ Ok r → 1 ≤ length (reads_at s.accesses link)
-  waits_with r is =
-      subst (λ (o : Option LinkAccesses). 1 ≤ length (option_map_or (λ (x : LinkAccesses). x.reads) o [])) (sym a_is)
-      (by_reads a.reads (sym here ∙ is))
-    where
-      by_reads : (rs : List WaitingRead)
-          → reply_oldest s.links.keeper.interfaces l link s.links.trusted.contents rs ≡ Ok r → 1 ≤ length rs
-      by_reads [] same = absurd (grind (arith, same))
-      by_reads (q ∷ rs) same = omega arith

@@ -139,20 +139,6 @@ placed_led plan w e verdict new ends ends' m m' i x l' at p is same led only man
       secure = behind.secure;
     }
 
--- in the words of the links: the device follows its port
-pub placed_follows : (plan : Plan) (w : Whole) (e : Event) (verdict : Verdict) (new : LinkState)
-    (ends ends' : List LinkEnds) (m m' : InterfacesView) (i : ℕ) (x : Site) (l' : LinkEnds)
-    → slice_get (sites plan) i ≡ Some x → (p : IsPlaced plan ends m w i x) → slice_get ends' x.link ≡ Some l'
-    → located 0 i ends' ≡ located 0 i ends
-    → ((stream : ℕ) → secure_in plan w.links x.link stream ≡ secure_at p.link_ends.device.port stream)
-    → ((stream : ℕ) → secure_in plan new x.link stream ≡ secure_at l'.device.port stream)
-    → IsSettledOrSame p.link_ends l'
-    → OnlyLeaves plan w e verdict new x p.face → IsManagedAfter plan w e verdict m' i x p.face
-    → IsPlaced plan ends' m' (whole_after plan w e verdict new) i x
-placed_follows plan w e verdict new ends ends' m m' i x l' at p is same before after follows only managed =
-    placed_led plan w e verdict new ends ends' m m' i x l' at p is same
-    (led_follows plan w.links new x.link p.link_ends l' before after follows) only managed
-
 -- ---- all of them
 
 device_led : (plan : Plan) (w : Whole) (e : Event) (verdict : Verdict) (new : LinkState) (link : ℕ) (l l' : LinkEnds)

@@ -204,14 +204,6 @@ module _ (plan : Plan) (ends : List LinkEnds) (m : InterfacesView) (memory : Mem
       held_planned ends plan.links many (λ i l p is planned. (beside.devices i l is).many p planned)
       ∙ sym (sites_many plan)
 
-  pub located_there : (i : ℕ) → IsBeside plan ends m memory w → length ends ≡ length plan.links
-      → i < length (sites plan) → (at : ℕ × ℕ) × (located 0 i ends ≡ Some at)
-  located_there i beside many lt = located_some 0 i ends (omega (arith, lt, held_is beside many))
-
-  pub located_none : (i : ℕ) → IsBeside plan ends m memory w → length ends ≡ length plan.links
-      → length (sites plan) ≤ i → located 0 i ends ≡ None
-  located_none i beside many le = located_past 0 i ends (omega (arith, le, held_is beside many))
-
   site_within : (link place : ℕ) (l : LinkEnds) (t : Tdi) → IsBeside plan ends m memory w → slice_get ends link ≡ Some l
       → slice_get l.device.interfaces.interfaces place ≡ Some t
       → held_before ends link + place < length (sites plan)
