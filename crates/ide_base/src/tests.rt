@@ -23,8 +23,7 @@ impl io::Seek for Pipe<'_> {
     }
 }
 
-// The file that was read last can still be read after its name is gone, and no other. A pipe is read from its beginning
-// to its end, and no read goes back.
+// The file that was read last can still be read after its name is gone, and no other.
 #[test]
 fn files_of_the_system(rt: HostRuntime) -> Result<(), Fail> {
     let mut buf = [0u8; 4];
@@ -44,6 +43,13 @@ fn files_of_the_system(rt: HostRuntime) -> Result<(), Fail> {
         "it was closed"
     );
     assert_eq!(rt; shelf.read("letters", 1, &mut buf), Ok(2));
+    Ok(())
+}
+
+// A pipe is read from its beginning to its end, and no read goes back.
+#[test]
+fn pipes(rt: HostRuntime) -> Result<(), Fail> {
+    let mut buf = [0u8; 4];
     let mut open = OpenFile {
         name: String::new(rt.alloc()),
         file: Pipe(b"012345"),

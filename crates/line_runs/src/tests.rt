@@ -7,6 +7,7 @@ use ide_base::{MemShelf, MemSink, NamedFile};
 use ide_types::{Bytes, Memory};
 use link_events::{LINE_LIMIT, LineError, LineFault};
 use std::alloc::Global;
+use std::process::Abort;
 use std::test::Fail;
 
 // Writes each line again.
@@ -64,35 +65,13 @@ fn ran(
     Ok((end, out))
 }
 
-// Each read and each put of a file fails. What is due to the lines that ended before is written, and put before the
-// next read, which would fail in the rows of puts.
-#[test]
-fn each_read_and_each_put_fails(rt: HostRuntime) -> Result<(), Fail> {
-    let alloc = rt.alloc();
-    // Two lines in the first piece, a third in the next two, and a last one that no line feed ends.
-    let mut long = Vec::from_slice(alloc, b"a\nb\n")?;
-    long.resize(9000, b'c')?;
-    long.extend_from_slice(b"\nd")?;
-    // 4,096 lines in the first piece, one in the second.
-    let mut many = vec![in alloc; b'\n'; 4096]?;
-    many.extend_from_slice(b"a\n")?;
-    // A line that is too long by the fifth piece: no further one is read.
-    let mut wide = Vec::from_slice(alloc, b"a\n")?;
-    wide.resize(40_000, b' ')?;
-    let table: [(&[u8], &[u64], &[u64], Result<End, Fault>, usize); 11] = [
-        (long.as_slice(), &[0], &[], Err(Fault::Read), 0),
-        (long.as_slice(), &[1], &[], Err(Fault::Read), 4),
-        (long.as_slice(), &[2], &[], Err(Fault::Read), 4),
-        (long.as_slice(), &[3], &[], Err(Fault::Read), 9001),
-        (long.as_slice(), &[4], &[], Ok(End::Done), 9002),
-        (many.as_slice(), &[1], &[0], Err(Fault::Write), 0),
-        (many.as_slice(), &[2], &[1], Err(Fault::Write), 4096),
-        (many.as_slice(), &[3], &[2], Err(Fault::Write), 4098),
-        (many.as_slice(), &[3], &[3], Ok(End::Done), 4098),
-        (wide.as_slice(), &[4], &[], Err(Fault::Read), 2),
-        (wide.as_slice(), &[5], &[], Ok(End::Script), 2),
-    ];
-    for (bytes, reads, puts, end, written) in table {
+// Reads and puts that fail, the end that is due then, and how many bytes are written.
+type Row<'a> = (&'a [u64], &'a [u64], Result<End, Fault>, usize);
+
+// What is due to the lines that ended before a fault is written, and put before the next read, which would fail in the
+// rows of puts.
+fn check(rt: &impl Abort, alloc: Global, bytes: &[u8], rows: &[Row]) -> Result<(), Fail> {
+    for &(reads, puts, end, written) in rows {
         let (got, out) = ran(alloc, bytes, reads, puts)?;
         assert_eq!(rt; got, end, "at {written}");
         let due = bytes.get(..written).unwrap_or(&[]);
@@ -103,4 +82,49 @@ fn each_read_and_each_put_fails(rt: HostRuntime) -> Result<(), Fail> {
         }
     }
     Ok(())
+}
+
+#[test]
+fn each_read_fails(rt: HostRuntime) -> Result<(), Fail> {
+    let alloc = rt.alloc();
+    // Two lines in the first piece, a third in the next two, and a last one that no line feed ends.
+    let mut long = Vec::from_slice(alloc, b"a\nb\n")?;
+    long.resize(9000, b'c')?;
+    long.extend_from_slice(b"\nd")?;
+    let rows: [Row; 5] = [
+        (&[0], &[], Err(Fault::Read), 0),
+        (&[1], &[], Err(Fault::Read), 4),
+        (&[2], &[], Err(Fault::Read), 4),
+        (&[3], &[], Err(Fault::Read), 9001),
+        (&[4], &[], Ok(End::Done), 9002),
+    ];
+    check(&rt, alloc, long.as_slice(), &rows)
+}
+
+#[test]
+fn each_put_fails(rt: HostRuntime) -> Result<(), Fail> {
+    let alloc = rt.alloc();
+    // 4,096 lines in the first piece, one in the second.
+    let mut many = vec![in alloc; b'\n'; 4096]?;
+    many.extend_from_slice(b"a\n")?;
+    let rows: [Row; 4] = [
+        (&[1], &[0], Err(Fault::Write), 0),
+        (&[2], &[1], Err(Fault::Write), 4096),
+        (&[3], &[2], Err(Fault::Write), 4098),
+        (&[3], &[3], Ok(End::Done), 4098),
+    ];
+    check(&rt, alloc, many.as_slice(), &rows)
+}
+
+#[test]
+fn long_line_ends_reading(rt: HostRuntime) -> Result<(), Fail> {
+    let alloc = rt.alloc();
+    // A line that is too long by the fifth piece: no further one is read.
+    let mut wide = Vec::from_slice(alloc, b"a\n")?;
+    wide.resize(40_000, b' ')?;
+    let rows: [Row; 2] = [
+        (&[4], &[], Err(Fault::Read), 2),
+        (&[5], &[], Ok(End::Script), 2),
+    ];
+    check(&rt, alloc, wide.as_slice(), &rows)
 }

@@ -61,7 +61,11 @@ fn requests(rt: HostRuntime) {
         nonce: [0; 32],
     };
     assert!(rt; request_read(&start) == Ok(request));
-    // Reserved bytes may be any, and each proper prefix is short.
+}
+
+// Reserved bytes may be any, each proper prefix is short, and nothing comes after.
+#[test]
+fn edges_of_a_request(rt: HostRuntime) {
     let mut reserved = LOCK;
     reserved[3] = 0xff;
     reserved[4] = 0xff;
@@ -136,6 +140,10 @@ fn replies(rt: HostRuntime) {
             })
         )
     );
+}
+
+#[test]
+fn replies_that_are_none(rt: HostRuntime) {
     let faults: [(&[u8], TdispFault); 3] = [
         (
             b"\x01\x10\x01\0\0\0\x01\0\0\0\0\0\0\0\0\0\0\x01",
