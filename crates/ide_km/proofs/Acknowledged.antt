@@ -2,6 +2,7 @@
 use Rattle.std.proofs.Common.{◌≡◌, ◌≢◌, ℕ, Bool, true, false, cond, eqb, ltb, List, Option, Some, None, Result, Ok, Err}
 use Rattle.std.proofs.Common.{refl, ◌∙◌, inl, inr, arith, slice_index}
 use Rattle.std.proofs.lemmas.Bool.{cases_Bool, and_from, eqb-true, eq-eqb}
+use Rattle.ide_types.specs.{direction_number}
 use Rattle.key_slots.specs.declared.slot.Slot.{Slot}
 use Rattle.key_slots.specs.Slots.{SlotPair, slot_in, with_both, is_only_live, programmed}
 use Rattle.key_slots.specs.{Program}
@@ -38,7 +39,7 @@ slot_with sender true mine other = refl
 
 here : (place : Place) → is_same_place place place ≡ true
 here place = and_from _ _
-    (and_from _ _ (eq-eqb place.stream place.stream refl) (eq-eqb place.direction place.direction refl))
+    (and_from _ _ (eq-eqb place.stream place.stream refl) (eq-eqb (direction_number place.direction) _ refl))
     (eq-eqb place.sub place.sub refl)
 
 key_at : (shown after : Shown) (unfinished : Place → Bool) (place : Place) (set : Bool) (key : List ℕ) (draw : ℕ)

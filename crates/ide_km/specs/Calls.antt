@@ -2,13 +2,15 @@
 use Rattle.std.specs.Prelude.{ℕ, ◌≡◌, Bool, true, false, not, ◌&&◌, ◌==◌, nat_lt, List, Option, Some, None, Result, Ok}
 use Rattle.std.specs.Prelude.{Err, is_ok, if◌then◌else◌}
 use Rattle.std.specs.Option.{option_map}
+use Rattle.ide_types.specs.{direction_number}
+use Rattle.ide_types.specs.declared.direction.Direction.{Direction}
 use Rattle.key_slots.specs.{SlotPair, slot_in, is_empty, is_only_live, programmed, armed, halted}
 use Rattle.key_slots.specs.{KeyCall, Program, Go, Halt}
 use Rattle.ide_km.specs.declared.place.Place.{Place}
 use Rattle.ide_km.specs.declared.port.ProgramFault.{ProgramFault}
 use Rattle.ide_km.specs.declared.port.ProgramFault.TheVariants.{NoPlace, OnlyLive}
 
-abbrev pub place_at : ℕ → ℕ → ℕ → Place
+abbrev pub place_at : ℕ → Direction → ℕ → Place
 place_at stream direction sub = record { stream = stream; direction = direction; sub = sub }
 
 -- a call of the two slots of a place
@@ -69,7 +71,8 @@ slots_by (Go set) unfinished slots = armed slots set unfinished
 slots_by (Halt set) unfinished slots = halted slots set
 
 abbrev pub is_same_place : Place → Place → Bool
-is_same_place p q = ((p.stream == q.stream) && (p.direction == q.direction)) && (p.sub == q.sub)
+is_same_place p q =
+    ((p.stream == q.stream) && (direction_number p.direction == direction_number q.direction)) && (p.sub == q.sub)
 
 abbrev pub place_after : Shown → (Place → Bool) → PlaceCall → Place → Option SlotPair
 place_after shown unfinished c p =

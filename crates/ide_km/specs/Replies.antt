@@ -1,6 +1,8 @@
 -- What the responder does with a request (this profile).
 use Rattle.std.specs.Prelude.{ℕ, ◌≡◌, ◌/◌, ◌%◌, Bool, false, ◌&&◌, ◌==◌, nat_lt, List, [], length, slice_index, Option}
 use Rattle.std.specs.Prelude.{Some, None, Result, Ok, Err, if◌then◌else◌}
+use Rattle.ide_types.specs.{upstream_if}
+use Rattle.ide_types.specs.declared.direction.Direction.{Direction}
 use Rattle.key_slots.specs.declared.slot.Slot.TheVariants.{Programmed}
 use Rattle.key_slots.specs.{SlotPair, slot_in, Program, Go, Halt}
 use Rattle.ide_km.specs.declared.object.KmView.{KmView}
@@ -17,8 +19,8 @@ use Rattle.ide_km.specs.Calls.{place_at, PlaceCall, place_call, Shown, is_taken,
 abbrev pub set_of : ℕ → Bool
 set_of selector = selector % 2 == 1
 
-abbrev pub direction_of : ℕ → ℕ
-direction_of selector = selector / 2 % 2
+abbrev pub direction_of : ℕ → Direction
+direction_of selector = upstream_if (selector / 2 % 2 == 1)
 
 abbrev pub sub_of : ℕ → ℕ
 sub_of selector = selector / 16

@@ -1,6 +1,6 @@
 //! The calls of a port that key management moves.
 
-ghost use Rattle.std.specs.Prelude.{◌≡◌, ◌<◌, Bool, Option};
+ghost use Rattle.std.specs.Prelude.{◌≡◌, Bool, Option};
 ghost use Rattle.key_slots.specs.{SlotPair, is_one, Program, Go, Halt};
 ghost use Rattle.ide_km.specs.declared.place.Place.{Place};
 ghost use Rattle.ide_km.specs.Calls.{PlaceCall, place_call, shown_program_answer, go_answer, halt_answer, SlotsAfter};
@@ -36,7 +36,6 @@ pub trait SlotPort {
         key: Key,
         draw: u32,
     ) -> Result<(), ProgramFault>
-        requires { place.direction < 2 }
         ensures answer { result ≡ shown_program_answer (slots self.old) place (is_one set) key }
         ensures slots { let call = place_call place (Program (is_one set) key draw) in
             SlotsAfter (slots self.old) (unfinished self.old) call (slots self.new) }
@@ -44,7 +43,6 @@ pub trait SlotPort {
 
     /// GO; false if the port has no such place or the slot is Empty.
     fn go(&mut self, place: Place, set: KeySet) -> bool
-        requires { place.direction < 2 }
         ensures answer { result ≡ go_answer (slots self.old) place (is_one set) }
         ensures slots { let call = place_call place (Go (is_one set)) in
             SlotsAfter (slots self.old) (unfinished self.old) call (slots self.new) }
@@ -52,7 +50,6 @@ pub trait SlotPort {
 
     /// STOP; false if the port has no such place.
     fn halt(&mut self, place: Place, set: KeySet) -> bool
-        requires { place.direction < 2 }
         ensures answer { result ≡ halt_answer (slots self.old) place }
         ensures slots { let call = place_call place (Halt (is_one set)) in
             SlotsAfter (slots self.old) (unfinished self.old) call (slots self.new) }

@@ -3,7 +3,6 @@
 ghost use Rattle.std.specs.Prelude.{◌≡◌, ◌+◌, ◌<◌, ◌≤◌, ◌++◌, Some, None, length, slice_index, if◌then◌else◌, vec_len};
 ghost use Rattle.std.specs.Prelude.{vec_capacity};
 ghost use Rattle.key_slots.specs.{is_one};
-ghost use Rattle.ide_km.specs.Objects.{spelling};
 ghost use Rattle.ide_km.specs.Replies.{set_of, selected_place, call_for, call_of, Moved, Kept};
 ghost use Rattle.ide_km.specs.Replies.{
   key_status_of,
@@ -21,7 +20,7 @@ use crate::port::SlotPort;
 use crate::reading::km_read;
 use crate::status::KeyStatus;
 use crate::writing::km_write;
-use ide_types::KeySet;
+use ide_types::{Direction, KeySet};
 use key_slots::Key;
 
 /// The responder of a device's port: it answers requests of key management (PCI Express Base 6.0 section 6.33, in
@@ -43,7 +42,7 @@ fn selected_place(stream: u8, selector: u8) -> Place
 {
     Place {
         stream,
-        direction: selector / 2 % 2,
+        direction: Direction::of_bit(selector / 2 % 2 == 1),
         sub: selector / 16,
     }
 }

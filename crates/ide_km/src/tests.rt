@@ -1,7 +1,7 @@
 //! Objects as bytes, and what the responder of a port of one place replies.
 
 use crate::{KmFault, KmView, Responder, km_read, km_write};
-use ide_types::KeySet;
+use ide_types::{Direction, KeySet};
 use key_slots::{SlotState, Slots};
 use port::OnePort;
 use std::alloc::{AllocError, Global};
@@ -78,128 +78,144 @@ fn check(
     Ok(())
 }
 
-// The sender of stream 5's non-posted requests has no key; a key comes to it, is started, and goes.
-#[test]
-fn replies(rt: HostRuntime) -> Result<(), Fail> {
-    let alloc = rt.alloc();
-    let mut port = OnePort {
-        direction: 1,
+// A port whose sender of stream 5's non-posted requests has no key.
+fn empty_port() -> OnePort {
+    OnePort {
+        direction: Direction::Upstream,
         sub: 1,
         unfinished: false,
         slots: Slots::make(true),
-    };
-    // A byte of KEY_PROG that is refused.
-    let refused = [
+    }
+}
+
+// A KEY_PROG that is refused, and its reply. A wrong length comes before a wrong port index, and that before a wrong
+// counter.
+#[test]
+fn keys_refused(rt: HostRuntime) -> Result<(), Fail> {
+    let alloc = rt.alloc();
+    let mut port = empty_port();
+    let rows = [
         (7, 1, [0, 3, 0, 0, 5, 2, 0x12, 1]),
         (4, 6, [0, 3, 0, 0, 6, 3, 0x12, 0]),
         (6, 0x32, [0, 3, 0, 0, 5, 3, 0x32, 0]),
         (40, 2, [0, 3, 0, 0, 5, 3, 0x12, 0]),
         (47, 1, [0, 3, 0, 0, 5, 3, 0x12, 0]),
     ];
-    for (place, byte, reply) in refused {
+    for (place, byte, reply) in rows {
         let request = with_byte(place, byte);
         check(&rt, alloc, &mut port, &request, &reply, SlotState::Empty)?;
     }
-    // Fields that a prefix lacks are given back as 0.
+    let mut twice = with_byte(7, 1);
+    twice[40] = 2;
+    let reply = [0, 3, 0, 0, 5, 2, 0x12, 1];
+    check(&rt, alloc, &mut port, &twice, &reply, SlotState::Empty)?;
+    let short = [0, 2, 0, 0, 5, 0, 0x12, 1];
+    let reply = [0, 3, 0, 0, 5, 1, 0x12, 1];
+    check(&rt, alloc, &mut port, &short, &reply, SlotState::Empty)?;
+    Ok(())
+}
+
+// Fields that a prefix of a KEY_PROG lacks are given back as 0.
+#[test]
+fn prefixes_of_a_key(rt: HostRuntime) -> Result<(), Fail> {
+    let mut port = empty_port();
     for length in 2..48 {
         let reply = match length {
             2..=4 => [0, 3, 0, 0, 0, 1, 0, 0],
             5 | 6 => [0, 3, 0, 0, 5, 1, 0, 0],
             _ => [0, 3, 0, 0, 5, 1, 0x12, 0],
         };
+        let request = &KEY_PROG[..length];
         check(
             &rt,
-            alloc,
+            rt.alloc(),
             &mut port,
-            &KEY_PROG[..length],
+            request,
             &reply,
             SlotState::Empty,
         )?;
     }
-    let key_prog = KEY_PROG;
-    let marked = with_byte(6, 0x1e);
-    let mut twice = with_byte(7, 1);
-    twice[40] = 2;
-    let table: [(&[u8], &[u8], SlotState); 32] = [
-        // A wrong length comes before a wrong port index, and that before a wrong counter.
-        (
-            &[0, 2, 0, 0, 5, 0, 0x12, 1],
-            &[0, 3, 0, 0, 5, 1, 0x12, 1],
-            SlotState::Empty,
-        ),
-        (
-            twice.as_slice(),
-            &[0, 3, 0, 0, 5, 2, 0x12, 1],
-            SlotState::Empty,
-        ),
+    Ok(())
+}
+
+// What has no reply, and leaves a key as it is.
+const UNANSWERED: [&[u8]; 21] = [
+    &[],
+    &[0],
+    &[1, 2],
+    &[2, 5, 0, 0, 5, 0, 0x12, 0],
+    &[0, 7],
+    &[0, 0xff, 0, 0, 5, 0, 0x12, 0],
+    &[0, 0],
+    &[0, 0, 0],
+    &[0, 0, 0, 1],
+    &[0, 1, 0, 0, 0, 0, 0, 0],
+    &[0, 3, 0, 0, 5, 0, 0x12, 0],
+    &[0, 6, 0, 0, 5, 0, 0x12, 0],
+    &[0, 4, 0, 0, 5, 0, 0x12],
+    &[0, 4, 0, 0, 5, 0, 0x12, 1],
+    &[0, 4, 0, 0, 6, 0, 0x12, 0],
+    &[0, 4, 0, 0, 5, 0, 0x32, 0],
+    &[0, 4, 0, 0, 5, 0, 0x12, 0, 0],
+    &[0, 5, 0, 0, 5, 0, 0x12, 0, 0],
+    &[0, 5, 0, 0, 5, 0, 0x12, 1],
+    &[0, 5, 0, 0, 6, 0, 0x12, 0],
+    &[0, 5, 0, 0, 5, 0, 0x32, 0],
+];
+
+#[test]
+fn nothing_to_answer(rt: HostRuntime) -> Result<(), Fail> {
+    let alloc = rt.alloc();
+    let mut port = empty_port();
+    // Bits 3 and 2 of the selector are ignored, and given back.
+    let reply = [0, 3, 0, 0, 5, 0, 0x1e, 0];
+    let key_prog = with_byte(6, 0x1e);
+    check(
+        &rt,
+        alloc,
+        &mut port,
+        &key_prog,
+        &reply,
+        SlotState::Programmed,
+    )?;
+    for request in UNANSWERED {
+        check(&rt, alloc, &mut port, request, &[], SlotState::Programmed)?;
+    }
+    Ok(())
+}
+
+const SET_GO: [u8; 8] = [0, 4, 0, 0, 5, 0, 0x12, 0];
+
+const SET_STOP: [u8; 8] = [0, 5, 0, 0, 5, 0, 0x12, 0];
+
+const DONE: [u8; 8] = [0, 6, 0, 0, 5, 0, 0x12, 0];
+
+// A key comes, is started twice, is not replaced while it is in use, and goes. SET_GO on an empty slot has no reply,
+// SET_STOP has one.
+#[test]
+fn key_comes_and_goes(rt: HostRuntime) -> Result<(), Fail> {
+    let alloc = rt.alloc();
+    let mut port = empty_port();
+    let (go, stop, done, key_prog) = (SET_GO, SET_STOP, DONE, KEY_PROG);
+    let rows: [(&[u8], &[u8], SlotState); 8] = [
         (
             &[0, 0, 0, 0],
             &[0, 1, 0, 0, 0x23, 0x01, 0, 0],
             SlotState::Empty,
         ),
-        // SET_GO on an empty slot has no reply, SET_STOP has one.
-        (&[0, 4, 0, 0, 5, 0, 0x12, 0], &[], SlotState::Empty),
+        (&go, &[], SlotState::Empty),
+        (&stop, &done, SlotState::Empty),
         (
-            &[0, 5, 0, 0, 5, 0, 0x12, 0],
-            &[0, 6, 0, 0, 5, 0, 0x12, 0],
-            SlotState::Empty,
-        ),
-        // Bits 3 and 2 of the selector are ignored, and given back.
-        (
-            marked.as_slice(),
-            &[0, 3, 0, 0, 5, 0, 0x1e, 0],
-            SlotState::Programmed,
-        ),
-        (
-            key_prog.as_slice(),
+            &key_prog,
             &[0, 3, 0, 0, 5, 0, 0x12, 0],
             SlotState::Programmed,
         ),
-        // What has no reply.
-        (&[], &[], SlotState::Programmed),
-        (&[0], &[], SlotState::Programmed),
-        (&[1, 2], &[], SlotState::Programmed),
-        (&[2, 5, 0, 0, 5, 0, 0x12, 0], &[], SlotState::Programmed),
-        (&[0, 7], &[], SlotState::Programmed),
-        (&[0, 0xff, 0, 0, 5, 0, 0x12, 0], &[], SlotState::Programmed),
-        (&[0, 0], &[], SlotState::Programmed),
-        (&[0, 0, 0], &[], SlotState::Programmed),
-        (&[0, 0, 0, 1], &[], SlotState::Programmed),
-        (&[0, 1, 0, 0, 0, 0, 0, 0], &[], SlotState::Programmed),
-        (&[0, 3, 0, 0, 5, 0, 0x12, 0], &[], SlotState::Programmed),
-        (&[0, 6, 0, 0, 5, 0, 0x12, 0], &[], SlotState::Programmed),
-        (&[0, 4, 0, 0, 5, 0, 0x12], &[], SlotState::Programmed),
-        (&[0, 4, 0, 0, 5, 0, 0x12, 1], &[], SlotState::Programmed),
-        (&[0, 4, 0, 0, 6, 0, 0x12, 0], &[], SlotState::Programmed),
-        (&[0, 4, 0, 0, 5, 0, 0x32, 0], &[], SlotState::Programmed),
-        (&[0, 4, 0, 0, 5, 0, 0x12, 0, 0], &[], SlotState::Programmed),
-        (&[0, 5, 0, 0, 5, 0, 0x12, 0, 0], &[], SlotState::Programmed),
-        (&[0, 5, 0, 0, 5, 0, 0x12, 1], &[], SlotState::Programmed),
-        (&[0, 5, 0, 0, 6, 0, 0x12, 0], &[], SlotState::Programmed),
-        (&[0, 5, 0, 0, 5, 0, 0x32, 0], &[], SlotState::Programmed),
-        // SET_GO, twice; a key that is in use is not replaced; SET_STOP.
-        (
-            &[0, 4, 0, 0, 5, 0, 0x12, 0],
-            &[0, 6, 0, 0, 5, 0, 0x12, 0],
-            SlotState::Live,
-        ),
-        (
-            &[0, 4, 0, 0, 5, 0, 0x12, 0],
-            &[0, 6, 0, 0, 5, 0, 0x12, 0],
-            SlotState::Live,
-        ),
-        (
-            key_prog.as_slice(),
-            &[0, 3, 0, 0, 5, 3, 0x12, 0],
-            SlotState::Live,
-        ),
-        (
-            &[0, 5, 0, 0, 5, 0, 0x12, 0],
-            &[0, 6, 0, 0, 5, 0, 0x12, 0],
-            SlotState::Empty,
-        ),
+        (&go, &done, SlotState::Live),
+        (&go, &done, SlotState::Live),
+        (&key_prog, &[0, 3, 0, 0, 5, 3, 0x12, 0], SlotState::Live),
+        (&stop, &done, SlotState::Empty),
     ];
-    for (request, reply, state) in table {
+    for (request, reply, state) in rows {
         check(&rt, alloc, &mut port, request, reply, state)?;
     }
     Ok(())

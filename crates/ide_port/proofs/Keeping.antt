@@ -1,4 +1,5 @@
 -- A port keeps what always holds of it.
+use Rattle.ide_types.specs.declared.direction.Direction.{Direction}
 use Rattle.ide_port.proofs.Terms.{◌≡◌, ℕ, suc, zero, ◌+◌, ◌<◌, ◌≤◌, List, [], ◌∷◌, length, map, get_or, Option, Some}
 use Rattle.ide_port.proofs.Terms.{None, Result, refl, ap, ◌∙◌, arith, slice_set, slice_get, vec_capacity, nat_tests}
 use Rattle.ide_port.proofs.Terms.{Side, SubKind, StreamPlan, Packet}
@@ -88,7 +89,8 @@ module _ (p : Inside) (kept : Keeps p) (id place : ℕ) (x : StreamEnd) (at : pl
       (none-taken x.state packet (taken_in x packet) there.of_plan.receivers)
       (omega (arith, there.of_plan.few)) lends kept.short kept.room
 
-  pub kept-called : (y : StreamEnd) (d : ℕ) (u : SubKind) (c : KeyCall) → y ≡ called_end x d u c
+  pub kept-called : (y : StreamEnd) (d : Direction) (u : SubKind) (c : KeyCall)
+      → y ≡ called_end x d u c
       → IsKept p.name.side p.limit p.calls p.plans (slice_set p.streams.items place y) None p.sealed.items
       (vec_capacity p.sealed)
   kept-called y d u c after =

@@ -2,16 +2,17 @@
 use Rattle.ide_port.proofs.Terms.{◌≡◌, ℕ, ◌<◌, true, false, ◌&&◌, [], Option, Some, None, refl, ap, ◌∙◌, arith}
 use Rattle.ide_port.proofs.Terms.{nat_lt, if◌then◌else◌, option_map, nat_tests, Side, SlotPair, Place, KeyCall}
 use Rattle.ide_port.proofs.Terms.{PlaceCall, slots_by, SlotsAfter}
+use Rattle.ide_types.specs.declared.direction.Direction.{Direction}
 use Rattle.ide_port.proofs.Terms.{StreamState, sends_in, pair_at, called, PortEnd, Found, found, changed, sub_from}
 use Rattle.ide_port.proofs.Terms.{is_place, stream_at, shown, unfinished_at, called_states, called_port, NoneWaits}
 use Rattle.ide_km.specs.Calls as km
 use Rattle.ide_port.proofs.Streams.{found-id, found-changed, found-other}
 use Rattle.ide_port.proofs.Moves.{moved-pair, other-pair}
 
--- ---- numbers of directions and sub-streams
+-- ---- directions, and numbers of sub-streams
 
-same_sends : (side : Side) (d e : ℕ) → d < 2 → e < 2 → sends_in side d ≡ sends_in side e → d ≡ e
-same_sends side d e a b s = grind (arith, nat_tests)
+same_sends : (side : Side) (d e : Direction) → sends_in side d ≡ sends_in side e → d ≡ e
+same_sends side d e s = grind (arith, nat_tests)
 
 same_sub : (m n : ℕ) → m < 3 → n < 3 → sub_from m ≡ sub_from n → m ≡ n
 same_sub m n a b s = grind (arith, nat_tests)

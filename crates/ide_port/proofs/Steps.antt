@@ -186,16 +186,15 @@ module _ (p : Inside) (e : PortEnd) (view : now p ≡ e) (kept : Keeps p) (c : P
       (λ o. record e { states = called_states e c o; delivered = [] }) (sym out) in
       record { shows = grind (arith, nat_tests, out); moves = moves; slots = slots-step _ moves }
 
-  pub called-step : (place : ℕ) (u : SubKind) (x y : StreamEnd) → c.place.direction < 2
+  pub called-step : (place : ℕ) (u : SubKind) (x y : StreamEnd)
       → IsLane p.plans c.place.stream c.place.sub place u
       → x ≡ get_or p.streams.items place x → y ≡ called_end x c.place.direction u c.call
       → IsCalled e (seen p (slice_set p.streams.items place y) p.sealed.items None p.calls) c
       (Some (pair_in x c.place.direction u))
-  called-step place u x y dir lane is after =
+  called-step place u x y lane is after =
       let q = c.place in
       let k = there p kept q.stream place x lane.place_is is in
-      let two : nat_lt q.direction 2 ≡ true = grind (arith, nat_tests) in
-      let at : stream_at (now p) q ≡ Some (record { plan = k.plan; state = x.state }) = rw (two, lane.three) k.is_found
+      let at : stream_at (now p) q ≡ Some (record { plan = k.plan; state = x.state }) = rw lane.three k.is_found
       in
       let mine : y ≡ called_end (stream_of p.name.side p.limit k.plan x) q.direction (sub_from q.sub) c.call =
       after ∙ (λ i. called_end (k.of_plan.plan i) q.direction (lane.sub_is i) c.call) in

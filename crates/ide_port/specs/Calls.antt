@@ -14,9 +14,9 @@ use Rattle.ide_port.specs.Ends.{PortEnd, Found, found, changed}
 
 -- ---- what is read of the port
 
--- there are three sub-streams in two directions
+-- there are three sub-streams
 abbrev pub is_place : Place → Bool
-is_place place = nat_lt place.direction 2 && nat_lt place.sub 3
+is_place place = nat_lt place.sub 3
 
 -- the stream of a place
 abbrev pub stream_at : PortEnd → Place → Option Found

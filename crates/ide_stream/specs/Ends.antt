@@ -2,6 +2,7 @@
 -- profile).
 use Rattle.std.specs.Prelude.{ℕ, ◌+◌, Bool, List, []}
 use Rattle.ide_types.specs.declared.sub.SubKind.{SubKind}
+use Rattle.ide_types.specs.declared.direction.Direction.{Direction}
 use Rattle.ide_types.specs.declared.port.Side.{Side}
 use Rattle.ide_prefix.specs.Packet.{Packet}
 use Rattle.key_slots.specs.{SlotPair, KeyCall}
@@ -52,10 +53,10 @@ end_taken e p =
 -- ---- keys
 
 -- the slots of a direction and a sub-stream
-abbrev pub pair_in : StreamEnd → ℕ → SubKind → SlotPair
+abbrev pub pair_in : StreamEnd → Direction → SubKind → SlotPair
 pair_in e direction u = pair_at (sends_in e.side direction) u e.state
 
-abbrev pub called_end : StreamEnd → ℕ → SubKind → KeyCall → StreamEnd
+abbrev pub called_end : StreamEnd → Direction → SubKind → KeyCall → StreamEnd
 called_end e direction u call = record e { state = called (sends_in e.side direction) u call e.state; delivered = [] }
 
 -- without keys, counts and failure

@@ -15,7 +15,7 @@ ghost use Rattle.sub_stream.specs.{answer_of};
 
 use crate::directions::Directions;
 use ide_prefix::PacketView;
-use ide_types::{KeySet, Memory, Side, StreamStatus, SubKind};
+use ide_types::{Direction, KeySet, Memory, Side, StreamStatus, SubKind};
 use key_slots::{Key, OnlyLive, SlotEmpty};
 use std::alloc::Global;
 use std::marker::Model;
@@ -26,8 +26,7 @@ use sub_stream::{Delivered, PACKET_ROOM, SYNC_ROOM, Taken};
 pub const SEND_ROOM: usize = PACKET_ROOM + 2 * SYNC_ROOM;
 
 /// A stream at a port: its senders in the direction that the port sends, its receivers in the other (PCI Express Base
-/// 6.0 section 6.33, in this profile). Directions are 0 from the host to the device and 1 from the device to the host;
-/// in each call `dir` is 0 or 1.
+/// 6.0 section 6.33, in this profile).
 #[derive(Drop)]
 pub struct Stream {
     side: Side,
@@ -47,12 +46,12 @@ impl Model for Stream {
 }
 
 // Whether a port of this side sends in the direction.
-fn sends(side: Side, dir: u8) -> bool
-    ensures { result ≡ sends_in side dir }
+fn sends(side: Side, direction: Direction) -> bool
+    ensures { result ≡ sends_in side direction }
 {
     match side {
-        Side::Host => dir == 0,
-        Side::Device => dir == 1,
+        Side::Host => direction == Direction::Downstream,
+        Side::Device => direction == Direction::Upstream,
     }
 }
 
@@ -194,40 +193,37 @@ impl Stream {
     pub fn program(
         &mut self,
         set: KeySet,
-        dir: u8,
+        direction: Direction,
         sub: SubKind,
         key: Key,
         draw: u32,
     ) -> Result<(), OnlyLive>
-        requires { dir < 2 }
-        ensures answer { result ≡ program_answer (pair_in self.old dir sub) (is_one set) key }
-        ensures stream { self.new ≡ called_end self.old dir sub (Program (is_one set) key draw) }
+        ensures answer { result ≡ program_answer (pair_in self.old direction sub) (is_one set) key }
+        ensures stream { self.new ≡ called_end self.old direction sub (Program (is_one set) key draw) }
     {
         let answer = self
             .directions
-            .program(sends(self.side, dir), sub, set, key, draw);
+            .program(sends(self.side, direction), sub, set, key, draw);
         self.directions.settle();
         answer
     }
 
     /// GO: a Programmed key is Live, at a sender from the next unit on. Returns `SlotEmpty` exactly if the slot is
     /// Empty.
-    pub fn go(&mut self, set: KeySet, dir: u8, sub: SubKind) -> Result<(), SlotEmpty>
-        requires { dir < 2 }
-        ensures answer { is_ok result ≡ not (is_empty (slot_in (pair_in self.old dir sub) (is_one set))) }
-        ensures stream { self.new ≡ called_end self.old dir sub (Go (is_one set)) }
+    pub fn go(&mut self, set: KeySet, direction: Direction, sub: SubKind) -> Result<(), SlotEmpty>
+        ensures answer { is_ok result ≡ not (is_empty (slot_in (pair_in self.old direction sub) (is_one set))) }
+        ensures stream { self.new ≡ called_end self.old direction sub (Go (is_one set)) }
     {
-        let answer = self.directions.go(sends(self.side, dir), sub, set);
+        let answer = self.directions.go(sends(self.side, direction), sub, set);
         self.directions.settle();
         answer
     }
 
     /// STOP: empties a slot, with the open unit or the held packets under its key.
-    pub fn halt(&mut self, set: KeySet, dir: u8, sub: SubKind)
-        requires { dir < 2 }
-        ensures { self.new ≡ called_end self.old dir sub (Halt (is_one set)) }
+    pub fn halt(&mut self, set: KeySet, direction: Direction, sub: SubKind)
+        ensures { self.new ≡ called_end self.old direction sub (Halt (is_one set)) }
     {
-        self.directions.halt(sends(self.side, dir), sub, set);
+        self.directions.halt(sends(self.side, direction), sub, set);
         self.directions.settle();
     }
 

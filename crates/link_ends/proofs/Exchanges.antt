@@ -1,7 +1,7 @@
 -- One exchange: the request reaches the device or is lost, and the manager takes what is carried back.
 use Rattle.link_ends.proofs.Terms.{◌≡◌, ℕ, ◌==◌, ◌<◌, Bool, true, false, List, refl, ◌∙◌, Option, Some, None, nat_lt}
-use Rattle.link_ends.proofs.Terms.{◌&&◌, slice_range, Side, Place, PlaceCall, Shown, call_of}
-use Rattle.link_ends.proofs.Terms.{call_from, is_done, spelling, direction_of}
+use Rattle.link_ends.proofs.Terms.{slice_range, Side, Place, PlaceCall, Shown, call_of}
+use Rattle.link_ends.proofs.Terms.{call_from, is_done, spelling}
 use Rattle.link_ends.proofs.Terms.{sub_of, Operation, same-true, exchange_of, selector_of, request_of, WireKeys}
 use Rattle.link_ends.proofs.Terms.{StreamView, request_asked, IsAsked, Asked, StreamState, shown_stream, port_called}
 use Rattle.link_ends.proofs.Terms.{PortEnd, Found, found, shown}
@@ -20,14 +20,9 @@ use Rattle.link_ends.proofs.Ports.{IsAt, moved, called_there, found_there}
 
 -- ---- the place of a lane
 
-there : (set : KeySet) (lane : ℕ) → lane < 6 →
-    (nat_lt (direction_of (selector_of set lane)) 2 && nat_lt (sub_of (selector_of set lane)) 3) ≡ true
-there One =
-    by_lane (λ lane. (nat_lt (direction_of (selector_of One lane)) 2 && nat_lt (sub_of (selector_of One lane)) 3)
-    ≡ true) refl refl refl refl refl refl
-there Zero =
-    by_lane (λ lane. (nat_lt (direction_of (selector_of Zero lane)) 2 && nat_lt (sub_of (selector_of Zero lane)) 3)
-    ≡ true) refl refl refl refl refl refl
+there : (set : KeySet) (lane : ℕ) → lane < 6 → nat_lt (sub_of (selector_of set lane)) 3 ≡ true
+there One = by_lane (λ lane. nat_lt (sub_of (selector_of One lane)) 3 ≡ true) refl refl refl refl refl refl
+there Zero = by_lane (λ lane. nat_lt (sub_of (selector_of Zero lane)) 3 ≡ true) refl refl refl refl refl refl
 
 lane_at : (id : ℕ) (set : KeySet) (lane : ℕ) → lane < 6 → IsAt id (selected_place id (selector_of set lane))
 lane_at id set lane lt = record { stream_is = refl; is_there = there set lane lt }

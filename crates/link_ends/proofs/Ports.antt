@@ -3,6 +3,7 @@ use Rattle.link_ends.proofs.Terms.{◌≡◌, ℕ, Bool, true, List, [], ◌∷�
 use Rattle.link_ends.proofs.Terms.{nat_lt, Side, Place, PlaceCall, place_at, CallsMove, programs, goes, halts}
 use Rattle.link_ends.proofs.Terms.{StreamState, sends_in, called, all_called_at, PortEnd, Found, found, changed, shown}
 use Rattle.link_ends.proofs.Terms.{unfinished_at, called_port, HasStream, found-id, found-changed, ap, subst}
+use Rattle.ide_types.specs.declared.direction.Direction.{Direction}
 use Rattle.ide_prefix.specs.{sub_from}
 use Rattle.ide_port.specs.Calls.{is_place, stream_at, called_states}
 use Rattle.link_ends.proofs.Streams.{changed_same, changed_again}
@@ -60,8 +61,8 @@ all_there e e' e2 id f x (c ∷ cs) is has at moves =
     rw moves.1.moved (called_there e e' id f x c is has at.0) in
     all_there e moves.0 e2 id f _ cs is step at.1 moves.2
 
-at_lane : (id d u : ℕ) → nat_lt d 2 ≡ true → nat_lt u 3 ≡ true → IsAt id (place_at id d u)
-at_lane id d u d_is u_is = record { stream_is = refl; is_there = rw (d_is, u_is) refl }
+at_lane : (id u : ℕ) (direction : Direction) → nat_lt u 3 ≡ true → IsAt id (place_at id direction u)
+at_lane id u direction u_is = record { stream_is = refl; is_there = u_is }
 
 pub programs_at : (id : ℕ) (set : Bool) (keys : List (List ℕ)) (draw : ℕ) → AllAt id (programs id set keys draw)
 programs_at id set keys draw = search (rules, at_lane) depth 12

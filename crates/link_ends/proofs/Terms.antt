@@ -2,7 +2,7 @@
 pub use Rattle.link_walks.specs.Calls.{all_called_at}
 pub use Rattle.device_side.specs.Ends.{DeviceEnd, after_call, asked_device, reply_given}
 pub use Rattle.ide_km.specs.declared.place.Place.{Place}
-pub use Rattle.ide_km.specs.{PlaceCall, Shown, call_from, call_of, direction_of, is_done, place_at, reply_of, spelling}
+pub use Rattle.ide_km.specs.{PlaceCall, Shown, call_from, call_of, is_done, place_at, reply_of, spelling}
 pub use Rattle.ide_km.specs.{sub_of}
 pub use Rattle.ide_port.proofs.Streams.{found-changed, found-id}
 pub use Rattle.ide_port.specs.{Found, PortEnd, called_port, changed, found, live_in_port, shown, status_in}

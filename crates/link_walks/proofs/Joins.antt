@@ -1,4 +1,5 @@
 -- An event of an operation, walked at both ends, gives what the machine of links says.
+use Rattle.link_walks.specs.Calls.{lane_sends}
 use Rattle.link_walks.proofs.Terms.{◌≡◌, arith, true, ℕ, List, ◌++◌, Work, Plan, if◌then◌else◌, Operation, ◌≤◌, ◌∙◌}
 use Rattle.link_walks.proofs.Terms.{sym, Device, Host, StreamState, ◌+◌, [], suc, refl, ◌-◌, ap, Some, subst, ◌∷◌}
 use Rattle.link_walks.proofs.Terms.{last_exchange_of, port_at, CallsAreTouches}
@@ -9,7 +10,7 @@ use Rattle.link_walks.proofs.Terms.{key_plan, LinkState, find, find_op}
 use Rattle.link_walks.proofs.Terms.{ports_of, status_at, AreTouches, Side, Pool, draws_in, true-lt}
 use Rattle.link_walks.proofs.Terms.{Refusal, PlaceCall, StreamView, draws_now, refusal_of, begun_stream, begun_pool}
 use Rattle.link_walks.proofs.Terms.{begun_calls, ManagerWalk, answers, walk}
-use Rattle.link_walks.proofs.Terms.{manager_walked, verdict_of, op_by, Comes, walk_comes, sends_in, PortsStandFor}
+use Rattle.link_walks.proofs.Terms.{manager_walked, verdict_of, op_by, Comes, walk_comes, PortsStandFor}
 use Rattle.link_walks.proofs.Terms.{kept_is}
 use Rattle.link_walks.proofs.Terms.{StreamEnds, walk_on, begun_ends, walked_ends_unless, event_walk, host_of, KeysKept}
 use Rattle.link_walks.proofs.Terms.{verdict_due, IsJoined}
@@ -134,10 +135,11 @@ module _ (plan : Plan) (st : LinkState) (h : History) (operation : Operation) (l
               (draw_below plan st h found.stands link id e.keeper.op found.op_is operation
               (λ now. true-lt st.draws (length plan.pool / 6)
               (has_room operation e.keeper.op (host_of e.host) (pool_of plan st) free now)) makes);
-          reads = λ lane lt. reads_stream plan st Device link id e.device found.device (sends_in Device (lane / 3))
+          reads = λ lane lt. reads_stream plan st Device link id e.device found.device
+              (lane_sends lane)
               (sub_from (lane % 3)) w.set;
           apart = λ lane lt. (is_sound plan st h found.stands.ports_stand Device link id e.device found.device).apart
-              (sends_in Device (lane / 3)) (sub_from (lane % 3));
+              (lane_sends lane) (sub_from (lane % 3));
         }
 
     verdict_comes : performed (ports_of plan st) e.keeper.link e.keeper.id loss w ≡ verdict

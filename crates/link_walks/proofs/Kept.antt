@@ -1,11 +1,11 @@
 -- What stands for a history as an event of an operation comes: keys of acknowledged KEY_PROGs are kept, and the draw of
 -- an unfinished operation was made.
+use Rattle.link_walks.specs.Calls.{lane_sends}
 use Rattle.link_walks.proofs.Terms.{◌≡◌, Bool, arith, true, SubKind, ℕ, List, Plan, nat_tests, Operation, place_at_end}
 use Rattle.link_walks.proofs.Terms.{◌≤◌, ◌∙◌, makes_draw, Device, StreamState, ◌+◌, ap, KeyPlace, ◌<◌, Some}
 use Rattle.link_walks.proofs.Terms.{port_at, slots_at, LaneSlot, key_of, ◌/◌}
 use Rattle.link_walks.proofs.Terms.{◌%◌, length, option_map, work_of, Op, sub_from, lane_number, History, draws}
 use Rattle.link_walks.proofs.Terms.{moments, op_of, key_plan, slot_in_set, LinkState, find, find_op, draws_now}
-use Rattle.link_walks.proofs.Terms.{sends_in}
 use Rattle.link_walks.proofs.Terms.{PortsStandFor, key_in, kept_in, Touch, keys}
 use Rattle.link_walks.proofs.Terms.{Shape, keys_of, Marks, key_cause}
 use Rattle.key_laws.proofs.Stages.{Rising}
@@ -62,7 +62,7 @@ module _ (plan : Plan) (st : LinkState) (h : History) (stands : PortsStandFor pl
       → IsFull (slot_in_set (lane_slots lane x) w.set)
   ready_before o x at makes lane low lt =
       let w = work_of o q st.draws in
-      let sends = sends_in Device (lane / 3) in
+      let sends = lane_sends lane in
       let u = sub_from (lane % 3) in
       let there = point_lane Device link id sends u in
       let kept = kept_before q st.draws (draws h) link id sends u _ o (place_fits lane) makes

@@ -1,12 +1,13 @@
 -- Exchanges by number: the lanes that they speak of, with their slots, and which of them the device refuses.
+use Rattle.link_walks.specs.Calls.{lane_sends}
 use Rattle.link_walks.proofs.Terms.{◌≡◌, Bool, arith, true, ℕ, false, nat_tests, Operation, place_at_end}
 use Rattle.link_walks.proofs.Terms.{LaneSlots, ◌≤◌}
 use Rattle.link_walks.proofs.Terms.{makes_draw, Device, slot_pair, StreamState, ◌+◌, zero, suc, refl, ◌-◌, KeyPlace}
 use Rattle.link_walks.proofs.Terms.{◌<◌}
 use Rattle.link_walks.proofs.Terms.{last_exchange_of, key_slot}
-use Rattle.link_walks.proofs.Terms.{LaneSlot, ◌/◌, ◌%◌, inl, inr, sub_from, cases_lt, PortView, refusal_at, slot_in_set}
+use Rattle.link_walks.proofs.Terms.{LaneSlot, ◌%◌, inl, inr, sub_from, cases_lt, PortView, refusal_at, slot_in_set}
 use Rattle.link_walks.proofs.Terms.{None}
-use Rattle.link_walks.proofs.Terms.{is_empty, sends_in, slots_at, exchange_of, KeySet}
+use Rattle.link_walks.proofs.Terms.{is_empty, slots_at, exchange_of, KeySet}
 use Rattle.ide_types.specs.declared.key_set.KeySet.TheVariants.{Zero, One}
 use Rattle.key_slots.specs as pair
 use Rattle.link_verdicts.specs.declared.verdict.Operation.TheVariants as op
@@ -24,11 +25,12 @@ by_lane P a b c d e f (suc (suc (suc (suc (suc (suc n)))))) lt = absurd (omega a
 
 -- the place of a lane at the device's port
 abbrev pub lane_place : ℕ → ℕ → ℕ → KeyPlace
-lane_place link stream lane = place_at_end link stream (sends_in Device (lane / 3)) Device (sub_from (lane % 3))
+lane_place link stream lane = place_at_end link stream (lane_sends lane) Device
+    (sub_from (lane % 3))
 
 -- the two slots of a lane
 abbrev pub lane_slots : ℕ → StreamState → LaneSlots
-lane_slots lane x = slots_at (sends_in Device (lane / 3)) (sub_from (lane % 3)) x
+lane_slots lane x = slots_at (lane_sends lane) (sub_from (lane % 3)) x
 
 -- a slot as key management sees it
 pub slot_seen : (sends : Bool) (s : LaneSlots) (k : Bool) → pair.slot_in (slot_pair sends s) k

@@ -1,6 +1,7 @@
 -- What the device's responder makes of each request of the manager, and what the manager makes of its reply.
+use Rattle.link_walks.specs.Calls.{lane_sends}
 use Rattle.link_walks.proofs.Terms.{◌≡◌, Bool, arith, true, ℕ, List, if◌then◌else◌, false, nat_tests, ◌≤◌, ◌∙◌, Device}
-use Rattle.link_walks.proofs.Terms.{is_only_live, StreamState, [], refl, ap, ◌<◌, Some, ◌∷◌, called, ◌/◌, Option, ◌%◌}
+use Rattle.link_walks.proofs.Terms.{is_only_live, StreamState, [], refl, ap, ◌<◌, Some, ◌∷◌, called, Option, ◌%◌}
 use Rattle.link_walks.proofs.Terms.{None, Ok, Err, sub_from, IsKey, KeySet, is_one}
 use Rattle.link_walks.proofs.Terms.{is_empty, SlotPair, same-true, sends_in, pair_at, came_to, shown_stream}
 use Rattle.link_walks.proofs.Terms.{port_called, judged_bytes, selector_of, Judged, Expected, carried_as, refusal_if}
@@ -47,16 +48,16 @@ query_comes requester draw id x most =
 
 -- the two slots of a lane, as key management sees them
 abbrev pub lane_pair : ℕ → StreamState → SlotPair
-lane_pair lane x = pair_at (sends_in Device (lane / 3)) (sub_from (lane % 3)) x
+lane_pair lane x = pair_at (lane_sends lane) (sub_from (lane % 3)) x
 
 abbrev pub lane_called : ℕ → KeyCall → StreamState → StreamState
-lane_called lane call x = called (sends_in Device (lane / 3)) (sub_from (lane % 3)) call x
+lane_called lane call x = called (lane_sends lane) (sub_from (lane % 3)) call x
 
 -- what the selector of a lane says
 record Selects (id : ℕ) (set : KeySet) (lane : ℕ) (x : StreamState) : Type 0 where
   low : selector_of set lane < 256
   set_is : set_of (selector_of set lane) ≡ is_one set
-  direction_is : direction_of (selector_of set lane) ≡ lane / 3
+  sends_is : sends_in Device (direction_of (selector_of set lane)) ≡ lane_sends lane
   sub_is : sub_of (selector_of set lane) ≡ lane % 3
   shown_is : shown_at (shown_stream id x) (selected_place id (selector_of set lane)) ≡ Some (lane_pair lane x)
 
@@ -93,7 +94,7 @@ program_comes requester draw id set lane key x small lt is_key =
     (Some (place_call (selected_place id sel) (Program (set_of sel) key draw))) refl
     (not denied) (rw (s.shown_is, s.set_is) (taken_unless denied key))
     _ (answers requester id sel key small s.low denied) _
-    (rw (s.direction_is, s.sub_is, s.set_is))
+    (rw (s.sends_is, s.sub_is, s.set_is))
 
 pub go_comes : (requester draw id : ℕ) (set : KeySet) (lane : ℕ) (x : StreamState) → id ≤ 255 → lane < 6
     → is_empty (slot_in (lane_pair lane x) (is_one set)) ≡ false
@@ -106,7 +107,7 @@ go_comes requester draw id set lane x small lt full =
     (Some (place_call (selected_place id sel) (Go (set_of sel)))) refl
     true (rw (s.shown_is, s.set_is, full))
     _ (rw (replied (SetGo id sel 0) (GoStopAck id sel 0) (omega arith), same-true id, same-true sel)) _
-    (rw (s.direction_is, s.sub_is, s.set_is))
+    (rw (s.sends_is, s.sub_is, s.set_is))
 
 pub halt_comes : (requester draw id : ℕ) (set : KeySet) (lane : ℕ) (x : StreamState) → id ≤ 255 → lane < 6
     → came_to requester (SetStop id (selector_of set lane) 0) id draw x
@@ -118,4 +119,4 @@ halt_comes requester draw id set lane x small lt =
     (Some (place_call (selected_place id sel) (Halt (set_of sel)))) refl
     true (rw s.shown_is)
     _ (rw (replied (SetStop id sel 0) (GoStopAck id sel 0) (omega arith), same-true id, same-true sel)) _
-    (rw (s.direction_is, s.sub_is, s.set_is))
+    (rw (s.sends_is, s.sub_is, s.set_is))

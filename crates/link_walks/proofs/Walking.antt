@@ -1,13 +1,14 @@
 -- One exchange after another: how the manager judges each, and what is left at both ends.
+use Rattle.link_walks.specs.Calls.{lane_sends}
 use Rattle.link_walks.proofs.Terms.{◌≡◌, Bool, arith, true, ℕ, List, Work, Plan, false, nat_tests}
-use Rattle.link_walks.proofs.Terms.{Operation, ◌≤◌, ◌∙◌, makes_draw, lane_key, Device, is_only_live, StreamState, ◌+◌}
+use Rattle.link_walks.proofs.Terms.{Operation, ◌≤◌, ◌∙◌, makes_draw, lane_key, is_only_live, StreamState, ◌+◌}
 use Rattle.link_walks.proofs.Terms.{ap}
-use Rattle.link_walks.proofs.Terms.{exchange_call, all_called, ◌<◌, Some, last_exchange_of, refuses_in, DrawsApart, ◌/◌}
+use Rattle.link_walks.proofs.Terms.{exchange_call, all_called, ◌<◌, Some, last_exchange_of, refuses_in, DrawsApart}
 use Rattle.link_walks.proofs.Terms.{Option}
 use Rattle.link_walks.proofs.Terms.{op_standing, reach, op_after, call_of_exchange, get_or-set_other, IsKey, PortView}
 use Rattle.link_walks.proofs.Terms.{refusal_at, refusal_if, carried_as, is_some, None, sym, slot_in_set, is_empty}
 use Rattle.link_walks.proofs.Terms.{pair_slot, different-false, request_asked, keys_after, acknowledged, WorkFits}
-use Rattle.link_walks.proofs.Terms.{sends_in, StreamEnds, came_to, ends_after_exchange, HasKeys, exchange_of, WireKeys}
+use Rattle.link_walks.proofs.Terms.{StreamEnds, came_to, ends_after_exchange, HasKeys, exchange_of, WireKeys}
 use Rattle.link_walks.proofs.Terms.{kept_key}
 use Rattle.link_walks.proofs.Terms.{request_of, Expected, KeySet, key_set, one_of_set, work_asked}
 use Rattle.tsm_host.specs.declared.stage.Asked.{Asked}
@@ -87,7 +88,8 @@ module _ (plan : Plan) (ports : PortView) (w : Work) (link id requester : ℕ) (
         put_refused ports w.operation w.set link id makes lane lt,
         knows.reads lane lt,
       )
-      (ap refusal_if (only_live_is (sends_in Device (lane / 3)) (lane_slots lane before) w.set (knows.apart lane lt)))
+      (ap refusal_if (only_live_is (lane_sends lane) (lane_slots lane before) w.set
+      (knows.apart lane lt)))
 
   -- each request is answered as expected, but for a KEY_PROG that is refused
   pub came_is : (n : ℕ) (e : StreamEnds) → IsNext plan w id before n e → 1 ≤ n → n ≤ last_exchange_of w.operation
@@ -122,7 +124,7 @@ module _ (plan : Plan) (ports : PortView) (w : Work) (link id requester : ℕ) (
           let free : denial ports w link id n ≡ None = rw is_n
           (go_refused ports w.operation w.set link id makes lane lt) in
           let full : is_empty (pair_slot (lane_pair lane e.device) w.set) ≡ false =
-          ap is_empty (slot_seen (sends_in Device (lane / 3)) (lane_slots lane e.device) w.set)
+          ap is_empty (slot_seen (lane_sends lane) (lane_slots lane e.device) w.set)
           ∙ at.ready makes lane lt (omega (arith, is_n, lt)) (omega (arith, is_n)) in
           rw (is, free)
           (go_comes requester w.draw e.keeper.id (key_set w.set) lane e.device small lt (rw (one_of_set w.set) full))

@@ -1,9 +1,8 @@
 -- The calls of an operation's event at the two ports of a stream, one after another.
-use Rattle.std.specs.Prelude.{ℕ, suc, zero, ◌+◌, ◌*◌, ◌/◌, ◌%◌, Bool, List, [], ◌∷◌, ◌++◌, map}
+use Rattle.std.specs.Prelude.{ℕ, suc, zero, ◌==◌, ◌+◌, ◌*◌, ◌/◌, ◌%◌, Bool, List, [], ◌∷◌, ◌++◌, map}
 use Rattle.std.specs.List.{slice_index_or}
 use Rattle.ide_types.specs.declared.sub.SubKind.{SubKind}
 use Rattle.ide_types.specs.declared.port.Side.{Side}
-use Rattle.ide_types.specs.declared.port.Side.TheVariants.{Device}
 use Rattle.ide_plan.specs.declared.plan.Plan.{Plan}
 use Rattle.ide_types.specs.{is_one, key_set}
 use Rattle.ide_prefix.specs.{sub_from}
@@ -39,8 +38,12 @@ all_called_at side cs x = all_called (map (stream_call side) cs) x
 
 -- ---- exchanges at the device's port: its receivers are lanes 0 to 2, its senders lanes 3 to 5
 
+-- whether the device sends in a lane
+abbrev pub lane_sends : ℕ → Bool
+lane_sends lane = lane / 3 == 1
+
 abbrev pub lane_call : ℕ → KeyCall → StreamCall
-lane_call lane call = record { sends = sends_in Device (lane / 3); sub = sub_from (lane % 3); call = call }
+lane_call lane call = record { sends = lane_sends lane; sub = sub_from (lane % 3); call = call }
 
 -- the key of a draw in a lane
 abbrev pub lane_key : Plan → ℕ → ℕ → List ℕ

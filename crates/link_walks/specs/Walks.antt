@@ -37,7 +37,7 @@ pub record StreamEnds : Type 0 where
 abbrev pub shown_stream : ℕ → StreamState → Shown
 shown_stream id x =
     λ (place : Place).
-    if (place.stream == id) && (nat_lt place.direction 2 && nat_lt place.sub 3)
+    if (place.stream == id) && nat_lt place.sub 3
     then Some (pair_at (sends_in Device place.direction) (sub_from place.sub) x)
     else None
 

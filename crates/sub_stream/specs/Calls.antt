@@ -1,6 +1,7 @@
 -- What a call of key management makes of a stream at a port.
-use Rattle.std.specs.Prelude.{ℕ, ◌==◌, Bool, true, false, not, if◌then◌else◌}
-use Rattle.ide_types.specs.Sub.{sent_direction}
+use Rattle.std.specs.Prelude.{◌==◌, Bool, true, false, not, if◌then◌else◌}
+use Rattle.ide_types.specs.Sub.{direction_number, sent_direction}
+use Rattle.ide_types.specs.declared.direction.Direction.{Direction}
 use Rattle.ide_types.specs.declared.sub.SubKind.{SubKind}
 use Rattle.ide_types.specs.declared.port.Side.{Side}
 use Rattle.key_slots.specs.{SlotPair, is_only_live, KeyCall, Program, Go, Halt}
@@ -19,9 +20,9 @@ use Rattle.stream_rules.specs.Slots.{both_slots, begun, slot_gone, woken_slot, r
 pub use Rattle.stream_rules.specs.Slots.{slots_at, no_stream, has_all_live, has_some_live, stream_status}
 pub use Rattle.ide_types.specs.Ports.{status_by}
 
--- whether a port of this side sends in the direction: 0 is from the host to the device
-abbrev pub sends_in : Side → ℕ → Bool
-sends_in side direction = sent_direction side == direction
+-- whether a port of this side sends in the direction
+abbrev pub sends_in : Side → Direction → Bool
+sends_in side direction = sent_direction side == direction_number direction
 
 -- ---- slots
 

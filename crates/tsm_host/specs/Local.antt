@@ -1,5 +1,6 @@
 -- Local calls of the host's port, one after another.
 use Rattle.std.specs.Prelude.{ℕ, ◌≡◌, Bool, false, true, List, [], ◌∷◌, ◌++◌, slice_index_or}
+use Rattle.ide_types.specs.declared.direction.Direction.TheVariants.{Downstream, Upstream}
 use Rattle.key_slots.specs.{Program, Go, Halt}
 use Rattle.ide_km.specs.declared.place.Place.{Place}
 use Rattle.ide_km.specs.{place_at, PlaceCall, place_call, Shown, SlotsAfter}
@@ -26,25 +27,25 @@ six_key keys lane = slice_index_or keys lane []
 -- the six slots of a set, by lane: what the device receives, and then what it sends
 abbrev pub programs : ℕ → Bool → List (List ℕ) → ℕ → List PlaceCall
 programs stream set keys draw =
-    place_call (place_at stream 0 0) (Program set (six_key keys 0) draw)
-    ∷ place_call (place_at stream 0 1) (Program set (six_key keys 1) draw)
-    ∷ place_call (place_at stream 0 2) (Program set (six_key keys 2) draw)
-    ∷ place_call (place_at stream 1 0) (Program set (six_key keys 3) draw)
-    ∷ place_call (place_at stream 1 1) (Program set (six_key keys 4) draw)
-    ∷ place_call (place_at stream 1 2) (Program set (six_key keys 5) draw) ∷ []
+    place_call (place_at stream Downstream 0) (Program set (six_key keys 0) draw)
+    ∷ place_call (place_at stream Downstream 1) (Program set (six_key keys 1) draw)
+    ∷ place_call (place_at stream Downstream 2) (Program set (six_key keys 2) draw)
+    ∷ place_call (place_at stream Upstream 0) (Program set (six_key keys 3) draw)
+    ∷ place_call (place_at stream Upstream 1) (Program set (six_key keys 4) draw)
+    ∷ place_call (place_at stream Upstream 2) (Program set (six_key keys 5) draw) ∷ []
 
--- the host's receivers, which take direction 1, and then its senders
+-- the host's receivers, which take what comes upstream, and then its senders
 abbrev pub goes : ℕ → Bool → List PlaceCall
 goes stream set =
-    place_call (place_at stream 1 0) (Go set) ∷ place_call (place_at stream 1 1) (Go set)
-    ∷ place_call (place_at stream 1 2) (Go set) ∷ place_call (place_at stream 0 0) (Go set)
-    ∷ place_call (place_at stream 0 1) (Go set) ∷ place_call (place_at stream 0 2) (Go set) ∷ []
+    place_call (place_at stream Upstream 0) (Go set) ∷ place_call (place_at stream Upstream 1) (Go set)
+    ∷ place_call (place_at stream Upstream 2) (Go set) ∷ place_call (place_at stream Downstream 0) (Go set)
+    ∷ place_call (place_at stream Downstream 1) (Go set) ∷ place_call (place_at stream Downstream 2) (Go set) ∷ []
 
 abbrev pub halts_in : ℕ → Bool → List PlaceCall
 halts_in stream set =
-    place_call (place_at stream 0 0) (Halt set) ∷ place_call (place_at stream 0 1) (Halt set)
-    ∷ place_call (place_at stream 0 2) (Halt set) ∷ place_call (place_at stream 1 0) (Halt set)
-    ∷ place_call (place_at stream 1 1) (Halt set) ∷ place_call (place_at stream 1 2) (Halt set) ∷ []
+    place_call (place_at stream Downstream 0) (Halt set) ∷ place_call (place_at stream Downstream 1) (Halt set)
+    ∷ place_call (place_at stream Downstream 2) (Halt set) ∷ place_call (place_at stream Upstream 0) (Halt set)
+    ∷ place_call (place_at stream Upstream 1) (Halt set) ∷ place_call (place_at stream Upstream 2) (Halt set) ∷ []
 
 -- all slots of a stream
 abbrev pub halts : ℕ → List PlaceCall

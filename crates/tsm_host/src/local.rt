@@ -1,13 +1,14 @@
 //! Local calls of the host's port.
 
-ghost use Rattle.std.specs.Prelude.{◌≡◌, ◌<◌};
+ghost use Rattle.std.specs.Prelude.{◌≡◌};
 ghost use Rattle.ide_types.specs.{is_one};
 ghost use Rattle.key_slots.specs.{Program, Go, Halt};
 ghost use Rattle.ide_km.specs.{place_at, place_call};
-ghost use Rattle.tsm_host.specs.Local.{CallMoves, CallsMove, six_key, programs, goes, halts_in, halts};
+ghost use Rattle.tsm_host.specs.Local.{CallMoves, CallsMove, six_key, programs, goes, halts};
 
 use ide_km::{Place, SlotPort};
-use ide_types::KeySet;
+use ide_types::Direction::{Downstream, Upstream};
+use ide_types::{Direction, KeySet};
 use key_slots::{HostSix, Key};
 
 // One call, whose answer is not needed.
@@ -15,12 +16,11 @@ fn program<P: SlotPort>(
     port: &mut P,
     stream: u8,
     set: KeySet,
-    direction: u8,
+    direction: Direction,
     sub: u8,
     key: Key,
     draw: u32,
 )
-    requires { direction < 2 }
     ensures { CallMoves P.slots P.unfinished P.moves port.old
         (place_call (place_at stream direction sub) (Program (is_one set) key draw)) port.new }
 {
@@ -32,8 +32,7 @@ fn program<P: SlotPort>(
     let _ = port.program(place, set, key, draw);
 }
 
-fn go<P: SlotPort>(port: &mut P, stream: u8, set: KeySet, direction: u8, sub: u8)
-    requires { direction < 2 }
+fn go<P: SlotPort>(port: &mut P, stream: u8, set: KeySet, direction: Direction, sub: u8)
     ensures { CallMoves P.slots P.unfinished P.moves port.old
         (place_call (place_at stream direction sub) (Go (is_one set))) port.new }
 {
@@ -45,8 +44,7 @@ fn go<P: SlotPort>(port: &mut P, stream: u8, set: KeySet, direction: u8, sub: u8
     let _ = port.go(place, set);
 }
 
-fn halt<P: SlotPort>(port: &mut P, stream: u8, set: KeySet, direction: u8, sub: u8)
-    requires { direction < 2 }
+fn halt<P: SlotPort>(port: &mut P, stream: u8, set: KeySet, direction: Direction, sub: u8)
     ensures { CallMoves P.slots P.unfinished P.moves port.old
         (place_call (place_at stream direction sub) (Halt (is_one set))) port.new }
 {
@@ -79,40 +77,40 @@ pub fn program_six<P: SlotPort>(port: &mut P, stream: u8, set: KeySet, six: Host
     ensures { CallsMove P.slots P.unfinished P.moves port.old (programs stream (is_one set) six draw) port.new }
 {
     let (a, b, c, d, e, f) = six_of(six.keys());
-    program(port, stream, set, 0, 0, a, draw);
-    program(port, stream, set, 0, 1, b, draw);
-    program(port, stream, set, 0, 2, c, draw);
-    program(port, stream, set, 1, 0, d, draw);
-    program(port, stream, set, 1, 1, e, draw);
-    program(port, stream, set, 1, 2, f, draw);
+    program(port, stream, set, Downstream, 0, a, draw);
+    program(port, stream, set, Downstream, 1, b, draw);
+    program(port, stream, set, Downstream, 2, c, draw);
+    program(port, stream, set, Upstream, 0, d, draw);
+    program(port, stream, set, Upstream, 1, e, draw);
+    program(port, stream, set, Upstream, 2, f, draw);
 }
 
 /// Takes the six slots of a key set into use, those of the host's receivers first.
 pub fn go_six<P: SlotPort>(port: &mut P, stream: u8, set: KeySet)
     ensures { CallsMove P.slots P.unfinished P.moves port.old (goes stream (is_one set)) port.new }
 {
-    go(port, stream, set, 1, 0);
-    go(port, stream, set, 1, 1);
-    go(port, stream, set, 1, 2);
-    go(port, stream, set, 0, 0);
-    go(port, stream, set, 0, 1);
-    go(port, stream, set, 0, 2);
+    go(port, stream, set, Upstream, 0);
+    go(port, stream, set, Upstream, 1);
+    go(port, stream, set, Upstream, 2);
+    go(port, stream, set, Downstream, 0);
+    go(port, stream, set, Downstream, 1);
+    go(port, stream, set, Downstream, 2);
 }
 
 /// Empties all slots of a stream.
 pub fn halt_all<P: SlotPort>(port: &mut P, stream: u8)
     ensures { CallsMove P.slots P.unfinished P.moves port.old (halts stream) port.new }
 {
-    halt(port, stream, KeySet::Zero, 0, 0);
-    halt(port, stream, KeySet::Zero, 0, 1);
-    halt(port, stream, KeySet::Zero, 0, 2);
-    halt(port, stream, KeySet::Zero, 1, 0);
-    halt(port, stream, KeySet::Zero, 1, 1);
-    halt(port, stream, KeySet::Zero, 1, 2);
-    halt(port, stream, KeySet::One, 0, 0);
-    halt(port, stream, KeySet::One, 0, 1);
-    halt(port, stream, KeySet::One, 0, 2);
-    halt(port, stream, KeySet::One, 1, 0);
-    halt(port, stream, KeySet::One, 1, 1);
-    halt(port, stream, KeySet::One, 1, 2);
+    halt(port, stream, KeySet::Zero, Downstream, 0);
+    halt(port, stream, KeySet::Zero, Downstream, 1);
+    halt(port, stream, KeySet::Zero, Downstream, 2);
+    halt(port, stream, KeySet::Zero, Upstream, 0);
+    halt(port, stream, KeySet::Zero, Upstream, 1);
+    halt(port, stream, KeySet::Zero, Upstream, 2);
+    halt(port, stream, KeySet::One, Downstream, 0);
+    halt(port, stream, KeySet::One, Downstream, 1);
+    halt(port, stream, KeySet::One, Downstream, 2);
+    halt(port, stream, KeySet::One, Upstream, 0);
+    halt(port, stream, KeySet::One, Upstream, 1);
+    halt(port, stream, KeySet::One, Upstream, 2);
 }

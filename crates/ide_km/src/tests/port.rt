@@ -4,13 +4,13 @@ ghost use Rattle.std.specs.Prelude.{◌≡◌, ◌&&◌, nat_lt, if◌then◌els
 ghost use Rattle.ide_km.specs.Calls.{is_same_place, place_at};
 
 use crate::{Place, ProgramFault, SlotPort};
-use ide_types::KeySet;
+use ide_types::{Direction, KeySet};
 use key_slots::{Key, OnlyLive, Slots};
 
 /// A port that has stream 5 in one direction and one sub-stream. Tests look at its slots.
 #[derive(Drop)]
 pub struct OnePort {
-    pub direction: u8,
+    pub direction: Direction,
     pub sub: u8,
     pub unfinished: bool,
     pub slots: Slots,

@@ -30,7 +30,7 @@ pub returns-in-Some : goal.returns-in-Some
 returns-in-Some c =
     let x = called-step c.self.inside c.args.self.now c.self.view_is c.self.invariant
     (place_call c.args.place (Go (is_one c.args.set))) c.in-Some.index c.in-Some.sub c.index_mut-stream.result.now
-    c.go.new.self c.requires (lane c) c.index_mut-stream.ensures.value c.go.ensures.stream in
+    c.go.new.self (lane c) c.index_mut-stream.ensures.value c.go.ensures.stream in
     record {
       answer = c.is_ok.ensures.value ∙ c.go.ensures.answer ∙ sym (ap (λ o. go_answer_at o (is_one c.args.set)) x.shows);
       moves = x.moves;

@@ -30,5 +30,5 @@ pub returns-in-Some : goal.returns-in-Some
 returns-in-Some c =
     let x = called-step c.self.inside c.args.self.now c.self.view_is c.self.invariant
     (place_call c.args.place (Halt (is_one c.args.set))) c.in-Some.index c.in-Some.sub c.index_mut-stream.result.now
-    c.halt.new.self c.requires (lane c) c.index_mut-stream.ensures.value c.halt.ensures in
+    c.halt.new.self (lane c) c.index_mut-stream.ensures.value c.halt.ensures in
     record { answer = sym (ap (λ o. is_there o) x.shows); moves = x.moves; slots = x.slots }

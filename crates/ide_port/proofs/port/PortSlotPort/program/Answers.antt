@@ -33,7 +33,7 @@ pub returns-after-program : goal.returns-after-program
 returns-after-program c =
     let x = called-step c.self.inside c.args.self.now c.self.view_is c.self.invariant
     (place_call c.args.place (Program (is_one c.args.set) c.args.key c.args.draw))
-    c.in-Some.index c.in-Some.sub c.index_mut-stream.result.now c.program.new.self c.requires (lane c)
+    c.in-Some.index c.in-Some.sub c.index_mut-stream.result.now c.program.new.self (lane c)
     c.index_mut-stream.ensures.value c.program.ensures.stream in
     let said : c.match-program.result ≡ key_back c.program.result =
     elim c.match-program.branch [
