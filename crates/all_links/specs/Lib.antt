@@ -16,3 +16,4 @@ pub use Rattle.link_ends.specs.Hosts.{InterfacesView, keyed_if, operated_on, sto
 pub use Rattle.link_ends.specs.Keepers.{KeeperView}
 pub use Rattle.link_ends.specs.declared.ends.LinkEnds.{LinkEnds}
 pub use Rattle.link_ends.specs.declared.host.HostKeeper.{HostKeeper}
+pub use Rattle.whole_machine.specs.Accesses.{waiting_reads_after}

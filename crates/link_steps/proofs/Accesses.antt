@@ -1,10 +1,9 @@
 -- What stands at the links beside ports and interfaces. One link changes, and no other (`turn_at`); an arrival makes of
 -- it what the unit's packets do one after another, by their heads and by what the plan's key opens.
 use Rattle.link_steps.proofs.Arrivals.{effects_at}
-use Rattle.link_ends.specs.Hosts.{InterfacesView}
+use Rattle.all_ends.specs.{InterfacesView, KeeperView, LinkEnds, port_in, waiting_reads_after, unit_in}
 use Rattle.ide_plan.specs.declared.plan.Region.{Region}
 use Rattle.all_ends.specs.States.{AreLinks, state_of}
-use Rattle.link_ends.specs.Keepers.{KeeperView}
 use Rattle.link_ports.specs.Machine.{LinkPacket, LinkState}
 use Rattle.accesses.specs.declared.link.LinkAccesses.{LinkAccesses}
 use Rattle.std.proofs.Common.{Bool, List, [], ap, arith, drop, false, length, refl, subst, suc, sym, take, true, zero}
@@ -20,12 +19,10 @@ use Rattle.ide_prefix.specs.Packet.{Packet}
 use Rattle.link_verdicts.specs.declared.verdict.Verdict.{Verdict}
 use Rattle.link_verdicts.specs.declared.verdict.Effect.{Effect}
 use Rattle.link_verdicts.specs.declared.verdict.UnitName.{UnitName}
-use Rattle.link_ends.specs.declared.ends.LinkEnds.{LinkEnds}
 use Rattle.trusted_memory.specs.{MemoryContents}
 use Rattle.sub_stream.specs.{opened_from}
 use Rattle.key_laws.specs.History.{History}
 use Rattle.link_ports.specs.Stands.{PortsStandFor}
-use Rattle.link_ends.specs.Ends.{port_in}
 use Rattle.ide_port.specs.{take_step}
 use Rattle.all_ends.specs.Verdicts.{arrival_verdict, of_unit, packet_stored}
 use Rattle.link_steps.specs.Accesses.{AccessesStay, AccessesTurn, AreLeftBy, Brings, mmio_at, floors_at}
@@ -50,8 +47,6 @@ use Rattle.link_history.specs.Plan.{key_of}
 use Rattle.link_history.specs.Packets.{received_in}
 use Rattle.link_history.specs.Sent.{read_in, reads_by}
 use Rattle.link_history.specs.Guarded.{asked_happens, happens_by, stored_each, stored_in, stored_packet}
-use Rattle.whole_machine.specs.Accesses.{waiting_reads_after}
-use Rattle.whole_machine.specs.Machine.{unit_in}
 use Rattle.ide_port.specs.declared.answer.Arrival.{Arrival}
 use Rattle.all_ends.specs.AllEnds.{Arrives, ArrivesAt, ChangesBoth, grants_in, standings_in}
 use Rattle.all_ends.proofs.Finds.{port_is, set_there, there}

@@ -2,10 +2,9 @@
 -- packet, whose stream is found or not, and whose answer goes test by test. The hard case is an accepted unit: here its
 -- effects are read of decrypted packets, by the machine of encrypted ones, and decryption changes only bodies and tags.
 -- A packet by number, whole, altered or cut, arrives at the partner of its port.
-use Rattle.link_ends.specs.Hosts.{InterfacesView}
+use Rattle.all_ends.specs.{InterfacesView, KeeperView, LinkEnds, port_in, with_port}
 use Rattle.ide_plan.specs.declared.plan.Region.{Region}
 use Rattle.all_ends.specs.States.{IsBounded, state_of}
-use Rattle.link_ends.specs.Keepers.{KeeperView}
 use Rattle.link_ports.specs.Machine.{Beside, LinkPacket, LinkState, Stepped, altered_to, cut_short, packet_numbered}
 use Rattle.link_ports.specs.Machine.{passed, shown_packet, stepped_arrival, stepped_cut, stepped_packet}
 use Rattle.stream_rules.specs.Stream.{unit_name}
@@ -28,12 +27,10 @@ use Rattle.sub_stream.specs.{opened_from, opened_under}
 use Rattle.ide_stream.specs.{opened_after}
 unfoldable use Rattle.link_ports.specs.Machine.{put, step_of}
 use Rattle.ide_port.specs.{Found, TakeStep, changed, found, take_step}
-use Rattle.link_ends.specs.declared.ends.LinkEnds.{LinkEnds}
-use Rattle.link_ends.specs.Ends.{port_in, with_port}
 use Rattle.link_verdicts.specs.declared.verdict.UnitName.{UnitName}
 use Rattle.all_ends.specs.Verdicts.{arrival_verdict, claimed_effect, effects_from, head_effect, packet_effect}
 use Rattle.link_steps.specs.Events.{altered_bytes}
-use Rattle.link_ends.proofs.Streams.{found_id}
+use Rattle.all_ends.proofs.{found_id}
 use Rattle.tlp_layout.specs.declared.head.HeadView.{HeadView}
 use Rattle.tlp_layout.specs.declared.fault.TlpFault.{TlpFault}
 use Rattle.tlp_layout.specs.Reading.{read_head_of}

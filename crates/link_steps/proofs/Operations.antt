@@ -1,7 +1,9 @@
 -- An operation at both ends of a link, as the machine has it. `OperationsJoin` says that the walk at the ends of one
 -- stream gives the machine's verdict and touches; here it is set among all links.
 use Rattle.all_ends.specs.States.{AreLinks, IsLink, name_of, state_of}
-use Rattle.link_ends.specs.Keepers.{IsAtBothEnds, IsOperated, IsWalked, KeeperView, Operates, ends_found}
+use Rattle.all_ends.specs.{IsAtBothEnds, IsOperated, IsWalked, KeeperView, Operates, ends_found, IsJoined, KeysKept}
+use Rattle.all_ends.specs.{OperationsJoin, host_of, pool_by, verdict_due, LinkEnds, StreamEnds, WalkedEnds}
+use Rattle.all_ends.specs.{begun_ends, event_walk, walk_on}
 use Rattle.link_ports.specs.Machine.{Beside, LinkPacket, LinkState, Stepped, stepped_operation}
 use Rattle.std.proofs.Common.{List, ap, arith, refl, subst, sym, true, ℕ, ◌∙◌, ◌≡◌}
 use Rattle.std.specs.Prelude.{IsSome, None, Option, Some, is_some, map, slice_get, slice_set}
@@ -18,11 +20,9 @@ unfoldable use Rattle.link_ports.specs.Machine.{find_op, step_of}
 use Rattle.link_ports.specs.Stands.{PortsStandFor}
 use Rattle.tsm_host.specs.Streams.{StreamView, refusal_of}
 use Rattle.tsm_host.specs.Managers.{ManagerView, Named, named, op_named, pool_begun}
-use Rattle.link_walks.specs.Joined.{IsJoined, KeysKept, OperationsJoin, host_of, pool_by, verdict_due}
 use Rattle.ide_port.specs.{Found}
-use Rattle.link_ends.specs.declared.ends.LinkEnds.{LinkEnds}
 use Rattle.link_steps.specs.Events.{operation_event}
-use Rattle.link_ends.proofs.Names.{IsNamed, named_stands}
+use Rattle.all_ends.proofs.{IsNamed, named_stands, is_asked}
 use Rattle.link_events.specs.declared.event.Loss.{Loss}
 use Rattle.link_verdicts.specs.declared.verdict.Operation.{Operation}
 use Rattle.tsm_host.specs.declared.operation.Op.{Op as OpCall}
@@ -30,8 +30,6 @@ use Rattle.tsm_host.specs.declared.operation.Outcome.{Outcome}
 use Rattle.tsm_host.specs.Operations.{OpName, op_name}
 use Rattle.tsm_host.specs.Exchanges.{WireKeys}
 use Rattle.tsm_host.specs.Walk.{verdict_of}
-use Rattle.link_walks.specs.Walks.{StreamEnds, WalkedEnds, begun_ends, event_walk, walk_on}
-use Rattle.link_walks.proofs.Works.{is_asked}
 use Rattle.all_ends.proofs.Finds.{each_set, links_kept}
 use Rattle.all_ends.proofs.Streams.{op_is, planned, port_found}
 use Rattle.all_ends.proofs.Operated.{BothHave, ends_operated, names_set, pool_keys, pool_same, state_by, walk_told}

@@ -10,8 +10,7 @@ use Rattle.guarded_memory.specs.Contents.{mmio_byte}
 use Rattle.trusted_memory.specs.{MemoryContents}
 use Rattle.waiting_reads.specs.declared.queue.WaitingRead.{WaitingRead}
 use Rattle.link_history.specs.Memory.{Policy}
-use Rattle.link_ends.specs.declared.ends.LinkEnds.{LinkEnds}
-use Rattle.link_ends.specs.Hosts.{InterfacesView}
+use Rattle.all_ends.specs.{LinkEnds, InterfacesView}
 use Rattle.accesses.specs.declared.link.LinkAccesses.{LinkAccesses}
 use Rattle.all_ends.specs.AllEnds.{grants_in, standings_in, ArrivesAt}
 

@@ -12,11 +12,11 @@ use Rattle.waiting_reads.specs.declared.queue.WaitingRead.{WaitingRead}
 use Rattle.guarded_memory.specs.Happenings.{Happened, AllReset, newest_happened}
 use Rattle.guarded_memory.specs.Contents.{GuardedMemory, MmioLeads}
 use Rattle.accesses.specs.declared.link.LinkAccesses.{LinkAccesses}
-use Rattle.whole_machine.specs.Accesses.{waiting_reads_after}
+use Rattle.all_links.specs.{waiting_reads_after, LinkEnds}
 use Rattle.all_links.specs.declared.links.Links.{Links}
 use Rattle.all_links.specs.Interfaces.{interface_named}
-use Rattle.all_links.specs.Accesses.{is_sending, AreLeftBy, mmio_at, AccessesTurn, same_reads}
-use Rattle.all_links.specs.Accesses.{same_floors, nothing_happens}
+use Rattle.all_links.specs.Accesses.{is_sending, AreLeftBy, mmio_at, AccessesTurn, same_reads, same_floors}
+use Rattle.all_links.specs.Accesses.{nothing_happens}
 use Rattle.std.specs.Prelude.{IfSome, IfOk, Result, Ok, Err}
 use Rattle.ide_types.specs.declared.memory.Memory.{Memory}
 use Rattle.link_events.specs.declared.event.Loss.{Loss}
@@ -25,11 +25,9 @@ use Rattle.link_events.specs.declared.event.InterfaceEvent.TheVariants as ie
 use Rattle.whole_links.specs.declared.whole.WholeLinks.{WholeLinks}
 use Rattle.std.specs.Option.{option_map_or}
 use Rattle.tdi_state.specs.Machine.{Tdi}
-use Rattle.link_ends.specs.declared.ends.LinkEnds.{LinkEnds}
 use Rattle.all_links.proofs.Asked.{if_some, is_found}
 use Rattle.all_links.proofs.Accesses.{RestsAt, turn_at}
-use Rattle.whole_links.specs.Accesses.{takes_read, happens_at, bars_named}
-use Rattle.whole_links.specs.Accesses.{reset_happens, AccessesInterface}
+use Rattle.whole_links.specs.Accesses.{takes_read, happens_at, bars_named, reset_happens, AccessesInterface}
 
 -- ---- no link changes
 

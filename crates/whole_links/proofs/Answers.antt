@@ -26,9 +26,8 @@ use Rattle.link_ports.specs.Machine.{Beside, LinkState, Stepped, port_at, sealin
 use Rattle.link_ports.specs.Machine.{stepped_reply, stepped_send}
 unfoldable use Rattle.link_ports.specs.Machine.{find, step_of}
 use Rattle.ide_port.specs.{Found, found, sealing_draw_in}
-use Rattle.link_ends.specs.declared.ends.LinkEnds.{LinkEnds}
-use Rattle.all_ends.specs.States.{AreLinks}
-use Rattle.all_ends.proofs.Finds.{find_at, port_is}
+use Rattle.all_links.specs.{LinkEnds, AreLinks}
+use Rattle.all_links.proofs.{find_at, port_is}
 use Rattle.all_links.specs.declared.links.Links.{Links}
 use Rattle.all_links.specs.States.{links_state}
 use Rattle.all_links.specs.Links.{Ends, EndsIf, EndsWith, EndsOr}
@@ -39,8 +38,8 @@ use Rattle.all_links.specs.Besides.{beside_in}
 use Rattle.all_links.proofs.Finds.{nothing_changes}
 use Rattle.all_links.proofs.Sends.{given}
 use Rattle.whole_links.specs.declared.whole.WholeLinks.{WholeLinks}
-use Rattle.whole_links.specs.Besides.{reply_at_ends, reply_on, draw_below, shown_in, place_named}
-use Rattle.whole_links.specs.Besides.{has_shown, bytes_shown}
+use Rattle.whole_links.specs.Besides.{reply_at_ends, reply_on, draw_below, shown_in, place_named, has_shown}
+use Rattle.whole_links.specs.Besides.{bytes_shown}
 use Rattle.whole_links.specs.Whole.{IsBoundedWhole, WholeEnds, WholeEndsOr}
 use Rattle.whole_links.proofs.Ends.{ends_if, stays_with}
 

@@ -7,7 +7,7 @@ use Rattle.link_events.specs.declared.event.Event.{Event}
 use Rattle.link_events.specs.declared.event.InterfaceEvent.{InterfaceEvent}
 use Rattle.link_verdicts.specs.declared.verdict.Verdict.{Verdict}
 use Rattle.link_ports.specs.Machine.{Beside, step_of}
-use Rattle.all_ends.specs.States.{IsBounded}
+use Rattle.all_links.specs.{IsBounded}
 use Rattle.all_links.specs.declared.links.Links.{Links}
 use Rattle.all_links.specs.States.{links_state}
 use Rattle.all_links.specs.Links.{Ends, EndsIf, EndsWith, EndsArriving, EndsAs, EndsAsOr, Stays}

@@ -6,7 +6,7 @@ use Rattle.std.proofs.lemmas.Option.{none-some, same_Some}
 use Rattle.link_verdicts.specs.declared.access.AccessVerdict.TheVariants as av
 use Rattle.link_verdicts.specs.declared.verdict.Verdict.TheVariants as v
 use Rattle.waiting_reads.specs.declared.queue.WaitingRead.{WaitingRead}
-use Rattle.link_ends.specs.declared.ends.LinkEnds.{LinkEnds}
+use Rattle.all_links.specs.{LinkEnds}
 use Rattle.accesses.specs.declared.link.LinkAccesses.{LinkAccesses}
 use Rattle.whole_links.specs.declared.whole.WholeLinks.{WholeLinks}
 use Rattle.whole_links.specs.Besides.{reply_at_ends, reply_oldest, reply_numbered, reader_of, reply_on}

@@ -13,7 +13,7 @@ use Rattle.link_verdicts.specs.declared.verdict.Verdict.TheVariants as v
 use Rattle.link_verdicts.specs.declared.access.AccessVerdict.TheVariants as av
 use Rattle.interface_states.specs.Exchanges.{carries, changes_device}
 use Rattle.guarded_memory.specs.Happenings.{Happened, InterfaceReset, AllReset, InterfaceStopped}
-use Rattle.whole_machine.specs.Accesses.{waiting_reads_after}
+use Rattle.all_links.specs.{waiting_reads_after}
 use Rattle.tdi_state.specs.Machine.{Tdi}
 use Rattle.all_links.specs.Accesses.{runs_in, device_draw, same_reads, same_floors, nothing_happens, AccessesTurn}
 use Rattle.all_links.specs.Accesses.{AccessesArrive}

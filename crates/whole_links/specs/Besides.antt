@@ -15,8 +15,7 @@ use Rattle.waiting_reads.specs.declared.queue.WaitingRead.{WaitingRead}
 unfoldable use Rattle.waiting_reads.specs.{completion_bytes}
 use Rattle.guarded_memory.specs.Contents.{has_bytes}
 use Rattle.tdi_host.specs.Managers.{granted, interface_of_requester}
-use Rattle.link_ends.specs.declared.ends.LinkEnds.{LinkEnds}
-use Rattle.link_ends.specs.Hosts.{InterfacesView}
+use Rattle.all_links.specs.{LinkEnds, InterfacesView}
 use Rattle.link_history.specs.Memory.{effects_by}
 use Rattle.link_history.specs.Due.{is_stream}
 use Rattle.link_history.specs.Guarded.{mmio_if}

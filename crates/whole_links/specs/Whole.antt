@@ -10,7 +10,7 @@ use Rattle.key_laws.specs.History.{History}
 use Rattle.link_ports.specs.Machine.{step_of}
 use Rattle.link_ports.specs.Stands.{PortsStandFor}
 use Rattle.accesses.specs.{new_accesses}
-use Rattle.all_ends.specs.States.{AreLinks, IsBounded}
+use Rattle.all_links.specs.{AreLinks, IsBounded}
 use Rattle.all_links.specs.States.{links_state}
 use Rattle.all_links.specs.Links.{IsFirst, Ends, Stays, HasNoVerdict}
 use Rattle.all_links.specs.Accesses.{AccessesStay}

@@ -9,11 +9,11 @@ ghost use Rattle.link_events.specs.Interfaces.{IsAllowedInterface};
 ghost use Rattle.link_events.specs.Accesses.{IsAllowedAccess};
 ghost use Rattle.waiting_reads.specs.{FitsRead};
 ghost use Rattle.ide_port.specs.{sealing_draw_in};
-ghost use Rattle.link_ends.specs.declared.ends.LinkEnds.{LinkEnds};
+ghost use Rattle.all_links.specs.{LinkEnds};
 ghost use Rattle.all_links.specs.Events.{operation_event};
 ghost use Rattle.whole_links.specs.Besides.{draw_below};
-ghost use Rattle.all_links.specs.Accesses.{is_sending, reads_at, runs_in};
-ghost use Rattle.all_links.specs.Accesses.{same_reads, same_floors, nothing_happens, AccessesTurn};
+ghost use Rattle.all_links.specs.Accesses.{is_sending, reads_at, runs_in, same_reads, same_floors, nothing_happens};
+ghost use Rattle.all_links.specs.Accesses.{AccessesTurn};
 ghost use Rattle.all_links.specs.Sides.{SidesKeep, SidesOperate, SidesInterface, Sides};
 
 use crate::reply::{draw_below, judged, small_number};

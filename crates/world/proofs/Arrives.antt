@@ -13,13 +13,12 @@ use Rattle.interface_machine.specs.Machine.{Face, around_of, grant_of}
 use Rattle.link_ports.specs.Machine.{LinkState}
 use Rattle.link_ports.specs.Stands.{PortsStandFor}
 use Rattle.whole_machine.specs.Machine.{Whole, secure_in, whole_streams, arrival_of, written_after, whole_after}
-use Rattle.whole_links.specs.{AllFollow, arrival_at, grants_in, InterfacesView, LinkEnds, Links, links_state}
-use Rattle.whole_links.specs.{SidesArrive, writes_by}
+use Rattle.world_states.specs.{AllFollow, arrival_at, grants_in, InterfacesView, LinkEnds, Links, links_state}
+use Rattle.world_states.specs.{SidesArrive, writes_by}
 use Rattle.world_states.specs.Whole.{IsBeside}
 use Rattle.world_states.proofs.Statuses.{secure_is}
 use Rattle.world_states.proofs.Rests.{is_of_ports, is_of_packets, of_ports, next_of_ports, none_of_ports}
-use Rattle.world_states.proofs.Rests.{managed_of_packets}
-use Rattle.world_states.proofs.Rests.{draw_of_packets}
+use Rattle.world_states.proofs.Rests.{managed_of_packets, draw_of_packets}
 use Rattle.world_states.proofs.Follows.{IsLed, OnlyLeaves, led_follows, beside_led}
 use Rattle.world_states.proofs.Kept.{AreBoth, managed_kept, written_is}
 

@@ -24,7 +24,7 @@ use Rattle.link_ports.specs.Machine.{LinkState, Stepped, step_of, status_at}
 use Rattle.interface_joins.specs.Faces.{IsFace}
 use Rattle.interface_joins.specs.Joined.{IsInterfaceJoined, InterfaceOperationsJoin}
 use Rattle.interface_joins.specs.Verdicts.{op_event}
-use Rattle.whole_links.specs.{InterfacesView, Links, links_state, operated_on, SidesAsk}
+use Rattle.world_states.specs.{InterfacesView, Links, links_state, operated_on, SidesAsk}
 use Rattle.whole_machine.specs.Machine.{Whole, secure_in, whole_streams, beside_of, whole_after}
 use Rattle.world_states.specs.Whole.{IsPlaced, IsBeside}
 use Rattle.world_states.proofs.Places.{get_there}

@@ -45,7 +45,7 @@ use Rattle.interface_joins.specs.Faces.{IsFace, IsManaged}
 use Rattle.tdi_device.specs.Replies.{called_at}
 use Rattle.tdi_host.specs.Views.{HostTdi}
 use Rattle.trusted_memory.specs.{MemoryContents, IsLeftBy}
-use Rattle.whole_links.specs.{InterfacesView, LinkEnds, Links, links_state, located, SidesCall, SidesKeep}
+use Rattle.world_states.specs.{InterfacesView, LinkEnds, Links, links_state, located, SidesCall, SidesKeep}
 use Rattle.link_ends.proofs.Lists.{set_read}
 use Rattle.world_states.specs.Whole.{IsPlaced, IsDevice, IsBeside}
 use Rattle.world_states.proofs.Places.{get_there}

@@ -46,11 +46,10 @@ use Rattle.tsm_host.specs.Managers.{new_manager, new_streams, streams_from}
 use Rattle.link_history.specs.Plan.{streams_of}
 use Rattle.link_walks.specs.Joined.{KeysKept}
 use Rattle.link_ports.specs.Machine.{first_ports, first_state}
-use Rattle.whole_links.specs.{AreLinks, ends_from, floors_at, InterfacesView, IsBounded, IsFirst, IsLink, KeeperView}
-use Rattle.whole_links.specs.{LinkEnds, Links, links_state, located, mmio_at, name_of, names_from, names_of, new_ends}
-use Rattle.whole_links.specs.{ops_in, ops_of, ports_in, reads_at, requester_of, sizes_at, state_of, views_after}
-use Rattle.whole_links.specs.declared.whole.WholeLinks.{WholeLinks}
-use Rattle.whole_links.specs.Whole.{IsFirstWhole}
+use Rattle.world_states.specs.{AreLinks, ends_from, floors_at, InterfacesView, IsBounded, IsFirst, IsLink, KeeperView}
+use Rattle.world_states.specs.{LinkEnds, Links, links_state, located, mmio_at, name_of, names_from, names_of}
+use Rattle.world_states.specs.{new_ends, ops_in, ops_of, ports_in, reads_at, requester_of, sizes_at, state_of}
+use Rattle.world_states.specs.{views_after, WholeLinks, IsFirstWhole}
 use Rattle.world_states.specs.Accesses.{AreAccesses, on_link, seen_at}
 use Rattle.world_states.specs.Whole.{IsPlaced, IsDevice, IsBeside}
 use Rattle.world_states.specs.Worlds.{Stands, IsNewWorld, world_of, IsWorld}

@@ -34,8 +34,8 @@ unfoldable use Rattle.link_ports.specs.Machine.{find_op, step_of}
 use Rattle.whole_machine.specs.Machine.{Whole, secure_in, whole_streams, op_or_idle, draw_after, written_after}
 use Rattle.whole_machine.specs.Machine.{beside_of}
 use Rattle.whole_machine.specs.Machine.{whole_after, arrival_of}
-use Rattle.whole_links.specs.{InterfacesView, keyed_if, Links, links_state, SidesOperate, stopped_if, stream_named}
-use Rattle.whole_links.specs.{told_by}
+use Rattle.world_states.specs.{InterfacesView, keyed_if, Links, links_state, SidesOperate, stopped_if, stream_named}
+use Rattle.world_states.specs.{told_by}
 use Rattle.all_ends.proofs.Streams.{op_is, unnamed}
 use Rattle.world_states.specs.Whole.{IsBeside}
 use Rattle.world_states.proofs.Statuses.{secure_is}

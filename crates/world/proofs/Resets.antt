@@ -25,7 +25,7 @@ use Rattle.trusted_memory.specs.{MemoryContents, IsLeftBy}
 use Rattle.interface_joins.specs.Faces.{SeenAs, IsManaged}
 use Rattle.link_ports.specs.Machine.{Beside, LinkState, Stepped, reset_state}
 unfoldable use Rattle.link_ports.specs.Machine.{step_of}
-use Rattle.whole_links.specs.{InterfacesView, LinkEnds, Links, links_state, located, reset_ends, SidesReset}
+use Rattle.world_states.specs.{InterfacesView, LinkEnds, Links, links_state, located, reset_ends, SidesReset}
 use Rattle.whole_machine.specs.Machine.{Whole, secure_in, whole_streams, beside_of, whole_after}
 use Rattle.world_states.specs.Whole.{IsPlaced, IsDevice, IsBeside}
 use Rattle.world_states.proofs.Places.{get_there}

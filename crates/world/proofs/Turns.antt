@@ -14,7 +14,7 @@ use Rattle.link_ports.specs.Stands.{PortsStandFor}
 use Rattle.whole_machine.specs.Machine.{Whole, beside_of, whole_after}
 use Rattle.interface_joins.specs.Joined.{InterfaceOperationsJoin}
 use Rattle.tdi_host.specs.declared.operation.InterfaceOp.TheVariants as op
-use Rattle.whole_links.specs.{grants_in, Links, links_state, Sides, SidesInterface}
+use Rattle.world_states.specs.{grants_in, Links, links_state, Sides, SidesInterface}
 use Rattle.world_states.specs.Whole.{IsBeside}
 use Rattle.interface_machine.specs.Machine.{grant_of}
 use Rattle.world_states.proofs.Besides.{grant_is}

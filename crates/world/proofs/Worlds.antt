@@ -15,13 +15,9 @@ use Rattle.port_operations.specs.Points.{PointsStand}
 use Rattle.whole_machine.specs.Machine.{Whole, beside_of, whole_after, whole_step}
 use Rattle.whole_machine.specs.Stands.{StandsFor, WholeSteps}
 use Rattle.interface_joins.specs.Joined.{InterfaceOperationsJoin}
-use Rattle.whole_links.specs.{AreLinks, Ends, HasNoVerdict, HostKeeper, IsBounded, LinkEnds, links_state, Sides}
-use Rattle.whole_links.specs.{StandsForSome, state_of}
-use Rattle.whole_links.specs.declared.whole.WholeLinks.{WholeLinks}
-use Rattle.whole_links.specs.Accesses.{AccessesAfter}
-use Rattle.whole_links.specs.Besides.{beside_whole}
-use Rattle.whole_links.specs.Whole.{WholeEnds, WholeEndsAs, WholeStays}
-use Rattle.whole_links.specs.Whole.{IsWhole as EachHasAccesses}
+use Rattle.world_states.specs.{AreLinks, Ends, HasNoVerdict, HostKeeper, IsBounded, LinkEnds, links_state, Sides}
+use Rattle.world_states.specs.{StandsForSome, state_of, WholeLinks, AccessesAfter, beside_whole, WholeEnds}
+use Rattle.world_states.specs.{WholeEndsAs, WholeStays, IsWhole as EachHasAccesses}
 use Rattle.world_states.specs.Accesses.{AreAccesses, LinkSeen, seen_at}
 use Rattle.world_states.specs.Whole.{IsBeside}
 use Rattle.world_states.specs.Worlds.{WorldView, IsAsBefore, Stands, HasStood, IsStep, world_of, IsWorld}

@@ -12,8 +12,8 @@ use link_verdicts::Verdict;
 use port_operations::points_stand;
 use std::alloc::Global;
 use std::marker::Model;
-use whole_links::WholeLinks;
 use whole_machine::{whole_begins, whole_steps};
+use world_states::WholeLinks;
 
 /// All links of a topology, with their devices' interfaces, the keys, the packets that were sealed, what the managers
 /// know, and trusted memory (PCI Express Base 6.0 section 6.33 and chapter 11, in this profile).

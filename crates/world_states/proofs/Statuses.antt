@@ -27,7 +27,7 @@ use Rattle.link_ports.specs.Machine as machine
 use Rattle.interface_states.specs.Devices.{is_secure}
 use Rattle.whole_machine.specs.Machine.{secure_in}
 use Rattle.whole_links.specs.{AreLinks, IsLink, KeeperView, LinkEnds, port_in, ports_in, state_of}
-use Rattle.link_ends.proofs.Streams.{machine_found}
+use Rattle.whole_links.proofs.{machine_found}
 
 -- ---- the states of one port
 

@@ -5,7 +5,7 @@ use Rattle.link_events.specs.declared.event.Event.TheVariants.{Access}
 use Rattle.link_events.specs.declared.event.AccessEvent.TheVariants as ae
 use Rattle.waiting_reads.specs.declared.queue.WaitingRead.{WaitingRead}
 use Rattle.accesses.specs.declared.link.LinkAccesses.{LinkAccesses}
-use Rattle.whole_machine.specs.Accesses.{waiting_reads_after}
+use Rattle.all_links.specs.{waiting_reads_after}
 use Rattle.all_links.specs.Accesses.{same_floors, nothing_happens, AccessesTurn}
 use Rattle.all_links.proofs.Sides.{keeps_all}
 use Rattle.whole_links.specs.declared.whole.WholeLinks.{WholeLinks}

@@ -1,6 +1,6 @@
 use Rattle.std.proofs.Common.{ℕ, ap, sym, subst, ◌∙◌, ◌<◌}
 use Rattle.std.specs.Prelude.{Option}
-use Rattle.all_ends.proofs.Finds.{there}
+use Rattle.all_links.proofs.{there}
 use Rattle.whole_links.specs.Besides.{reply_numbered}
 use Rattle.whole_links.proofs.Replies.{reply_empty, reply_read}
 use Rattle.whole_links.proofs.whole.WholeLinks.reply.Goals as goal
