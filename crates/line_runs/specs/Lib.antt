@@ -3,5 +3,4 @@ pub mod Gain
 pub mod Front
 pub mod Outcome
 pub mod Lines
-pub mod Copies
 pub mod Gathering

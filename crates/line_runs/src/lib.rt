@@ -12,6 +12,3 @@ pub use files::run_file;
 pub use front::{Stop, read_front};
 pub use lines::{FILE_LIMIT, LineWork};
 pub use writing::{finish, write};
-
-#[cfg(test)]
-mod tests;

@@ -10,8 +10,6 @@ mod reply;
 mod report;
 mod report_reading;
 mod request;
-#[cfg(test)]
-mod tests;
 mod writing;
 
 pub use fault::TdispFault;

@@ -1,4 +1,4 @@
--- Lines that are written again, as the tests do.
+-- Lines that are written again.
 use Rattle.std.specs.Prelude.{ℕ, ◌≡◌, nat_lt, Bool, true, false, [], ◌∷◌, ◌++◌, length, Result, Ok, Err, IfOk, refl}
 use Rattle.std.specs.Prelude.{if◌then◌else◌}
 use Rattle.std.proofs.Common.{inr}

@@ -1,6 +1,6 @@
 //! Objects as bytes, and what the responder of a port of one place replies.
 
-use crate::{KmFault, KmView, Responder, km_read, km_write};
+use ide_km::{KmFault, KmView, Responder, km_read, km_write};
 use ide_types::{Direction, KeySet};
 use key_slots::{SlotState, Slots};
 use port::OnePort;

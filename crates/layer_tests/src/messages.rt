@@ -1,6 +1,6 @@
 //! Messages by their bytes.
 
-use crate::{ReplyView, RequestView, TdispFault, reply_read, request_read};
+use tdisp_codec::{ReplyView, RequestView, TdispFault, reply_read, request_read};
 
 // LOCK_INTERFACE of the interface 0100h on stream 5, without flags, offset or mask.
 const LOCK: [u8; 37] = [

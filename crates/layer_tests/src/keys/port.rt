@@ -1,9 +1,9 @@
-//! A port of one place, for tests.
+//! A port of one place.
 
 ghost use Rattle.std.specs.Prelude.{◌≡◌, ◌&&◌, nat_lt, if◌then◌else◌, Some, None};
 ghost use Rattle.ide_km.specs.Calls.{is_same_place, place_at};
 
-use crate::{Place, ProgramFault, SlotPort};
+use ide_km::{Place, ProgramFault, SlotPort};
 use ide_types::{Direction, KeySet};
 use key_slots::{Key, OnlyLive, Slots};
 

@@ -1,10 +1,10 @@
 //! A file that is read and run line by line, over a shelf and a sink in memory.
 ghost use Rattle.std.specs.Prelude.{◌≡◌, ◌∷◌, [], ◌++◌, codes, IfOk};
-ghost use Rattle.line_runs.specs.Copies.{copied as copied_of, long_copy, whole_copy};
+ghost use Rattle.layer_tests.specs.Copies.{copied as copied_of, long_copy, whole_copy};
 
-use crate::{End, Fault, LineWork, run_file};
 use ide_base::{MemShelf, MemSink, NamedFile};
 use ide_types::{Bytes, Memory};
+use line_runs::{End, Fault, LineWork, run_file};
 use link_events::{LINE_LIMIT, LineError, LineFault};
 use std::alloc::Global;
 use std::process::Abort;
