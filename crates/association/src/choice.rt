@@ -2,7 +2,7 @@
 
 /// The stream that a TLP takes at a port, by its ID and by what named it (PCI Express Base 6.0 section 6.33; the
 /// order is this profile's).
-#[derive(Clone, Copy, Debug, PartialEq, Eq)]
+#[derive(Clone, Copy, PartialEq, Eq)]
 pub enum Choice {
     /// A selective stream with a range that holds the TLP's address or ID.
     Selective(u8),

@@ -13,7 +13,7 @@ use std::marker::Model;
 
 /// The events that a seed and a number of rounds give, made one after another (this profile). Contracts see the events
 /// that are left.
-#[derive(Debug, Drop)]
+#[derive(Drop)]
 pub struct Generator {
     numbers: Numbers,
     rounds: u32,

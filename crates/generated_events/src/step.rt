@@ -6,7 +6,7 @@ ghost use Rattle.generated_events.specs.Events.{step_event, step_after};
 use link_events::{Event, InterfaceEvent};
 
 /// The steps by which stream 5 of link 0 and interface 0 are stopped, halted and set up again, in their order.
-#[derive(Clone, Copy, Debug, PartialEq, Eq)]
+#[derive(Clone, Copy, PartialEq, Eq)]
 pub(crate) enum Step {
     Stop,
     Halt,

@@ -12,7 +12,7 @@ use std::collections::HashMap;
 use trusted_memory::{PAGE_BYTES, Page};
 
 /// Which page it is.
-#[derive(Clone, Copy, Debug, PartialEq, Eq, Hash)]
+#[derive(Clone, Copy, PartialEq, Eq, Hash)]
 pub struct PageName {
     /// The interface's number among those of the device.
     pub interface: usize,

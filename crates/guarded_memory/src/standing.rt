@@ -11,7 +11,7 @@ use ide_plan::BarPlan;
 use tdi_state::{Interface, Register, TdiState};
 
 /// The state of a device interface (PCI Express Base 6.0 chapter 11).
-#[derive(Clone, Copy, Debug, PartialEq, Eq)]
+#[derive(Clone, Copy, PartialEq, Eq)]
 pub enum InterfaceState {
     ConfigUnlocked,
     ConfigLocked,
@@ -20,7 +20,7 @@ pub enum InterfaceState {
 }
 
 /// What is asked of an interface when a write arrives (PCI Express Base 6.0 chapter 11, in this profile).
-#[derive(Clone, Copy, Debug, PartialEq, Eq)]
+#[derive(Clone, Copy, PartialEq, Eq)]
 pub struct Standing {
     /// Its state.
     pub state: InterfaceState,

@@ -53,7 +53,7 @@ pub enum KmView {
 }
 
 /// Why bytes are no object (this profile).
-#[derive(Clone, Copy, Debug, PartialEq, Eq)]
+#[derive(Clone, Copy, PartialEq, Eq)]
 pub enum KmFault {
     /// Too few bytes to know the object, or not as many as it has.
     Length,

@@ -11,7 +11,7 @@ use key_slots::Key;
 
 /// Why a key was not taken, with the key: the port has no such place, or the slot is Live and the other holds no newer
 /// Live key (this profile).
-#[derive(Debug, Drop)]
+#[derive(Drop)]
 pub enum ProgramFault {
     NoPlace(Key),
     OnlyLive(Key),

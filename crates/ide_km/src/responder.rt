@@ -25,7 +25,7 @@ use key_slots::Key;
 
 /// The responder of a device's port: it answers requests of key management (PCI Express Base 6.0 section 6.33, in
 /// this profile's layout).
-#[derive(Clone, Copy, Debug)]
+#[derive(Clone, Copy)]
 pub struct Responder {
     rid: u16,
 }

@@ -3,7 +3,7 @@
 use ide_types::{Bytes, Items};
 
 /// A device interface and the registers that it begins with (PCI Express Base 6.0 chapter 11, and this profile).
-#[derive(Debug, Drop)]
+#[derive(Drop)]
 pub struct InterfacePlan {
     /// Its requester ID.
     pub requester: u16,
@@ -34,7 +34,7 @@ pub struct InterfacePlan {
 }
 
 /// A base address register and its range of addresses (PCI Express Base 6.0 chapter 11, and this profile).
-#[derive(Clone, Copy, Debug, PartialEq, Eq)]
+#[derive(Clone, Copy, PartialEq, Eq)]
 pub struct BarPlan {
     /// The byte address that it begins with.
     pub base: u64,

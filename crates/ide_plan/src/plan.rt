@@ -4,7 +4,7 @@ use crate::{InterfacePlan, StreamPlan};
 use ide_types::Items;
 
 /// What there is before the first event of a run (this profile).
-#[derive(Debug, Drop)]
+#[derive(Drop)]
 pub struct Plan {
     /// The version of the topology, 1 or 2.
     pub version: u8,
@@ -22,7 +22,7 @@ pub struct Plan {
 }
 
 /// A link: a host's port and a device's (PCI Express Base 6.0 section 6.33 and chapter 11, in this profile).
-#[derive(Debug, Drop)]
+#[derive(Drop)]
 pub struct LinkPlan {
     /// What the device gives in answer to lock requests, in order; up to 1,024 of them.
     pub nonces: Items<[u8; 32]>,
@@ -33,7 +33,7 @@ pub struct LinkPlan {
 }
 
 /// A region of trusted memory, in bytes; both are multiples of 4,096 (this profile).
-#[derive(Clone, Copy, Debug, PartialEq, Eq)]
+#[derive(Clone, Copy, PartialEq, Eq)]
 pub struct Region {
     /// The address of its first byte.
     pub base: u64,

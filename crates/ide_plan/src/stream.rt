@@ -3,7 +3,7 @@
 use ide_types::Items;
 
 /// An IDE stream of a link (PCI Express Base 6.0 section 6.33).
-#[derive(Debug, Drop)]
+#[derive(Drop)]
 pub struct StreamPlan {
     /// The stream's ID, which its packets name.
     pub id: u8,
@@ -17,7 +17,7 @@ pub struct StreamPlan {
 
 /// Which TLPs a stream takes: those of some requesters and addresses, or those of some traffic classes
 /// (PCI Express Base 6.0 section 6.33).
-#[derive(Debug, Drop)]
+#[derive(Drop)]
 pub enum Selector {
     /// Of a selective stream.
     Selective {
@@ -35,7 +35,7 @@ pub enum Selector {
 }
 
 /// IDs from `base` to `limit`, both among them (PCI Express Base 6.0 section 6.33).
-#[derive(Clone, Copy, Debug, PartialEq, Eq)]
+#[derive(Clone, Copy, PartialEq, Eq)]
 pub struct IdRange {
     pub base: u16,
     /// At least `base`.
@@ -43,7 +43,7 @@ pub struct IdRange {
 }
 
 /// Byte addresses from `base` to `limit`, both among them (PCI Express Base 6.0 section 6.33).
-#[derive(Clone, Copy, Debug, PartialEq, Eq)]
+#[derive(Clone, Copy, PartialEq, Eq)]
 pub struct AddressRange {
     /// A multiple of 2^20.
     pub base: u64,

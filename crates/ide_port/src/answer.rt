@@ -7,7 +7,7 @@ use link_verdicts::UnitName;
 use tlp_layout::TlpFault;
 
 /// What becomes of a send (this profile).
-#[derive(Debug, Drop)]
+#[derive(Drop)]
 pub enum Sent {
     /// The bytes are no TLP.
     Malformed(TlpFault),
@@ -20,7 +20,7 @@ pub enum Sent {
 }
 
 /// What becomes of arriving bytes (this profile).
-#[derive(Clone, Copy, Debug, PartialEq, Eq)]
+#[derive(Clone, Copy, PartialEq, Eq)]
 pub enum Arrival {
     /// They are no packet.
     Malformed(PacketFault),

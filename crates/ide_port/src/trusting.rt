@@ -16,7 +16,7 @@ pub trait Trusting {
 }
 
 /// T as it is asked, whatever the TLP and its stream.
-#[derive(Clone, Copy, Debug, PartialEq, Eq)]
+#[derive(Clone, Copy, PartialEq, Eq)]
 pub struct Asked(pub bool);
 
 impl Trusting for Asked {

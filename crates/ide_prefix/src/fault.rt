@@ -3,7 +3,7 @@
 use tlp_layout::TlpFault;
 
 /// The first fault from the left, with its place, a byte offset from 0 in the packet (this profile).
-#[derive(Clone, Copy, Debug, PartialEq, Eq)]
+#[derive(Clone, Copy, PartialEq, Eq)]
 pub enum PacketFault {
     /// The bytes end before the packet does, in its header too.
     Short(usize),

@@ -13,7 +13,7 @@ pub const PACKET_FIRST: u8 = 0x92;
 pub const SYNC_FIRST: u8 = 0x34;
 
 /// What stands before a TLP's header: four bytes (this profile).
-#[derive(Clone, Copy, Debug, PartialEq, Eq)]
+#[derive(Clone, Copy, PartialEq, Eq)]
 pub struct Prefix {
     /// Whether a tag ends the packet, which is the last of its unit.
     pub m: bool,
@@ -43,7 +43,7 @@ pub fn write_prefix(prefix: &Prefix) -> [u8; 4]
 }
 
 /// A packet's parts, lent (PCI Express Base 6.0 section 6.33; the layout is this profile's).
-#[derive(Clone, Copy, Debug)]
+#[derive(Clone, Copy)]
 pub struct PacketView<'a> {
     /// The prefix, bytes 0 to 3.
     pub prefix: Prefix,
@@ -73,7 +73,7 @@ impl PacketView<'_> {
 }
 
 /// What bytes are: a plain TLP's, or a packet (this profile).
-#[derive(Clone, Copy, Debug)]
+#[derive(Clone, Copy)]
 pub enum Cut<'a> {
     /// Byte 0 is not 0x92.
     Plain,

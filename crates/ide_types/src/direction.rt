@@ -5,7 +5,7 @@ ghost use Rattle.ide_types.specs.Sub.{upstream_if};
 
 /// A direction of a link: downstream from the host to the device, or upstream from the device to the host (PCI Express
 /// Base 6.0 section 1.2).
-#[derive(Clone, Copy, Debug, PartialEq, Eq)]
+#[derive(Clone, Copy, PartialEq, Eq)]
 pub enum Direction {
     Downstream,
     Upstream,

@@ -8,7 +8,7 @@ use std::fmt;
 /// Why bytes are no TLP or packet. Of a TLP: too few bytes, a set bit that has to be clear, no known kind, a wrong
 /// length, bytes after the end. Of a packet besides: a reserved field, no such sub-stream, a TLP of another class than
 /// the sub-stream, a wrong sync packet (PCI Express Base 6.0 section 2.2, and this profile).
-#[derive(Clone, Copy, Debug, PartialEq, Eq)]
+#[derive(Clone, Copy, PartialEq, Eq)]
 pub enum FaultWord {
     Short,
     Reserved,

@@ -5,7 +5,7 @@ ghost use Rattle.ide_types.specs.KeySets.{is_one, key_set, set_number};
 
 /// A key set of an IDE stream. Each sub-stream has a key slot for set 0 and one for set 1 in each direction, and the K
 /// bit of a packet's prefix names the set of its key (PCI Express Base 6.0 section 6.33).
-#[derive(Clone, Copy, Debug, PartialEq, Eq)]
+#[derive(Clone, Copy, PartialEq, Eq)]
 pub enum KeySet {
     Zero,
     One,

@@ -6,7 +6,7 @@ ghost use Rattle.ide_types.specs.Names.{side_word, port_word};
 use std::fmt;
 
 /// The end of a link: its host's port or its device's (this profile).
-#[derive(Clone, Copy, Debug, Default, PartialEq, Eq)]
+#[derive(Clone, Copy, Default, PartialEq, Eq)]
 pub enum Side {
     #[default]
     Host,
@@ -14,7 +14,7 @@ pub enum Side {
 }
 
 /// A port: the end of a link, and the link's number, from 0 (this profile).
-#[derive(Clone, Copy, Debug, Default, PartialEq, Eq)]
+#[derive(Clone, Copy, Default, PartialEq, Eq)]
 pub struct PortName {
     pub side: Side,
     pub link: u8,

@@ -7,7 +7,7 @@ use std::fmt;
 
 /// The state of an IDE stream at a port: none of its six sub-streams has a Live key, some have, each has, or a check
 /// failed since it last had none (PCI Express Base 6.0 section 6.33, and this profile).
-#[derive(Clone, Copy, Debug, PartialEq, Eq)]
+#[derive(Clone, Copy, PartialEq, Eq)]
 pub enum StreamStatus {
     Idle,
     Partial,

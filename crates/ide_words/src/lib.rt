@@ -28,7 +28,7 @@ use clap::{Arg, ArgAction, ArgMatches, Command};
 use std::alloc::{AllocError, Global};
 
 /// What the words ask for, by the names of its files or by its numbers (this profile).
-#[derive(Clone, Copy, Debug)]
+#[derive(Clone, Copy)]
 pub enum Request<'a> {
     /// To run a script on a topology.
     Run(&'a str, &'a str),
@@ -43,7 +43,7 @@ pub enum Request<'a> {
 }
 
 /// Why the words ask for nothing: `clap` refuses them, or there was no memory.
-#[derive(Clone, Copy, Debug, PartialEq, Eq)]
+#[derive(Clone, Copy, PartialEq, Eq)]
 pub enum WordsError {
     Usage,
     Memory,

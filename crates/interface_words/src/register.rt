@@ -6,7 +6,7 @@ ghost use Rattle.interface_words.specs.RegisterNames.{has_register, width_of};
 use ide_plan::InterfacePlan;
 
 /// A register of a device interface (PCI Express Base 6.0 sections 7.5.1 and 7.7 to 7.9, and this profile).
-#[derive(Clone, Copy, Debug, PartialEq, Eq)]
+#[derive(Clone, Copy, PartialEq, Eq)]
 pub enum Register {
     /// Command, 16 bits: bit 1 memory space, bit 2 bus master.
     Command,

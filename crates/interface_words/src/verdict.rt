@@ -5,7 +5,7 @@ use ide_types::Bytes;
 
 /// The verdict of an event on a device interface or on trusted memory, but for the verdicts that operations on streams
 /// have as well (this profile). Interfaces are numbered from 0 over all links.
-#[derive(Debug, Drop)]
+#[derive(Drop)]
 pub enum InterfaceVerdict {
     /// The device locked the interface and gave this nonce.
     Locked { interface: u8, nonce: [u8; 32] },

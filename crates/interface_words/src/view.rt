@@ -6,7 +6,7 @@ ghost use Rattle.interface_words.specs.ViewNames.{view_word};
 use std::fmt;
 
 /// The manager's view of an interface (PCI Express Base 6.0 chapter 11, and this profile).
-#[derive(Clone, Copy, Debug, PartialEq, Eq)]
+#[derive(Clone, Copy, PartialEq, Eq)]
 pub enum View {
     /// Not locked, or halted.
     Unlocked,

@@ -2,11 +2,10 @@
 
 ghost use Rattle.std.specs.Prelude.{◌≡◌};
 
-use std::fmt::{self, Debug, Formatter, Write};
 use std::marker::Model;
 
 /// A key of AES-256, 32 bytes (FIPS 197). It is neither `Copy` nor `Clone`, so it has one place, and a use of it
-/// after it was moved does not compile; `Debug` leaves its bytes out.
+/// after it was moved does not compile; nor does it have `Debug`, which would print it.
 #[derive(Drop)]
 pub struct Key {
     bytes: [u8; 32],
@@ -33,11 +32,5 @@ impl Key {
         ensures { result.now ≡ self.now }
     {
         &self.bytes
-    }
-}
-
-impl Debug for Key {
-    fn fmt<W: Write>(&self, f: &mut Formatter<W>) -> fmt::Result {
-        f.write_str("Key")
     }
 }

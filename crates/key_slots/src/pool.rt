@@ -14,7 +14,7 @@ use std::marker::Model;
 pub const MAX_KEYS: usize = 6_144;
 
 /// All draws were made; `draws` is how many they are (this profile).
-#[derive(Clone, Copy, Debug, PartialEq, Eq)]
+#[derive(Clone, Copy, PartialEq, Eq)]
 pub struct PoolEmpty {
     pub draws: u32,
 }

@@ -70,7 +70,7 @@ pub enum Slot {
 
 /// The state of a slot: it has no key; its key waits for K_SET_GO; its key is a sender's and waits for the end
 /// of the older key's unit; its key is in use (PCI Express Base 6.0 section 6.33, in this profile).
-#[derive(Clone, Copy, Debug, PartialEq, Eq)]
+#[derive(Clone, Copy, PartialEq, Eq)]
 pub enum SlotState {
     Empty,
     Programmed,

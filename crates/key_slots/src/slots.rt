@@ -13,13 +13,13 @@ use std::marker::Model;
 use std::mem;
 
 /// Why a slot is not programmed: it is Live, and the other holds no newer Live key (this profile). The key comes back.
-#[derive(Debug, Drop)]
+#[derive(Drop)]
 pub struct OnlyLive {
     pub key: Key,
 }
 
 /// The slot has no key (this profile).
-#[derive(Clone, Copy, Debug, PartialEq, Eq)]
+#[derive(Clone, Copy, PartialEq, Eq)]
 pub struct SlotEmpty;
 
 /// The slots of key set 0 and of key set 1, of a sender or of a receiver (PCI Express Base 6.0 section 6.33, in

@@ -7,7 +7,7 @@ use ide_base::Shelf;
 use std::alloc::Global;
 
 /// Why a file was not read.
-#[derive(Clone, Copy, Debug, PartialEq, Eq)]
+#[derive(Clone, Copy, PartialEq, Eq)]
 pub enum Stop {
     /// The shelf answered a fault.
     Fault,

@@ -4,21 +4,21 @@ use ide_types::{Bytes, PortName};
 use interface_words::Register;
 
 /// What is lost of an exchange: its request, or its reply (this profile).
-#[derive(Clone, Copy, Debug, PartialEq, Eq)]
+#[derive(Clone, Copy, PartialEq, Eq)]
 pub enum Lost {
     Request,
     Reply,
 }
 
 /// The exchange that is lost if the event gets that far, by its number from 1, and which message of it (this profile).
-#[derive(Clone, Copy, Debug, PartialEq, Eq)]
+#[derive(Clone, Copy, PartialEq, Eq)]
 pub struct Loss {
     pub exchange: u64,
     pub lost: Lost,
 }
 
 /// What is asked of a device interface, by its number over all links, or of trusted memory (this profile).
-#[derive(Debug, Drop)]
+#[derive(Drop)]
 pub enum InterfaceEvent {
     /// The manager locks the interface.
     Lock {
@@ -71,7 +71,7 @@ pub enum InterfaceEvent {
 }
 
 /// A trusted read that a host answers, or bytes of a device's guarded memory that are shown (this profile).
-#[derive(Debug, Drop)]
+#[derive(Drop)]
 pub enum AccessEvent {
     /// `answer LINK`: the host answers the oldest trusted read of the link that waits.
     Answer {
@@ -89,7 +89,7 @@ pub enum AccessEvent {
 
 /// What a line of a script asks for (this profile). Links, streams and packets need not exist: a packet is named by the
 /// number that it was sealed under, from 1.
-#[derive(Debug, Drop)]
+#[derive(Drop)]
 pub enum Event {
     /// `establish LINK STREAM`: the manager gives the stream its first keys.
     Establish {

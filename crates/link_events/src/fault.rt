@@ -13,7 +13,7 @@ pub const LINE_LIMIT: usize = 20_000;
 
 /// The first fault of a line, in the order in which they are looked for: too long and not ASCII first, then
 /// an unknown first word, then the count of words, then the words from the left (this profile).
-#[derive(Clone, Copy, Debug, PartialEq, Eq)]
+#[derive(Clone, Copy, PartialEq, Eq)]
 pub enum LineFault {
     /// A word that is not known, or out of its place.
     Word,
@@ -30,7 +30,7 @@ pub enum LineFault {
 }
 
 /// Why a line gave no event.
-#[derive(Clone, Copy, Debug, PartialEq, Eq)]
+#[derive(Clone, Copy, PartialEq, Eq)]
 pub enum LineError {
     /// Want of memory.
     Memory,

@@ -5,7 +5,7 @@ use ide_types::Bytes;
 
 /// The verdict of an event on a trusted read or on a device's guarded memory, but for the verdicts that other events
 /// have as well (this profile). Interfaces are numbered from 0 over all links.
-#[derive(Debug, Drop)]
+#[derive(Drop)]
 pub enum AccessVerdict {
     /// No trusted read of the link waits.
     Empty { link: u8 },

@@ -7,7 +7,7 @@ use arrayvec::ArrayVec;
 use std::marker::Model;
 
 /// The packets that one send sealed, in order: at most a sync packet in each of two sub-streams, and the TLP's.
-#[derive(Debug, Drop)]
+#[derive(Drop)]
 pub struct SealedPackets {
     packets: ArrayVec<SealedPacket, 3>,
 }
@@ -56,7 +56,7 @@ impl SealedPackets {
 }
 
 /// The effect of each packet of an accepted unit, in order; a unit has at most 8.
-#[derive(Debug, Drop)]
+#[derive(Drop)]
 pub struct Effects {
     effects: ArrayVec<Effect, 8>,
 }

@@ -6,7 +6,7 @@ use interface_words::InterfaceVerdict;
 
 /// A sealed packet: its number over the run, from 1, the port that sealed it, and what its prefix says: `posted` is the
 /// posted count, `sync` marks a sync packet (PCI Express Base 6.0 section 6.33).
-#[derive(Clone, Copy, Debug, Default, PartialEq, Eq)]
+#[derive(Clone, Copy, Default, PartialEq, Eq)]
 pub struct SealedPacket {
     pub number: u64,
     pub port: PortName,
@@ -27,7 +27,7 @@ pub struct SealedPacket {
 
 /// A unit: its stream and sub-stream, the draw of its key, and its counter under that draw, from 1 (PCI Express Base
 /// 6.0 section 6.33, in this profile).
-#[derive(Clone, Copy, Debug, PartialEq, Eq)]
+#[derive(Clone, Copy, PartialEq, Eq)]
 pub struct UnitName {
     pub stream: u8,
     pub sub: SubKind,
@@ -40,7 +40,7 @@ pub struct UnitName {
 /// from before the interface started; its bytes are not in one region of the trusted memory; they cross a 4 KiB
 /// boundary; 64 reads wait. Of a write to a BAR of an interface it is the first of `Crosses`, `NotTrusted`,
 /// `NotRunning`, `WrongStream` and `Stale` that holds, of that interface (this profile).
-#[derive(Clone, Copy, Debug, PartialEq, Eq)]
+#[derive(Clone, Copy, PartialEq, Eq)]
 pub enum BlockCause {
     NotTrusted,
     NotRunning,
@@ -54,7 +54,7 @@ pub enum BlockCause {
 /// The effect of a packet of an accepted unit: `Sync` of a sync packet, `Applied` or `Blocked` of a memory write at a
 /// host's port, `Queued` or `Blocked` of a trusted read there, `Stored` or `Blocked` of a memory write to a BAR at a
 /// device's port, `Delivered` of any other TLP (this profile).
-#[derive(Clone, Copy, Debug, Default, PartialEq, Eq)]
+#[derive(Clone, Copy, Default, PartialEq, Eq)]
 pub enum Effect {
     #[default]
     Sync,
@@ -66,7 +66,7 @@ pub enum Effect {
 }
 
 /// The manager's operations on a stream (this profile).
-#[derive(Clone, Copy, Debug, PartialEq, Eq)]
+#[derive(Clone, Copy, PartialEq, Eq)]
 pub enum Operation {
     Establish,
     Refresh,
@@ -74,7 +74,7 @@ pub enum Operation {
 }
 
 /// The verdict of an event (this profile). `place` is the first byte, from 0, at which no spelling goes on.
-#[derive(Debug, Drop)]
+#[derive(Drop)]
 pub enum Verdict {
     /// The event names what does not exist.
     Nothing,
@@ -218,7 +218,7 @@ pub enum Verdict {
 
 /// The counts of a run: packets sealed, packets of accepted units, checks that failed, and blocked effects (this
 /// profile).
-#[derive(Clone, Copy, Debug, PartialEq, Eq)]
+#[derive(Clone, Copy, PartialEq, Eq)]
 pub struct Totals {
     pub sealed: u64,
     pub accepted: u64,

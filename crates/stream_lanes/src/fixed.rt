@@ -5,7 +5,7 @@ ghost use Rattle.sub_stream.specs.Gathered.{lent_ahead};
 
 /// The stream's ID, the most packets of a unit, the most units under one key, and whether the stream is closed: then
 /// the total of units finished before is authenticated before the packets of a key's first unit.
-#[derive(Clone, Copy, Debug)]
+#[derive(Clone, Copy)]
 pub struct Fixed {
     pub stream: u8,
     pub mode: u8,

@@ -8,7 +8,7 @@ use sub_stream::SealedPacket;
 
 /// The packets that one send sealed, in order (this profile): at most a sync packet in each of two sub-streams, and
 /// the packet of the TLP.
-#[derive(Debug, Drop)]
+#[derive(Drop)]
 pub struct Sealed {
     packets: ArrayVec<SealedPacket, 3>,
 }

@@ -3,7 +3,7 @@
 use ide_types::SubKind;
 
 /// Why a TLP is not sealed (this profile). Nothing changes then.
-#[derive(Clone, Copy, Debug, PartialEq, Eq)]
+#[derive(Clone, Copy, PartialEq, Eq)]
 pub enum SendRefusal {
     /// The sub-stream, that of the TLP or one that needs a sync packet first, has no Live key.
     NoKey(SubKind),

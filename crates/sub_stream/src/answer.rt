@@ -3,7 +3,7 @@
 use ide_types::{FailCause, SubKind};
 
 /// A sealed packet as its prefix says, with its draw, its unit's counter and its length in bytes (this profile).
-#[derive(Clone, Copy, Debug, Default, PartialEq, Eq)]
+#[derive(Clone, Copy, Default, PartialEq, Eq)]
 pub struct SealedPacket {
     pub stream: u8,
     pub sub: SubKind,
@@ -23,7 +23,7 @@ pub struct SealedPacket {
 }
 
 /// Why a sender seals nothing (this profile).
-#[derive(Clone, Copy, Debug, PartialEq, Eq)]
+#[derive(Clone, Copy, PartialEq, Eq)]
 pub enum TxRefusal {
     /// No slot is Live.
     NoKey,
@@ -32,7 +32,7 @@ pub enum TxRefusal {
 }
 
 /// What a receiver answers to a packet (this profile).
-#[derive(Clone, Copy, Debug, PartialEq, Eq)]
+#[derive(Clone, Copy, PartialEq, Eq)]
 pub enum Taken {
     /// Neither slot is Live.
     NotKeyed,
@@ -46,7 +46,7 @@ pub enum Taken {
 
 /// What the layers above look at in a packet of an accepted unit: whether it is trusted, and whether it is a sync
 /// packet, which carries no TLP.
-#[derive(Clone, Copy, Debug, PartialEq, Eq)]
+#[derive(Clone, Copy, PartialEq, Eq)]
 pub struct PacketMark {
     pub t: bool,
     pub sync: bool,

@@ -29,7 +29,7 @@ use unit_aggregation::UnitBuf;
 
 /// What a receiver's buffer holds: nothing that counts, packets without M in key set 0 or in key set 1, or an accepted
 /// unit, decrypted.
-#[derive(Clone, Copy, Debug, PartialEq, Eq)]
+#[derive(Clone, Copy, PartialEq, Eq)]
 pub enum Holds {
     Nothing,
     Zero,

@@ -28,7 +28,7 @@ use tsm_host::Carried;
 
 /// The exchange that is to be asked and taken: of the interface at this place; so many draws were made as its operation
 /// began.
-#[derive(Clone, Copy, Debug, PartialEq, Eq)]
+#[derive(Clone, Copy, PartialEq, Eq)]
 pub struct Asking {
     place: usize,
     step: Step,

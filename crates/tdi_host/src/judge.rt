@@ -12,7 +12,7 @@ use tsm_host::Carried;
 
 /// What was carried in answer to a request: the expected reply with its value, a refusal with its code, nothing at all,
 /// or anything else (this profile).
-#[derive(Clone, Copy, Debug, PartialEq, Eq)]
+#[derive(Clone, Copy, PartialEq, Eq)]
 pub(crate) enum Answer<'a> {
     Passed,
     Nonce([u8; 32]),

@@ -3,7 +3,7 @@
 use ide_types::StreamStatus;
 
 /// An operation on an interface. Each begins anew whenever it is asked for (TDISP section 11.3, and this profile).
-#[derive(Clone, Copy, Debug, PartialEq, Eq)]
+#[derive(Clone, Copy, PartialEq, Eq)]
 pub enum InterfaceOp {
     /// Locks the interface, and gets the nonce of the lock.
     Lock,
@@ -19,7 +19,7 @@ pub enum InterfaceOp {
 
 /// What the manager knows of an interface (this profile). The device may leave a lock by itself, so this is the
 /// manager's view alone.
-#[derive(Clone, Copy, Debug, PartialEq, Eq)]
+#[derive(Clone, Copy, PartialEq, Eq)]
 pub enum View {
     /// It was not locked, or it was halted.
     Unlocked,
@@ -35,7 +35,7 @@ pub enum View {
 
 /// The outcome of an exchange: the operation's next one is to be asked; the operation is at its end; it is over (this
 /// profile).
-#[derive(Clone, Copy, Debug, PartialEq, Eq)]
+#[derive(Clone, Copy, PartialEq, Eq)]
 pub enum Outcome {
     Next,
     Done(Shown),
@@ -43,7 +43,7 @@ pub enum Outcome {
 }
 
 /// What an operation shows at its end.
-#[derive(Clone, Copy, Debug, PartialEq, Eq)]
+#[derive(Clone, Copy, PartialEq, Eq)]
 pub enum Shown {
     /// Of lock: the nonce.
     Nonce([u8; 32]),
@@ -58,7 +58,7 @@ pub enum Shown {
 }
 
 /// Why an operation does not begin, or is over before its end (this profile). Exchanges are numbered from 1.
-#[derive(Clone, Copy, Debug, PartialEq, Eq)]
+#[derive(Clone, Copy, PartialEq, Eq)]
 pub enum Refusal {
     /// The view does not allow it.
     WrongState(View),

@@ -7,7 +7,7 @@ use crate::operation::InterfaceOp;
 
 /// An exchange with the device: lock has three, report as many as the report has portions, each other operation one
 /// (TDISP section 11.3).
-#[derive(Clone, Copy, Debug, PartialEq, Eq)]
+#[derive(Clone, Copy, PartialEq, Eq)]
 pub enum Step {
     Version,
     Capabilities,

@@ -5,7 +5,7 @@ ghost use Rattle.tdi_state.specs.Machine.{error_code};
 
 /// Why a device refuses a request (TDISP section 11.3). BUSY, UNSPECIFIED and vendors' own codes are never given in
 /// this profile.
-#[derive(Clone, Copy, Debug, PartialEq, Eq)]
+#[derive(Clone, Copy, PartialEq, Eq)]
 pub enum ErrorCode {
     /// The request's length or a field of it is wrong.
     InvalidRequest,

@@ -10,7 +10,7 @@ use interface_words::Register;
 
 /// What the registers of a device interface hold (PCI Express Base 6.0 sections 7.5.1 and 7.7 to 7.9, and this
 /// profile).
-#[derive(Clone, Copy, Debug, PartialEq, Eq)]
+#[derive(Clone, Copy, PartialEq, Eq)]
 pub struct Registers {
     pub command: u16,
     pub cache_line: u8,

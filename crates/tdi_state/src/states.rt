@@ -9,7 +9,7 @@ use crate::error_codes::ErrorCode;
 use crate::register_set::Registers;
 
 /// What an accepted LOCK_INTERFACE keeps (TDISP section 11.3).
-#[derive(Clone, Copy, Debug, PartialEq, Eq)]
+#[derive(Clone, Copy, PartialEq, Eq)]
 pub struct Lock {
     /// Its flags: bit 0 no firmware update, 1 system cache line size, 2 lock MSI-X, 4 all request redirect.
     pub flags: u16,
@@ -23,7 +23,7 @@ pub struct Lock {
 
 /// The state of a device interface (TDISP section 11.1), with what the lock that stands kept. The nonce of a lock is
 /// there until START_INTERFACE, STOP_INTERFACE or an error uses it up.
-#[derive(Clone, Copy, Debug, PartialEq, Eq)]
+#[derive(Clone, Copy, PartialEq, Eq)]
 pub enum TdiState {
     /// The host may change what it likes.
     ConfigUnlocked,

@@ -1,7 +1,7 @@
 //! Why bytes are no message or report.
 
 /// The first fault from the left, with its place, a byte offset from 0 (this profile).
-#[derive(Clone, Copy, Debug, PartialEq, Eq)]
+#[derive(Clone, Copy, PartialEq, Eq)]
 pub enum TdispFault {
     /// The bytes end before the message does, also within the entries of a count.
     Short(usize),

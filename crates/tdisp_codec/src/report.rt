@@ -9,7 +9,7 @@ use byteorder::{ByteOrder, LittleEndian};
 /// An MMIO range of an interface (TDISP section 11.3): the first page by its number, how many pages of 4,096 bytes, its
 /// attributes (bit 0 MSI-X table, 1 MSI-X PBA, 2 memory outside the trusted domain, 3 updatable), and its ID, the BAR's
 /// number.
-#[derive(Clone, Copy, Debug, PartialEq, Eq)]
+#[derive(Clone, Copy, PartialEq, Eq)]
 pub struct ReportRange {
     pub first_page: u64,
     pub pages: u32,

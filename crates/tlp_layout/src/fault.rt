@@ -1,7 +1,7 @@
 //! Why bytes are no TLP.
 
 /// The first fault from the left, with its place, a byte offset from 0 (this profile).
-#[derive(Clone, Copy, Debug, PartialEq, Eq)]
+#[derive(Clone, Copy, PartialEq, Eq)]
 pub enum TlpFault {
     /// The bytes end before the TLP does.
     Short(usize),

@@ -4,7 +4,7 @@ use crate::layout::Layout;
 use ide_types::SubKind;
 
 /// The first double word of a header but for Fmt, Type and the two tag bits in it (PCI Express Base 6.0 section 2.2).
-#[derive(Clone, Copy, Debug, PartialEq, Eq)]
+#[derive(Clone, Copy, PartialEq, Eq)]
 pub struct Lead {
     /// Whether the header has 4 double words, not 3.
     pub wide: bool,
@@ -19,7 +19,7 @@ pub struct Lead {
 }
 
 /// The header of a TLP (PCI Express Base 6.0 section 2.2). A payload follows it if `has_payload` says so.
-#[derive(Clone, Copy, Debug, PartialEq, Eq)]
+#[derive(Clone, Copy, PartialEq, Eq)]
 pub struct HeadView {
     /// The first double word.
     pub lead: Lead,
@@ -30,7 +30,7 @@ pub struct HeadView {
 }
 
 /// The fields of a header by its layout (PCI Express Base 6.0 section 2.2).
-#[derive(Clone, Copy, Debug, PartialEq, Eq)]
+#[derive(Clone, Copy, PartialEq, Eq)]
 pub enum Fields {
     /// Of a memory read or write request.
     Memory(MemoryFields),
@@ -43,7 +43,7 @@ pub enum Fields {
 }
 
 /// The fields of a memory request (PCI Express Base 6.0 section 2.2.7).
-#[derive(Clone, Copy, Debug, PartialEq, Eq)]
+#[derive(Clone, Copy, PartialEq, Eq)]
 pub struct MemoryFields {
     /// Requester ID: bus in bits 15:8, device and function below.
     pub requester: u16,
@@ -58,7 +58,7 @@ pub struct MemoryFields {
 }
 
 /// The fields of a configuration request (PCI Express Base 6.0 section 2.2.7).
-#[derive(Clone, Copy, Debug, PartialEq, Eq)]
+#[derive(Clone, Copy, PartialEq, Eq)]
 pub struct ConfigFields {
     /// Whether it is of type 1, not 0.
     pub one: bool,
@@ -77,7 +77,7 @@ pub struct ConfigFields {
 }
 
 /// How a message is routed (PCI Express Base 6.0 section 2.2.8; routings 6 and 7 are refused).
-#[derive(Clone, Copy, Debug, PartialEq, Eq)]
+#[derive(Clone, Copy, PartialEq, Eq)]
 pub enum Routing {
     /// To the root complex, number 0.
     ToRootComplex,
@@ -94,7 +94,7 @@ pub enum Routing {
 }
 
 /// The fields of a message request (PCI Express Base 6.0 section 2.2.8).
-#[derive(Clone, Copy, Debug, PartialEq, Eq)]
+#[derive(Clone, Copy, PartialEq, Eq)]
 pub struct MessageFields {
     /// How it is routed.
     pub routing: Routing,
@@ -111,7 +111,7 @@ pub struct MessageFields {
 }
 
 /// What became of a request (PCI Express Base 6.0 section 2.2.9).
-#[derive(Clone, Copy, Debug, PartialEq, Eq)]
+#[derive(Clone, Copy, PartialEq, Eq)]
 pub enum CompletionStatus {
     /// Successful completion, number 0.
     Successful,
@@ -124,7 +124,7 @@ pub enum CompletionStatus {
 }
 
 /// The fields of a completion (PCI Express Base 6.0 section 2.2.9).
-#[derive(Clone, Copy, Debug, PartialEq, Eq)]
+#[derive(Clone, Copy, PartialEq, Eq)]
 pub struct CompletionFields {
     /// Completer ID.
     pub completer: u16,
@@ -143,7 +143,7 @@ pub struct CompletionFields {
 }
 
 /// The six kinds of TLP (PCI Express Base 6.0 section 2.2).
-#[derive(Clone, Copy, Debug, PartialEq, Eq)]
+#[derive(Clone, Copy, PartialEq, Eq)]
 pub enum TlpKind {
     /// A memory read request.
     MemRead,

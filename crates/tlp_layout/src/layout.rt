@@ -10,7 +10,7 @@ use crate::fault::TlpFault;
 use crate::head::TlpKind;
 
 /// Which fields stand after the first double word of a header.
-#[derive(Clone, Copy, Debug, PartialEq, Eq)]
+#[derive(Clone, Copy, PartialEq, Eq)]
 pub enum Layout {
     Memory,
     Config,

@@ -4,7 +4,7 @@ use crate::head::{HeadView, TlpKind};
 use ide_types::{Bytes, SubKind};
 
 /// A TLP (PCI Express Base 6.0 section 2.2): its header and the bytes of its payload, none if the header wants none.
-#[derive(Debug, Drop)]
+#[derive(Drop)]
 pub struct Tlp {
     /// The header.
     pub head: HeadView,
@@ -13,7 +13,7 @@ pub struct Tlp {
 }
 
 /// A TLP whose payload is lent (PCI Express Base 6.0 section 2.2).
-#[derive(Clone, Copy, Debug)]
+#[derive(Clone, Copy)]
 pub struct TlpView<'a> {
     /// The header.
     pub head: HeadView,

@@ -7,7 +7,7 @@ ghost use Rattle.toml_walk.specs.Bounds.{within, formed, has_form, admits};
 pub const GREATEST: u64 = 9223372036854775807;
 
 /// The form that a number has to have, besides its bounds.
-#[derive(Clone, Copy, Debug, PartialEq, Eq)]
+#[derive(Clone, Copy, PartialEq, Eq)]
 pub enum Form {
     /// Nothing.
     Any,
@@ -40,7 +40,7 @@ impl Form {
 }
 
 /// The numbers from `least` to `most` that have a form.
-#[derive(Clone, Copy, Debug, PartialEq, Eq)]
+#[derive(Clone, Copy, PartialEq, Eq)]
 pub struct Bounds {
     pub least: u64,
     pub most: u64,

@@ -7,7 +7,7 @@ use ide_types::Bytes;
 use std::alloc::{AllocError, AllocFailed};
 
 /// The first fault of a walk (this profile). A key is named by its path: keys and places in lists, joined by dots.
-#[derive(Debug, Drop)]
+#[derive(Drop)]
 pub enum PlanFault {
     /// The bytes are no TOML text.
     NotToml,
@@ -27,7 +27,7 @@ pub enum PlanFault {
 }
 
 /// Why there is no plan: there was no memory, or the text has a fault.
-#[derive(Debug, Drop)]
+#[derive(Drop)]
 pub enum PlanError {
     Memory,
     Fault(PlanFault),

@@ -12,7 +12,7 @@ use std::alloc::Global;
 use toml::Value;
 
 /// How many elements a list may have.
-#[derive(Clone, Copy, Debug, PartialEq, Eq)]
+#[derive(Clone, Copy, PartialEq, Eq)]
 pub struct Span {
     pub least: usize,
     /// No bound if there is none.

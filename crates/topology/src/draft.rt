@@ -4,7 +4,7 @@ use ide_plan::{InterfacePlan, Region, StreamPlan};
 use ide_types::Items;
 
 /// What a stream is chosen by.
-#[derive(Clone, Copy, Debug, PartialEq, Eq)]
+#[derive(Clone, Copy, PartialEq, Eq)]
 pub enum StreamKind {
     Selective,
     Link,

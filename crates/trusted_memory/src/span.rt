@@ -15,7 +15,7 @@ use tlp_layout::{Fields, HeadView};
 
 /// The bytes that a memory request names (PCI Express Base 6.0 section 2.2): those of its double words, at ascending
 /// addresses, some of which it enables.
-#[derive(Clone, Copy, Debug, PartialEq, Eq)]
+#[derive(Clone, Copy, PartialEq, Eq)]
 pub struct Span {
     /// The address of the first byte.
     pub address: u64,

@@ -9,7 +9,7 @@ use crate::Span;
 use tlp_layout::TlpView;
 
 /// A memory write request whose payload is lent (PCI Express Base 6.0 section 2.2).
-#[derive(Clone, Copy, Debug)]
+#[derive(Clone, Copy)]
 pub struct MemWriteView<'a> {
     /// The bytes that it names.
     pub span: Span,

@@ -9,7 +9,7 @@ use link_verdicts::Operation;
 
 /// An exchange with the device. A lane is one of six: the device's receivers of posted requests, non-posted requests
 /// and completions are lanes 0 to 2, its senders lanes 3 to 5.
-#[derive(Clone, Copy, Debug, PartialEq, Eq)]
+#[derive(Clone, Copy, PartialEq, Eq)]
 pub enum Exchange {
     Query,
     Program { set: KeySet, lane: u8 },

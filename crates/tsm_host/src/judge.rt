@@ -10,7 +10,7 @@ use ide_km::{KmView, km_read};
 
 /// What was carried in answer to a request: the expected reply, nothing at all, a refusal with its code, or anything
 /// else (this profile).
-#[derive(Clone, Copy, Debug, PartialEq, Eq)]
+#[derive(Clone, Copy, PartialEq, Eq)]
 pub enum Judged {
     Expected,
     Lost,

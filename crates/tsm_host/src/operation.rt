@@ -7,7 +7,7 @@ use ide_types::{StreamStatus, SubKind};
 use link_verdicts::Operation;
 
 /// An operation of the manager, by the link's number and the stream's ID (this profile).
-#[derive(Clone, Copy, Debug, PartialEq, Eq)]
+#[derive(Clone, Copy, PartialEq, Eq)]
 pub enum Op {
     /// Gives the stream keys, in key set 0.
     Establish(u8, u8),
@@ -18,7 +18,7 @@ pub enum Op {
 }
 
 /// What became of a request: its reply, `None` if the device gave none, or the loss of either of them.
-#[derive(Clone, Copy, Debug)]
+#[derive(Clone, Copy)]
 pub enum Carried<'a> {
     Reply(Option<&'a [u8]>),
     Lost,
@@ -26,7 +26,7 @@ pub enum Carried<'a> {
 
 /// The outcome of an exchange: the operation's next one is to be asked; the operation is at its end; it stays where it
 /// is until it is begun again (this profile).
-#[derive(Clone, Copy, Debug, PartialEq, Eq)]
+#[derive(Clone, Copy, PartialEq, Eq)]
 pub enum Outcome {
     Next,
     Done(Shown),
@@ -34,7 +34,7 @@ pub enum Outcome {
 }
 
 /// What an operation shows at its end.
-#[derive(Clone, Copy, Debug, PartialEq, Eq)]
+#[derive(Clone, Copy, PartialEq, Eq)]
 pub enum Shown {
     /// The draw whose keys the stream has from now on.
     Draw(u32),
@@ -43,7 +43,7 @@ pub enum Shown {
 }
 
 /// Why an operation does not begin, or does not go on now (this profile). Exchanges are numbered from 1.
-#[derive(Clone, Copy, Debug, PartialEq, Eq)]
+#[derive(Clone, Copy, PartialEq, Eq)]
 pub enum Refusal {
     /// Of establish: the stream has keys.
     NotIdle,

@@ -50,7 +50,7 @@ pub enum Stage {
 
 /// The exchange that is next of an unfinished operation: its key set, its draw (0 if it has none), and the number of
 /// the exchange, from 1.
-#[derive(Clone, Copy, Debug, PartialEq, Eq)]
+#[derive(Clone, Copy, PartialEq, Eq)]
 pub struct Asked {
     pub operation: Operation,
     pub set: KeySet,

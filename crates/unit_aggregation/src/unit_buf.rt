@@ -23,7 +23,7 @@ pub const HEAD_BYTES: usize = 20;
 pub const BODY_BYTES: usize = 4_096;
 
 /// The unit has as many packets as its mode allows (this profile).
-#[derive(Clone, Copy, Debug, PartialEq, Eq)]
+#[derive(Clone, Copy, PartialEq, Eq)]
 pub struct UnitFull;
 
 /// The packets of one unit (PCI Express Base 6.0 section 6.33, in this profile). A packet is its head, which is sent

@@ -16,7 +16,7 @@ use trusted_memory::{Grant, Trusted};
 pub const MOST_WAITING: usize = 64;
 
 /// A read that waits for its answer (this profile).
-#[derive(Clone, Copy, Debug, PartialEq, Eq)]
+#[derive(Clone, Copy, PartialEq, Eq)]
 pub struct WaitingRead {
     /// The read.
     pub read: MemReadView,

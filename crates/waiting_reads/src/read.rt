@@ -8,7 +8,7 @@ use tlp_layout::{Fields, HeadView};
 use trusted_memory::Span;
 
 /// A memory read request, as far as its completion depends on it (PCI Express Base 6.0 section 2.2.7).
-#[derive(Clone, Copy, Debug, PartialEq, Eq)]
+#[derive(Clone, Copy, PartialEq, Eq)]
 pub struct MemReadView {
     /// The bytes that it names.
     pub span: Span,
