@@ -1,7 +1,7 @@
 -- The laws of what is delivered.
 use Rattle.delivery_laws.specs.Statements.{PrefixLawHolds, DeliveryLawHolds, WholeLawHolds, OrderIsNoForgeryHolds}
 use Rattle.delivery_laws.specs.Statements.{DrawsNeverFallHolds}
-use Rattle.link_keys.proofs.Draws.{draws}
+use Rattle.sealing_laws.proofs.{draws}
 use Rattle.sealing_laws.proofs.OfPlans.{streams_fit}
 use Rattle.delivery_laws.proofs.Closed.{closed_law}
 use Rattle.delivery_laws.proofs.Orders.{draws_never_fall as never_fall}

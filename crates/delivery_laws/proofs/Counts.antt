@@ -23,8 +23,7 @@ use Rattle.link_history.specs.Due.{due, ended}
 use Rattle.link_history.specs.Cause.{CauseLaw}
 use Rattle.link_history.proofs.Tests.{same_stream}
 use Rattle.link_history.proofs.Causes.{AcceptedBy, accepted_by, ending, packet_that_came, numbered}
-use Rattle.link_keys.proofs.Given.{accepted_on}
-use Rattle.link_keys.proofs.SealedKeys.{on_is_owned}
+use Rattle.sealing_laws.proofs.{accepted_on, on_is_owned}
 use Rattle.delivery_laws.specs.PostedCounts.{CountsMet, CountLaw, CountLawHolds}
 
 abbrev posted_sum : List Packet → ℕ

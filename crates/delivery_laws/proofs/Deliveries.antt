@@ -79,7 +79,7 @@ with_payloads-append xs ys (p ∷ ps) qs same =
     rw (drop-append-le n xs ys fits, take-append-le n xs ys fits) (grind (arith, later))
 
 -- the TLP of a packet with this payload
-abbrev tlp_with : Packet → List ℕ → List (List ℕ)
+abbrev pub tlp_with : Packet → List ℕ → List (List ℕ)
 tlp_with p payload = if is_sync_packet p then [] else (p.head ++ payload) ∷ []
 
 -- the plaintext of a unit that gains a packet
@@ -107,7 +107,7 @@ opened-snoc plan s j n unfinished p payload sealed =
 -- ---- what was sealed, opened, is what was sent
 
 -- what is sealed for a send carries, of its own sub-stream, a TLP or nothing
-abbrev carried_by : SealedPacket → List ℕ → List ℕ
+abbrev pub carried_by : SealedPacket → List ℕ → List ℕ
 carried_by d payload = if d.sync then [] else payload
 
 -- a header of its class begins no sync packet
@@ -118,7 +118,7 @@ head_plain head bytes sub spells class =
     not_sync sub head (slice_index bytes 0) right.kind class
 
 -- its packet has the header, and the payload in the ciphertext
-carries_tlp : (plan : Plan) (ahead bytes : List ℕ) (d : SealedPacket) (unfinished : List Packet) (t : Tlp)
+pub carries_tlp : (plan : Plan) (ahead bytes : List ℕ) (d : SealedPacket) (unfinished : List Packet) (t : Tlp)
     → read_of bytes
     ≡ Ok t → (d.sync ≡ false → class_of (header t) ≡ d.sub) → (d.sync ≡ true → IsSyncOf d)
     → ((packet_of plan ahead bytes d unfinished).body ≡ masked (key_of plan d.draw (sub_stream_of d))
@@ -215,7 +215,7 @@ all_opened plan facts ((e, Sealed ds) ∷ h) cause s j =
     from.class (ahead_of_packet plan (sealed_packets plan h) (base h)) (sent_bytes plan h e) is.tlp is.reads is.class s
     j
     ds (sealed_packets plan h)
-    (all_of_sealing plan facts h cause.1 (sending_port e) (sent_bytes plan h e) ds is) (tlps_sent plan h s j)
+    (all_of_sealing plan facts h cause.1 (sending_port plan e) (sent_bytes plan h e) ds is) (tlps_sent plan h s j)
     (all_opened plan facts h cause.1 s j)
 all_opened plan facts (_ ∷ h) cause s j = all_opened plan facts h cause.1 s j
 

@@ -8,7 +8,7 @@ use Rattle.delivery_laws.proofs.Received.{held_front}
 
 -- ---- what was got are finished units, and what is pending finishes none
 
-units-front_append : (ps qs : List Packet) → IsFront qs → units (ps ++ qs) ≡ units ps
+pub units-front_append : (ps qs : List Packet) → IsFront qs → units (ps ++ qs) ≡ units ps
 units-front_append ps [] unfinished = ap units (append-nil ps)
 units-front_append ps (q ∷ qs) unfinished = ap units (sym (append_assoc ps (q ∷ []) qs)) ∙
     (units-front_append (ps ++ q ∷ []) qs unfinished.1 ∙ units-more ps q unfinished.0)

@@ -1,6 +1,6 @@
 -- The law of the order between sub-streams.
 use Rattle.delivery_laws.specs.Statements.{OrderLawHolds}
-use Rattle.link_keys.proofs.Draws.{draws}
+use Rattle.sealing_laws.proofs.{draws}
 use Rattle.sealing_laws.proofs.OfPlans.{streams_fit}
 use Rattle.delivery_laws.proofs.Ordering.{order_law as ordered}
 

@@ -1,4 +1,5 @@
 -- Everything that arrived unchanged in order was taken.
+use Rattle.link_history.proofs.Ends.{not_through}
 use Rattle.sealing_laws.proofs.Terms.{◌≡◌, ◌≢◌, ℕ, ◌+◌, ◌<◌, Bool, true, false, List, [], ◌∷◌, ◌++◌, length, Some}
 use Rattle.sealing_laws.proofs.Terms.{None, Option, Ok, Err, Result, take, refl, ap, sym, ◌∙◌, subst, arith}
 use Rattle.sealing_laws.proofs.Terms.{if◌then◌else◌, not, ◌||◌, is_some, nat_tests, flat_map-append, Plan}
@@ -186,7 +187,7 @@ module _
       after.unfinished
       (place.room more) in
       let room : is_overfull plan h s j p.prefix.m ≡ false = grind (arith, nat_tests, less) in
-      rw (is_cut p place.fits, known, secure, receives, live)
+      rw (not_through plan port p known, is_cut p place.fits, known, secure, receives, live)
       (under_keys_is plan h port p s j (on_draw h port s (not p.prefix.k)) receives
       (alone (on_draw h port s (not p.prefix.k)) refl) room)
 

@@ -7,7 +7,7 @@ ghost use Rattle.delivery_laws.specs.Statements.{OrderLawHolds, PrefixLawHolds, 
 /// In every history in which each verdict is the one that is due and the totals fit in 8 bytes: provided no tag
 /// verified on a unit that its partner had not sealed, each sub-stream got, key by key, a prefix of what was sealed,
 /// the draws of its accepted units never fall, and on a closed stream nothing of a newer key was accepted before all of
-/// the older ones.
+/// the older ones since the stream was last established.
 pub fn prefix_law()
     ensures { PrefixLawHolds }
 {}
@@ -19,8 +19,8 @@ pub fn delivery_law()
 {}
 
 /// In every history in which each verdict is the one that is due, each packet that arrives unchanged and in order is
-/// taken, held or accepted, if its key is Live, nothing of another draw is held, the stream has not failed and the
-/// posted counts are met.
+/// taken, held or accepted, if its key is Live, nothing of another draw is held, the stream has not failed, the posted
+/// counts are met, and on a closed stream nothing of an older draw since the stream was last established is missing.
 pub fn whole_law()
     ensures { WholeLawHolds }
 {}
@@ -39,14 +39,14 @@ pub fn draws_never_fall()
 
 /// In every history in which each verdict is the one that is due and the totals fit in 8 bytes, and in which no tag
 /// verified on a unit that its partner had not sealed: non-posted packets and completions are accepted after the posted
-/// packets that were sealed before them: on a closed stream always, on an open one if nothing of an overtaken key is
-/// missing.
+/// packets that were sealed before them since the stream was last established: on a closed stream always, on an open one
+/// if nothing of an overtaken key is missing.
 pub fn order_law()
     ensures { OrderLawHolds }
 {}
 
-/// The sums of posted counts never pass the posted packets that were got, in every history in which each verdict is the
-/// one that is due.
+/// Since the stream was last established, the sums of posted counts never pass the posted packets that were got, in
+/// every history in which each verdict is the one that is due.
 pub fn count_law()
     ensures { CountLawHolds }
 {}

@@ -6,7 +6,7 @@ use Rattle.std.specs.Option.{option_map_or}
 use Rattle.std.proofs.lemmas.Bool.{cases_Bool, true≢false, eqb-true}
 use Rattle.std.proofs.lemmas.Bool.Decides.{nat_tests}
 use Rattle.ide_plan.specs.declared.interface.BarPlan.{BarPlan}
-use Rattle.trusted_memory.specs.Admitted.{is_on_bound}
+use Rattle.tdi_state.specs.Bindings.{floor_on}
 use Rattle.trusted_memory.specs.Spans.{crosses}
 use Rattle.trusted_memory.specs.Writes.{Write}
 use Rattle.guarded_memory.specs.declared.standing.InterfaceState.{InterfaceState}
@@ -18,10 +18,10 @@ use Rattle.link_verdicts.specs.declared.verdict.BlockCause.TheVariants as cause
 use Rattle.guarded_memory.specs.Standings.{is_open_range, has_open_range, is_config_unlocked, is_in_run}
 use Rattle.guarded_memory.specs.Standings.{is_locked_or_run}
 use Rattle.guarded_memory.specs.Claims.{claim_of}
-use Rattle.guarded_memory.specs.Causes.{bound_cause, access_cause, mmio_cause}
+use Rattle.guarded_memory.specs.Causes.{floor_cause, access_cause, mmio_cause}
 use Rattle.guarded_memory.specs.Happenings.{contents_by}
 use Rattle.guarded_memory.specs.Stored.{stored_unless, stored_by_claim}
-use Rattle.guarded_memory.specs.Laws.{is_guarded, is_admitted, GuardedBytesStay}
+use Rattle.guarded_memory.specs.Laws.{is_guarded, is_from_floor, is_admitted, GuardedBytesStay}
 use Rattle.guarded_memory.proofs.Claimed.{IsClaimed, claimed}
 
 pub both : (p q : Bool) → (p && q) ≡ true → (p ≡ true) × (q ≡ true)
@@ -41,19 +41,16 @@ running : (t : Bool) (o : Option BlockCause) → cond t o (Some cause.NotRunning
 running true o e = (refl, e)
 running false o e = absurd (none_is_not cause.NotRunning e)
 
-bound_tests : (same less le : Bool) → le ≡ not less
-    → cond (not same) (Some cause.WrongStream) (cond less (Some cause.Stale) None) ≡ None → (same && le) ≡ true
-bound_tests false less le is e = absurd (none_is_not cause.WrongStream e)
-bound_tests true true le is e = absurd (none_is_not cause.Stale e)
-bound_tests true false le is e = is
+not_stale : (less le : Bool) → le ≡ not less → cond less (Some cause.Stale) None ≡ None → le ≡ true
+not_stale true le is e = absurd (none_is_not cause.Stale e)
+not_stale false le is e = is
 
 le_not_less : (m n : ℕ) → leb m n ≡ not (ltb n m)
 le_not_less m n = grind (arith, nat_tests)
 
-on_bound : (o : Option (ℕ × ℕ)) (stream draw : ℕ) → bound_cause o stream draw ≡ None → is_on_bound stream draw o ≡ true
-on_bound None stream draw e = absurd (none_is_not cause.WrongStream e)
-on_bound (Some b) stream draw e =
-    bound_tests (eqb b.0 stream) (ltb draw b.1) (leb b.1 draw) (le_not_less b.1 draw) e
+from_floor : (o : Option ℕ) (draw : ℕ) → floor_cause o draw ≡ None → is_from_floor o draw ≡ true
+from_floor None draw e = absurd (none_is_not cause.WrongStream e)
+from_floor (Some floor) draw e = not_stale (ltb draw floor) (leb floor draw) (le_not_less floor draw) e
 
 not_unlocked : (s : InterfaceState) → is_locked_or_run s ≡ true → is_config_unlocked s ≡ false
 not_unlocked state.ConfigUnlocked e = absurd (true≢false (sym e))
@@ -64,8 +61,8 @@ not_unlocked state.Error e = refl
 accessed : (x : Standing) (range : BarPlan) (t : Bool) (stream draw : ℕ) → is_locked_or_run x.state ≡ true
     → is_open_range range ≡ false → access_cause x range t stream draw ≡ None → is_admitted x t stream draw ≡ true
 accessed x range true stream draw held shut e =
-    let r = running (is_in_run x.state) (bound_cause x.bound stream draw) e in
-    rw (r.0, on_bound x.bound stream draw r.1) refl
+    let r = running (is_in_run x.state) (floor_cause (floor_on stream x.bound) draw) e in
+    rw (r.0, from_floor (floor_on stream x.bound) draw r.1) refl
 accessed x range false stream draw held shut e =
     absurd (none_is_not cause.NotTrusted (rw (shut, not_unlocked x.state held) at e))
 

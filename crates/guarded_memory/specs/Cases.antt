@@ -6,6 +6,7 @@ use Rattle.ide_plan.specs.declared.interface.BarPlan.{BarPlan}
 use Rattle.tlp_layout.specs.Reading.{tlp_read}
 use Rattle.trusted_memory.specs.declared.span.Span.{Span}
 use Rattle.trusted_memory.specs.Writes.{Write, write_in}
+use Rattle.tdi_state.specs.declared.bindings.Binding.{Binding}
 use Rattle.guarded_memory.specs.declared.standing.InterfaceState.{InterfaceState}
 use Rattle.guarded_memory.specs.declared.standing.InterfaceState.TheVariants.{ConfigUnlocked, ConfigLocked, Run, Error}
 use Rattle.guarded_memory.specs.declared.standing.Standing.{Standing}
@@ -33,17 +34,20 @@ case_range base pages attributes = record { base = base; pages = pages; attribut
 abbrev pub case_bars : ℕ → List BarPlan
 case_bars attributes = case_range 0x40000000 16 attributes ∷ case_range 0x4000f000 2 attributes ∷ []
 
--- bound to stream 5, with floor 1
+-- bound to stream 5, with floor 1, and to stream 9 between two devices, with floor 2
+abbrev pub case_bound : List Binding
+case_bound = record { stream = 5; floor = 1 } ∷ record { stream = 9; floor = 2 } ∷ []
+
 abbrev pub case_standing : InterfaceState → List BarPlan → Standing
-case_standing state bars = record { state = state; memory_space = true; bars = bars; bound = Some (5, 1) }
+case_standing state bars = record { state = state; memory_space = true; bars = bars; bound = case_bound }
 
 -- ---- effects
 
 abbrev pub HasEffect : List Standing → Bool → ℕ → ℕ → Effect → Type 0
 HasEffect xs t stream draw effect = mmio_effect xs t stream draw (option_map (λ w. w.span) case_write) ≡ effect
 
--- of a range that is not open: trusted on the bound stream in each state; on another stream; under an older key; not
--- trusted in each state
+-- of a range that is not open: trusted on a bound stream in each state; on another stream; under an older key; not
+-- trusted in each state; on a bound stream between two devices, under its own floor
 abbrev pub ClosedCases : Type 0
 ClosedCases =
     HasEffect (case_standing Run (case_bars 0) ∷ []) true 5 1 Stored
@@ -56,6 +60,9 @@ ClosedCases =
     × HasEffect (case_standing ConfigLocked (case_bars 0) ∷ []) false 5 1 (Blocked NotTrusted)
     × HasEffect (case_standing Error (case_bars 0) ∷ []) false 5 1 (Blocked NotTrusted)
     × HasEffect (case_standing ConfigUnlocked (case_bars 0) ∷ []) false 5 1 Stored
+    × HasEffect (case_standing Run (case_bars 0) ∷ []) true 9 2 Stored
+    × HasEffect (case_standing Run (case_bars 0) ∷ []) true 9 1 (Blocked Stale)
+    × HasEffect (case_standing ConfigLocked (case_bars 0) ∷ []) true 9 2 (Blocked NotRunning)
 
 -- of one that is open: not trusted in RUN, and trusted in ERROR
 abbrev pub OpenCases : Type 0

@@ -1,6 +1,6 @@
 -- Why a claimed write is blocked, the first cause that holds (this profile). The causes speak of the bytes that it
 -- names, of T, and of the stream and the draw that its packet came under, and of no payload.
-use Rattle.std.specs.Prelude.{ℕ, ◌==◌, ◌||◌, nat_lt, not, Bool, true, false, if◌then◌else◌, List, Option, Some, None}
+use Rattle.std.specs.Prelude.{ℕ, ◌||◌, nat_lt, Bool, true, false, if◌then◌else◌, List, Option, Some, None}
 use Rattle.ide_plan.specs.declared.interface.BarPlan.{BarPlan}
 use Rattle.trusted_memory.specs.declared.span.Span.{Span}
 use Rattle.trusted_memory.specs.Spans.{crosses}
@@ -12,6 +12,7 @@ use Rattle.link_verdicts.specs.declared.verdict.BlockCause.TheVariants.{Crosses,
 use Rattle.link_verdicts.specs.declared.verdict.BlockCause.TheVariants.{Stale}
 use Rattle.link_verdicts.specs.declared.verdict.Effect.{Effect}
 use Rattle.link_verdicts.specs.declared.verdict.Effect.TheVariants.{Delivered, Stored, Blocked}
+use Rattle.tdi_state.specs.Bindings.{floor_on}
 use Rattle.guarded_memory.specs.Standings.{is_open_range, is_config_unlocked, is_in_run}
 use Rattle.guarded_memory.specs.Claims.{claim_of}
 
@@ -19,17 +20,14 @@ use Rattle.guarded_memory.specs.Claims.{claim_of}
 abbrev pub untrusted_cause : InterfaceState → BarPlan → Option BlockCause
 untrusted_cause state range = if is_open_range range || is_config_unlocked state then None else Some NotTrusted
 
--- it came on another stream than the bound one; its draw is less than the floor
-abbrev pub bound_cause : Option (ℕ × ℕ) → ℕ → ℕ → Option BlockCause
-bound_cause None stream draw = Some WrongStream
-bound_cause (Some bound) stream draw =
-    if not (bound.0 == stream) then Some WrongStream
-    else if nat_lt draw bound.1 then Some Stale
-    else None
+-- it came on a stream that has no floor, since the interface is not bound to it; its draw is less than the floor
+abbrev pub floor_cause : Option ℕ → ℕ → Option BlockCause
+floor_cause None draw = Some WrongStream
+floor_cause (Some floor) draw = if nat_lt draw floor then Some Stale else None
 
 -- of a trusted write: the interface is not in RUN; else by stream and draw
 abbrev pub trusted_cause : Standing → ℕ → ℕ → Option BlockCause
-trusted_cause x stream draw = if is_in_run x.state then bound_cause x.bound stream draw else Some NotRunning
+trusted_cause x stream draw = if is_in_run x.state then floor_cause (floor_on stream x.bound) draw else Some NotRunning
 
 abbrev pub access_cause : Standing → BarPlan → Bool → ℕ → ℕ → Option BlockCause
 access_cause x range true stream draw = trusted_cause x stream draw

@@ -1,6 +1,6 @@
 -- What a lock guards (PCI Express Base 6.0 chapter 11, in this profile).
-use Rattle.std.specs.Prelude.{ℕ, ◌≡◌, ◌&&◌, not, Bool, true, false, List, slice_get, Option, Some}
-use Rattle.trusted_memory.specs.Admitted.{is_on_bound}
+use Rattle.std.specs.Prelude.{ℕ, ◌≡◌, ◌&&◌, nat_le, not, Bool, true, false, List, slice_get, Option, Some, None}
+use Rattle.tdi_state.specs.Bindings.{floor_on}
 use Rattle.trusted_memory.specs.Writes.{Write}
 use Rattle.guarded_memory.specs.declared.standing.Standing.{Standing}
 use Rattle.guarded_memory.specs.Standings.{has_open_range, is_in_run, is_locked_or_run}
@@ -11,9 +11,14 @@ use Rattle.guarded_memory.specs.Stored.{stored_by}
 abbrev pub is_guarded : Standing → ℕ → Bool
 is_guarded x b = is_locked_or_run x.state && not (has_open_range x.bars b)
 
--- a trusted write, to an interface in RUN, on its bound stream, under a draw from its floor on
+-- the draw is from the floor on
+abbrev pub is_from_floor : Option ℕ → ℕ → Bool
+is_from_floor None draw = false
+is_from_floor (Some floor) draw = nat_le floor draw
+
+-- a trusted write, to an interface in RUN, on a stream that it is bound to, under a draw from its floor there on
 abbrev pub is_admitted : Standing → Bool → ℕ → ℕ → Bool
-is_admitted x t stream draw = t && (is_in_run x.state && is_on_bound stream draw x.bound)
+is_admitted x t stream draw = t && (is_in_run x.state && is_from_floor (floor_on stream x.bound) draw)
 
 -- a byte of a guarded range changes only by an admitted write: by any other TLP it stays
 abbrev pub GuardedBytesStay : Type 0

@@ -14,7 +14,7 @@ pub use Rattle.guarded_memory.specs.Standings.{is_open_range, has_open_range, is
 pub use Rattle.guarded_memory.specs.Standings.{is_locked_or_run, interface_state, standing_of}
 pub use Rattle.guarded_memory.specs.Claims.{holds_span, first_passing, holding_bar, claimed_bar, claim_by, claim_from}
 pub use Rattle.guarded_memory.specs.Claims.{claim_of}
-pub use Rattle.guarded_memory.specs.Causes.{untrusted_cause, bound_cause, trusted_cause, access_cause, mmio_cause}
+pub use Rattle.guarded_memory.specs.Causes.{untrusted_cause, floor_cause, trusted_cause, access_cause, mmio_cause}
 pub use Rattle.guarded_memory.specs.Causes.{cause_effect, is_stored, claim_effect, mmio_effect}
 pub use Rattle.guarded_memory.specs.Happenings.{Happened, WriteStored, InterfaceReset, AllReset, InterfaceStopped}
 pub use Rattle.guarded_memory.specs.Happenings.{clears, stored_write, writes_since, byte_shown, contents_after}
@@ -22,6 +22,6 @@ pub use Rattle.guarded_memory.specs.Happenings.{contents_by, newest_happened}
 pub use Rattle.guarded_memory.specs.Stored.{write_to, write_from, stored_unless, stored_by_claim, stored_by}
 pub use Rattle.guarded_memory.specs.Contents.{GuardedMemory, page_count, page_counts, range_size, fits_range}
 pub use Rattle.guarded_memory.specs.Contents.{has_bytes, new_guarded, mmio_byte, IsMmioLeftBy, MmioLeads}
-pub use Rattle.guarded_memory.specs.Laws.{is_guarded, is_admitted, GuardedBytesStay}
+pub use Rattle.guarded_memory.specs.Laws.{is_guarded, is_from_floor, is_admitted, GuardedBytesStay}
 pub use Rattle.guarded_memory.specs.Cases.{ClosedCases, OpenCases, UnclaimedCases, CrossingCases, StoredCases}
 pub use Rattle.guarded_memory.specs.Cases.{ClearedCases}

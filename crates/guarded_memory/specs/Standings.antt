@@ -1,6 +1,6 @@
 -- How an interface stands, and which of its ranges are open (PCI Express Base 6.0 chapter 11, in this profile).
 use Rattle.std.specs.Prelude.{ℕ, ◌/◌, ◌%◌, ◌==◌, Bool, true, false, List, slice_get}
-use Rattle.std.specs.Option.{option_map, option_map_or}
+use Rattle.std.specs.Option.{option_map_or}
 use Rattle.ide_plan.specs.declared.interface.BarPlan.{BarPlan}
 use Rattle.guarded_memory.specs.declared.standing.InterfaceState.{InterfaceState}
 use Rattle.guarded_memory.specs.declared.standing.InterfaceState.TheVariants.{ConfigUnlocked, ConfigLocked, Run, Error}
@@ -9,7 +9,7 @@ use Rattle.tdi_state.specs.declared.states.TdiState.{TdiState}
 use Rattle.tdi_state.specs.declared.states.TdiState.TheVariants as tdi
 use Rattle.tdi_state.specs.RegisterValues.{has_bit}
 use Rattle.tdi_state.specs.Bars.{bars_of}
-use Rattle.tdi_state.specs.Machine.{Tdi, bound_stream}
+use Rattle.tdi_state.specs.Machine.{Tdi, all_bindings}
 
 -- bit 2 of the attributes: open to writes that are not trusted
 abbrev pub is_open_range : BarPlan → Bool
@@ -42,11 +42,12 @@ interface_state (tdi.ConfigLocked lock nonce) = ConfigLocked
 interface_state (tdi.Run lock) = Run
 interface_state tdi.Error = Error
 
--- memory space is bit 1 of its command register; it is bound to the stream that its lock keeps, with this floor
+-- memory space is bit 1 of its command register; it is bound to the stream that its lock keeps, with this floor, and to
+-- streams between two devices
 abbrev pub standing_of : Tdi → ℕ → Standing
 standing_of t floor = record {
   state = interface_state t.state;
   memory_space = has_bit 1 t.registers.command;
   bars = bars_of t.plan t.registers;
-  bound = option_map (λ stream. (stream, floor)) (bound_stream t.state);
+  bound = all_bindings floor t;
 }

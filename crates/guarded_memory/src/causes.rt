@@ -1,7 +1,7 @@
 //! Why writes are blocked, and what becomes of them.
 
 ghost use Rattle.std.specs.Prelude.{◌≡◌};
-ghost use Rattle.guarded_memory.specs.Causes.{untrusted_cause, bound_cause, trusted_cause, access_cause, mmio_cause};
+ghost use Rattle.guarded_memory.specs.Causes.{untrusted_cause, floor_cause, trusted_cause, access_cause, mmio_cause};
 
 use crate::standing::is_open_range;
 use crate::{Claim, InterfaceState, Standing};
@@ -20,16 +20,14 @@ fn untrusted_cause(state: InterfaceState, range: &BarPlan) -> Option<BlockCause>
     }
 }
 
-// By the bound stream and the floor.
-fn bound_cause(bound: Option<(u8, u32)>, stream: u8, draw: u32) -> Option<BlockCause>
-    ensures { result ≡ bound_cause bound stream draw }
+// By the floor on its stream.
+fn floor_cause(floor: Option<u32>, draw: u32) -> Option<BlockCause>
+    ensures { result ≡ floor_cause floor draw }
 {
-    match bound {
+    match floor {
         None => Some(BlockCause::WrongStream),
-        Some((bound, floor)) => {
-            if bound != stream {
-                Some(BlockCause::WrongStream)
-            } else if draw < floor {
+        Some(floor) => {
+            if draw < floor {
                 Some(BlockCause::Stale)
             } else {
                 None
@@ -43,7 +41,7 @@ fn trusted_cause(standing: &Standing, stream: u8, draw: u32) -> Option<BlockCaus
     ensures { result ≡ trusted_cause standing.now stream draw }
 {
     if standing.state.is_in_run() {
-        bound_cause(standing.bound, stream, draw)
+        floor_cause(standing.bound.floor_on(stream), draw)
     } else {
         Some(BlockCause::NotRunning)
     }
@@ -61,8 +59,8 @@ fn access_cause(claim: &Claim, trusted: bool, stream: u8, draw: u32) -> Option<B
 
 /// The first cause that blocks a claimed write over these bytes, which came on this stream under the key of this draw:
 /// its bytes cross a 4 KiB boundary of addresses; it is not trusted, the range is not open, and the interface is not in
-/// CONFIG_UNLOCKED; it is trusted, and the interface is not in RUN; it came on another stream than the bound one; its
-/// key is from before the interface started (this profile). `None` if nothing blocks it.
+/// CONFIG_UNLOCKED; it is trusted, and the interface is not in RUN; it came on a stream that the interface is not bound
+/// to; its draw is less than the floor there (this profile). `None` if nothing blocks it.
 pub fn mmio_cause(
     claim: &Claim,
     span: Span,

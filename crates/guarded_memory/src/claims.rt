@@ -9,7 +9,7 @@ use trusted_memory::Span;
 
 /// The BAR that claims a write, and the interface that has it, by their numbers and as they stand (PCI Express Base 6.0
 /// section 7.5.1.2.1, in this profile).
-#[derive(Clone, Copy, PartialEq, Eq)]
+#[derive(Drop)]
 pub struct Claim {
     /// The interface's number among those of the device.
     pub interface: usize,

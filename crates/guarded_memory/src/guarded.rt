@@ -174,7 +174,8 @@ impl Guarded {
         ensures sizes { self.new.sizes ≡ self.old.sizes }
         ensures spare { self.old.spare ≤ self.new.spare + 2 }
     {
-        let offset = write.span.address - claim.range.base;
+        let range = claim.range;
+        let offset = write.span.address - range.base;
         let end = offset + write.span.bytes() as u64;
         self.bring_page(name_at(claim.interface, claim.bar, offset));
         self.bring_page(name_at(claim.interface, claim.bar, end.saturating_sub(1)));
@@ -254,7 +255,7 @@ impl Guarded {
             (stored_by (S.stand standings.now) trusted unit.stream unit.draw (write_in (viewed_tlp tlp.now)) ∷ [])
             self.new }
         // A byte of a range that is not open, of an interface in CONFIG_LOCKED or RUN, changes only by a trusted write
-        // in RUN, on the bound stream, under a draw from the floor on.
+        // in RUN, on a bound stream, under a draw from its floor on.
         ensures guarded { (i b at : ℕ) (x : Standing) → slice_get (S.stand standings.now) i ≡ Some x
             → is_guarded x b ≡ true → is_admitted x trusted unit.stream unit.draw ≡ false
             → mmio_byte self.new i b at ≡ mmio_byte self.old i b at }

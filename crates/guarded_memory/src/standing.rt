@@ -1,14 +1,12 @@
 //! How an interface stands when a write arrives.
 
 ghost use Rattle.std.specs.Prelude.{◌≡◌};
-ghost use Rattle.std.specs.Option.{option_map};
 ghost use Rattle.tdi_state.specs.RegisterValues.{has_bit};
-ghost use Rattle.tdi_state.specs.Machine.{bound_stream};
 ghost use Rattle.guarded_memory.specs.Standings.{is_open_range, has_open_range};
 ghost use Rattle.guarded_memory.specs.Standings.{is_config_unlocked, is_in_run, interface_state, standing_of};
 
 use ide_plan::BarPlan;
-use tdi_state::{Interface, Register, TdiState};
+use tdi_state::{Bindings, Interface, Register, TdiState};
 
 /// The state of a device interface (PCI Express Base 6.0 chapter 11).
 #[derive(Clone, Copy, PartialEq, Eq)]
@@ -20,7 +18,7 @@ pub enum InterfaceState {
 }
 
 /// What is asked of an interface when a write arrives (PCI Express Base 6.0 chapter 11, in this profile).
-#[derive(Clone, Copy, PartialEq, Eq)]
+#[derive(Drop)]
 pub struct Standing {
     /// Its state.
     pub state: InterfaceState,
@@ -29,8 +27,8 @@ pub struct Standing {
     /// Its base address registers by their number, each with its base as it stands; one that the interface has not has
     /// no pages. Bit 2 of the attributes says that the range is open to writes that are not trusted.
     pub bars: [BarPlan; 6],
-    /// The ID of the stream that it is bound to, and its floor, the least draw under which writes are admitted.
-    pub bound: Option<(u8, u32)>,
+    /// The streams that it is bound to: that of its link first, and those between its device and others.
+    pub bound: Bindings,
 }
 
 /// Whether a range is open to writes that are not trusted.
@@ -85,15 +83,9 @@ fn has_memory_space(interface: &Interface) -> bool
     (interface.register(Register::Command) >> 1) & 1 == 1
 }
 
-// With its floor, the stream that it is bound to.
-fn bound(interface: &Interface, floor: u32) -> Option<(u8, u32)>
-    ensures { result ≡ option_map (λ stream. (stream, floor)) (bound_stream interface.now.state) }
-{
-    interface.bound().map(|stream| (stream, floor))
-}
-
 impl Standing {
-    /// How a device interface with this floor stands, the least draw under which writes are admitted.
+    /// How a device interface with this floor stands, the least draw under which writes on the stream of its link are
+    /// admitted.
     pub fn of(interface: &Interface, floor: u32) -> Standing
         ensures { result ≡ standing_of interface.now floor }
     {
@@ -101,7 +93,7 @@ impl Standing {
             state: InterfaceState::of(interface.standing()),
             memory_space: has_memory_space(interface),
             bars: interface.bars(),
-            bound: bound(interface, floor),
+            bound: interface.bindings(floor),
         }
     }
 }

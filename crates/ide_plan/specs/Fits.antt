@@ -1,5 +1,5 @@
 -- The bounds and rules that every plan meets.
-use Rattle.std.specs.Prelude.{ℕ, ◌≡◌, ◌≢◌, ◌+◌, ◌^◌, ◌/◌, ◌%◌, ◌<◌, ◌≤◌, ◌==◌, ◌||◌, Bool, true, false, List, length}
+use Rattle.std.specs.Prelude.{ℕ, ◌≡◌, ◌≢◌, ◌+◌, ◌^◌, ◌%◌, ◌<◌, ◌≤◌, ◌==◌, ◌||◌, Bool, true, false, List, length}
 use Rattle.std.specs.Prelude.{Option, Some, None, All, AllPairs, sum_by}
 use Rattle.ide_plan.specs.declared.stream.IdRange.{IdRange}
 use Rattle.ide_plan.specs.declared.stream.AddressRange.{AddressRange}
@@ -8,10 +8,13 @@ use Rattle.ide_plan.specs.declared.stream.Selector.TheVariants.{Selective, Link}
 use Rattle.ide_plan.specs.declared.stream.StreamPlan.{StreamPlan}
 use Rattle.ide_plan.specs.declared.interface.InterfacePlan.{InterfacePlan}
 use Rattle.ide_plan.specs.declared.interface.BarPlan.{BarPlan}
+use Rattle.ide_plan.specs.declared.plan.HopPlan.{HopPlan}
+use Rattle.ide_plan.specs.declared.plan.PeerPlan.{PeerPlan}
 use Rattle.ide_plan.specs.declared.plan.Region.{Region}
 use Rattle.ide_plan.specs.declared.plan.LinkPlan.{LinkPlan}
 use Rattle.ide_plan.specs.declared.plan.Plan.{Plan}
-use Rattle.ide_plan.specs.Plans.{interface_limit, both_default, share_class, has_selective, overlap}
+use Rattle.ide_plan.specs.Plans.{interface_limit, both_default, share_class, has_selective, overlap, lists_class}
+use Rattle.ide_plan.specs.Plans.{has_stream_id, links_have_id}
 
 abbrev pub AreBytes : List ℕ → Type 0
 AreBytes bytes = All (λ b. b < 256) bytes
@@ -54,8 +57,7 @@ pub record FitsBar (b : BarPlan) : Type 0 where
 pub record FitsInterface (streams : List StreamPlan) (i : InterfacePlan) : Type 0 where
   pub requester : i.requester ≤ 65535
   pub stream : has_selective i.stream streams ≡ true
-  pub flags : i.flags ≤ 23
-  pub no_peers : i.flags / 8 % 2 ≡ 0
+  pub flags : i.flags ≤ 31
   pub offset : i.offset % 4096 ≡ 0
   pub offset_most : i.offset < 2 ^ 63
   pub command : i.command ≤ 65535
@@ -70,6 +72,17 @@ pub record FitsInterface (streams : List StreamPlan) (i : InterfacePlan) : Type 
   pub bars : length i.bars ≤ 6
   pub each_bar : All FitsBar i.bars
 
+-- the hop of a link with these streams
+pub record FitsHop (streams : List StreamPlan) (o : HopPlan) : Type 0 where
+  pub id : o.id ≤ 255
+  pub id_is_new : has_stream_id streams o.id ≡ false
+  pub classes : All (λ c. c ≤ 7) o.classes
+  pub classes_apart : All (λ c. lists_class streams c ≡ false) o.classes
+
+abbrev pub FitsHopIf : List StreamPlan → Option HopPlan → Type 0
+FitsHopIf streams None = Unit {0}
+FitsHopIf streams (Some o) = FitsHop streams o
+
 pub record FitsLink (l : LinkPlan) : Type 0 where
   pub nonces : length l.nonces ≤ 1024
   pub each_nonce : All IsKey l.nonces
@@ -81,12 +94,24 @@ pub record FitsLink (l : LinkPlan) : Type 0 where
   pub classes_apart : AllPairs (λ s t. share_class s t ≡ false) l.streams
   pub each_interface : All (FitsInterface l.streams) l.interfaces
   pub requesters_differ : AllPairs (λ i j. i.requester ≢ j.requester) l.interfaces
+  pub hop : FitsHopIf l.streams l.hop
 
 pub record FitsRegion (r : Region) : Type 0 where
   pub base : r.base % 4096 ≡ 0
   pub size : r.size % 4096 ≡ 0
   pub size_least : 4096 ≤ r.size
   pub most : r.base + r.size ≤ 2 ^ 63
+
+-- a stream between the devices of two of these links
+pub record FitsPeer (links : List LinkPlan) (p : PeerPlan) : Type 0 where
+  pub id : p.id ≤ 255
+  pub near : p.near < length links
+  pub far : p.far < length links
+  pub apart : p.near ≢ p.far
+  pub mode : is_mode p.mode ≡ true
+  -- no stream and no hop of either link has its ID
+  pub near_id_is_new : links_have_id links p.near p.id ≡ false
+  pub far_id_is_new : links_have_id links p.far p.id ≡ false
 
 pub record FitsPlan (p : Plan) : Type 0 where
   pub version_least : 1 ≤ p.version
@@ -108,3 +133,6 @@ pub record FitsPlan (p : Plan) : Type 0 where
   pub each_region : All FitsRegion p.memory
   pub memory_most : sum_by (λ r. r.size) p.memory ≤ 16777216
   pub regions_apart : AllPairs (λ r q. overlap r q ≡ false) p.memory
+  pub peers_most : length p.peers ≤ 8
+  pub each_peer : All (FitsPeer p.links) p.peers
+  pub peer_ids_differ : AllPairs (λ a b. a.id ≢ b.id) p.peers

@@ -1,2 +1,4 @@
 pub mod Plans
 pub mod Fits
+pub mod Ends
+pub mod EndLaws

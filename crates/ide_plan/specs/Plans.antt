@@ -1,9 +1,12 @@
 -- What is said of the parts of a plan.
-use Rattle.std.specs.Prelude.{ℕ, ◌+◌, ◌==◌, ◌&&◌, nat_lt, Bool, true, false, List, [], if◌then◌else◌}
+use Rattle.std.specs.Prelude.{ℕ, ◌+◌, ◌==◌, ◌&&◌, ◌||◌, nat_lt, Bool, true, false, List, [], if◌then◌else◌}
+use Rattle.std.specs.Prelude.{Option, Some, None, slice_get}
 use Rattle.std.specs.List.{list_any}
 use Rattle.ide_plan.specs.declared.stream.Selector.{Selector}
 use Rattle.ide_plan.specs.declared.stream.Selector.TheVariants.{Selective, Link}
 use Rattle.ide_plan.specs.declared.stream.StreamPlan.{StreamPlan}
+use Rattle.ide_plan.specs.declared.plan.HopPlan.{HopPlan}
+use Rattle.ide_plan.specs.declared.plan.LinkPlan.{LinkPlan}
 use Rattle.ide_plan.specs.declared.plan.Region.{Region}
 
 abbrev pub is_selective : Selector → Bool
@@ -44,3 +47,24 @@ has_selective id streams = list_any (λ s. is_selective s.selector && s.id == id
 -- a byte is in both regions
 abbrev pub overlap : Region → Region → Bool
 overlap r q = nat_lt r.base (q.base + q.size) && nat_lt q.base (r.base + r.size)
+
+-- ---- hops, and streams between devices
+
+-- a stream of these lists the traffic class
+abbrev pub lists_class : List StreamPlan → ℕ → Bool
+lists_class streams c = list_any (λ s. is_among c (classes_of s.selector)) streams
+
+abbrev pub has_stream_id : List StreamPlan → ℕ → Bool
+has_stream_id streams id = list_any (λ s. s.id == id) streams
+
+abbrev pub hop_has_id : Option HopPlan → ℕ → Bool
+hop_has_id None id = false
+hop_has_id (Some o) id = o.id == id
+
+-- a stream or the hop of the link has the ID
+abbrev pub link_has_id : Option LinkPlan → ℕ → Bool
+link_has_id None id = false
+link_has_id (Some l) id = has_stream_id l.streams id || hop_has_id l.hop id
+
+abbrev pub links_have_id : List LinkPlan → ℕ → ℕ → Bool
+links_have_id links link id = link_has_id (slice_get links link) id

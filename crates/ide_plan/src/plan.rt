@@ -19,6 +19,8 @@ pub struct Plan {
     pub links: Items<LinkPlan>,
     /// The regions of trusted memory, which do not overlap; up to 16 of them.
     pub memory: Items<Region>,
+    /// The streams between two devices, by their number; up to 8 of them.
+    pub peers: Items<PeerPlan>,
 }
 
 /// A link: a host's port and a device's (PCI Express Base 6.0 section 6.33 and chapter 11, in this profile).
@@ -30,6 +32,31 @@ pub struct LinkPlan {
     pub streams: Items<StreamPlan>,
     /// The device's interfaces; no two have the same requester ID.
     pub interfaces: Items<InterfacePlan>,
+    /// The stream that ends at a switch on the way, if there is one.
+    pub hop: Option<HopPlan>,
+}
+
+/// A stream that protects a link hop by hop: one between the host's port and a switch, and one between the switch and
+/// the device's port, both of mode 1 (PCI Express Base 6.0 section 6.33, in this profile).
+#[derive(Drop)]
+pub struct HopPlan {
+    /// Its stream ID at all four ends.
+    pub id: u8,
+    /// The traffic classes that it takes, 0 to 7.
+    pub classes: Items<u8>,
+}
+
+/// A stream between the devices of two links (PCI Express Base 6.0 section 6.33, in this profile).
+#[derive(Clone, Copy, PartialEq, Eq)]
+pub struct PeerPlan {
+    /// Its stream ID at both ends.
+    pub id: u8,
+    /// The link whose device seals direction 0.
+    pub near: u8,
+    /// The link whose device seals direction 1, another one.
+    pub far: u8,
+    /// How many packets a unit may have: 1, 2, 4 or 8.
+    pub mode: u8,
 }
 
 /// A region of trusted memory, in bytes; both are multiples of 4,096 (this profile).

@@ -1,5 +1,5 @@
 -- Lines of text: words, and those that name ports, sub-streams, failures, states and faults.
-use Rattle.std.specs.Prelude.{ℕ, nat_le, ◌&&◌, Bool, List, [], ◌∷◌, ◌++◌, codes}
+use Rattle.std.specs.Prelude.{ℕ, nat_le, ◌-◌, ◌&&◌, Bool, List, [], ◌∷◌, ◌++◌, if◌then◌else◌, codes}
 use Rattle.std.specs.Fmt.{decimal}
 use Rattle.ide_types.specs.declared.sub.SubKind.{SubKind}
 use Rattle.ide_types.specs.declared.sub.SubKind.TheVariants.{Pr, Npr, Cpl}
@@ -9,6 +9,9 @@ use Rattle.ide_types.specs.declared.port.Side.{Side}
 use Rattle.ide_types.specs.declared.port.Side.TheVariants.{Host, Device}
 use Rattle.ide_types.specs.declared.port.PortName.{PortName}
 use Rattle.ide_types.specs.declared.status.StreamStatus.{StreamStatus}
+use Rattle.ide_types.specs.declared.line.LineKind.{LineKind}
+use Rattle.ide_types.specs.declared.line.LineKind.TheVariants.{Link, Hop, Peer}
+use Rattle.ide_types.specs.Lines.{is_near_hop_line, is_far_hop_line}
 use Rattle.ide_types.specs.declared.sub.FailCause.TheVariants as fail
 use Rattle.ide_types.specs.declared.fault_word.FaultWord.TheVariants as fault
 use Rattle.ide_types.specs.declared.status.StreamStatus.TheVariants as status
@@ -30,8 +33,19 @@ abbrev pub side_word : Side → Text
 side_word Host = codes "h"
 side_word Device = codes "d"
 
+-- A port is named as an end: at a host or a device h or d and its link, at a switch u or w and its link. The other ends
+-- are at ports that have names already.
 abbrev pub port_word : PortName → Text
-port_word p = side_word p.side ++ decimal p.link
+port_word p =
+    if is_near_hop_line p.link then codes "u" ++ decimal (p.link - 8)
+    else if is_far_hop_line p.link then codes "w" ++ decimal (p.link - 16)
+    else side_word p.side ++ decimal p.link
+
+-- the letter before the word of an operation on a stream of such a line
+abbrev pub kind_word : LineKind → Text
+kind_word Link = []
+kind_word Hop = codes "h"
+kind_word Peer = codes "p"
 
 abbrev pub substream_word : SubKind → Text
 substream_word Pr = codes "pr"

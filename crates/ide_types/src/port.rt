@@ -5,7 +5,7 @@ ghost use Rattle.ide_types.specs.Names.{side_word, port_word};
 
 use std::fmt;
 
-/// The end of a link: its host's port or its device's (this profile).
+/// The near or the far end of a line: of a link its host's port or its device's (this profile).
 #[derive(Clone, Copy, Default, PartialEq, Eq)]
 pub enum Side {
     #[default]
@@ -13,7 +13,10 @@ pub enum Side {
     Device,
 }
 
-/// A port: the end of a link, and the link's number, from 0 (this profile).
+/// The end of a line, by the line's number: line L below 8 is link L, from its host's port to its device's; 8 + L is
+/// the hop of link L from its host to its switch, 16 + L from its switch to its device; 24 + P is stream P between two
+/// devices (this profile). A port is named as an end: a host's and a device's as that of their link, a switch's as that
+/// of a hop.
 #[derive(Clone, Copy, Default, PartialEq, Eq)]
 pub struct PortName {
     pub side: Side,
@@ -35,6 +38,10 @@ impl fmt::Display for PortName {
     ghost output = { λ p. Some (port_word p) };
 
     fn fmt<W: fmt::Write>(&self, f: &mut fmt::Formatter<W>) -> fmt::Result {
-        write!(f, "{}{}", self.side, self.link)
+        match self.link {
+            8..=15 => write!(f, "u{}", self.link - 8),
+            16..=23 => write!(f, "w{}", self.link - 16),
+            _ => write!(f, "{}{}", self.side, self.link),
+        }
     }
 }

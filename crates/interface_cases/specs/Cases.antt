@@ -1,6 +1,6 @@
 -- Worked cases: the events of each, in order, with the verdicts that were worked out by hand.
 use Rattle.std.specs.Prelude.{◌≡◌, ℕ, Bool, false, true, Some, None, List, [], ◌∷◌, ◌++◌, replicate}
-use Rattle.ide_types.specs.Ports.{device_port}
+use Rattle.ide_types.specs.Ports.{host_port, device_port}
 use Rattle.ide_types.specs.declared.sub.SubKind.TheVariants.{Pr}
 use Rattle.ide_types.specs.declared.status.StreamStatus.TheVariants as status
 use Rattle.ide_plan.specs.declared.plan.Plan.{Plan}
@@ -57,8 +57,10 @@ interface_plan = record {
           info = replicate 64 0;
           bars = record { base = 0x40000000; pages = 16; attributes = 0 } ∷ [];
         } ∷ [];
+        hop = None;
       } ∷ [];
   memory = record { base = 0x10000000; size = 0x10000 } ∷ [];
+  peers = [];
 }
 
 abbrev pub device_report : List ℕ
@@ -171,7 +173,8 @@ stopped_verdicts =
 -- a firmware update that is permitted, a level reset, and a reset of the link
 abbrev pub reset : List Event
 reset =
-    run ++ Interface (ie.Firmware 0) ∷ Interface (ie.Flr 0) ∷ Reset 0 ∷ Interface (ie.View 0)
+    run ++ Interface (ie.Firmware 0) ∷ Interface (ie.Flr 0) ∷ Reset 0 (host_port 0 ∷ device_port 0 ∷ [])
+    ∷ Interface (ie.View 0)
     ∷ Interface (ie.State 0 None) ∷ Interface (ie.Lock 0 None) ∷ []
 
 abbrev pub reset_verdicts : List Verdict

@@ -3,16 +3,16 @@ use Rattle.std.proofs.Common.{◌≡◌, ℕ, ◌+◌, ◌==◌, ◌&&◌, ◌�
 use Rattle.std.proofs.Common.{if◌then◌else◌, refl, ap, ◌∙◌}
 use Rattle.std.specs.Prelude.{find}
 use Rattle.interface_states.specs.Terms.{list_any, option_and_then, option_map, option_map_or, Plan, Event}
-use Rattle.interface_states.specs.Terms.{InterfaceEvent, Verdict, History}
+use Rattle.interface_states.specs.Terms.{InterfaceEvent, Verdict, History, binds}
 use Rattle.interface_states.specs.Sites.{Site, sites, site_at, site_with}
 use Rattle.interface_states.specs.Views.{managed, number_in, bound_if, granted_to, grant_at}
-use Rattle.interface_states.specs.Devices.{devices, one_if, is_run, sets_t, used_at}
+use Rattle.interface_states.specs.Devices.{devices, one_if, is_run, sets_t, peer_t, used_at}
 use Rattle.interface_states.specs.Due.{interface_verdict_due, interface_due, on_site, with_number}
 use Rattle.interface_machine.specs.Machine.{Face, Faces, new_faces, find_face, with_each, face_after, gives_nonce}
 use Rattle.interface_machine.specs.Machine.{is_true, faces_after, asked_due_of, answer_to, interface_answer}
-use Rattle.interface_machine.specs.Machine.{with_requester, t_of}
+use Rattle.interface_machine.specs.Machine.{with_requester, t_of, peer_t_of}
 use Rattle.interface_machine.specs.Machine.{grant_of}
-use Rattle.interface_machine.specs.Stands.{secure_of, streams_at, face_at, FacesStandFor, FacesStand}
+use Rattle.interface_machine.specs.Stands.{ends_read, streams_at, face_at, FacesStandFor, FacesStand}
 
 -- ---- lists
 
@@ -44,10 +44,10 @@ first_stands plan = record { faces = refl; used = refl }
 
 -- by the list and the numbers that the history gives
 list_after : (plan : Plan) (h : History) (e : Event) (w : Verdict)
-    → with_each (face_after plan (streams_at h) (secure_of ((e, w) ∷ h)) (used_at plan h) e w) (sites plan)
+    → with_each (face_after plan (streams_at h) (ends_read ((e, w) ∷ h)) (used_at plan h) e w) (sites plan)
     (map (face_at plan h) (sites plan)) ≡ map (face_at plan ((e, w) ∷ h)) (sites plan)
 unfolding devices managed
-list_after plan h e w = each_is (face_after plan (streams_at h) (secure_of ((e, w) ∷ h)) (used_at plan h) e w)
+list_after plan h e w = each_is (face_after plan (streams_at h) (ends_read ((e, w) ∷ h)) (used_at plan h) e w)
     (face_at plan h) (sites plan)
 
 used_after : (plan : Plan) (h : History) (e : Event) (w : Verdict) (link : ℕ)
@@ -63,9 +63,9 @@ used_after plan h e w link =
     (λ x. gives_nonce plan (streams_at h) (used_at plan h) e w link x (face_at plan h x)) (sites plan)))
 
 step_stands : (plan : Plan) (fs : Faces) (h : History) (e : Event) (w : Verdict) → FacesStandFor plan fs h
-    → FacesStandFor plan (faces_after plan (streams_at h) (secure_of ((e, w) ∷ h)) e w fs) ((e, w) ∷ h)
+    → FacesStandFor plan (faces_after plan (streams_at h) (ends_read ((e, w) ∷ h)) e w fs) ((e, w) ∷ h)
 step_stands plan fs h e w stands = record {
-  faces = (λ i. with_each (face_after plan (streams_at h) (secure_of ((e, w) ∷ h)) (stands.used i) e w) (sites plan)
+  faces = (λ i. with_each (face_after plan (streams_at h) (ends_read ((e, w) ∷ h)) (stands.used i) e w) (sites plan)
       (stands.faces i)) ∙ list_after plan h e w;
   used = λ i link. ((λ j. stands.used j link + one_if
       (list_any is_true (with_each (gives_nonce plan (streams_at h) (stands.used j) e w link) (sites plan)
@@ -116,6 +116,21 @@ t_is plan fs h link stream (Some rid) stands =
     (requester_is plan h link rid fs stands.faces)
     ∙ t_says plan h link stream (site_with plan link rid)
 
+peer_says : (plan : Plan) (h : History) (stream : ℕ) (o : Option Site)
+    → option_map_or (λ (y : Site × Face). is_run y.1.tdi.state && binds stream y.1.tdi.bindings)
+    (option_map (λ x. (x, face_at plan h x)) o) false ≡ peer_t plan h o stream
+peer_says plan h stream None = refl
+peer_says plan h stream (Some x) = refl
+
+peer_is : (plan : Plan) (fs : Faces) (h : History) (link stream : ℕ) (owner : Option ℕ) → FacesStandFor plan fs h
+    → peer_t_of plan fs link stream owner ≡ peer_t plan h (option_and_then (site_with plan link) owner) stream
+peer_is plan fs h link stream None stands = refl
+peer_is plan fs h link stream (Some rid) stands =
+    ap (λ (o : Option (Site × Face)). option_map_or
+    (λ (y : Site × Face). is_run y.1.tdi.state && binds stream y.1.tdi.bindings) o false)
+    (requester_is plan h link rid fs stands.faces)
+    ∙ peer_says plan h stream (site_with plan link rid)
+
 grant_says : (plan : Plan) (h : History) (o : Option Site)
     → option_and_then (λ (y : Site × Face). bound_if y.1.managed.view y.0.plan.stream y.1.managed.floor)
     (option_map (λ x. (x, face_at plan h x)) o) ≡ granted_to h o
@@ -130,4 +145,5 @@ grant_is plan fs h link requester stands =
     ∙ grant_says plan h (site_with plan link requester)
 
 pub faces_stand : FacesStand
-faces_stand = record { first = first_stands; step = step_stands; answer = answer_is; t = t_is; grant = grant_is }
+faces_stand = record
+    { first = first_stands; step = step_stands; answer = answer_is; t = t_is; peer = peer_is; grant = grant_is }

@@ -1,8 +1,10 @@
 -- What is kept of device interfaces, and one step of it.
-use Rattle.std.specs.Prelude.{ℕ, ◌+◌, ◌==◌, ◌&&◌, ◌∷◌, Bool, false, not, if◌then◌else◌, List, [], map, Option, Some}
+use Rattle.std.specs.Prelude.{ℕ, ◌+◌, ◌==◌, ◌&&◌, ◌||◌, ◌∷◌, Bool, false, not, if◌then◌else◌, List, [], map, Option}
+use Rattle.std.specs.Prelude.{Some}
 use Rattle.std.specs.Prelude.{None}
 use Rattle.interface_states.specs.Terms.{list_any, option_and_then, option_map_or, StreamStatus, Plan, Event}
-use Rattle.interface_states.specs.Terms.{InterfaceEvent, Verdict, Op, Tdi, new_tdi}
+use Rattle.interface_states.specs.Terms.{InterfaceEvent, Verdict, Op, Tdi, new_tdi, PortName, binds}
+use Rattle.interface_states.specs.Peers.{live_by, any_leaves}
 use Rattle.interface_states.specs.Sites.{Site, sites, nonce_behind}
 use Rattle.interface_states.specs.Views.{Managed, new_managed, managed_after, number_in, bound_if}
 use Rattle.interface_states.specs.Devices.{Around, next_tdi, accepts_lock, one_if, is_run}
@@ -31,6 +33,8 @@ new_faces plan = record { list = map new_face (sites plan); used = λ link. 0 }
 pub record Streams : Type 0 where
   -- Secure at the device's port
   pub secure : ℕ → ℕ → Bool
+  -- the draw that is Live where an end receives posted requests, if the stream is Secure there
+  pub live : PortName → ℕ → Option ℕ
   pub host : ℕ → ℕ → StreamStatus
   pub draw : ℕ → ℕ → ℕ
   pub op : ℕ → ℕ → Op
@@ -53,16 +57,30 @@ around_of plan s used x f = record {
   secure = s.secure x.link x.plan.stream;
   drawn = nonce_behind plan x.link (used x.link);
   nonce = f.managed.nonce;
+  live = live_by s.live plan.peers x.link;
 }
 
 -- ---- one step
 
--- `secure` is what is read after the event
-abbrev pub face_after : Plan → Streams → (ℕ → ℕ → Bool) → (ℕ → ℕ) → Event → Verdict → Site → Face → Face
-face_after plan s secure used e w x f = record {
-  tdi =
-      next_tdi (around_of plan s used x f)
-      (s.secure x.link x.plan.stream && not (secure x.link x.plan.stream)) x e w f.tdi;
+-- what is read of the ends of streams at devices: Secure at a device's port; the draw that is Live where an end
+-- receives posted requests, if the stream is Secure there
+pub record EndsRead : Type 0 where
+  pub secure : ℕ → ℕ → Bool
+  pub live : PortName → ℕ → Option ℕ
+
+abbrev pub ends_of : Streams → EndsRead
+ends_of s = record { secure = s.secure; live = s.live }
+
+-- a stream that an interface is bound to is Secure at the device by the one reading, and not by the other
+abbrev pub left_by : Plan → Streams → EndsRead → Site → Tdi → Bool
+left_by plan s after x tdi =
+    (s.secure x.link x.plan.stream && not (after.secure x.link x.plan.stream))
+    || any_leaves (live_by s.live plan.peers x.link) (live_by after.live plan.peers x.link) tdi.bindings
+
+-- `after` is what is read after the event
+abbrev pub face_after : Plan → Streams → EndsRead → (ℕ → ℕ) → Event → Verdict → Site → Face → Face
+face_after plan s after used e w x f = record {
+  tdi = next_tdi (around_of plan s used x f) (left_by plan s after x f.tdi) x e w f.tdi;
   managed = managed_after s.op s.drawn x e w f.managed;
 }
 
@@ -72,9 +90,9 @@ gives_nonce plan s used e w link x f = (x.link == link) && accepts_lock (around_
 abbrev pub is_true : Bool → Bool
 is_true b = b
 
-abbrev pub faces_after : Plan → Streams → (ℕ → ℕ → Bool) → Event → Verdict → Faces → Faces
-faces_after plan s secure e w fs = record {
-  list = with_each (face_after plan s secure fs.used e w) (sites plan) fs.list;
+abbrev pub faces_after : Plan → Streams → EndsRead → Event → Verdict → Faces → Faces
+faces_after plan s after e w fs = record {
+  list = with_each (face_after plan s after fs.used e w) (sites plan) fs.list;
   used = λ link. fs.used link
       + one_if (list_any is_true (with_each (gives_nonce plan s fs.used e w link) (sites plan) fs.list));
 }
@@ -89,6 +107,8 @@ face_standing plan s used x f = record {
   host = s.host x.link x.plan.stream;
   draw = s.draw x.link x.plan.stream;
   drawn = s.drawn;
+  peer_op = s.op;
+  peer_draw = s.draw;
 }
 
 abbrev pub asked_due_of : Plan → Streams → (ℕ → ℕ) → InterfaceEvent → Option (Site × Face) → Verdict
@@ -112,6 +132,12 @@ with_requester plan fs link requester =
 abbrev pub t_of : Plan → Faces → ℕ → ℕ → Option ℕ → Bool
 t_of plan fs link stream owner =
     option_map_or (λ (y : Site × Face). is_run y.1.tdi.state && (y.0.plan.stream == stream))
+    (option_and_then (with_requester plan fs link) owner) false
+
+-- whether an end of a stream between devices at the device of a link sets T for a TLP of this owner
+abbrev pub peer_t_of : Plan → Faces → ℕ → ℕ → Option ℕ → Bool
+peer_t_of plan fs link stream owner =
+    option_map_or (λ (y : Site × Face). is_run y.1.tdi.state && binds stream y.1.tdi.bindings)
     (option_and_then (with_requester plan fs link) owner) false
 
 -- the bound stream and the floor of a requester whose view is Running

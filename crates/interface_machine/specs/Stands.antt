@@ -4,9 +4,12 @@ use Rattle.interface_states.specs.Terms.{option_and_then, Host, Device, Plan, Ev
 use Rattle.interface_states.specs.Terms.{op_of, draws, status_of}
 use Rattle.interface_states.specs.Sites.{Site, sites, site_with}
 use Rattle.interface_states.specs.Views.{managed, stream_draw, grant_at}
-use Rattle.interface_states.specs.Devices.{tdi_at, used_at, is_secure, sets_t}
+use Rattle.interface_states.specs.Devices.{tdi_at, used_at, is_secure, sets_t, peer_t}
 use Rattle.interface_states.specs.Due.{interface_verdict_due}
-use Rattle.interface_machine.specs.Machine.{Face, Faces, new_faces, Streams, faces_after, interface_answer, t_of}
+use Rattle.interface_machine.specs.Machine.{Face, Faces, new_faces, Streams, EndsRead, faces_after, interface_answer}
+use Rattle.interface_machine.specs.Machine.{t_of}
+use Rattle.interface_machine.specs.Machine.{peer_t_of}
+use Rattle.interface_states.specs.Peers.{live_at}
 use Rattle.interface_machine.specs.Machine.{grant_of}
 
 -- what a history says of streams
@@ -16,11 +19,16 @@ secure_of h link stream = is_secure (status_of h Device link stream)
 abbrev pub streams_at : History → Streams
 streams_at h = record {
   secure = secure_of h;
+  live = live_at h;
   host = λ link stream. status_of h Host link stream;
   draw = stream_draw h;
   op = op_of h;
   drawn = draws h;
 }
+
+-- and of the ends of streams at devices
+abbrev pub ends_read : History → EndsRead
+ends_read h = record { secure = secure_of h; live = live_at h }
 
 -- what it says of an interface
 abbrev pub face_at : Plan → History → Site → Face
@@ -35,10 +43,12 @@ pub record FacesStandFor (plan : Plan) (fs : Faces) (h : History) : Type 0 where
 pub record FacesStand : Type 0 where
   pub first : (plan : Plan) → FacesStandFor plan (new_faces plan) []
   pub step : (plan : Plan) (fs : Faces) (h : History) (e : Event) (w : Verdict) → FacesStandFor plan fs h
-      → FacesStandFor plan (faces_after plan (streams_at h) (secure_of ((e, w) ∷ h)) e w fs) ((e, w) ∷ h)
+      → FacesStandFor plan (faces_after plan (streams_at h) (ends_read ((e, w) ∷ h)) e w fs) ((e, w) ∷ h)
   pub answer : (plan : Plan) (fs : Faces) (h : History) (e : InterfaceEvent) (given : Verdict) → FacesStandFor plan fs h
       → interface_answer plan (streams_at h) fs e given ≡ interface_verdict_due plan h e given
   pub t : (plan : Plan) (fs : Faces) (h : History) (link stream : ℕ) (owner : Option ℕ) → FacesStandFor plan fs h
       → t_of plan fs link stream owner ≡ sets_t plan h link stream (option_and_then (site_with plan link) owner)
+  pub peer : (plan : Plan) (fs : Faces) (h : History) (link stream : ℕ) (owner : Option ℕ) → FacesStandFor plan fs h
+      → peer_t_of plan fs link stream owner ≡ peer_t plan h (option_and_then (site_with plan link) owner) stream
   pub grant : (plan : Plan) (fs : Faces) (h : History) (link requester : ℕ) → FacesStandFor plan fs h
       → grant_of plan fs link requester ≡ grant_at plan h link requester

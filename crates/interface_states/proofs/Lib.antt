@@ -4,3 +4,5 @@ pub mod Rests
 pub mod Trusted
 pub mod Views
 pub mod Floors
+pub mod Bound
+pub mod OnLinks

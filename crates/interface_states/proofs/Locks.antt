@@ -1,18 +1,40 @@
 -- What a lock of an interface keeps, pair by pair.
-use Rattle.std.proofs.Common.{◌≡◌, ℕ, ◌==◌, ◌&&◌, ◌∷◌, ◌⊎◌, inl, inr, Bool, true, false, List, [], Some, Result, Ok}
-use Rattle.std.proofs.Common.{Err, if◌then◌else◌, refl, ◌∙◌, arith}
+use Rattle.std.proofs.Common.{
+  ◌≡◌,
+  ℕ,
+  ◌==◌,
+  ◌&&◌,
+  ◌||◌,
+  ◌∷◌,
+  ◌⊎◌,
+  inl,
+  inr,
+  Bool,
+  true,
+  false,
+  List,
+  [],
+  Some,
+  Result,
+  Ok,
+}
+use Rattle.std.proofs.Common.{Err, if◌then◌else◌, refl, sym, ap, ◌∙◌, arith}
 use Rattle.std.proofs.lemmas.Bool.Decides.{nat_tests}
 use Rattle.std.specs.Prelude.{is_ok}
 use Rattle.interface_states.specs.Terms.{Plan, Event, InterfaceEvent, Verdict, History, Registers, Lock, Tdi, lock_of}
 use Rattle.interface_states.specs.Terms.{lock_answer, Call, LockInterface, StartInterface, StopInterface, WriteRegister}
-use Rattle.interface_states.specs.Terms.{LevelReset, FirmwareUpdate, StreamLeft, LinkReset, tdi_after}
-use Rattle.tdi_state.specs.Machine.{new_lock, locked_with, KeepsListed}
+use Rattle.interface_states.specs.Terms.{LevelReset, FirmwareUpdate, StreamLeft, LinkReset, tdi_after, BindStream}
+use Rattle.interface_states.specs.Terms.{UnbindStream}
+use Rattle.interface_states.specs.Terms.{TdiState, bind_answer, unbind_answer}
+use Rattle.tdi_state.specs.Machine.{new_lock, locked_with, bound_with, unbound_with, KeepsListed}
+use Rattle.tdi_state.specs.Held.{IsBound}
+use Rattle.tdi_state.proofs.Bound.{bound_state, unbound_state, bindings_end}
 use Rattle.tdi_state.proofs.ListedParts.{listed_is_kept}
 use Rattle.interface_states.specs.Sites.{Site}
 use Rattle.interface_states.specs.Exchanges.{carries, changes_device}
 use Rattle.interface_states.specs.Views.{is_number, number_in}
-use Rattle.interface_states.specs.Devices.{Around, around_at, tdi_if_called, lock_call, tdi_asked, next_tdi}
-use Rattle.interface_states.specs.Devices.{accepts_lock, leaves, devices, tdi_at, registers_locked, locks_in}
+use Rattle.interface_states.specs.Devices.{Around, around_at, tdi_if_called, lock_call, reset_call, tdi_asked, next_tdi}
+use Rattle.interface_states.specs.Devices.{accepts_lock, is_left, devices, tdi_at, registers_locked, locks_in}
 use Rattle.link_events.specs.declared.event.Event.TheVariants as event
 use Rattle.link_events.specs.declared.event.InterfaceEvent.TheVariants as ie
 use Rattle.link_verdicts.specs.declared.verdict.Verdict.TheVariants as v
@@ -26,16 +48,31 @@ is_lock _ = false
 -- no call but LOCK_INTERFACE makes a lock
 after_stood : (tdi : Tdi) (c : Call) (l : Lock) → is_lock c ≡ false → lock_of (tdi_after tdi c).state ≡ Some l
     → lock_of tdi.state ≡ Some l
+after_stood tdi (BindStream stream live) l other is =
+    sym (ap (λ (s : TdiState). lock_of s) (bound_state tdi stream (bind_answer tdi stream live))) ∙ is
+after_stood tdi (UnbindStream stream) l other is =
+    sym (ap (λ (s : TdiState). lock_of s) (unbound_state tdi stream (unbind_answer tdi stream))) ∙ is
 after_stood tdi c l other is = grind (arith, nat_tests)
 
 locked_layout : (tdi : Tdi) (new : Lock) (answer : Result (List ℕ) ℕ) → (locked_with tdi new answer).plan ≡ tdi.plan
 locked_layout tdi new answer = grind arith
+
+bound_layout : (tdi : Tdi) (stream : ℕ) (answer : Result ℕ ℕ) → (bound_with tdi stream answer).plan ≡ tdi.plan
+bound_layout tdi stream (Ok draw) = refl
+bound_layout tdi stream (Err code) = refl
+
+unbound_layout : (tdi : Tdi) (stream : ℕ) (answer : Result (Unit {0}) ℕ)
+    → (unbound_with tdi stream answer).plan ≡ tdi.plan
+unbound_layout tdi stream (Ok done) = refl
+unbound_layout tdi stream (Err code) = refl
 
 after_layout : (tdi : Tdi) (c : Call) → (tdi_after tdi c).plan ≡ tdi.plan
 after_layout tdi (LockInterface flags stream offset secure drawn) = locked_layout tdi (new_lock tdi flags stream offset)
     (lock_answer tdi flags offset secure drawn)
 after_layout tdi (StartInterface nonce) = refl
 after_layout tdi StopInterface = refl
+after_layout tdi (BindStream stream live) = bound_layout tdi stream (bind_answer tdi stream live)
+after_layout tdi (UnbindStream stream) = unbound_layout tdi stream (unbind_answer tdi stream)
 after_layout tdi (WriteRegister register value) = refl
 after_layout tdi LevelReset = refl
 after_layout tdi FirmwareUpdate = refl
@@ -71,6 +108,9 @@ asked_keeps : (P : Tdi → Type 0) → Keeps P → (a : Around) (x : Site) (e : 
 asked_keeps P keeps a x (ie.Lock i loss) w tdi p = keeps (carries w 3) (lock_call a x) tdi p
 asked_keeps P keeps a x (ie.Start i loss) w tdi p = keeps (carries w 1) (StartInterface a.nonce) tdi p
 asked_keeps P keeps a x (ie.Halt i loss) w tdi p = keeps (carries w 1) StopInterface tdi p
+asked_keeps P keeps a x (ie.Bind i line stream loss) w tdi p = keeps (carries w 1)
+    (BindStream stream (a.live stream)) tdi p
+asked_keeps P keeps a x (ie.Unbind i line stream loss) w tdi p = keeps (carries w 1) (UnbindStream stream) tdi p
 asked_keeps P keeps a x (ie.Write i register value) w tdi p = keeps (changes_device w) (WriteRegister register value)
     tdi p
 asked_keeps P keeps a x (ie.Flr i) w tdi p = keeps (changes_device w) LevelReset tdi p
@@ -82,7 +122,8 @@ pub next_keeps : (P : Tdi → Type 0) → Keeps P
     → P (next_tdi a left x e w tdi)
 next_keeps P keeps a left x (event.Interface e) w tdi p =
     if_keeps P (is_number (number_in e) x.number) (tdi_asked a x e w tdi) tdi (asked_keeps P keeps a x e w tdi p) p
-next_keeps P keeps a left x (event.Reset link) (v.Reset l) tdi p = keeps (link == x.link) LinkReset tdi p
+next_keeps P keeps a left x (event.Reset link ends) (v.Reset l) tdi p =
+    keeps ((link == x.link) || left) (reset_call (link == x.link)) tdi p
 next_keeps P keeps a left x e w tdi p = keeps left StreamLeft tdi p
 
 -- ---- locks
@@ -114,6 +155,9 @@ if_stood : (b : Bool) (s t : Tdi) (l : Lock) → (lock_of s.state ≡ Some l →
 if_stood true s t l stood is = stood is
 if_stood false s t l stood is = is
 
+reset_locks_none : (own : Bool) → is_lock (reset_call own) ≡ false
+reset_locks_none own = grind arith
+
 pub next_made : (a : Around) (left : Bool) (x : Site) (e : Event) (w : Verdict) (tdi : Tdi) (l : Lock)
     → lock_of (next_tdi a left x e w tdi).state ≡ Some l → Made a x e w tdi l
 next_made a left x (event.Interface (ie.Lock i loss)) w tdi l is = lock_made a x (i == x.number) (carries w 3) tdi l is
@@ -121,6 +165,13 @@ next_made a left x (event.Interface (ie.Start i loss)) w tdi l is =
     inl (if_stood (i == x.number) _ tdi l (called_stood (carries w 1) (StartInterface a.nonce) tdi l refl) is, refl)
 next_made a left x (event.Interface (ie.Halt i loss)) w tdi l is =
     inl (if_stood (i == x.number) _ tdi l (called_stood (carries w 1) StopInterface tdi l refl) is, refl)
+next_made a left x (event.Interface (ie.Bind i line stream loss)) w tdi l is =
+    inl (
+      if_stood (i == x.number) _ tdi l (called_stood (carries w 1) (BindStream stream (a.live stream)) tdi l refl) is,
+      refl,
+    )
+next_made a left x (event.Interface (ie.Unbind i line stream loss)) w tdi l is =
+    inl (if_stood (i == x.number) _ tdi l (called_stood (carries w 1) (UnbindStream stream) tdi l refl) is, refl)
 next_made a left x (event.Interface (ie.Write i register value)) w tdi l is =
     inl (
       if_stood (i == x.number) _ tdi l (called_stood (changes_device w) (WriteRegister register value) tdi l refl) is,
@@ -132,8 +183,12 @@ next_made a left x (event.Interface (ie.Firmware i)) w tdi l is =
     inl (if_stood (i == x.number) _ tdi l (called_stood (changes_device w) FirmwareUpdate tdi l refl) is, refl)
 next_made a left x (event.Interface e) w tdi l is = inl
     (if_stood (is_number (number_in e) x.number) tdi tdi l (λ h. h) is, refl)
-next_made a left x (event.Reset link) (v.Reset l2) tdi l is = inl
-    (called_stood (link == x.link) LinkReset tdi l refl is, refl)
+next_made a left x (event.Reset link ends) (v.Reset l2) tdi l is =
+    inl (
+      called_stood ((link == x.link) || left) (reset_call (link == x.link)) tdi l (reset_locks_none (link == x.link))
+          is,
+      refl,
+    )
 next_made a left x e w tdi l is = inl (called_stood left StreamLeft tdi l refl is, refl)
 
 -- ---- all pairs
@@ -142,15 +197,29 @@ pub layout_at : (plan : Plan) (h : History) (x : Site) → (tdi_at plan h x).pla
 unfolding devices
 layout_at plan [] x = refl
 layout_at plan ((e, w) ∷ h) x =
-    next_keeps (λ t. t.plan ≡ x.plan) (λ b c t is. called_layout b c t ∙ is) (around_at plan h x) (leaves h e w x) x e w
+    next_keeps (λ t. t.plan ≡ x.plan) (λ b c t is. called_layout b c t ∙ is) (around_at plan h x)
+    (is_left plan h e w x (tdi_at plan h x)) x e w
     (tdi_at plan h x) (layout_at plan h x)
 
 pub listed_at : (plan : Plan) (h : History) (x : Site) → KeepsListed (tdi_at plan h x).registers (tdi_at plan h x).state
 unfolding devices
 listed_at plan [] x = tt
 listed_at plan ((e, w) ∷ h) x =
-    next_keeps (λ t. KeepsListed t.registers t.state) called_listed (around_at plan h x) (leaves h e w x) x e w
+    next_keeps (λ t. KeepsListed t.registers t.state) called_listed (around_at plan h x) (is_left plan h e w x
+    (tdi_at plan h x)) x e w
     (tdi_at plan h x) (listed_at plan h x)
+
+called_bound : (b : Bool) (c : Call) (tdi : Tdi) → IsBound tdi.state tdi.bindings
+    → IsBound (tdi_if_called b c tdi).state (tdi_if_called b c tdi).bindings
+called_bound true c tdi is = bindings_end.later tdi c is
+called_bound false c tdi is = is
+
+pub bound_at : (plan : Plan) (h : History) (x : Site) → IsBound (tdi_at plan h x).state (tdi_at plan h x).bindings
+unfolding devices
+bound_at plan [] x = bindings_end.first x.plan
+bound_at plan ((e, w) ∷ h) x =
+    next_keeps (λ t. IsBound t.state t.bindings) called_bound (around_at plan h x)
+    (is_left plan h e w x (tdi_at plan h x)) x e w (tdi_at plan h x) (bound_at plan h x)
 
 -- the lock that stands is that of the topology, with the registers at the last one that was accepted
 abbrev pub lock_with : Site → Registers → Lock
@@ -171,4 +240,4 @@ unfolding devices registers_locked
 lock_stands plan [] x l is = absurd cc
 lock_stands plan ((e, w) ∷ h) x l is =
     lock_step plan h e w x l (lock_stands plan h x l)
-    (next_made (around_at plan h x) (leaves h e w x) x e w (tdi_at plan h x) l is)
+    (next_made (around_at plan h x) (is_left plan h e w x (tdi_at plan h x)) x e w (tdi_at plan h x) l is)

@@ -1,16 +1,34 @@
 -- What makes an interface run, and what locks it.
-use Rattle.std.proofs.Common.{◌≡◌, ℕ, ◌==◌, ◌&&◌, ◌∷◌, Bool, true, false, List, Result, Ok, Err, if◌then◌else◌, refl}
-use Rattle.std.proofs.Common.{arith}
+use Rattle.std.proofs.Common.{
+  ◌≡◌,
+  ℕ,
+  ◌==◌,
+  ◌&&◌,
+  ◌||◌,
+  ◌∷◌,
+  Bool,
+  true,
+  false,
+  List,
+  Result,
+  Ok,
+  Err,
+  if◌then◌else◌,
+  refl,
+}
+use Rattle.std.proofs.Common.{ap, ◌∙◌, arith}
 use Rattle.std.proofs.lemmas.Bool.Decides.{nat_tests}
 use Rattle.interface_states.specs.Terms.{Plan, Event, Verdict, History, Lock, Tdi, lock_answer, Call, LockInterface}
 use Rattle.interface_states.specs.Terms.{StartInterface, StopInterface, WriteRegister, LevelReset, FirmwareUpdate}
-use Rattle.interface_states.specs.Terms.{StreamLeft, LinkReset, tdi_after}
+use Rattle.interface_states.specs.Terms.{StreamLeft, LinkReset, BindStream, UnbindStream, tdi_after, bind_answer}
+use Rattle.interface_states.specs.Terms.{unbind_answer}
+use Rattle.tdi_state.proofs.Bound.{bound_state, unbound_state}
 use Rattle.tdi_state.specs.Machine.{new_lock, locked_with}
 use Rattle.interface_states.specs.Sites.{Site}
 use Rattle.interface_states.specs.Exchanges.{carries, changes_device}
 use Rattle.interface_states.specs.Views.{is_number, number_in}
 use Rattle.interface_states.specs.Devices.{Around, around_at, tdi_if_called, lock_call, next_tdi, accepts_lock, is_run}
-use Rattle.interface_states.specs.Devices.{runs_at, leaves, devices, tdi_at, locks_at}
+use Rattle.interface_states.specs.Devices.{reset_call, runs_at, is_left, devices, tdi_at, locks_at}
 use Rattle.link_events.specs.declared.event.Event.TheVariants as event
 use Rattle.link_events.specs.declared.event.InterfaceEvent.TheVariants as ie
 use Rattle.link_verdicts.specs.declared.verdict.Verdict.TheVariants as v
@@ -30,6 +48,10 @@ after_rests : (tdi : Tdi) (c : Call) → is_start c ≡ false → is_run tdi.sta
     ≡ false
 after_rests tdi (LockInterface flags stream offset secure drawn) other rests =
     locked_rests tdi (new_lock tdi flags stream offset) (lock_answer tdi flags offset secure drawn) rests
+after_rests tdi (BindStream stream live) other rests =
+    ap is_run (bound_state tdi stream (bind_answer tdi stream live)) ∙ rests
+after_rests tdi (UnbindStream stream) other rests =
+    ap is_run (unbound_state tdi stream (unbind_answer tdi stream)) ∙ rests
 after_rests tdi c other rests = grind (arith, nat_tests)
 
 called_rests : (b : Bool) (c : Call) (tdi : Tdi) → is_start c ≡ false → is_run tdi.state ≡ false
@@ -53,6 +75,9 @@ start_rests false c call tdi none rests = rests
 start_rests true false call tdi none rests = rests
 start_rests true true call tdi none rests = absurd cc
 
+reset_starts_none : (own : Bool) → is_start (reset_call own) ≡ false
+reset_starts_none own = grind arith
+
 next_rests : (a : Around) (left : Bool) (x : Site) (e : Event) (w : Verdict) (tdi : Tdi) → starts x e w ≡ false
     → is_run tdi.state ≡ false → is_run (next_tdi a left x e w tdi).state ≡ false
 next_rests a left x (event.Interface (ie.Lock i loss)) w tdi none rests = if_rests (i == x.number) _ tdi
@@ -61,6 +86,10 @@ next_rests a left x (event.Interface (ie.Start i loss)) w tdi none rests = start
     (StartInterface a.nonce) tdi none rests
 next_rests a left x (event.Interface (ie.Halt i loss)) w tdi none rests = if_rests (i == x.number) _ tdi
     (called_rests (carries w 1) StopInterface tdi refl rests) rests
+next_rests a left x (event.Interface (ie.Bind i line stream loss)) w tdi none rests = if_rests (i == x.number) _ tdi
+    (called_rests (carries w 1) (BindStream stream (a.live stream)) tdi refl rests) rests
+next_rests a left x (event.Interface (ie.Unbind i line stream loss)) w tdi none rests = if_rests (i == x.number) _ tdi
+    (called_rests (carries w 1) (UnbindStream stream) tdi refl rests) rests
 next_rests a left x (event.Interface (ie.Write i register value)) w tdi none rests =
     if_rests (i == x.number) _ tdi (called_rests (changes_device w) (WriteRegister register value) tdi refl rests) rests
 next_rests a left x (event.Interface (ie.Flr i)) w tdi none rests = if_rests (i == x.number) _ tdi
@@ -69,15 +98,16 @@ next_rests a left x (event.Interface (ie.Firmware i)) w tdi none rests = if_rest
     (called_rests (changes_device w) FirmwareUpdate tdi refl rests) rests
 next_rests a left x (event.Interface e) w tdi none rests = if_rests (is_number (number_in e) x.number) tdi tdi rests
     rests
-next_rests a left x (event.Reset link) (v.Reset l) tdi none rests = called_rests (link == x.link) LinkReset tdi refl
-    rests
+next_rests a left x (event.Reset link ends) (v.Reset l) tdi none rests =
+    called_rests ((link == x.link) || left) (reset_call (link == x.link)) tdi (reset_starts_none (link == x.link)) rests
 next_rests a left x e w tdi none rests = called_rests left StreamLeft tdi refl rests
 
 -- an interface that does not run runs no sooner than it is asked to
 pub rests_on : (plan : Plan) (h : History) (e : Event) (w : Verdict) (x : Site) → starts x e w ≡ false
     → runs_at plan h x ≡ false → runs_at plan ((e, w) ∷ h) x ≡ false
 unfolding devices
-rests_on plan h e w x none rests = next_rests (around_at plan h x) (leaves h e w x) x e w (tdi_at plan h x) none rests
+rests_on plan h e w x none rests = next_rests (around_at plan h x) (is_left plan h e w x (tdi_at plan h x)) x e w
+    (tdi_at plan h x) none rests
 
 -- ---- a lock
 
@@ -89,7 +119,7 @@ locks_it x e w = false
 not_given : (b c d : Bool) → (b && c) ≡ false → (b && c && d) ≡ false
 not_given b c d none = grind arith
 
-not_accepted : (a : Around) (x : Site) (e : Event) (w : Verdict) (tdi : Tdi) → locks_it x e w ≡ false
+pub not_accepted : (a : Around) (x : Site) (e : Event) (w : Verdict) (tdi : Tdi) → locks_it x e w ≡ false
     → accepts_lock a x e w tdi ≡ false
 not_accepted a x (event.Interface (ie.Lock i loss)) w tdi none = not_given (i == x.number) (carries w 3) _ none
 not_accepted a x (event.Interface e) w tdi none = refl

@@ -1,11 +1,16 @@
 -- Packets with T: the device's port sealed each in RUN, under a draw that was made.
 use Rattle.std.proofs.Common.{◌≡◌, ℕ, ◌<◌, ◌≤◌, ◌==◌, ◌&&◌, ◌∷◌, ◌++◌, Bool, true, false, List, [], length, Option}
 use Rattle.std.proofs.Common.{Some, None, if◌then◌else◌, sym, ◌∙◌, subst, arith}
+use Rattle.ide_types.specs.declared.port.Side.TheVariants.{Device}
 use Rattle.std.proofs.lemmas.Bool.Decides.{nat_tests}
 use Rattle.interface_states.specs.Terms.{AllByRecursion, PortName, Plan, Event, Verdict, SealedPacket, History, draws}
 use Rattle.interface_states.specs.Sites.{Site}
-use Rattle.interface_states.specs.Devices.{runs_at}
-use Rattle.interface_states.specs.Cause.{InterfaceCause, PairFits, SealFits, t_due, owner_read}
+use Rattle.interface_states.specs.Devices.{peer_t, runs_at, sets_t}
+use Rattle.interface_states.proofs.OnLinks.{owner_on_link}
+use Rattle.std.specs.Prelude.{nat_le, nat_lt, not}
+use Rattle.interface_states.specs.Cause.{InterfaceCause, PairFits, SealFits, t_at, owners_link}
+use Rattle.interface_states.specs.Cause.{owner_read}
+use Rattle.ide_plan.specs.Ends.{port_at}
 use Rattle.interface_states.specs.Laws.{IsTrusted, OfTrusted}
 use Rattle.tlp_layout.specs.Reading.{read_of}
 use Rattle.key_laws.specs.Laws.{KeyCauseLaw}
@@ -32,7 +37,7 @@ after_grows : (m : Manager) (e : Event) (w : Verdict) → length m.begun ≤ len
 after_grows m (event.Establish link stream loss) w = operated_grows m op.Establish link stream (reach_of op.Establish w)
 after_grows m (event.Refresh link stream loss) w = operated_grows m op.Refresh link stream (reach_of op.Refresh w)
 after_grows m (event.Stop link stream loss) w = operated_grows m op.Stop link stream (reach_of op.Stop w)
-after_grows m (event.Reset link) (v.Reset l) = omega arith
+after_grows m (event.Reset link ends) (v.Reset l) = omega arith
 after_grows m e w = omega arith
 
 -- draws are never unmade
@@ -106,28 +111,37 @@ unsynced : (sync t : Bool) → (if sync then false else t) ≡ true → t ≡ tr
 unsynced sync t e = grind arith
 
 -- a packet with T was sealed in RUN
-sealed_in_run : (plan : Plan) (h : History) (x : Site) (port : PortName) (bytes : List ℕ) (trusted : Bool)
-    (d : SealedPacket)
-    → SealFits plan h port bytes trusted d → IsTrusted plan x port bytes d → runs_at plan h x ≡ true
-sealed_in_run plan h x port bytes trusted d fits is =
-    let t : t_due plan h port port.side (owner_read plan port.link (read_of bytes)) d.stream trusted
+sealed_in_run : (plan : Plan) (h : History) (x : Site) (bytes : List ℕ) (trusted : Bool) (d : SealedPacket)
+    → SealFits plan h bytes trusted d → IsTrusted plan x bytes d → runs_at plan h x ≡ true
+sealed_in_run plan h x bytes trusted d fits is =
+    let t : t_at plan h d.port (owner_read plan (owners_link plan d.port) (read_of bytes)) d.stream trusted
     ≡ true = unsynced d.sync _ (sym fits.t_is ∙ is.has_t) in
-    let at = subst (λ (q : PortName). t_due plan h q q.side (owner_read plan q.link (read_of bytes)) d.stream trusted
-    ≡ true) is.at_device t in
-    both_first (runs_at plan h x) (x.plan.stream == d.stream) (rw is.owned at at)
+    let at = subst (λ (q : PortName). t_at plan h q (owner_read plan (owners_link plan q) (read_of bytes)) d.stream
+    trusted ≡ true) is.at_device t in
+    by (nat_le 24 x.link) (nat_lt x.link (length plan.links)) (owner_on_link plan x.link (read_of bytes) x is.owned) at
+  where
+    by : (late there : Bool) → there ≡ true
+        → (if late && not there then peer_t plan h (owner_read plan
+        (if late && not there then (port_at plan.peers (record { side = Device; link = x.link })).link else x.link)
+        (read_of bytes)) d.stream
+        else sets_t plan h x.link d.stream (owner_read plan
+        (if late && not there then (port_at plan.peers (record { side = Device; link = x.link })).link else x.link)
+        (read_of bytes))) ≡ true → runs_at plan h x ≡ true
+    by late false on at = absurd cc
+    by true true on at = both_first (runs_at plan h x) (x.plan.stream == d.stream) (rw is.owned at at)
+    by false true on at = both_first (runs_at plan h x) (x.plan.stream == d.stream) (rw is.owned at at)
 
 pub record Fresh (plan : Plan) (h : History) (x : Site) (d : SealedPacket) : Type 0 where
   pub runs : runs_at plan h x ≡ true
   pub made : d.draw < draws h
 
-all_fresh : (plan : Plan) (h : History) (x : Site) (port : PortName) (bytes : List ℕ) (trusted : Bool)
-    (ds : List SealedPacket)
-    → AllByRecursion (SealFits plan h port bytes trusted) ds → AllByRecursion (λ d. d.draw < draws h) ds
-    → AllByRecursion (λ d. IsTrusted plan x port bytes d → Fresh plan h x d) ds
-all_fresh plan h x port bytes trusted [] fit below = tt
-all_fresh plan h x port bytes trusted (d ∷ ds) fit below = (
-  λ is. record { runs = sealed_in_run plan h x port bytes trusted d fit.0 is; made = below.0 },
-  all_fresh plan h x port bytes trusted ds fit.1 below.1,
+all_fresh : (plan : Plan) (h : History) (x : Site) (bytes : List ℕ) (trusted : Bool) (ds : List SealedPacket)
+    → AllByRecursion (SealFits plan h bytes trusted) ds → AllByRecursion (λ d. d.draw < draws h) ds
+    → AllByRecursion (λ d. IsTrusted plan x bytes d → Fresh plan h x d) ds
+all_fresh plan h x bytes trusted [] fit below = tt
+all_fresh plan h x bytes trusted (d ∷ ds) fit below = (
+  λ is. record { runs = sealed_in_run plan h x bytes trusted d fit.0 is; made = below.0 },
+  all_fresh plan h x bytes trusted ds fit.1 below.1,
 )
 
 -- ---- all packets with T
@@ -144,7 +158,7 @@ pub trusted_lead : (plan : Plan) (x : Site) (P Q : History → SealedPacket → 
     → OfTrusted plan x P h → OfTrusted plan x Q h
 trusted_lead plan x P Q [] leads all = tt
 trusted_lead plan x P Q ((event.Send port bytes more trusted, v.Sealed ds) ∷ h) leads all =
-    (all_lead (IsTrusted plan x port bytes) (P h) (Q h) ds (leads h) all.0, trusted_lead plan x P Q h leads all.1)
+    (all_lead (IsTrusted plan x bytes) (P h) (Q h) ds (leads h) all.0, trusted_lead plan x P Q h leads all.1)
 trusted_lead plan x P Q ((e, w) ∷ h) leads all = trusted_lead plan x P Q h leads all
 
 -- after one more pair
@@ -153,8 +167,8 @@ pub trusted_on : (plan : Plan) (kp : KeyPlan) (h : History) (e : Event) (w : Ver
     → KeyCauseLaw kp ((e, w) ∷ h) → PairFits plan h e w → ((d : SealedPacket) → Fresh plan h x d → P h d)
     → OfTrusted plan x P h → OfTrusted plan x P ((e, w) ∷ h)
 trusted_on plan kp h (event.Send port bytes more trusted) (v.Sealed ds) x P cause fit leads all = (
-  all_lead (IsTrusted plan x port bytes) (Fresh plan h x) (P h) ds leads
-      (all_fresh plan h x port bytes trusted ds fit (sealed_below kp h port bytes more trusted ds cause)),
+  all_lead (IsTrusted plan x bytes) (Fresh plan h x) (P h) ds leads
+      (all_fresh plan h x bytes trusted ds fit (sealed_below kp h port bytes more trusted ds cause)),
   all,
 )
 trusted_on plan kp h e w x P cause fit leads all = all

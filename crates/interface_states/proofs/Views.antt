@@ -3,14 +3,16 @@ use Rattle.std.proofs.Common.{◌≡◌, ◌≢◌, ℕ, ◌<◌, ◌≤◌, ◌
 use Rattle.std.proofs.Common.{Some, None, Result, Ok, Err, if◌then◌else◌, refl, sym, ap, ◌∙◌, subst, arith}
 use Rattle.std.proofs.lemmas.Bool.Decides.{nat_tests}
 use Rattle.std.proofs.lemmas.Bool.{cases_Bool}
-use Rattle.std.specs.Prelude.{nat_lt, nat_le}
+use Rattle.std.specs.Prelude.{nat_lt, nat_le, slice_set}
 use Rattle.interface_states.specs.Terms.{StreamStatus, Plan, View, Unlocked, Locked, Running, Doubt, Broken, Event}
 use Rattle.interface_states.specs.Terms.{InterfaceEvent, Loss, Verdict, History, op_of, draws, lost_at, if_secure, Tdi}
 use Rattle.interface_states.specs.Terms.{start_answer, StopInterface}
 use Rattle.interface_states.specs.Sites.{Site, site_at}
-use Rattle.interface_states.specs.Exchanges.{carries}
+use Rattle.interface_states.specs.Exchanges.{carries, is_asked_at}
 use Rattle.interface_states.specs.Views.{Managed, on_lock, on_report, on_start, on_halt, on_state, needs_then}
-use Rattle.interface_states.specs.Views.{view_told, view_broken, on_operation, number_in, is_number, stop_begins}
+use Rattle.interface_states.specs.Views.{view_told, view_broken, on_operation, number_in, is_number, stop_breaks}
+use Rattle.interface_states.specs.Views.{on_bind}
+use Rattle.interface_states.specs.Views.{peer_of}
 use Rattle.interface_states.specs.Views.{managed_after, managed, view_at, floor_at, needs_at, stream_draw}
 use Rattle.interface_states.specs.Devices.{tdi_if_called, is_run, runs_at, tdi_at, locks_at, devices}
 use Rattle.interface_states.specs.Due.{interface_verdict_due, interface_due, unless_lost, host_status, if_unlocked}
@@ -120,7 +122,7 @@ leaves_same m n same = record {
 
 -- ---- what the manager keeps after a pair
 
-managed_step : (h : History) (e : Event) (w : Verdict) (x : Site) → managed ((e, w) ∷ h) x
+pub managed_step : (h : History) (e : Event) (w : Verdict) (x : Site) → managed ((e, w) ∷ h) x
     ≡ managed_after (op_of h) (draws h) x e w (managed h x)
 unfolding managed
 managed_step h e w x = refl
@@ -132,21 +134,22 @@ if_not : {A : Type 0} (b : Bool) (m n : A) → b ≡ false → (if b then m else
 if_not b m n is = rw is refl
 
 -- by an event on the interface
-managed_own : (h : History) (e : InterfaceEvent) (w : Verdict) (x : Site) → is_number (number_in e) x.number ≡ true
+pub managed_own : (h : History) (e : InterfaceEvent) (w : Verdict) (x : Site) → is_number (number_in e) x.number ≡ true
     → managed ((event.Interface e, w) ∷ h) x ≡ on_operation (draws h) e w (managed h x)
 managed_own h e w x own = managed_step h (event.Interface e) w x ∙ if_is (is_number (number_in e) x.number) _ _ own
 
-managed_other : (h : History) (e : InterfaceEvent) (w : Verdict) (x : Site) → is_number (number_in e) x.number ≡ false
+pub managed_other : (h : History) (e : InterfaceEvent) (w : Verdict) (x : Site) → is_number (number_in e) x.number
+    ≡ false
     → managed ((event.Interface e, w) ∷ h) x ≡ managed h x
 managed_other h e w x other = managed_step h (event.Interface e) w x ∙ if_not (is_number (number_in e) x.number) _ _
     other
 
 -- ---- what is due of an event on the interface
 
-same_number : (i n : ℕ) → (i == n) ≡ true → i ≡ n
+pub same_number : (i n : ℕ) → (i == n) ≡ true → i ≡ n
 same_number i n is = grind (arith, nat_tests)
 
-due_own : (plan : Plan) (h : History) (x : Site) (e : InterfaceEvent) (i : ℕ) (w : Verdict) → site_at plan x.number
+pub due_own : (plan : Plan) (h : History) (x : Site) (e : InterfaceEvent) (i : ℕ) (w : Verdict) → site_at plan x.number
     ≡ Some x → number_in e ≡ Some i → (i == x.number) ≡ true
     → w ≡ interface_verdict_due plan h e w → w ≡ interface_due plan h x e
 unfolding interface_verdict_due
@@ -171,7 +174,7 @@ unlocked_or Running = inr (λ z. refl)
 unlocked_or Doubt = inr (λ z. refl)
 unlocked_or Broken = inr (λ z. refl)
 
-not_carried : (b c : Bool) → c ≡ false → (b && c) ≡ false
+pub not_carried : (b c : Bool) → c ≡ false → (b && c) ≡ false
 not_carried b c none = grind arith
 
 lock_turn : (plan : Plan) (kp : KeyPlan) (h : History) (i : ℕ) (loss : Option Loss) (w : Verdict) (x : Site)
@@ -432,6 +435,13 @@ report_leaves m (v.Interface (iv.Reported i report)) = record
 report_leaves m (v.Interface w) = leaves_same m m refl
 report_leaves m w = leaves_same m m refl
 
+bind_leaves : (line : ℕ) (m : Managed) (w : Verdict) → Leaves m (on_bind line m w)
+bind_leaves line m w = if_asked (is_asked_at w 1)
+  where
+    if_asked : (b : Bool) → Leaves m (if b then record m { asked = slice_set m.asked (peer_of line) true } else m)
+    if_asked true = record { view = inl refl; started = refl; floor = refl; needs = refl }
+    if_asked false = leaves_same m m refl
+
 if_broken : (b : Bool) (m : Managed) → Leaves m (if b then record m { view = view_broken m.view } else m)
 if_broken true m = record { view = broken_or m.view; started = refl; floor = refl; needs = refl }
 if_broken false m = leaves_same m m refl
@@ -475,17 +485,20 @@ turn plan kp h (event.Interface (ie.State i loss)) w x at all known =
     still plan kp h (event.Interface (ie.State i loss)) w x known refl refl
     (by_leaves h (event.Interface (ie.State i loss)) w x
     (if_leaves (i == x.number) _ _ (state_leaves (managed h x) w)))
+turn plan kp h (event.Interface (ie.Bind i line stream loss)) w x at all known =
+    still plan kp h (event.Interface (ie.Bind i line stream loss)) w x known refl refl
+    (by_leaves h (event.Interface (ie.Bind i line stream loss)) w x
+    (if_leaves (i == x.number) _ _ (bind_leaves line (managed h x) w)))
 turn plan kp h (event.Interface e) w x at all known =
     still plan kp h (event.Interface e) w x known refl refl
     (by_leaves h (event.Interface e) w x
     (if_leaves (is_number (number_in e) x.number) _ _ (leaves_same (managed h x) (managed h x) refl)))
 turn plan kp h (event.Stop link stream loss) w x at all known =
     still plan kp h (event.Stop link stream loss) w x known refl refl (by_leaves h (event.Stop link stream loss) w x
-    (if_broken ((link == x.link) && (stream == x.plan.stream) && stop_begins (op_of h link stream) (draws h) w)
-    (managed h x)))
-turn plan kp h (event.Reset link) (v.Reset l) x at all known =
-    still plan kp h (event.Reset link) (v.Reset l) x known refl refl
-    (by_leaves h (event.Reset link) (v.Reset l) x (if_broken (link == x.link) (managed h x)))
+    (if_broken (stop_breaks (op_of h) (draws h) x link stream w (managed h x)) (managed h x)))
+turn plan kp h (event.Reset link ends) (v.Reset l) x at all known =
+    still plan kp h (event.Reset link ends) (v.Reset l) x known refl refl
+    (by_leaves h (event.Reset link ends) (v.Reset l) x (if_broken (link == x.link) (managed h x)))
 turn plan kp h e w x at all known = still plan kp h e w x known refl refl
     (by_leaves h e w x (leaves_same (managed h x) (managed h x) refl))
 

@@ -1,10 +1,12 @@
 -- Each verdict on an interface is the one that is due, and packets have T as their device sets it.
-use Rattle.std.specs.Prelude.{◌≡◌, ℕ, ◌∷◌, Bool, false, if◌then◌else◌, List, [], Option, None, Result, Ok, Err}
+use Rattle.std.specs.Prelude.{◌≡◌, ℕ, ◌∷◌, Bool, false, if◌then◌else◌, List, [], Option, None, Result, Ok, Err, nat_le}
+use Rattle.std.specs.Prelude.{nat_lt, length, not, ◌&&◌}
 use Rattle.interface_states.specs.Terms.{AllByRecursion, option_and_then, Side, Host, Device, PortName, Plan, Event}
 use Rattle.interface_states.specs.Terms.{Verdict, SealedPacket, History}
 use Rattle.interface_states.specs.Sites.{Site, site_with}
-use Rattle.interface_states.specs.Devices.{sets_t}
+use Rattle.interface_states.specs.Devices.{peer_t, sets_t}
 use Rattle.interface_states.specs.Due.{interface_verdict_due}
+use Rattle.ide_plan.specs.Ends.{port_at}
 use Rattle.association.specs.Choice.{id_of}
 use Rattle.tlp_layout.specs.declared.head.HeadView.{HeadView}
 use Rattle.tlp_layout.specs.declared.tlp.Tlp.{Tlp}
@@ -35,12 +37,23 @@ abbrev pub t_due : Plan → History → PortName → Side → Option Site → �
 t_due plan h port Host owner stream trusted = trusted
 t_due plan h port Device owner stream trusted = sets_t plan h port.link stream owner
 
--- a sync packet has none
-pub record SealFits (plan : Plan) (h : History) (port : PortName) (bytes : List ℕ) (trusted : Bool) (d : SealedPacket)
-    : Type 0 where
-  pub port_is : d.port ≡ port
+-- the end of a stream between devices
+abbrev pub is_peer : Plan → PortName → Bool
+is_peer plan end = nat_le 24 end.link && not (nat_lt end.link (length plan.links))
+
+-- the link at whose device the owners of the TLPs are that an end sends
+abbrev pub owners_link : Plan → PortName → ℕ
+owners_link plan end = if is_peer plan end then (port_at plan.peers end).link else end.link
+
+-- T that an end sets, on a line that is no stream between devices, or on one
+abbrev pub t_at : Plan → History → PortName → Option Site → ℕ → Bool → Bool
+t_at plan h end owner stream trusted =
+    if is_peer plan end then peer_t plan h owner stream else t_due plan h end end.side owner stream trusted
+
+-- of a packet, by the end that sealed it; a sync packet has none
+pub record SealFits (plan : Plan) (h : History) (bytes : List ℕ) (trusted : Bool) (d : SealedPacket) : Type 0 where
   pub t_is : d.t ≡ (if d.sync then false
-      else t_due plan h port port.side (owner_read plan port.link (read_of bytes)) d.stream trusted)
+      else t_at plan h d.port (owner_read plan (owners_link plan d.port) (read_of bytes)) d.stream trusted)
 
 -- ---- the cause of each verdict
 
@@ -48,7 +61,7 @@ pub record SealFits (plan : Plan) (h : History) (port : PortName) (bytes : List 
 abbrev pub PairFits : Plan → History → Event → Verdict → Type 0
 PairFits plan h (event.Interface e) w = w ≡ interface_verdict_due plan h e w
 PairFits plan h (event.Send port bytes more trusted) (v.Sealed ds) =
-    AllByRecursion (SealFits plan h port bytes trusted) ds
+    AllByRecursion (SealFits plan h bytes trusted) ds
 PairFits plan h e w = Unit {0}
 
 abbrev pub InterfaceCause : Plan → History → Type 0

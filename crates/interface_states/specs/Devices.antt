@@ -1,14 +1,17 @@
 -- What each device's interfaces are, over whole histories.
-use Rattle.std.specs.Prelude.{ℕ, ◌+◌, ◌==◌, ◌&&◌, ◌∷◌, Bool, true, false, not, if◌then◌else◌, List, [], Option, Some}
+use Rattle.std.specs.Prelude.{ℕ, ◌+◌, ◌==◌, ◌&&◌, ◌||◌, ◌∷◌, Bool, true, false, not, if◌then◌else◌, List, [], Option}
+use Rattle.std.specs.Prelude.{Some}
 use Rattle.std.specs.Prelude.{None, is_ok}
-use Rattle.interface_states.specs.Terms.{list_any, Device, StreamStatus, Plan, Event, InterfaceEvent, Verdict, History}
+use Rattle.interface_states.specs.Terms.{list_any, Device, Plan, Event, InterfaceEvent, Verdict, History}
 use Rattle.interface_states.specs.Terms.{status_of, Registers, TdiState, Run, planned, Tdi, new_tdi, lock_answer, Call}
 use Rattle.interface_states.specs.Terms.{LockInterface, StartInterface, StopInterface, WriteRegister, LevelReset}
-use Rattle.interface_states.specs.Terms.{FirmwareUpdate, StreamLeft, LinkReset, tdi_after}
+use Rattle.interface_states.specs.Terms.{FirmwareUpdate, StreamLeft, LinkReset, BindStream, UnbindStream, tdi_after}
+use Rattle.interface_states.specs.Terms.{binds}
+pub use Rattle.interface_states.specs.Peers.{is_secure}
+use Rattle.interface_states.specs.Peers.{live_at, live_by, any_leaves}
 use Rattle.interface_states.specs.Sites.{Site, sites, nonce_behind}
 use Rattle.interface_states.specs.Exchanges.{carries, changes_device}
 use Rattle.interface_states.specs.Views.{managed, is_number, number_in}
-use Rattle.ide_types.specs.declared.status.StreamStatus.TheVariants as status
 use Rattle.link_events.specs.declared.event.Event.TheVariants as event
 use Rattle.link_events.specs.declared.event.InterfaceEvent.TheVariants as ie
 use Rattle.link_verdicts.specs.declared.verdict.Verdict.TheVariants as v
@@ -22,10 +25,9 @@ pub record Around : Type 0 where
   pub drawn : Option (List ℕ)
   -- the nonce that the manager holds
   pub nonce : List ℕ
-
-abbrev pub is_secure : StreamStatus → Bool
-is_secure status.Secure = true
-is_secure _ = false
+  -- the draw that is Live where the device receives posted requests on the stream between it and another that has an
+  -- ID, if it has such a stream, and it is Secure there
+  pub live : ℕ → Option ℕ
 
 abbrev pub has_secure_stream : History → Site → Bool
 has_secure_stream h x = is_secure (status_of h Device x.link x.plan.stream)
@@ -35,6 +37,7 @@ around plan h used x = record {
   secure = has_secure_stream h x;
   drawn = nonce_behind plan x.link (used x.link);
   nonce = (managed h x).nonce;
+  live = live_by (live_at h) plan.peers x.link;
 }
 
 -- ---- what reaches it
@@ -51,15 +54,24 @@ abbrev pub tdi_asked : Around → Site → InterfaceEvent → Verdict → Tdi �
 tdi_asked a x (ie.Lock i loss) w tdi = tdi_if_called (carries w 3) (lock_call a x) tdi
 tdi_asked a x (ie.Start i loss) w tdi = tdi_if_called (carries w 1) (StartInterface a.nonce) tdi
 tdi_asked a x (ie.Halt i loss) w tdi = tdi_if_called (carries w 1) StopInterface tdi
+tdi_asked a x (ie.Bind i line stream loss) w tdi =
+    tdi_if_called (carries w 1) (BindStream stream (a.live stream)) tdi
+tdi_asked a x (ie.Unbind i line stream loss) w tdi = tdi_if_called (carries w 1) (UnbindStream stream) tdi
 tdi_asked a x (ie.Write i register value) w tdi = tdi_if_called (changes_device w) (WriteRegister register value) tdi
 tdi_asked a x (ie.Flr i) w tdi = tdi_if_called (changes_device w) LevelReset tdi
 tdi_asked a x (ie.Firmware i) w tdi = tdi_if_called (changes_device w) FirmwareUpdate tdi
 tdi_asked a x e w tdi = tdi
 
--- `left` says that its stream was Secure at the device's port before the pair, and is not after it
+-- by a reset of its own link, and of another that leaves a stream that it is bound to
+abbrev pub reset_call : Bool → Call
+reset_call true = LinkReset
+reset_call false = StreamLeft
+
+-- `left` says that a stream that it is bound to was Secure at the device before the pair, and is not after it
 abbrev pub next_tdi : Around → Bool → Site → Event → Verdict → Tdi → Tdi
 next_tdi a left x (event.Interface e) w tdi = if is_number (number_in e) x.number then tdi_asked a x e w tdi else tdi
-next_tdi a left x (event.Reset link) (v.Reset l) tdi = tdi_if_called (link == x.link) LinkReset tdi
+next_tdi a left x (event.Reset link ends) (v.Reset l) tdi =
+    tdi_if_called ((link == x.link) || left) (reset_call (link == x.link)) tdi
 next_tdi a left x e w tdi = tdi_if_called left StreamLeft tdi
 
 -- the pair brings it a LOCK_INTERFACE that it accepts
@@ -76,8 +88,16 @@ pub record Devices : Type 0 where
   pub locks : Site → ℕ
   pub used : ℕ → ℕ
 
+-- the stream of its link
 abbrev pub leaves : History → Event → Verdict → Site → Bool
 leaves h e w x = has_secure_stream h x && not (has_secure_stream ((e, w) ∷ h) x)
+
+-- one that it is bound to
+abbrev pub is_left : Plan → History → Event → Verdict → Site → Tdi → Bool
+is_left plan h e w x tdi =
+    leaves h e w x
+    || any_leaves (live_by (live_at h) plan.peers x.link) (live_by (live_at ((e, w) ∷ h)) plan.peers x.link)
+    tdi.bindings
 
 abbrev pub one_if : Bool → ℕ
 one_if true = 1
@@ -88,7 +108,7 @@ locks_in plan h d e w x = accepts_lock (around plan h d.used x) x e w (d.tdi x)
 
 abbrev pub devices_after : Plan → History → Devices → Event → Verdict → Devices
 devices_after plan h d e w = record {
-  tdi = λ x. next_tdi (around plan h d.used x) (leaves h e w x) x e w (d.tdi x);
+  tdi = λ x. next_tdi (around plan h d.used x) (is_left plan h e w x (d.tdi x)) x e w (d.tdi x);
   locks = λ x. d.locks x + one_if (locks_in plan h d e w x);
   used = λ link. d.used link + one_if (list_any (λ x. (x.link == link) && locks_in plan h d e w x) (sites plan));
 }
@@ -131,3 +151,12 @@ runs_at plan h x = is_run (tdi_at plan h x).state
 abbrev pub sets_t : Plan → History → ℕ → ℕ → Option Site → Bool
 sets_t plan h link stream None = false
 sets_t plan h link stream (Some x) = runs_at plan h x && (x.plan.stream == stream)
+
+-- the interface is bound to the stream between its device and another that has this ID
+abbrev pub is_bound_at : Plan → History → Site → ℕ → Bool
+is_bound_at plan h x stream = binds stream (tdi_at plan h x).bindings
+
+-- an end of a stream between devices sets T if the TLP's owner is an interface in RUN that is bound to it
+abbrev pub peer_t : Plan → History → Option Site → ℕ → Bool
+peer_t plan h None stream = false
+peer_t plan h (Some x) stream = runs_at plan h x && is_bound_at plan h x stream

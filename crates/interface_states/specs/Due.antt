@@ -4,10 +4,13 @@ use Rattle.std.specs.Prelude.{Option, Some, None, Result, Ok, Err}
 use Rattle.interface_states.specs.Terms.{option_map, Host, StreamStatus, Plan, View, Unlocked, Locked, Running}
 use Rattle.interface_states.specs.Terms.{InterfaceEvent, Loss, Verdict, History, draws, status_of, lost_at, if_secure}
 use Rattle.interface_states.specs.Terms.{Register, has_register, kept_report, Tdi, state_code, lock_of, lock_answer}
+use Rattle.interface_states.specs.Terms.{bind_answer, unbind_answer, Op, Idle, Up, op_of}
 use Rattle.interface_states.specs.Terms.{start_answer, Call, WriteRegister, LevelReset, FirmwareUpdate, tdi_after}
 use Rattle.interface_states.specs.Sites.{Site, site_at}
+use Rattle.interface_states.specs.Peers.{has_peer}
 use Rattle.interface_states.specs.Views.{Managed, managed, needs_then, stream_draw, number_in}
 use Rattle.interface_states.specs.Devices.{Around, around_at, tdi_at}
+use Rattle.ide_types.specs.declared.status.StreamStatus.TheVariants as status
 use Rattle.link_events.specs.declared.event.InterfaceEvent.TheVariants as ie
 use Rattle.link_verdicts.specs.declared.verdict.Verdict.TheVariants as v
 use Rattle.interface_words.specs.declared.verdict.InterfaceVerdict.TheVariants as iv
@@ -31,6 +34,9 @@ pub record Standing : Type 0 where
   pub draw : ℕ
   -- how many draws were made
   pub drawn : ℕ
+  -- of a stream between devices, by its line and its ID: the manager's state of it, and its draw
+  pub peer_op : ℕ → ℕ → Op
+  pub peer_draw : ℕ → ℕ → ℕ
 
 -- the bound stream's state at the host's port
 abbrev pub host_status : History → Site → StreamStatus
@@ -44,6 +50,8 @@ standing_at plan h x = record {
   host = host_status h x;
   draw = stream_draw h x.link x.plan.stream;
   drawn = draws h;
+  peer_op = op_of h;
+  peer_draw = stream_draw h;
 }
 
 -- ---- lock
@@ -106,6 +114,32 @@ start_due x s loss =
     if_locked s.managed.view (if_reported s.managed.reported (if_secure s.host (if_fresh s.draw s.managed.needs
     (unless_lost loss 1 (started_as x s.draw (start_answer s.tdi.state s.managed.nonce))))))
 
+-- ---- bind, unbind
+
+-- as the manager has a stream between devices
+abbrev pub op_status : Op → StreamStatus
+op_status (Up set draw) = status.Secure
+op_status Idle = status.Idle
+op_status o = status.Partial
+
+abbrev pub bound_as : Site → ℕ → Result ℕ ℕ → Verdict
+bound_as x line (Ok draw) = v.Interface (iv.Bound x.number line)
+bound_as x line (Err code) = v.RefusedDevice 1 code
+
+abbrev pub bind_due : Site → Standing → ℕ → ℕ → Option Loss → Verdict
+bind_due x s line stream loss =
+    if_locked_or_running s.managed.view
+    (if_secure (op_status (s.peer_op line stream)) (if_fresh (s.peer_draw line stream) s.managed.needs
+    (unless_lost loss 1 (bound_as x line (bind_answer s.tdi stream (s.around.live stream))))))
+
+abbrev pub unbound_as : Site → ℕ → Result (Unit {0}) ℕ → Verdict
+unbound_as x line (Ok done) = v.Interface (iv.Unbound x.number line)
+unbound_as x line (Err code) = v.RefusedDevice 1 code
+
+abbrev pub unbind_due : Site → Standing → ℕ → ℕ → Option Loss → Verdict
+unbind_due x s line stream loss =
+    if_locked_or_running s.managed.view (unless_lost loss 1 (unbound_as x line (unbind_answer s.tdi stream)))
+
 -- ---- halt, state
 
 abbrev pub halt_due : Site → Standing → Option Loss → Verdict
@@ -133,6 +167,10 @@ asked_due plan x s (ie.Report i loss) = report_due plan x s loss
 asked_due plan x s (ie.Start i loss) = start_due x s loss
 asked_due plan x s (ie.Halt i loss) = halt_due x s loss
 asked_due plan x s (ie.State i loss) = state_due x s loss
+asked_due plan x s (ie.Bind i line stream loss) =
+    if has_peer plan.peers x.link line stream then bind_due x s line stream loss else v.Nothing
+asked_due plan x s (ie.Unbind i line stream loss) =
+    if has_peer plan.peers x.link line stream then unbind_due x s line stream loss else v.Nothing
 asked_due plan x s (ie.View i) = v.Interface (iv.View x.number s.managed.view)
 asked_due plan x s (ie.Write i register value) = write_due x s.tdi register value
 asked_due plan x s (ie.Flr i) = v.Interface (iv.Flr x.number (code_after s.tdi LevelReset))

@@ -1,6 +1,6 @@
 -- How far an operation on an interface came, by its verdict. It begins anew at each event; its exchanges are numbered
 -- from 1.
-use Rattle.std.specs.Prelude.{ℕ, ◌==◌, Bool, true, false, nat_lt, nat_le}
+use Rattle.std.specs.Prelude.{ℕ, ◌==◌, ◌||◌, Bool, true, false, nat_lt, nat_le}
 use Rattle.interface_states.specs.Terms.{Verdict, InterfaceVerdict}
 use Rattle.link_verdicts.specs.declared.verdict.Verdict.TheVariants as v
 use Rattle.interface_words.specs.declared.verdict.InterfaceVerdict.TheVariants as iv
@@ -12,6 +12,8 @@ is_interface_done (iv.Reported i report) = true
 is_interface_done (iv.Started i draw) = true
 is_interface_done (iv.Halted i needs) = true
 is_interface_done (iv.State i state) = true
+is_interface_done (iv.Bound i line) = true
+is_interface_done (iv.Unbound i line) = true
 is_interface_done _ = false
 
 -- the request of the exchange reached the device
@@ -27,6 +29,10 @@ abbrev pub is_lost_at : Verdict → ℕ → Bool
 is_lost_at (v.LostRequest m) n = m == n
 is_lost_at (v.LostReply m) n = m == n
 is_lost_at _ n = false
+
+-- its request was made, and perhaps lost
+abbrev pub is_asked_at : Verdict → ℕ → Bool
+is_asked_at w n = carries w n || is_lost_at w n
 
 -- the device refused the exchange
 abbrev pub is_refused_at : Verdict → ℕ → Bool

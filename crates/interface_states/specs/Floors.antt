@@ -1,8 +1,7 @@
 -- How the interfaces of each link's device stand over whole histories: the least draw that each takes trusted writes
 -- under, and its state, ranges and bound stream (this profile).
-use Rattle.std.specs.Prelude.{ℕ, zero, suc, ◌+◌, ◌-◌, ◌==◌, ◌&&◌, max, not, Bool, false, if◌then◌else◌, List, [], ◌∷◌}
-use Rattle.std.specs.Prelude.{length, map, filter, unwrap_or}
-use Rattle.key_laws.specs.Keys.{Keys, on_in}
+use Rattle.std.specs.Prelude.{ℕ, zero, suc, ◌+◌, ◌-◌, ◌==◌, ◌&&◌, not, Bool, false, if◌then◌else◌, List, [], ◌∷◌}
+use Rattle.std.specs.Prelude.{length, map, filter}
 use Rattle.key_laws.specs.Places.{KeyPlace}
 use Rattle.key_laws.specs.History.{keys_there}
 use Rattle.ide_types.specs.declared.sub.SubKind.TheVariants.{Pr}
@@ -10,15 +9,12 @@ use Rattle.guarded_memory.specs.declared.standing.Standing.{Standing}
 use Rattle.guarded_memory.specs.Standings.{standing_of}
 use Rattle.interface_states.specs.Terms.{Device, Plan, LinkPlan, Event, History}
 use Rattle.interface_states.specs.Sites.{Site, sites}
+pub use Rattle.interface_states.specs.Peers.{greatest_on}
 use Rattle.interface_states.specs.Devices.{tdi_at, runs_at}
 use Rattle.link_events.specs.declared.event.Event.TheVariants as event
 use Rattle.link_events.specs.declared.event.InterfaceEvent.TheVariants as ie
 
 -- ---- the draw at the device
-
--- the greatest draw that is On, 0 if none is
-abbrev pub greatest_on : Keys → ℕ
-greatest_on ks = max (unwrap_or (on_in ks.first) 0) (unwrap_or (on_in ks.second) 0)
 
 -- where the device receives posted requests on the interface's stream
 abbrev pub posted_receiver : Site → KeyPlace

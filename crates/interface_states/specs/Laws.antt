@@ -1,11 +1,11 @@
 -- What the interfaces of a history obey.
-use Rattle.std.specs.Prelude.{◌≡◌, ℕ, ◌<◌, ◌≤◌, ◌∷◌, ◌⊎◌, true, false, List, [], Some}
+use Rattle.std.specs.Prelude.{◌≡◌, ℕ, ◌<◌, ◌≤◌, ◌∷◌, ◌⊎◌, true, false, if◌then◌else◌, List, [], Some}
 use Rattle.interface_states.specs.Terms.{AllByRecursion, Device, PortName, Plan, Unlocked, Locked, Running, Event}
 use Rattle.interface_states.specs.Terms.{InterfaceEvent, Verdict, SealedPacket, History, listed, has_bit}
 use Rattle.interface_states.specs.Terms.{changes_listed, interface_report_bytes, state_code}
 use Rattle.interface_states.specs.Sites.{Site, site_at}
 use Rattle.interface_states.specs.Views.{managed, view_at, floor_at, needs_at}
-use Rattle.interface_states.specs.Devices.{tdi_at, locks_at, runs_at, registers_locked}
+use Rattle.interface_states.specs.Devices.{tdi_at, locks_at, runs_at, is_bound_at, peer_t, registers_locked}
 use Rattle.interface_states.specs.Cause.{InterfaceCause, owner_read}
 use Rattle.key_laws.specs.Laws.{KeyCauseLaw}
 use Rattle.key_laws.specs.Places.{KeyPlan}
@@ -60,11 +60,39 @@ RunLaw plan ((e, w) ∷ h) =
     × ShownAt plan h e w
     × RunLaw plan h
 
+-- ---- bindings
+
+-- an interface is bound to streams between devices in CONFIG_LOCKED and RUN alone
+abbrev pub BindLaw : Plan → History → Type 0
+BindLaw plan h = (x : Site) (stream : ℕ) → is_bound_at plan h x stream ≡ true → IsLocked plan h x
+
+abbrev pub BindLawHolds : Type 0
+BindLawHolds = (plan : Plan) (h : History) → BindLaw plan h
+
+-- The owner of the TLP of these bytes, among the interfaces of the link, is in RUN and bound to the stream between
+-- devices.
+pub record OwnerIsBound (plan : Plan) (h : History) (link stream : ℕ) (bytes : List ℕ) : Type 0 where
+  pub interface : Site
+  pub owns : owner_read plan link (read_of bytes) ≡ Some interface
+  pub runs : runs_at plan h interface ≡ true
+  pub bound : is_bound_at plan h interface stream ≡ true
+
+-- of a packet that was sealed for a TLP of these bytes, at an end at the device of the link, of a stream between
+-- devices
+abbrev pub PeerSealFits : Plan → History → ℕ → List ℕ → SealedPacket → Type 0
+PeerSealFits plan h link bytes d =
+    d.t ≡ (if d.sync then false else peer_t plan h (owner_read plan link (read_of bytes)) d.stream)
+
+-- a packet with T on a stream between devices is sealed while its owner is in RUN and bound to that stream
+abbrev pub PeerSealsBound : Type 0
+PeerSealsBound = (plan : Plan) (h : History) (link : ℕ) (bytes : List ℕ) (d : SealedPacket)
+    → PeerSealFits plan h link bytes d → d.t ≡ true → OwnerIsBound plan h link d.stream bytes
+
 -- ---- trusted packets
 
 -- the packet has T, and its device's port sealed it on the bound stream, with the interface as its owner
-pub record IsTrusted (plan : Plan) (x : Site) (port : PortName) (bytes : List ℕ) (d : SealedPacket) : Type 0 where
-  pub at_device : port ≡ record { side = Device; link = x.link }
+pub record IsTrusted (plan : Plan) (x : Site) (bytes : List ℕ) (d : SealedPacket) : Type 0 where
+  pub at_device : d.port ≡ record { side = Device; link = x.link }
   pub on_stream : d.stream ≡ x.plan.stream
   pub has_t : d.t ≡ true
   pub owned : owner_read plan x.link (read_of bytes) ≡ Some x
@@ -73,7 +101,7 @@ pub record IsTrusted (plan : Plan) (x : Site) (port : PortName) (bytes : List �
 abbrev pub OfTrusted : Plan → Site → (History → SealedPacket → Type 0) → History → Type 0
 OfTrusted plan x P [] = Unit {0}
 OfTrusted plan x P ((event.Send port bytes more trusted, v.Sealed ds) ∷ h) =
-    AllByRecursion (λ d. IsTrusted plan x port bytes d → P h d) ds × OfTrusted plan x P h
+    AllByRecursion (λ d. IsTrusted plan x bytes d → P h d) ds × OfTrusted plan x P h
 OfTrusted plan x P (_ ∷ h) = OfTrusted plan x P h
 
 -- it does not run, and each such packet is of a draw below the one that it needs

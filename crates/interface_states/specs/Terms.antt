@@ -18,9 +18,10 @@ pub use Rattle.link_events.specs.declared.event.Loss.{Loss}
 pub use Rattle.link_verdicts.specs.declared.verdict.Verdict.{Verdict}
 pub use Rattle.link_verdicts.specs.declared.verdict.SealedPacket.{SealedPacket}
 pub use Rattle.key_laws.specs.History.{History, op_of, draws, status_of, begins_keyed}
-pub use Rattle.key_laws.specs.Operations.{Op, work_of, reach_of}
+pub use Rattle.key_laws.specs.Operations.{Op, Idle, Up, work_of, reach_of}
 pub use Rattle.key_laws.specs.Due.{lost_at, if_secure}
 pub use Rattle.tdi_state.specs.declared.register_set.Registers.{Registers}
+pub use Rattle.tdi_state.specs.declared.bindings.Binding.{Binding}
 pub use Rattle.tdi_state.specs.declared.states.Lock.{Lock}
 pub use Rattle.tdi_state.specs.declared.states.TdiState.{TdiState}
 pub use Rattle.tdi_state.specs.declared.states.TdiState.TheVariants.{ConfigUnlocked, ConfigLocked, Run, Error}
@@ -28,5 +29,7 @@ pub use Rattle.tdi_state.specs.RegisterValues.{planned, listed, has_bit, changes
 pub use Rattle.tdi_state.specs.Kept.{interface_report_bytes, kept_report}
 pub use Rattle.tdi_state.specs.Machine.{Tdi, new_tdi, state_code, lock_of, lock_answer, start_answer, Call}
 pub use Rattle.tdi_state.specs.Machine.{LockInterface, StartInterface, StopInterface, WriteRegister, LevelReset}
-pub use Rattle.tdi_state.specs.Machine.{FirmwareUpdate, StreamLeft, LinkReset, tdi_after}
+pub use Rattle.tdi_state.specs.Machine.{FirmwareUpdate, StreamLeft, LinkReset, BindStream, UnbindStream, tdi_after}
+pub use Rattle.tdi_state.specs.Machine.{bind_answer, unbind_answer}
+pub use Rattle.tdi_state.specs.Bindings.{binds}
 pub use Rattle.interface_words.specs.RegisterNames.{has_register}

@@ -1,15 +1,19 @@
 -- What the host's manager makes of an interface, from verdicts alone.
-use Rattle.std.specs.Prelude.{ℕ, ◌==◌, ◌&&◌, ◌∷◌, Bool, true, false, if◌then◌else◌, List, [], is_some, Option, Some}
-use Rattle.std.specs.Prelude.{None}
+use Rattle.std.specs.Prelude.{ℕ, ◌-◌, ◌==◌, ◌&&◌, ◌||◌, nat_le, Bool, true, false, if◌then◌else◌, List, [], ◌∷◌}
+use Rattle.std.specs.Prelude.{slice_get, slice_set, replicate, is_some, unwrap_or, Option, Some, None}
 use Rattle.interface_states.specs.Terms.{Plan, View, Unlocked, Locked, Running, Doubt, Broken, Event, InterfaceEvent}
 use Rattle.interface_states.specs.Terms.{Verdict, History, Op, op_of, draws, work_of, reach_of, begins_keyed}
 use Rattle.interface_states.specs.Sites.{Site, site_with}
-use Rattle.interface_states.specs.Exchanges.{is_lost_at, is_refused_at}
+use Rattle.interface_states.specs.Exchanges.{is_lost_at, is_asked_at, is_refused_at}
 use Rattle.link_events.specs.declared.event.Event.TheVariants as event
 use Rattle.link_events.specs.declared.event.InterfaceEvent.TheVariants as ie
 use Rattle.link_verdicts.specs.declared.verdict.Operation.TheVariants as op
 use Rattle.link_verdicts.specs.declared.verdict.Verdict.TheVariants as v
 use Rattle.interface_words.specs.declared.verdict.InterfaceVerdict.TheVariants as iv
+
+-- to none of the streams between devices, of which there are up to eight
+abbrev pub no_binds : List Bool
+no_binds = replicate 8 false
 
 -- what the manager keeps of an interface
 pub record Managed : Type 0 where
@@ -24,18 +28,29 @@ pub record Managed : Type 0 where
   pub floor : ℕ
   -- the least draw that it may be started under
   pub needs : ℕ
+  -- of each stream between devices, by its number, whether BIND_P2P was asked since LOCK_INTERFACE was last asked
+  pub asked : List Bool
 
 abbrev pub new_managed : Managed
-new_managed = record { view = Unlocked; reported = false; nonce = []; started = false; floor = 0; needs = 0 }
+new_managed =
+    record { view = Unlocked; reported = false; nonce = []; started = false; floor = 0; needs = 0; asked = no_binds }
 
 -- ---- operations on it
 
 abbrev pub on_lock : Managed → Verdict → Managed
 on_lock m (v.Interface (iv.Locked i nonce)) =
-    record { view = Locked; reported = false; nonce = nonce; started = false; floor = m.floor; needs = m.needs }
+    record {
+      view = Locked;
+      reported = false;
+      nonce = nonce;
+      started = false;
+      floor = m.floor;
+      needs = m.needs;
+      asked = no_binds;
+    }
 on_lock m w =
-    if is_lost_at w 3 then record m { view = Doubt; started = false }
-    else if is_refused_at w 3 then record m { started = false }
+    if is_lost_at w 3 then record m { view = Doubt; started = false; asked = no_binds }
+    else if is_refused_at w 3 then record m { started = false; asked = no_binds }
     else m
 
 abbrev pub on_report : Managed → Verdict → Managed
@@ -67,12 +82,21 @@ abbrev pub on_state : Managed → Verdict → Managed
 on_state m (v.Interface (iv.State i state)) = record m { view = view_told m.view state }
 on_state m w = m
 
+-- the number of the stream between devices of a line
+abbrev pub peer_of : ℕ → ℕ
+peer_of line = line - 24
+
+-- a loss and a refusal of the device leave that it was asked
+abbrev pub on_bind : ℕ → Managed → Verdict → Managed
+on_bind line m w = if is_asked_at w 1 then record m { asked = slice_set m.asked (peer_of line) true } else m
+
 abbrev pub on_operation : ℕ → InterfaceEvent → Verdict → Managed → Managed
 on_operation drawn (ie.Lock i loss) w m = on_lock m w
 on_operation drawn (ie.Report i loss) w m = on_report m w
 on_operation drawn (ie.Start i loss) w m = on_start m w
 on_operation drawn (ie.Halt i loss) w m = on_halt drawn m w
 on_operation drawn (ie.State i loss) w m = on_state m w
+on_operation drawn (ie.Bind i line stream loss) w m = on_bind line m w
 on_operation drawn e w m = m
 
 -- the number of the interface that an operation is on
@@ -82,6 +106,8 @@ number_in (ie.Report i loss) = Some i
 number_in (ie.Start i loss) = Some i
 number_in (ie.Halt i loss) = Some i
 number_in (ie.State i loss) = Some i
+number_in (ie.Bind i line stream loss) = Some i
+number_in (ie.Unbind i line stream loss) = Some i
 number_in (ie.View i) = Some i
 number_in (ie.Write i register value) = Some i
 number_in (ie.Flr i) = Some i
@@ -102,15 +128,24 @@ view_broken _ = Broken
 abbrev pub stop_begins : Op → ℕ → Verdict → Bool
 stop_begins o next w = (work_of op.Stop o next).begins && is_some (reach_of op.Stop w)
 
+abbrev pub is_bind_asked : ℕ → List Bool → Bool
+is_bind_asked line asked = nat_le 24 line && unwrap_or (slice_get asked (peer_of line)) false
+
+-- a stop of the stream of a link that the interface is bound to begins, or any event of a stop of a stream between
+-- devices to which a binding of it was asked
+abbrev pub stop_breaks : (ℕ → ℕ → Op) → ℕ → Site → ℕ → ℕ → Verdict → Managed → Bool
+stop_breaks ops next x link stream w m =
+    ((link == x.link) && (stream == x.plan.stream) && stop_begins (ops link stream) next w)
+    || (is_bind_asked link m.asked && is_some (reach_of op.Stop w))
+
 -- ---- all pairs
 
 abbrev pub managed_after : (ℕ → ℕ → Op) → ℕ → Site → Event → Verdict → Managed → Managed
 managed_after ops drawn x (event.Interface e) w m =
     if is_number (number_in e) x.number then on_operation drawn e w m else m
 managed_after ops drawn x (event.Stop link stream loss) w m =
-    if (link == x.link) && (stream == x.plan.stream) && stop_begins (ops link stream) drawn w
-    then record m { view = view_broken m.view } else m
-managed_after ops drawn x (event.Reset link) (v.Reset l) m =
+    if stop_breaks ops drawn x link stream w m then record m { view = view_broken m.view } else m
+managed_after ops drawn x (event.Reset link ends) (v.Reset l) m =
     if link == x.link then record m { view = view_broken m.view } else m
 managed_after ops drawn x e w m = m
 

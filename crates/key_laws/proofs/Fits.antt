@@ -3,7 +3,8 @@
 -- acknowledged, and the end is split by whether the last one was. The hard case is a lost reply: the device may be one
 -- exchange ahead of the manager, so a state leaves both open, and the exchange may come again.
 use Rattle.key_laws.proofs.Terms.{◌≡◌, ℕ, ◌+◌, ◌<◌, ◌≤◌, Bool, true, false, List, [], ◌∷◌, ◌++◌, refl, subst, arith}
-use Rattle.key_laws.proofs.Terms.{nat_lt, not, if◌then◌else◌, SubKind, Side, Host, Device, Operation, KeyPlace, lane}
+use Rattle.key_laws.proofs.Terms.{nat_lt, not, if◌then◌else◌, SubKind, Side, Operation, KeyPlace, lane, is_local}
+use Rattle.key_laws.proofs.Terms.{is_hosted, stop_at}
 use Rattle.key_laws.proofs.Terms.{Touch, Stop, Clear, Off, key_in}
 use Rattle.key_laws.proofs.Terms.{refuses, is_open, keys, Op, Idle, Establishing, Up, Refreshing, Stopping, Work, Reach}
 use Rattle.key_laws.proofs.Terms.{work, last_exchange_of, op_after, op_ended, op_standing, is_within, when}
@@ -18,19 +19,24 @@ use Rattle.key_laws.proofs.Touches.{AllCome}
 use Rattle.key_laws.proofs.Stages.{Rest, unkeyed, old_alone, old_both, Full, alone, both, Rising, before, At, Lands}
 use Rattle.key_laws.proofs.Stages.{Spans, rises, comes_if}
 
--- in a stop the host's port has no key left, and the device a key in no set whose STOP was acknowledged
-abbrev pub Halting : Side → ℕ → ℕ → Shape → Type 0
-Halting Host l n sh = sh ≡ Bare
-Halting Device l n sh = (1 + l < n → key_in (keys_of sh) false ≡ Off) × (7 + l < n → key_in (keys_of sh) true ≡ Off)
+-- in a stop a host's port has no key left, and any other place a key in no set whose STOP was acknowledged
+abbrev pub Halting : (local : Bool) → ℕ → ℕ → Shape → Type 0
+Halting true a n sh = sh ≡ Bare
+Halting false a n sh = (a < n → key_in (keys_of sh) false ≡ Off) × (a + 6 < n → key_in (keys_of sh) true ≡ Off)
+
+-- the last exchange of an operation on the line of a place
+abbrev pub last_at : KeyPlace → Operation → ℕ
+last_at p o = last_exchange_of (is_hosted p.link) o
 
 abbrev pub Fits : Op → ℕ → Marks → KeyPlace → Shape → Type 0
 Fits Idle top u p sh = sh ≡ Bare
-Fits (Establishing j n) top u p sh = (j < top) × (n ≤ 13) × Rising false false j (program_at op.Establish p)
+Fits (Establishing j n) top u p sh = (j < top) × (n ≤ last_at p op.Establish)
+    × Rising false false j (program_at op.Establish p)
     (go_at op.Establish p) n u sh
 Fits (Up k j) top u p sh = (j < top) × Full k j true sh
-Fits (Refreshing k j n) top u p sh = (j < top) × (1 ≤ n) × (n ≤ 12)
+Fits (Refreshing k j n) top u p sh = (j < top) × (1 ≤ n) × (n ≤ last_at p op.Refresh)
     × Rising true k j (program_at op.Refresh p) (go_at op.Refresh p) n u sh
-Fits (Stopping n) top u p sh = (n ≤ 12) × Halting p.side (lane p) n sh
+Fits (Stopping n) top u p sh = (n ≤ last_at p op.Stop) × Halting (is_local p) (stop_at p) n sh
 
 -- used draws are below the number of draws so far, and never fell
 pub record Below (ts : List Touch) (top : ℕ) : Type 0 where
@@ -58,9 +64,12 @@ pub record Turned (o : Op) (top : ℕ) (p : KeyPlace) (ts more : List Touch) : T
 pub lane_below : (p : KeyPlace) → lane p ≤ 5
 lane_below p = grind arith
 
+stops_in_reach : (p : KeyPlace) → stop_at p + 6 ≤ last_at p op.Stop
+stops_in_reach p = grind (arith, lane_below)
+
 pub record Exchanges (o : Operation) (p : KeyPlace) : Type 0 where
   pub in_order : program_at o p < go_at o p
-  pub in_reach : go_at o p ≤ last_exchange_of o
+  pub in_reach : go_at o p ≤ last_at p o
   pub begins : from_at (work o false 0 1 true) p ≤ program_at o p
 
 abbrev pub place : Side → ℕ → ℕ → Bool → SubKind → KeyPlace
@@ -105,15 +114,15 @@ full_more r k j sh f = grind (arith, alone, both)
 -- where an operation ended or stands
 turned_by_end : (w : Work) (r : Reach) (top : ℕ) (p : KeyPlace) (ts more : List Touch) (P : Shape → Type 0)
     → Lands p.sends ts more P → Below (touches_after ts more) top
-    → ((sh : Shape) → last_exchange_of w.operation < r.acknowledged → P sh
+    → ((sh : Shape) → last_at p w.operation < r.acknowledged → P sh
     → Fits (op_ended w) top (marks (touches_after ts more)) p sh)
-    → ((sh : Shape) → r.acknowledged ≤ last_exchange_of w.operation → P sh
+    → ((sh : Shape) → r.acknowledged ≤ last_at p w.operation → P sh
     → Fits (op_standing w r.acknowledged) top (marks (touches_after ts more)) p sh)
-    → Turned (op_after w r) top p ts more
+    → Turned (op_after (is_hosted p.link) w r) top p ts more
 turned_by_end w r top p ts more P lands below ended standing = record
-    { now = by_test (nat_lt (last_exchange_of w.operation) r.acknowledged) refl; come = lands.come }
+    { now = by_test (nat_lt (last_at p w.operation) r.acknowledged) refl; come = lands.come }
   where
-    by_test : (b : Bool) → nat_lt (last_exchange_of w.operation) r.acknowledged ≡ b
+    by_test : (b : Bool) → nat_lt (last_at p w.operation) r.acknowledged ≡ b
         → FitsAt (if b then op_ended w else op_standing w r.acknowledged) top p (touches_after ts more)
     by_test true e = record {
       shape = lands.at.shape;
@@ -137,7 +146,7 @@ RisesFrom r w p ts = At p.sends ts
 
 lands : (r : Bool) (w : Work) (p : KeyPlace) (ts : List Touch) (c : Reach)
     → program_at w.operation p < go_at w.operation p
-    → Reached w.first (last_exchange_of w.operation) c → TakesKey w c p ts → RisesFrom r w p ts
+    → Reached w.first (last_at p w.operation) c → TakesKey w c p ts → RisesFrom r w p ts
     → Lands p.sends ts (keyed w c p)
     (Rising r w.set w.draw (program_at w.operation p) (go_at w.operation p) c.acknowledged
     (marks (touches_after ts (keyed w c p))))
@@ -148,8 +157,8 @@ full_alone : (j : ℕ) (sh : Shape) → Full false j false sh → sh ≡ Alone f
 full_alone j sh f = grind arith
 
 -- the end of an establish: its key is the only one
-pub establish_ends : (p : KeyPlace) (ts : List Touch) (j first : ℕ) (begins : Bool) (c : Reach) → 13 < c.acknowledged
-    → Reached first 13 c
+pub establish_ends : (p : KeyPlace) (ts : List Touch) (j first : ℕ) (begins : Bool) (c : Reach)
+    → last_at p op.Establish < c.acknowledged → Reached first (last_at p op.Establish) c
     → TakesKey (work op.Establish false j first begins) c p ts
     → RisesFrom false (work op.Establish false j first begins) p ts
     → IsAt p.sends (touches_after ts (keyed (work op.Establish false j first begins) c p)) (Alone false j)
@@ -162,9 +171,9 @@ establish_ends p ts j first begins c past reached takes from =
 
 pub establishes : (p : KeyPlace) (ts : List Touch) (j first : ℕ) (begins : Bool) (c : Reach) (top : ℕ) → j < top
     → Below ts top
-    → Reached first 13 c → TakesKey (work op.Establish false j first begins) c p ts
+    → Reached first (last_at p op.Establish) c → TakesKey (work op.Establish false j first begins) c p ts
     → RisesFrom false (work op.Establish false j first begins) p ts
-    → Turned (op_after (work op.Establish false j first begins) c) top p ts
+    → Turned (op_after (is_hosted p.link) (work op.Establish false j first begins) c) top p ts
     (keyed (work op.Establish false j first begins) c p)
 establishes p ts j first begins c top lt below reached takes from =
     let w = work op.Establish false j first begins in
@@ -181,9 +190,10 @@ establishes p ts j first begins c top lt below reached takes from =
 pub refreshes : (p : KeyPlace) (ts : List Touch) (k : Bool) (j first : ℕ) (begins : Bool) (c : Reach) (top : ℕ)
     → j < top
     → Below ts top → 1 ≤ first
-    → Reached first 12 c → TakesKey (work op.Refresh k j first begins) c p ts
+    → Reached first (last_at p op.Refresh) c → TakesKey (work op.Refresh k j first begins) c p ts
     → RisesFrom true (work op.Refresh k j first begins) p ts
-    → Turned (op_after (work op.Refresh k j first begins) c) top p ts (keyed (work op.Refresh k j first begins) c p)
+    → Turned (op_after (is_hosted p.link) (work op.Refresh k j first begins) c) top p ts
+    (keyed (work op.Refresh k j first begins) c p)
 refreshes p ts k j first begins c top lt below least reached takes from =
     let w = work op.Refresh k j first begins in
     let numbers = exchanges_refresh p in
@@ -240,10 +250,10 @@ refresh_goes_on p ts top k j n at = record
 
 -- ---- an event of a stop
 
--- what a stop finds: anything at the host's port if it begins, else what it left
-abbrev pub FindsHalted : (side : Side) (l first : ℕ) (begins : Bool) → Shape → Type 0
-FindsHalted Host l first true sh = Unit {0}
-FindsHalted side l first begins sh = Halting side l first sh
+-- what a stop finds: anything at a host's port if it begins, else what it left
+abbrev pub FindsHalted : (local : Bool) (a first : ℕ) (begins : Bool) → Shape → Type 0
+FindsHalted true a first true sh = Unit {0}
+FindsHalted local a first begins sh = Halting local a first sh
 
 -- the shape after the touches of a stop
 abbrev halted_shape : Bool → Bool → Shape → Shape
@@ -257,9 +267,9 @@ halts : (s : Bool) (ts : List Touch) (f g : Bool) (sh : Shape) → IsAt s ts sh
 unfolding keys used started is_open
 halts s ts f g sh is = grind (arith, stops)
 
-halting : (l n next below : ℕ) (sh : Shape) → Spans n next below → Halting Device l n sh
-    → Halting Device l next (halted_shape (is_within n (1 + l) below) (is_within n (7 + l) below) sh)
-halting l n next below sh spans halted = grind (arith, nat_tests)
+halting : (a n next below : ℕ) (sh : Shape) → Spans n next below → Halting false a n sh
+    → Halting false a next (halted_shape (is_within n a below) (is_within n (a + 6) below) sh)
+halting a n next below sh spans halted = grind (arith, nat_tests)
 
 halts_come : (s : Bool) (ts : List Touch) (f g : Bool) (sh : Shape) → IsAt s ts sh
     → AllCome s ts (when f (Stop false) ++ when g (Stop true))
@@ -270,34 +280,33 @@ halts_come s ts true g sh is = (
 )
 halts_come s ts false g sh is = comes_if g s ts sh (Stop true) is tt
 
-stops_by : (side : Side) (link stream : ℕ) (sends : Bool) (u : SubKind) (ts : List Touch) (first : ℕ) (begins : Bool)
-    (r : Reach) → Reached first 12 r
-    → At sends ts (FindsHalted side (lane (place side link stream sends u)) first begins)
-    → Lands sends ts (stopped (work op.Stop false 0 first begins) r (place side link stream sends u))
-    (Halting side (lane (place side link stream sends u)) r.acknowledged)
-stops_by Host link stream sends u ts first true r reached at = record {
+stops_by : (local sends : Bool) (a : ℕ) (ts : List Touch) (first last : ℕ) (begins : Bool) (r : Reach)
+    → Reached first last r → At sends ts (FindsHalted local a first begins)
+    → Lands sends ts (if local then when begins Clear
+    else when (is_within first a r.carried) (Stop false) ++ when (is_within first (a + 6) r.carried) (Stop true))
+    (Halting local a r.acknowledged)
+stops_by true sends a ts first last true r reached at = record {
   at = record { shape = Bare; is = clears sends ts; fits = refl };
   come =
       (record { shape = at.shape; is = at.is; may = tt }, tt);
 }
-stops_by Host link stream sends u ts first false r reached at = record
+stops_by true sends a ts first last false r reached at = record
     { at = record { shape = at.shape; is = at.is; fits = at.fits }; come = tt }
-stops_by Device link stream sends u ts first begins r reached at =
-    let l = lane (place Device link stream sends u) in
+stops_by false sends a ts first last begins r reached at =
     let spans : Spans first r.acknowledged r.carried = record
     { forward = reached.forward; reached = reached.carried; within_one = reached.within_one } in
     record {
       at = record {
         shape = _;
         is = halts sends ts _ _ at.shape at.is;
-        fits = halting l first r.acknowledged r.carried
+        fits = halting a first r.acknowledged r.carried
             at.shape spans at.fits;
       };
-      come = halts_come sends ts (is_within first (1 + l) r.carried) (is_within first (7 + l) r.carried) at.shape at.is;
+      come = halts_come sends ts (is_within first a r.carried) (is_within first (a + 6) r.carried) at.shape at.is;
     }
 
-halted_all : (p : KeyPlace) (n : ℕ) (sh : Shape) → 12 < n → Halting p.side (lane p) n sh → sh ≡ Bare
-halted_all p n sh past halting = grind (arith, lane_below)
+halted_all : (local : Bool) (a n : ℕ) (sh : Shape) → a + 6 < n → Halting local a n sh → sh ≡ Bare
+halted_all local a n sh past halting = grind arith
 
 below_stop : (w : Work) (r : Reach) (p : KeyPlace) (ts : List Touch) (top : ℕ) → Below ts top
     → Below (touches_after ts (stopped w r p)) top
@@ -305,21 +314,41 @@ unfolding used started
 below_stop w r p ts top below = grind arith
 
 pub stops_fit : (p : KeyPlace) (ts : List Touch) (first : ℕ) (begins : Bool) (r : Reach) (top : ℕ) → Below ts top
-    → Reached first 12 r
-    → At p.sends ts (FindsHalted p.side (lane p) first begins)
-    → Turned (op_after (work op.Stop false 0 first begins) r) top p ts (stopped (work op.Stop false 0 first begins) r p)
+    → Reached first (last_at p op.Stop) r
+    → At p.sends ts (FindsHalted (is_local p) (stop_at p) first begins)
+    → Turned (op_after (is_hosted p.link) (work op.Stop false 0 first begins) r) top p ts
+    (stopped (work op.Stop false 0 first begins) r p)
 stops_fit p ts first begins r top below reached at =
     let w = work op.Stop false 0 first begins in
     turned_by_end w r top p ts (stopped w r p) _
-    (stops_by p.side p.link p.stream p.sends p.sub ts first begins r reached at) (below_stop w r p ts top below)
-    (λ sh past halted. halted_all p r.acknowledged sh past halted) (λ sh le halted. (le, halted))
+    (stops_by (is_local p) p.sends (stop_at p) ts first _ begins r reached at) (below_stop w r p ts top below)
+    (λ sh past halted. halted_all (is_local p) (stop_at p) r.acknowledged sh
+    (omega (arith, past, stops_in_reach p)) halted) (λ sh le halted. (le, halted))
 
+-- after a reset a stream has no keys
 pub resets_fit : (o : Op) (p : KeyPlace) (ts : List Touch) (top : ℕ) → FitsAt o top p ts
     → Turned Idle top p ts (Clear ∷ [])
 unfolding used started
 resets_fit o p ts top at = record {
   now = record { shape = Bare; is = clears p.sends ts; fits = refl; below = grind arith };
   come = (record { shape = at.shape; is = at.is; may = tt }, tt);
+}
+
+-- or is to be stopped, if its keys are given by messages
+stops_first : (p : KeyPlace) (sh : Shape) → is_local p ≡ false
+    → (1 ≤ last_at p op.Stop) × Halting (is_local p) (stop_at p) 1 sh
+stops_first p sh told = grind arith
+
+pub cuts_fit : (o : Op) (p : KeyPlace) (ts : List Touch) (top : ℕ) (f : Bool) → is_local p ≡ false → FitsAt o top p ts
+    → Turned (Stopping 1) top p ts (when f Clear)
+unfolding used started
+cuts_fit o p ts top true told at = record {
+  now = record { shape = Bare; is = clears p.sends ts; fits = stops_first p Bare told; below = grind arith };
+  come = (record { shape = at.shape; is = at.is; may = tt }, tt);
+}
+cuts_fit o p ts top false told at = record {
+  now = record { shape = at.shape; is = at.is; fits = stops_first p at.shape told; below = at.below };
+  come = tt;
 }
 
 -- ---- which keys are taken

@@ -1,11 +1,11 @@
 -- A draw belongs to one stream and one key set: those of the operation that began with it.
 use Rattle.key_laws.proofs.Terms.{◌≡◌, ℕ, ◌<◌, ◌==◌, Bool, true, false, Option, Some, None, List, [], ◌∷◌, length, refl}
 use Rattle.key_laws.proofs.Terms.{subst, arith, ◌&&◌, if◌then◌else◌, Event, Operation, SealedPacket, Verdict, KeyPlace}
-use Rattle.key_laws.proofs.Terms.{is_on_stream, Touch, Program, Go}
+use Rattle.key_laws.proofs.Terms.{is_on_stream, is_local, Touch, Program, Go, Stop, makes_draw, work, ◌++◌}
 use Rattle.key_laws.proofs.Terms.{Clear, Keyed, Off, Loaded, On, Keys, key_in, kept_in, on_in, touched, is_open}
 use Rattle.key_laws.proofs.Terms.{without_outlived, keys, Op, Idle, Establishing, Up, Refreshing, Stopping, Work, Reach}
 use Rattle.key_laws.proofs.Terms.{Manager}
-use Rattle.key_laws.proofs.Terms.{Begun, work_of, reach_of, op_after}
+use Rattle.key_laws.proofs.Terms.{Begun, PortName, is_hosted, is_cleared, work_of, reach_of, op_after, op_cut}
 use Rattle.key_laws.proofs.Terms.{begun_after, operated, manager_after, History, manager, begun_under, when}
 use Rattle.key_laws.proofs.Terms.{worked, on_it, sealed_here, came, touches, touches_after, moments, nat_tests}
 use Rattle.link_events.specs.declared.event.Event.TheVariants as event
@@ -91,9 +91,11 @@ begun_longer bs link stream w j x e = grind (arith, begun_more)
 pub work_is : (o : Operation) (q : Op) (next : ℕ) → (work_of o q next).operation ≡ o
 work_is o q next = grind arith
 
-after_owned : (bs : List Begun) (link stream : ℕ) (o : Operation) (q : Op) (r : Reach) → OpOwned bs link stream q
-    → OpOwned (begun_after bs link stream (work_of o q (length bs))) link stream (op_after (work_of o q (length bs)) r)
-after_owned bs link stream o q r owned = grind (arith, begun_now)
+after_owned : (bs : List Begun) (link stream : ℕ) (o : Operation) (q : Op) (r : Reach) (hosted : Bool)
+    → OpOwned bs link stream q
+    → OpOwned (begun_after bs link stream (work_of o q (length bs))) link stream
+    (op_after hosted (work_of o q (length bs)) r)
+after_owned bs link stream o q r hosted owned = grind (arith, begun_now)
 
 abbrev pub OpsOwned : Manager → Type 0
 OpsOwned m = (link stream : ℕ) → OpOwned m.begun link stream (m.ops link stream)
@@ -116,10 +118,14 @@ operated_owned : (m : Manager) (o : Operation) (link stream : ℕ) (r : Option R
 operated_owned m o link stream None owned a b = owned a b
 operated_owned m o link stream (Some r) owned a b =
     by_stream a b (λ x y f. OpOwned (begun_after m.begun x y (work_of o (m.ops x y) (length m.begun))) a b
-    (if f then op_after (work_of o (m.ops x y) (length m.begun)) r else m.ops a b))
-    (after_owned m.begun a b o (m.ops a b) r (owned a b))
+    (if f then op_after (is_hosted x) (work_of o (m.ops x y) (length m.begun)) r else m.ops a b))
+    (after_owned m.begun a b o (m.ops a b) r (is_hosted a) (owned a b))
     (λ x y. op_longer m.begun _ (begun_longer m.begun x y (work_of o (m.ops x y) (length m.begun))) a b (m.ops a b)
     (owned a b)) link stream
+
+cut_owned : (bs : List Begun) (ends : List PortName) (link stream : ℕ) (q : Op) → OpOwned bs link stream q
+    → OpOwned bs link stream (op_cut ends link q)
+cut_owned bs ends link stream q owned = grind arith
 
 pub manager_owned : (h : History) → OpsOwned (manager h)
 unfolding manager
@@ -130,8 +136,9 @@ manager_owned ((event.Refresh link stream loss, verdict) ∷ h) a b = operated_o
     (reach_of op.Refresh verdict) (manager_owned h) a b
 manager_owned ((event.Stop link stream loss, verdict) ∷ h) a b = operated_owned (manager h) op.Stop link stream
     (reach_of op.Stop verdict) (manager_owned h) a b
-manager_owned ((event.Reset link, v.Reset l) ∷ h) a b = let before = manager_owned h a b in grind arith
-manager_owned ((event.Reset link, _) ∷ h) a b = manager_owned h a b
+manager_owned ((event.Reset link ends, v.Reset l) ∷ h) a b = cut_owned (manager h).begun ends a b
+    ((manager h).ops a b) (manager_owned h a b)
+manager_owned ((event.Reset link ends, _) ∷ h) a b = manager_owned h a b
 manager_owned ((_, verdict) ∷ h) a b = manager_owned h a b
 
 pub after_longer : (m : Manager) (e : Event) (verdict : Verdict) → Longer m.begun (manager_after m e verdict).begun
@@ -155,11 +162,42 @@ came_owned O p _ = tt
 abbrev pub OwnerAt : Manager → KeyPlace → Bool → ℕ → Type 0
 OwnerAt m p set j = Owner m.begun p.link p.stream set j
 
+keyed_owned : (O : Bool → ℕ → Type 0) (f g set : Bool) (j : ℕ) → O set j
+    → AllOwned O (when f (Program set j) ++ when g (Go set j))
+keyed_owned O f g set j mine = grind arith
+
+stopped_owned : (O : Bool → ℕ → Type 0) (a b c d : Bool)
+    → AllOwned O (if a then when b Clear else when c (Stop false) ++ when d (Stop true))
+stopped_owned O a b c d = grind arith
+
+pub worked_owned : (O : Bool → ℕ → Type 0) (o : Operation) (set : Bool) (draw first : ℕ) (begins : Bool)
+    (r : Option Reach)
+    (p : KeyPlace) → (makes_draw o ≡ true → O set draw) → AllOwned O (worked (work o set draw first begins) r p)
+worked_owned O o set draw first begins None p mine = tt
+worked_owned O op.Stop set draw first begins (Some r) p mine = stopped_owned O (is_local p) begins _ _
+worked_owned O op.Establish set draw first begins (Some r) p mine = keyed_owned O _ _ set draw (mine refl)
+worked_owned O op.Refresh set draw first begins (Some r) p mine = keyed_owned O _ _ set draw (mine refl)
+
+-- the draw of an operation is its stream's
+draw_owned : (bs : List Begun) (link stream : ℕ) (o : Operation) (q : Op) → OpOwned bs link stream q
+    → makes_draw (work_of o q (length bs)).operation ≡ true
+    → Owner (begun_after bs link stream (work_of o q (length bs))) link stream (work_of o q (length bs)).set
+    (work_of o q (length bs)).draw
+draw_owned bs link stream o q owned draws = grind (arith, begun_now)
+
 operation_owned : (m : Manager) (o : Operation) (link stream : ℕ) (r : Option Reach) (p : KeyPlace)
     → OpOwned m.begun p.link p.stream (m.ops p.link p.stream)
     → AllOwned (OwnerAt (operated m o link stream r) p)
     (on_it (is_on_stream p link stream) (worked (work_of o (m.ops link stream) (length m.begun)) r p))
-operation_owned m o link stream r p owned = grind (arith, nat_tests)
+operation_owned m o link stream None p owned = by_stream p.link p.stream (λ x y f. AllOwned (OwnerAt m p) (on_it f []))
+    tt (λ x y. tt) link stream
+operation_owned m o link stream (Some r) p owned = by_stream p.link p.stream
+    (λ x y f. AllOwned (OwnerAt (operated m o x y (Some r)) p)
+    (on_it f (worked (work_of o (m.ops x y) (length m.begun)) (Some r) p)))
+    (let w = work_of o (m.ops p.link p.stream) (length m.begun) in
+    worked_owned (OwnerAt (operated m o p.link p.stream (Some r)) p) w.operation w.set w.draw w.first w.begins (Some r)
+    p (draw_owned m.begun p.link p.stream o (m.ops p.link p.stream) owned))
+    (λ x y. tt) link stream
 
 touches_owned : (m : Manager) (e : Event) (verdict : Verdict) (p : KeyPlace) → OpsOwned m
     → AllOwned (OwnerAt (manager_after m e verdict) p) (touches m.ops (length m.begun) e verdict p)
@@ -169,8 +207,8 @@ touches_owned m (event.Refresh link stream loss) verdict p owned =
     operation_owned m op.Refresh link stream (reach_of op.Refresh verdict) p (owned p.link p.stream)
 touches_owned m (event.Stop link stream loss) verdict p owned = operation_owned m op.Stop link stream
     (reach_of op.Stop verdict) p (owned p.link p.stream)
-touches_owned m (event.Reset link) (v.Reset l) p owned = cleared_owned _ (p.link == link)
-touches_owned m (event.Reset link) _ p owned = tt
+touches_owned m (event.Reset link ends) (v.Reset l) p owned = cleared_owned _ (is_cleared ends p.side p.link)
+touches_owned m (event.Reset link ends) _ p owned = tt
 touches_owned m _ verdict p owned = came_owned _ p verdict
 
 pub keys_owned : (h : History) (p : KeyPlace) → OwnedKeys (OwnerAt (manager h) p) (keys p.sends (moments h p))

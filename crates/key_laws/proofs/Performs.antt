@@ -1,12 +1,25 @@
 -- How far an operation comes, by the verdict that is due.
 use Rattle.key_laws.proofs.Terms.{◌≡◌, ℕ, suc, zero, ◌+◌, ◌-◌, ◌<◌, ◌≤◌, Bool, true, false, Option, Some, None, arith}
-use Rattle.key_laws.proofs.Terms.{◌⊎◌, inl, inr, SubKind, Pr, Npr, Cpl, Device, Loss, Lost, Operation, Verdict, Work}
+use Rattle.key_laws.proofs.Terms.{◌⊎◌, inl, inr, SubKind, Pr, Npr, Cpl, Side, Host, Device, Loss, Lost, Operation}
+use Rattle.key_laws.proofs.Terms.{
+  Verdict,
+  Work,
+  is_host,
+  is_hosted,
+  is_local,
+  places_of,
+  told_places,
+  whole,
+  ◌&&◌,
+  ◌++◌,
+  nat_tests,
+}
 use Rattle.key_laws.proofs.Terms.{Reach, reach, last_exchange_of, reach_of, program_at, option_or, unwrap_or, refl}
-use Rattle.key_laws.proofs.Terms.{List, [], ◌∷◌, ◌==◌, ◌∙◌, KeyPlace, places_of, if◌then◌else◌, first_status}
+use Rattle.key_laws.proofs.Terms.{List, [], ◌∷◌, ◌==◌, ◌∙◌, KeyPlace, key_place_at, if◌then◌else◌, first_status}
 use Rattle.key_laws.proofs.Terms.{PortView, cut_at, done, first_from, lost_in, performed, refusal_at, stays}
 use Rattle.link_verdicts.specs.declared.verdict.Operation.TheVariants as op
 use Rattle.link_verdicts.specs.declared.verdict.Verdict.TheVariants as v
-use Rattle.key_laws.proofs.Fits.{Reached}
+use Rattle.key_laws.proofs.Fits.{Reached, place}
 
 -- the first exchange that gives a verdict, and those before it give none; or none does
 abbrev First : (ℕ → Option Verdict) → ℕ → ℕ → Option Verdict → Type 0
@@ -35,7 +48,7 @@ first_is cut n (suc c) = by_cut (cut n) refl (first_is cut (n + 1) c)
 pub record Performs (ports : PortView) (link stream : ℕ) (w : Work) (verdict : Verdict) : Type 0 where
   pub reached_to : Reach
   pub says : reach_of w.operation verdict ≡ Some reached_to
-  pub reached : Reached w.first (last_exchange_of w.operation) reached_to
+  pub reached : Reached w.first (last_exchange_of (is_hosted link) w.operation) reached_to
   pub taken : (n : ℕ) → w.first ≤ n → n < reached_to.acknowledged → refusal_at ports w.operation w.set link stream n
       ≡ None
 
@@ -43,7 +56,7 @@ not_refused : (lost : Option Lost) (status : Option ℕ) (n : ℕ) → cut_at lo
 not_refused lost status n none = grind arith
 
 done_says : (link stream : ℕ) (w : Work) → reach_of w.operation (done link stream w)
-    ≡ Some (reach (last_exchange_of w.operation + 1) (last_exchange_of w.operation + 1))
+    ≡ Some (whole link w.operation)
 done_says link stream w = grind arith
 
 -- how far the verdict came
@@ -58,18 +71,18 @@ cut_says : (o : Operation) (lost : Option Lost) (status : Option ℕ) (n : ℕ) 
 cut_says o lost status n verdict is = grind arith
 
 pub performs : (ports : PortView) (link stream : ℕ) (loss : Option Loss) (w : Work)
-    → w.first ≤ last_exchange_of w.operation + 1
+    → w.first ≤ last_exchange_of (is_hosted link) w.operation + 1
     → Performs ports link stream w (performed ports link stream loss w)
 performs ports link stream loss w within = by_stay (stays ports link stream loss w)
-    (first_is cut w.first (last_exchange_of w.operation + 1 - w.first))
+    (first_is cut w.first (last_exchange_of (is_hosted link) w.operation + 1 - w.first))
   where
     cut : ℕ → Option Verdict
     cut n = cut_at (lost_in loss n) (refusal_at ports w.operation w.set link stream n) n
 
-    by_stay : (o : Option Verdict) → First cut w.first (last_exchange_of w.operation + 1 - w.first) o
+    by_stay : (o : Option Verdict) → First cut w.first (last_exchange_of (is_hosted link) w.operation + 1 - w.first) o
         → Performs ports link stream w (unwrap_or o (done link stream w))
     by_stay None none = record {
-      reached_to = reach (last_exchange_of w.operation + 1) (last_exchange_of w.operation + 1);
+      reached_to = whole link w.operation;
       says = done_says link stream w;
       reached = record
           { forward = within; carried = omega arith; within_one = omega arith; at_most = omega arith };
@@ -97,7 +110,7 @@ pub record StaysAt (ports : PortView) (link stream : ℕ) (loss : Option Loss) (
     (verdict : Verdict) : Type 0 where
   pub exchange : ℕ
   pub at_least : w.first ≤ exchange
-  pub at_most : exchange ≤ last_exchange_of w.operation
+  pub at_most : exchange ≤ last_exchange_of (is_hosted link) w.operation
   pub gives : cut_at (lost_in loss exchange) (refusal_at ports w.operation w.set link stream exchange) exchange
       ≡ Some verdict
 
@@ -106,11 +119,11 @@ pub performed_stays : (ports : PortView) (link stream : ℕ) (loss : Option Loss
     → (performed ports link stream loss w ≡ done link stream w)
     ⊎ StaysAt ports link stream loss w (performed ports link stream loss w)
 performed_stays ports link stream loss w = by_stay (stays ports link stream loss w)
-    (first_is _ w.first (last_exchange_of w.operation + 1 - w.first))
+    (first_is _ w.first (last_exchange_of (is_hosted link) w.operation + 1 - w.first))
   where
     by_stay : (o : Option Verdict)
         → First (λ n. cut_at (lost_in loss n) (refusal_at ports w.operation w.set link stream n) n) w.first
-        (last_exchange_of w.operation + 1 - w.first) o
+        (last_exchange_of (is_hosted link) w.operation + 1 - w.first) o
         → (unwrap_or o (done link stream w) ≡ done link stream w)
         ⊎ StaysAt ports link stream loss w (unwrap_or o (done link stream w))
     by_stay None none = inl refl
@@ -137,7 +150,7 @@ performed_is ports link stream loss w = by_end _ (performed_stays ports link str
     by_end x (inl ended) = inl ended
     by_end x (inr at) = inr (cut_is (lost_in loss at.exchange) _ at.exchange x at.gives)
 
--- ---- the places of the device
+-- ---- places whose keys are given by messages
 
 first_of_place : (status : KeyPlace → Option ℕ) (ps : List KeyPlace) (given : ℕ) → first_status status ps ≡ Some given
     → (p : KeyPlace) × (status p ≡ Some given)
@@ -153,27 +166,77 @@ first_of_place status (p ∷ ps) given is = by_first (status p) refl is (first_o
 asked_refusal : (b : Bool) (o : Option ℕ) (given : ℕ) → (if b then o else None) ≡ Some given → o ≡ Some given
 asked_refusal b o given is = grind arith
 
+asked_none : (n : ℕ) (o : Option ℕ) → (if n == n then o else None) ≡ None → o ≡ None
+asked_none n o none = grind (arith, nat_tests)
+
 -- the status with which an exchange is refused is that of a place
 pub refusal_of_place : (ports : PortView) (o : Operation) (set : Bool) (link stream n given : ℕ)
     → refusal_at ports o set link stream n ≡ Some given → (p : KeyPlace) × (ports.refusal p set ≡ Some given)
 refusal_of_place ports op.Stop set link stream n given is = absurd cc
 refusal_of_place ports op.Establish set link stream n given is =
     let found = first_of_place (λ p. if program_at op.Establish p == n then ports.refusal p set else None)
-    (places_of Device link stream) given is in
+    (told_places (is_hosted link) link stream) given is in
     (found.0, asked_refusal (program_at op.Establish found.0 == n) _ given found.1)
 refusal_of_place ports op.Refresh set link stream n given is =
     let found = first_of_place (λ p. if program_at op.Refresh p == n then ports.refusal p set else None)
-    (places_of Device link stream) given is in
+    (told_places (is_hosted link) link stream) given is in
     (found.0, asked_refusal (program_at op.Refresh found.0 == n) _ given found.1)
 
--- a device's place takes the KEY_PROG whose exchange is not refused
-pub device_takes : (ports : PortView) (set : Bool) (link stream : ℕ) (sends : Bool) (u : SubKind)
-    → refusal_at ports op.Refresh set link stream
-    (program_at op.Refresh (record { side = Device; link = link; stream = stream; sends = sends; sub = u })) ≡ None
-    → ports.refusal (record { side = Device; link = link; stream = stream; sends = sends; sub = u }) set ≡ None
-device_takes ports set link stream false Pr free = grind arith
-device_takes ports set link stream false Npr free = grind arith
-device_takes ports set link stream false Cpl free = grind arith
-device_takes ports set link stream true Pr free = grind arith
-device_takes ports set link stream true Npr free = grind arith
-device_takes ports set link stream true Cpl free = grind arith
+-- the first of six and more is none only if each is
+six_none : (status : KeyPlace → Option ℕ) (a b c d e f : KeyPlace) (ps : List KeyPlace)
+    → first_status status (a ∷ b ∷ c ∷ d ∷ e ∷ f ∷ ps) ≡ None
+    → (status a ≡ None) × (status b ≡ None) × (status c ≡ None) × (status d ≡ None) × (status e ≡ None)
+    × (status f ≡ None) × (first_status status ps ≡ None)
+six_none status a b c d e f ps none = grind arith
+
+-- the six places of an end, before others
+end_none : (status : KeyPlace → Option ℕ) (side : Side) (link stream : ℕ) (sends : Bool) (u : SubKind)
+    → (ps : List KeyPlace) → first_status status (places_of side link stream ++ ps) ≡ None
+    → (status (place side link stream sends u) ≡ None) × (first_status status ps ≡ None)
+end_none status side link stream sends u ps none =
+    let all = six_none status (key_place_at side link stream false Pr) (key_place_at side link stream false Npr)
+    (key_place_at side link stream false Cpl) (key_place_at side link stream true Pr)
+    (key_place_at side link stream true Npr) (key_place_at side link stream true Cpl) ps none in
+    (one side sends u all, all.6)
+  where
+    one : (x : Side) (b : Bool) (v : SubKind)
+        → (status (key_place_at x link stream false Pr) ≡ None) × (status (key_place_at x link stream false Npr) ≡ None)
+        × (status (key_place_at x link stream false Cpl) ≡ None) × (status (key_place_at x link stream true Pr) ≡ None)
+        × (status (key_place_at x link stream true Npr) ≡ None) × (status (key_place_at x link stream true Cpl) ≡ None)
+        × (first_status status ps ≡ None) → status (place x link stream b v) ≡ None
+    one Host true Pr all = all.0
+    one Host true Npr all = all.1
+    one Host true Cpl all = all.2
+    one Host false Pr all = all.3
+    one Host false Npr all = all.4
+    one Host false Cpl all = all.5
+    one Device false Pr all = all.0
+    one Device false Npr all = all.1
+    one Device false Cpl all = all.2
+    one Device true Pr all = all.3
+    one Device true Npr all = all.4
+    one Device true Cpl all = all.5
+
+-- a place whose keys are given by messages is among them
+told_by : (hosted : Bool) (status : KeyPlace → Option ℕ) (side : Side) (link stream : ℕ) (sends : Bool) (u : SubKind)
+    → (is_host side && hosted) ≡ false → first_status status (told_places hosted link stream) ≡ None
+    → status (place side link stream sends u) ≡ None
+told_by true status Host link stream sends u told none = absurd cc
+told_by true status Device link stream sends u told none = (end_none status Device link stream sends u [] none).0
+told_by false status Host link stream sends u told none =
+    (end_none status Host link stream sends u (places_of Device link stream) none).0
+told_by false status Device link stream sends u told none =
+    (end_none status Device link stream sends u []
+    (end_none status Host link stream false Pr (places_of Device link stream) none).1).0
+
+-- it takes the KEY_PROG whose exchange is not refused
+pub told_takes : (ports : PortView) (set : Bool) (side : Side) (link stream : ℕ) (sends : Bool) (u : SubKind)
+    → is_local (place side link stream sends u) ≡ false
+    → refusal_at ports op.Refresh set link stream (program_at op.Refresh (place side link stream sends u)) ≡ None
+    → ports.refusal (place side link stream sends u) set ≡ None
+told_takes ports set side link stream sends u told free = asked_none (program_at op.Refresh p) _
+    (told_by (is_hosted link) (λ q. if program_at op.Refresh q == program_at op.Refresh p then ports.refusal q set
+    else None) side link stream sends u told free)
+  where
+    p : KeyPlace
+    p = place side link stream sends u

@@ -1,20 +1,21 @@
 -- What proofs on keys speak of.
 pub use Rattle.key_laws.specs.Terms.{SubKind, Side, Device, Host, Operation, Event, SealedPacket, Verdict, Cpl, Npr, Pr}
-pub use Rattle.key_laws.specs.Terms.{Loss, Lost, option_or, unwrap_or}
+pub use Rattle.key_laws.specs.Terms.{Loss, Lost, PortName, list_any, option_or, unwrap_or}
 pub use Rattle.std.proofs.Common.{Bool, List, None, Option, Some, [], ap, arith, false, inl, inr, length, refl, subst}
 pub use Rattle.std.proofs.Common.{suc, sym, true, zero, ℕ, ◌++◌, ◌+◌, ◌-◌, ◌<◌, ◌==◌, ◌∙◌, ◌∷◌, ◌≡◌, ◌≢◌, ◌≤◌, ◌⊎◌}
 pub use Rattle.key_laws.specs.Places.{KeyPlan, KeyPlace, is_on_stream, is_same_side, is_same_sub, lane, key_place_at}
-pub use Rattle.key_laws.specs.Places.{places_of}
+pub use Rattle.key_laws.specs.Places.{is_host, is_local, places_of, told_places, is_peer, is_cut, is_cleared}
+pub use Rattle.ide_types.specs.Lines.{is_hosted}
 pub use Rattle.key_laws.specs.Operations.{Begun, Establishing, Idle, Manager, Op, Reach, Refreshing, Stopping, Up, Work}
 pub use Rattle.key_laws.specs.Operations.{begun_after, last_exchange_of, makes_draw, manager_after, op_after, op_ended}
-pub use Rattle.key_laws.specs.Operations.{op_standing, operated, reach, reach_of, work}
+pub use Rattle.key_laws.specs.Operations.{op_cut, op_standing, operated, reach, reach_of, whole, work}
 pub use Rattle.key_laws.specs.Operations.{work_of}
 pub use Rattle.key_laws.specs.History.{History, begins_keyed, begun_under, touches_after, below_at, came, draws}
 pub use Rattle.key_laws.specs.History.{fails_there}
 pub use Rattle.key_laws.specs.History.{from_at, go_at, has_all, has_key, keeps_live, is_sender, is_within, keyed}
 pub use Rattle.key_laws.specs.History.{keys_there}
 pub use Rattle.key_laws.specs.History.{kept_draw, draw_on_at, on_it, op_of, program_at}
-pub use Rattle.key_laws.specs.History.{sealed_here, status_of, stopped, touches, when, worked}
+pub use Rattle.key_laws.specs.History.{sealed_here, status_of, stop_at, stopped, touches, when, worked}
 pub use Rattle.ide_types.specs.Ports.{status_by}
 unfoldable pub use Rattle.key_laws.specs.History.{base, failed_there, manager, moments}
 pub use Rattle.key_laws.specs.Laws.{KeyCauseLaw, GoesKept, GosFindKeys, KeyPlaceFacts, NeverAgain, NeverFalls}

@@ -2,10 +2,11 @@
 -- of event by the operation's state and how far it comes; on other streams nothing changes but the number of draws. The
 -- hard case is a refresh, in which each place has to take the key (Takes); sends and arrivals use only keys that are
 -- Live or On, as is supposed of them, and those are of draws that were made.
+use Rattle.key_laws.specs.Due.{has_refresh}
 use Rattle.key_laws.proofs.Terms.{and-false, ◌≡◌, ℕ, suc, ◌≤◌, ◌==◌, ◌⊎◌, inl, inr, Bool, true, false, Option, Some}
 use Rattle.key_laws.proofs.Terms.{None, List, [], ◌∷◌, ◌++◌, length, refl, subst, arith, nat_lt, not, ◌&&◌}
 use Rattle.key_laws.proofs.Terms.{if◌then◌else◌, SubKind, Pr, Npr, Cpl, Host}
-use Rattle.key_laws.proofs.Terms.{Event, Loss, Operation, SealedPacket, Verdict, KeyPlan, KeyPlace, lane, is_same_side}
+use Rattle.key_laws.proofs.Terms.{Event, Loss, Operation, SealedPacket, Verdict, KeyPlan, KeyPlace, is_same_side}
 use Rattle.key_laws.proofs.Terms.{is_same_sub, is_on_stream, Touch, Seal, Accept, Clear, keys, refuses, is_live_draw}
 use Rattle.key_laws.proofs.Terms.{refusal_if, slot_of, Op, Idle, Establishing, Up}
 use Rattle.key_laws.proofs.Terms.{Refreshing, Work, Reach, Manager, Begun, work, work_of, reach_of, op_after}
@@ -20,7 +21,11 @@ use Rattle.ide_types.specs.declared.status.StreamStatus.{StreamStatus}
 use Rattle.link_verdicts.specs.declared.verdict.Verdict.TheVariants as v
 use Rattle.key_laws.proofs.Shapes.{Marks, marks, Shape, Bare, at_start, used, started}
 use Rattle.key_laws.proofs.Fits.{Fits, FindsHalted, FitsAt, Turned, Reached, below_more, establishes, refreshes}
-use Rattle.key_laws.proofs.Fits.{stops_fit, resets_fit, establish_begins, establish_goes_on, establish_takes}
+use Rattle.key_laws.proofs.Fits.{last_at, stops_fit, resets_fit, cuts_fit, establish_begins, establish_goes_on}
+use Rattle.key_laws.proofs.Fits.{establish_takes}
+use Rattle.key_laws.proofs.Terms.{Side, Stopping, PortName, is_hosted, is_local, is_peer, is_cut, is_cleared}
+use Rattle.key_laws.proofs.Terms.{op_cut, stop_at, list_any, ◌+◌, nat_tests}
+use Rattle.key_laws.proofs.Tests.{neither-true}
 use Rattle.key_laws.proofs.Fits.{refresh_begins, refresh_goes_on}
 use Rattle.key_laws.proofs.Uses.{live_is_on, use_first, seals_fit, accepts_fit, raise}
 use Rattle.key_laws.proofs.Owners.{OwnedKeys, Owner, begun_below, behind_owned, owned_on, keys_owned, same_place}
@@ -32,7 +37,8 @@ use Rattle.key_laws.proofs.Takes.{refresh_first_takes, refresh_again_takes}
 abbrev pub Turns : Operation → Op → List Begun → ℕ → ℕ → KeyPlace → List Touch → Option Reach → Type 0
 Turns o q bs link stream p ts None = FitsAt q (length bs) p ts
 Turns o q bs link stream p ts (Some r) =
-    Turned (op_after (work_of o q (length bs)) r) (length (begun_after bs link stream (work_of o q (length bs)))) p ts
+    Turned (op_after (is_hosted link) (work_of o q (length bs)) r)
+    (length (begun_after bs link stream (work_of o q (length bs)))) p ts
     (worked (work_of o q (length bs)) (Some r) p)
 
 -- ---- an establish
@@ -111,12 +117,13 @@ stop_is : (q : Op) (next : ℕ) → work_of op.Stop q next ≡ work op.Stop fals
 stop_is q next = grind arith
 
 stop_finds : (q : Op) (top : ℕ) (u : Marks) (p : KeyPlace) (sh : Shape) → Fits q top u p sh
-    → ((work_of op.Stop q top).first ≤ 13) × FindsHalted p.side (lane p) (work_of op.Stop q top).first
+    → ((work_of op.Stop q top).first ≤ last_at p op.Stop + 1)
+    × FindsHalted (is_local p) (stop_at p) (work_of op.Stop q top).first
     (work_of op.Stop q top).begins sh
 stop_finds q top u p sh fits = grind arith
 
 stop_ends : (q : Op) (bs : List Begun) (p : KeyPlace) (ts : List Touch) (r : Reach)
-    → Reached (work_of op.Stop q (length bs)).first 12 r
+    → Reached (work_of op.Stop q (length bs)).first (last_at p op.Stop) r
     → FitsAt q (length bs) p ts → Turns op.Stop q bs p.link p.stream p ts (Some r)
 stop_ends q bs p ts r reached at =
     rw (stop_is q (length bs), and-false (work_of op.Stop q (length bs)).begins)
@@ -150,7 +157,8 @@ operated_fits m o link stream None p ts turns at =
 operated_fits m o link stream (Some r) p ts turns at = by_test (is_on_stream p link stream) refl
   where
     by_test : (b : Bool) → is_on_stream p link stream ≡ b
-        → Turned (if b then op_after (work_of o (m.ops link stream) (length m.begun)) r else m.ops p.link p.stream)
+        → Turned (if b then op_after (is_hosted link) (work_of o (m.ops link stream) (length m.begun)) r
+        else m.ops p.link p.stream)
         (length (begun_after m.begun link stream (work_of o (m.ops link stream) (length m.begun)))) p ts
         (on_it b (worked (work_of o (m.ops link stream) (length m.begun)) (Some r) p))
     by_test true e = turns (same_place p.link p.stream link stream e)
@@ -219,15 +227,31 @@ came_fits o bs p ts _ uses owned at = record { now = at; come = tt }
 
 -- ---- a reset
 
-reset_fits : (m : Manager) (link : ℕ) (p : KeyPlace) (ts : List Touch)
-    → FitsAt (m.ops p.link p.stream) (length m.begun) p ts
-    → Turned (if p.link == link then Idle else m.ops p.link p.stream) (length m.begun) p ts
-    (when (p.link == link) Clear)
-reset_fits m link p ts at = by_test (p.link == link)
+-- a stream between devices has no host's port
+peer_told : (p : KeyPlace) → is_peer p.link ≡ true → is_local p ≡ false
+peer_told p peer = grind (arith, nat_tests)
+
+-- an end that is cleared is on a line that is cut
+pub not_cut : (ends : List PortName) (side : Side) (line : ℕ) → is_cut ends line ≡ false
+    → list_any (λ e. is_same_side e.side side && (e.link == line)) ends ≡ false
+not_cut [] side line none = refl
+not_cut (e ∷ ends) side line none =
+    let parts = neither-true (e.link == line) (is_cut ends line) none in
+    rw (parts.0, and-false (is_same_side e.side side)) (not_cut ends side line parts.1)
+
+reset_fits : (ends : List PortName) (o : Op) (top : ℕ) (p : KeyPlace) (ts : List Touch) → FitsAt o top p ts
+    → Turned (op_cut ends p.link o) top p ts (when (is_cleared ends p.side p.link) Clear)
+reset_fits ends o top p ts at = by_tests (is_peer p.link) (is_cut ends p.link) _ refl refl refl
   where
-    by_test : (b : Bool) → Turned (if b then Idle else m.ops p.link p.stream) (length m.begun) p ts (when b Clear)
-    by_test true = resets_fit (m.ops p.link p.stream) p ts (length m.begun) at
-    by_test false = record { now = at; come = tt }
+    by_tests : (peer cut one : Bool) → is_peer p.link ≡ peer → is_cut ends p.link ≡ cut
+        → list_any (λ e. is_same_side e.side p.side && (e.link == p.link)) ends ≡ one
+        → Turned (if cut then (if peer then Stopping 1 else Idle) else o) top p ts
+        (when (if peer then one else cut) Clear)
+    by_tests true true one of_peer of_cut same = cuts_fit o p ts top one (peer_told p of_peer) at
+    by_tests true false true of_peer of_cut same = absurd (let none = not_cut ends p.side p.link of_cut in cc)
+    by_tests true false false of_peer of_cut same = record { now = at; come = tt }
+    by_tests false true one of_peer of_cut same = resets_fit o p ts top at
+    by_tests false false one of_peer of_cut same = record { now = at; come = tt }
 
 -- ---- all pairs
 
@@ -271,7 +295,7 @@ next_fits plan h (event.Establish link stream loss) x cause p at =
     link stream x cause.0 at
     (establish_turns plan (op_of h p.link p.stream) (manager h).begun (ports_at h) p (moments h p) loss at)
 next_fits plan h (event.Refresh link stream loss) x cause p at =
-    due_fits h op.Refresh p plan.has_stream
+    due_fits h op.Refresh p (has_refresh plan)
     (λ a b. refresh_on plan (op_of h a b) (draws h) (ports_at h) (status_of h Host a b) a b loss)
     link stream x cause.0 at
     (refresh_turns plan (op_of h p.link p.stream) (manager h).begun (ports_at h) (status_of h Host p.link p.stream) p
@@ -281,8 +305,9 @@ next_fits plan h (event.Stop link stream loss) x cause p at =
     due_fits h op.Stop p plan.has_stream (λ a b. stop_on (op_of h a b) (draws h) (ports_at h) a b loss) link stream x
     cause.0 at
     (stop_turns (op_of h p.link p.stream) (manager h).begun (ports_at h) p (moments h p) loss at)
-next_fits plan h (event.Reset link) (v.Reset l) cause p at = reset_fits (manager h) link p (moments h p) at
-next_fits plan h (event.Reset link) _ cause p at = record { now = at; come = tt }
+next_fits plan h (event.Reset link ends) (v.Reset l) cause p at = reset_fits ends (op_of h p.link p.stream)
+    (draws h) p (moments h p) at
+next_fits plan h (event.Reset link ends) _ cause p at = record { now = at; come = tt }
 next_fits plan h _ x cause p at = came_fits (op_of h p.link p.stream) (manager h).begun p (moments h p) x (cause.1 p)
     (keys_owned h p) at
 

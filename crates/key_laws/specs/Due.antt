@@ -1,7 +1,7 @@
 -- The one verdict that an operation or a reset gets after a history.
-use Rattle.std.specs.Prelude.{◌+◌, ◌-◌, ◌==◌, ◌∷◌, if◌then◌else◌, ℕ, suc, zero, nat_lt, Bool, false, Option, Some}
-use Rattle.std.specs.Prelude.{None, List, []}
-use Rattle.key_laws.specs.Terms.{option_or, unwrap_or, SubKind, Pr, Npr, Cpl, Host, Device, Event, Loss, Lost, Request}
+use Rattle.std.specs.Prelude.{◌+◌, ◌-◌, ◌==◌, ◌∷◌, ◌&&◌, if◌then◌else◌, ℕ, suc, zero, nat_lt, Bool, false, Option}
+use Rattle.std.specs.Prelude.{Some, None, List, []}
+use Rattle.key_laws.specs.Terms.{option_or, unwrap_or, SubKind, Pr, Npr, Cpl, Host, Event, Loss, Lost, Request}
 use Rattle.key_laws.specs.Terms.{Reply}
 use Rattle.key_laws.specs.Terms.{Operation, StreamStatus}
 use Rattle.key_laws.specs.Terms.{Verdict}
@@ -9,7 +9,8 @@ use Rattle.link_events.specs.declared.event.Event.TheVariants as event
 use Rattle.link_verdicts.specs.declared.verdict.Operation.TheVariants as op
 use Rattle.ide_types.specs.declared.status.StreamStatus.TheVariants as status
 use Rattle.link_verdicts.specs.declared.verdict.Verdict.TheVariants as v
-use Rattle.key_laws.specs.Places.{KeyPlan, KeyPlace, key_place_at, places_of}
+use Rattle.ide_types.specs.Lines.{is_hosted, is_link_line, line_kind}
+use Rattle.key_laws.specs.Places.{KeyPlan, KeyPlace, key_place_at, told_places}
 use Rattle.key_laws.specs.Keys.{refuses, refusal_if, is_live_draw}
 use Rattle.key_laws.specs.Operations.{Op, Idle, Establishing, Up, Refreshing, Stopping, Work, work_of, last_exchange_of}
 use Rattle.key_laws.specs.History.{History, op_of, draws, program_at, keys_there, slot_at, status_of}
@@ -37,17 +38,17 @@ abbrev pub first_status : (KeyPlace → Option ℕ) → List KeyPlace → Option
 first_status status [] = None
 first_status status (p ∷ ps) = option_or (status p) (first_status status ps)
 
--- the status with which the device refuses an exchange: that of a KEY_PROG at a place that refuses it
+-- the status with which an end refuses an exchange: that of a KEY_PROG at a place that refuses it
 abbrev pub refusal_at : PortView → Operation → Bool → ℕ → ℕ → ℕ → Option ℕ
 refusal_at ports op.Stop set link stream n = None
 refusal_at ports o set link stream n = first_status (λ p. if program_at o p == n then ports.refusal p set else None)
-    (places_of Device link stream)
+    (told_places (is_hosted link) link stream)
 
 abbrev pub lost_at : Lost → ℕ → Verdict
 lost_at Request n = v.LostRequest n
 lost_at Reply n = v.LostReply n
 
--- the verdict of an operation that stays at the exchange, if its message is lost or the device refuses it; a loss comes
+-- the verdict of an operation that stays at the exchange, if its message is lost or its end refuses it; a loss comes
 -- before a refusal
 abbrev pub cut_at : Option Lost → Option ℕ → ℕ → Option Verdict
 cut_at (Some lost) status n = Some (lost_at lost n)
@@ -71,7 +72,7 @@ done link stream w = by_operation w.operation
 abbrev pub stays : PortView → ℕ → ℕ → Option Loss → Work → Option Verdict
 stays ports link stream loss w =
     first_from (λ n. cut_at (lost_in loss n) (refusal_at ports w.operation w.set link stream n) n) w.first
-    (last_exchange_of w.operation + 1 - w.first)
+    (last_exchange_of (is_hosted link) w.operation + 1 - w.first)
 
 abbrev pub performed : PortView → ℕ → ℕ → Option Loss → Work → Verdict
 performed ports link stream loss w = unwrap_or (stays ports link stream loss w) (done link stream w)
@@ -81,7 +82,7 @@ performed ports link stream loss w = unwrap_or (stays ports link stream loss w) 
 abbrev pub begun_with_draw : KeyPlan → ℕ → Verdict → Verdict
 begun_with_draw plan next verdict = if nat_lt next plan.pool then verdict else v.RefusedPoolEmpty next
 
--- the sub-stream, PR first, whose Live key at the host's sender is in the set that is to be programmed
+-- the sub-stream, PR first, whose Live key at the near sender is in the set that is to be programmed
 abbrev pub is_live_sender : PortView → ℕ → ℕ → Bool → SubKind → Bool
 is_live_sender ports link stream set u = ports.is_live (key_place_at Host link stream false u) set
 
@@ -96,34 +97,38 @@ abbrev pub if_secure : StreamStatus → Verdict → Verdict
 if_secure status.Secure verdict = verdict
 if_secure s verdict = v.RefusedNotSecure s
 
-abbrev pub may_establish : KeyPlan → ℕ → Op → Verdict → Verdict
-may_establish plan next Idle verdict = begun_with_draw plan next verdict
-may_establish plan next (Establishing j n) verdict = verdict
-may_establish plan next (Up set j) verdict = v.RefusedNotIdle
-may_establish plan next (Refreshing set j n) verdict = v.RefusedBusy op.Refresh
-may_establish plan next (Stopping n) verdict = v.RefusedBusy op.Stop
+abbrev pub may_establish : KeyPlan → ℕ → ℕ → Op → Verdict → Verdict
+may_establish plan line next Idle verdict = begun_with_draw plan next verdict
+may_establish plan line next (Establishing j n) verdict = verdict
+may_establish plan line next (Up set j) verdict = v.RefusedNotIdle
+may_establish plan line next (Refreshing set j n) verdict = v.RefusedBusy (line_kind line) op.Refresh
+may_establish plan line next (Stopping n) verdict = v.RefusedBusy (line_kind line) op.Stop
 
-abbrev pub may_refresh : KeyPlan → ℕ → Op → StreamStatus → (Verdict → Verdict) → Verdict → Verdict
-may_refresh plan next Idle host unless_busy verdict = v.RefusedNotSecure host
-may_refresh plan next (Establishing j n) host unless_busy verdict = v.RefusedBusy op.Establish
-may_refresh plan next (Up set j) host unless_busy verdict =
+abbrev pub may_refresh : KeyPlan → ℕ → ℕ → Op → StreamStatus → (Verdict → Verdict) → Verdict → Verdict
+may_refresh plan line next Idle host unless_busy verdict = v.RefusedNotSecure host
+may_refresh plan line next (Establishing j n) host unless_busy verdict = v.RefusedBusy (line_kind line) op.Establish
+may_refresh plan line next (Up set j) host unless_busy verdict =
     if_secure host (unless_busy (begun_with_draw plan next verdict))
-may_refresh plan next (Refreshing set j n) host unless_busy verdict = verdict
-may_refresh plan next (Stopping n) host unless_busy verdict = v.RefusedBusy op.Stop
+may_refresh plan line next (Refreshing set j n) host unless_busy verdict = verdict
+may_refresh plan line next (Stopping n) host unless_busy verdict = v.RefusedBusy (line_kind line) op.Stop
 
 -- ---- the verdict, from what stands: the state of the stream, the number of draws, the ports, the host's status
 
 abbrev pub establish_on : KeyPlan → Op → ℕ → PortView → ℕ → ℕ → Option Loss → Verdict
-establish_on plan o next ports link stream loss = may_establish plan next o (performed ports link stream loss
+establish_on plan o next ports link stream loss = may_establish plan link next o (performed ports link stream loss
     (work_of op.Establish o next))
 
 abbrev pub refresh_on : KeyPlan → Op → ℕ → PortView → StreamStatus → ℕ → ℕ → Option Loss → Verdict
 refresh_on plan o next ports host link stream loss =
     let w = work_of op.Refresh o next in
-    may_refresh plan next o host (unless_open ports link stream w.set) (performed ports link stream loss w)
+    may_refresh plan link next o host (unless_open ports link stream w.set) (performed ports link stream loss w)
 
 abbrev pub stop_on : Op → ℕ → PortView → ℕ → ℕ → Option Loss → Verdict
 stop_on o next ports link stream loss = performed ports link stream loss (work_of op.Stop o next)
+
+-- the stream is a link's: no other has a refresh
+abbrev pub has_refresh : KeyPlan → ℕ → ℕ → Bool
+has_refresh plan link stream = is_link_line link && plan.has_stream link stream
 
 -- the verdict that is due; of any other event it is given
 unfoldable pub key_due : KeyPlan → History → Event → Verdict → Verdict
@@ -131,10 +136,10 @@ key_due plan h (event.Establish link stream loss) given =
     if plan.has_stream link stream then establish_on plan (op_of h link stream) (draws h) (ports_at h) link stream loss
     else v.Nothing
 key_due plan h (event.Refresh link stream loss) given =
-    if plan.has_stream link stream then refresh_on plan (op_of h link stream) (draws h) (ports_at h)
+    if has_refresh plan link stream then refresh_on plan (op_of h link stream) (draws h) (ports_at h)
     (status_of h Host link stream) link stream loss else v.Nothing
 key_due plan h (event.Stop link stream loss) given =
     if plan.has_stream link stream then stop_on (op_of h link stream) (draws h) (ports_at h) link stream loss
     else v.Nothing
-key_due plan h (event.Reset link) given = if plan.has_link link then v.Reset link else v.Nothing
+key_due plan h (event.Reset link ends) given = if plan.has_link link then v.Reset link else v.Nothing
 key_due plan h _ given = given

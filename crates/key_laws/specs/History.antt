@@ -6,9 +6,10 @@ use Rattle.key_laws.specs.Terms.{list_any, list_all, Side, Event, Operation, Sea
 use Rattle.key_laws.specs.Terms.{StreamStatus, Verdict}
 use Rattle.link_events.specs.declared.event.Event.TheVariants as event
 use Rattle.link_verdicts.specs.declared.verdict.Operation.TheVariants as op
-use Rattle.ide_types.specs.declared.status.StreamStatus.TheVariants as status
 use Rattle.link_verdicts.specs.declared.verdict.Verdict.TheVariants as v
-use Rattle.key_laws.specs.Places.{KeyPlace, is_host, is_same_side, is_same_sub, is_on_stream, lane, places_of}
+use Rattle.ide_types.specs.Lines.{is_hosted}
+use Rattle.key_laws.specs.Places.{KeyPlace, is_host, is_same_side, is_same_sub, is_on_stream, lane, is_local}
+use Rattle.key_laws.specs.Places.{places_of, is_cleared}
 use Rattle.key_laws.specs.Keys.{Touch, Program, Go, Stop, Clear, Seal, Accept, Keys, keys, key_in, kept_in, on_in}
 use Rattle.key_laws.specs.Keys.{is_on, DrawSlot, slot_of}
 use Rattle.key_laws.specs.Operations.{Op, Idle, Work, Reach, Manager, Begun, work_of, reach_of, manager_after}
@@ -47,22 +48,44 @@ base (_ ∷ h) link stream = base h link stream
 
 -- ---- touches
 
--- the exchange that programs the place, and the one that makes its key On; the host's port is programmed before all
--- exchanges, and gets its GO when the device's third receiver has acknowledged its own
+-- Which exchange programs a lane at an end, and which makes its key On. With a host's port at the near end: it is
+-- programmed before all exchanges, and gets its GO when the device's third receiver has acknowledged its own. Else both
+-- ends get their keys first, the near one first; then the receivers get their GOs, and then the senders.
+abbrev pub program_number : (hosted near : Bool) → Operation → ℕ → ℕ
+program_number true true o l = 0
+program_number true false op.Establish l = 2 + l
+program_number true false _ l = 1 + l
+program_number false true o l = 1 + l
+program_number false false o l = 7 + l
+
+abbrev pub go_number : (hosted near : Bool) → Operation → ℕ → ℕ
+go_number true true op.Establish l = 10
+go_number true true _ l = 9
+go_number true false op.Establish l = 8 + l
+go_number true false _ l = 7 + l
+go_number false true o l = if nat_lt l 3 then 13 + l else 16 + l
+go_number false false o l = if nat_lt l 3 then 16 + l else 19 + l
+
+-- the exchange that takes its key of set 0 away if it is done by messages; that of set 1 is six exchanges later
+abbrev pub stop_number : (hosted near : Bool) → ℕ → ℕ
+stop_number false false l = 13 + l
+stop_number hosted near l = 1 + l
+
 abbrev pub program_at : Operation → KeyPlace → ℕ
-program_at op.Establish p = if is_host p.side then 0 else 2 + lane p
-program_at _ p = if is_host p.side then 0 else 1 + lane p
+program_at o p = program_number (is_hosted p.link) (is_host p.side) o (lane p)
 
 abbrev pub go_at : Operation → KeyPlace → ℕ
-go_at op.Establish p = if is_host p.side then 10 else 8 + lane p
-go_at _ p = if is_host p.side then 9 else 7 + lane p
+go_at o p = go_number (is_hosted p.link) (is_host p.side) o (lane p)
+
+abbrev pub stop_at : KeyPlace → ℕ
+stop_at p = stop_number (is_hosted p.link) (is_host p.side) (lane p)
 
 -- from which exchange on, and below which, an event touches the place
 abbrev pub from_at : Work → KeyPlace → ℕ
-from_at w p = if is_host p.side && w.begins then 0 else w.first
+from_at w p = if is_local p && w.begins then 0 else w.first
 
 abbrev pub below_at : Reach → KeyPlace → ℕ
-below_at r p = if is_host p.side then r.acknowledged else r.carried
+below_at r p = if is_local p then r.acknowledged else r.carried
 
 abbrev pub is_within : ℕ → ℕ → ℕ → Bool
 is_within from n below = nat_le from n && nat_lt n below
@@ -77,12 +100,12 @@ keyed w r p =
     when (is_within (from_at w p) (program_at w.operation p) (below_at r p)) (Program w.set w.draw)
     ++ when (is_within (from_at w p) (go_at w.operation p) (below_at r p)) (Go w.set w.draw)
 
--- of a stop: all keys of the host's port go at its beginning, the device's set by set
+-- of a stop: all keys of a host's port go at its beginning, those of any other end set by set
 abbrev pub stopped : Work → Reach → KeyPlace → List Touch
 stopped w r p =
-    if is_host p.side then when w.begins Clear
-    else when (is_within w.first (1 + lane p) r.carried) (Stop false)
-    ++ when (is_within w.first (7 + lane p) r.carried) (Stop true)
+    if is_local p then when w.begins Clear
+    else when (is_within w.first (stop_at p) r.carried) (Stop false)
+    ++ when (is_within w.first (stop_at p + 6) r.carried) (Stop true)
 
 abbrev pub worked : Work → Option Reach → KeyPlace → List Touch
 worked w None p = []
@@ -123,8 +146,8 @@ touches ops next (event.Refresh link stream loss) verdict p = operation_touches 
     stream verdict p
 touches ops next (event.Stop link stream loss) verdict p = operation_touches (ops link stream) next op.Stop link
     stream verdict p
-touches ops next (event.Reset link) (v.Reset l) p = when (p.link == link) Clear
-touches ops next (event.Reset link) _ p = []
+touches ops next (event.Reset link ends) (v.Reset l) p = when (is_cleared ends p.side p.link) Clear
+touches ops next (event.Reset link ends) _ p = []
 touches ops next _ verdict p = came p verdict
 
 -- these touches, in order, after those before

@@ -31,7 +31,7 @@ abbrev pub GivenFits : History → Event → Verdict → Type 0
 GivenFits h (event.Establish link stream loss) verdict = Unit {0}
 GivenFits h (event.Refresh link stream loss) verdict = Unit {0}
 GivenFits h (event.Stop link stream loss) verdict = Unit {0}
-GivenFits h (event.Reset link) verdict = Unit {0}
+GivenFits h (event.Reset link ends) verdict = Unit {0}
 GivenFits h _ verdict = (p : KeyPlace) → UsesFit p.sends (moments h p) (came p verdict)
 
 -- Each verdict is the one that is due after the pairs before it.
@@ -73,8 +73,8 @@ pub record KeyPlaceFacts (h : History) : Type 0 where
 
 -- ---- the state of a stream
 
--- what the manager's state of a stream says of its places; a GO counts at a device's place once it is carried, and at
--- the host's port once the one that makes the port go on is acknowledged
+-- what the manager's state of a stream says of its places; a GO counts at a place once it is carried there, and at a
+-- host's port once the one that makes the port go on is acknowledged
 pub record StreamFacts (h : History) : Type 0 where
   pub idle : (p : KeyPlace) → op_of h p.link p.stream ≡ Idle → (set : Bool) → kept_draw h p set ≡ None
   pub establishing : (p : KeyPlace) (j n : ℕ) → op_of h p.link p.stream ≡ Establishing j n

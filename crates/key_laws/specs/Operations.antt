@@ -1,7 +1,9 @@
 -- The manager's operations on streams, said by their verdicts.
 use Rattle.std.specs.Prelude.{◌+◌, ◌==◌, ◌&&◌, if◌then◌else◌, ◌∷◌, ℕ, nat_lt, Bool, true, false, not, Option, Some}
 use Rattle.std.specs.Prelude.{None, List, length}
-use Rattle.key_laws.specs.Terms.{Event, Operation, Verdict}
+use Rattle.key_laws.specs.Terms.{Event, Operation, Verdict, PortName}
+use Rattle.ide_types.specs.Lines.{is_hosted}
+use Rattle.key_laws.specs.Places.{is_cut, is_peer}
 use Rattle.link_events.specs.declared.event.Event.TheVariants as event
 use Rattle.link_verdicts.specs.declared.verdict.Operation.TheVariants as op
 use Rattle.link_verdicts.specs.declared.verdict.Verdict.TheVariants as v
@@ -36,13 +38,13 @@ work_of op.Refresh _ next = work op.Refresh true next 1 true
 work_of op.Stop (Stopping n) next = work op.Stop false 0 n false
 work_of op.Stop _ next = work op.Stop false 0 1 true
 
--- the number of its last exchange
-abbrev pub last_exchange_of : Operation → ℕ
-last_exchange_of op.Establish = 13
-last_exchange_of op.Refresh = 12
-last_exchange_of op.Stop = 12
+-- the number of its last exchange: with a host's port at the near end, and if both ends are keyed by messages
+abbrev pub last_exchange_of : (hosted : Bool) → Operation → ℕ
+last_exchange_of true op.Establish = 13
+last_exchange_of true _ = 12
+last_exchange_of false _ = 24
 
--- how far an event came: each exchange below the one was carried to the device, each below the other acknowledged
+-- how far an event came: each exchange below the one was carried to its end, each below the other acknowledged
 pub record Reach : Type 0 where
   pub carried : ℕ
   pub acknowledged : ℕ
@@ -50,11 +52,15 @@ pub record Reach : Type 0 where
 abbrev pub reach : ℕ → ℕ → Reach
 reach carried acknowledged = record { carried = carried; acknowledged = acknowledged }
 
+-- to the end of an operation on a line
+abbrev pub whole : ℕ → Operation → Reach
+whole line o = reach (last_exchange_of (is_hosted line) o + 1) (last_exchange_of (is_hosted line) o + 1)
+
 -- by the verdict; nothing if the operation was refused
 abbrev pub reach_of : Operation → Verdict → Option Reach
-reach_of o (v.Established l s j) = Some (reach (last_exchange_of o + 1) (last_exchange_of o + 1))
-reach_of o (v.Refreshed l s j) = Some (reach (last_exchange_of o + 1) (last_exchange_of o + 1))
-reach_of o (v.Stopped l s) = Some (reach (last_exchange_of o + 1) (last_exchange_of o + 1))
+reach_of o (v.Established l s j) = Some (whole l o)
+reach_of o (v.Refreshed l s j) = Some (whole l o)
+reach_of o (v.Stopped l s) = Some (whole l o)
 reach_of o (v.LostRequest n) = Some (reach n n)
 reach_of o (v.LostReply n) = Some (reach (n + 1) n)
 reach_of o (v.RefusedDevice n code) = Some (reach (n + 1) n)
@@ -76,8 +82,9 @@ op_standing w n = standing w.operation
     standing op.Refresh = Refreshing w.set w.draw n
     standing op.Stop = Stopping n
 
-abbrev pub op_after : Work → Reach → Op
-op_after w r = if nat_lt (last_exchange_of w.operation) r.acknowledged then op_ended w else op_standing w r.acknowledged
+abbrev pub op_after : (hosted : Bool) → Work → Reach → Op
+op_after hosted w r =
+    if nat_lt (last_exchange_of hosted w.operation) r.acknowledged then op_ended w else op_standing w r.acknowledged
 
 -- an operation that began with a draw
 pub record Begun : Type 0 where
@@ -85,7 +92,7 @@ pub record Begun : Type 0 where
   pub stream : ℕ
   pub set : Bool
 
--- the state of each stream by its link and id, and the operations that began with a draw, the newest first
+-- the state of each stream by its line and id, and the operations that began with a draw, the newest first
 pub record Manager : Type 0 where
   pub ops : ℕ → ℕ → Op
   pub begun : List Begun
@@ -106,9 +113,14 @@ operated m o link stream None = m
 operated m o link stream (Some r) =
     let w = work_of o (m.ops link stream) (length m.begun) in
     record {
-      ops = λ a b. if (a == link) && (b == stream) then op_after w r else m.ops a b;
+      ops = λ a b. if (a == link) && (b == stream) then op_after (is_hosted link) w r else m.ops a b;
       begun = begun_after m.begun link stream w;
     }
+
+-- after a reset that clears these ends: the two ends of a stream between devices are to be stopped, any other has no
+-- keys
+abbrev pub op_cut : List PortName → ℕ → Op → Op
+op_cut ends line o = if is_cut ends line then (if is_peer line then Stopping 1 else Idle) else o
 
 abbrev pub manager_after : Manager → Event → Verdict → Manager
 manager_after m (event.Establish link stream loss) verdict = operated m op.Establish link stream
@@ -116,8 +128,8 @@ manager_after m (event.Establish link stream loss) verdict = operated m op.Estab
 manager_after m (event.Refresh link stream loss) verdict = operated m op.Refresh link stream
     (reach_of op.Refresh verdict)
 manager_after m (event.Stop link stream loss) verdict = operated m op.Stop link stream (reach_of op.Stop verdict)
-manager_after m (event.Reset link) (v.Reset l) = record {
-  ops = λ a b. if a == link then Idle else m.ops a b;
+manager_after m (event.Reset link ends) (v.Reset l) = record {
+  ops = λ a b. op_cut ends a (m.ops a b);
   begun = m.begun;
 }
 manager_after m _ _ = m

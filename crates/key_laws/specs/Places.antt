@@ -1,10 +1,12 @@
--- Where keys are: at a port, and there in a sub-stream that it sends or receives.
-use Rattle.std.specs.Prelude.{◌+◌, ◌==◌, ◌&&◌, if◌then◌else◌, ◌∷◌, ℕ, Bool, true, false, not, List, []}
-use Rattle.key_laws.specs.Terms.{SubKind, Pr, Npr, Cpl, Side, Host, Device}
+-- Where keys are: at an end of a line, and there in a sub-stream that it sends or receives.
+use Rattle.std.specs.Prelude.{◌+◌, ◌==◌, ◌&&◌, if◌then◌else◌, ◌∷◌, ◌++◌, ℕ, nat_lt, Bool, true, false, not, List, []}
+use Rattle.key_laws.specs.Terms.{SubKind, Pr, Npr, Cpl, Side, Host, Device, PortName, list_any}
+use Rattle.ide_types.specs.Lines.{is_hosted}
 use Rattle.ide_types.specs.Sub.{sub_bits}
 pub use Rattle.ide_types.specs.Sub.{sent_direction, received_direction, is_same_sub}
 
--- what there is before the first event: how many draws the pool has, and which links and streams exist
+-- what there is before the first event: how many draws the pool has, and which links there are, and which streams on
+-- which lines
 pub record KeyPlan : Type 0 where
   pub pool : ℕ
   pub has_link : ℕ → Bool
@@ -27,13 +29,13 @@ is_same_side a b = sent_direction a == sent_direction b
 abbrev pub is_on_stream : KeyPlace → ℕ → ℕ → Bool
 is_on_stream p link stream = (p.link == link) && (p.stream == stream)
 
--- whether its packets go from the device to the host
-abbrev pub is_upward : KeyPlace → Bool
-is_upward p = if is_host p.side then not p.sends else p.sends
-
--- its number among the six of its stream: the device's receivers PR, NPR, CPL, then its senders
+-- its number among the six of its stream at its end: the receivers PR, NPR, CPL, then the senders
 abbrev pub lane : KeyPlace → ℕ
-lane p = (if is_upward p then 3 else 0) + sub_bits p.sub
+lane p = (if p.sends then 3 else 0) + sub_bits p.sub
+
+-- whether its keys are given and taken by local calls, as at a host's port; at any other place it is done by messages
+abbrev pub is_local : KeyPlace → Bool
+is_local p = is_host p.side && is_hosted p.link
 
 abbrev pub key_place_at : Side → ℕ → ℕ → Bool → SubKind → KeyPlace
 key_place_at side link stream upward u = record {
@@ -44,10 +46,31 @@ key_place_at side link stream upward u = record {
   sub = u;
 }
 
--- the six places of a stream at a port, in order
+-- the six places of a stream at an end, in order
 abbrev pub places_of : Side → ℕ → ℕ → List KeyPlace
 places_of side link stream =
     key_place_at side link stream false Pr ∷ key_place_at side link stream false Npr
     ∷ key_place_at side link stream false Cpl
     ∷ key_place_at side link stream true Pr ∷ key_place_at side link stream true Npr
     ∷ key_place_at side link stream true Cpl ∷ []
+
+-- those of a stream whose keys are given by messages: at the far end, and at the near end too if no host's port is
+-- there
+abbrev pub told_places : (hosted : Bool) → ℕ → ℕ → List KeyPlace
+told_places true link stream = places_of Device link stream
+told_places false link stream = places_of Host link stream ++ places_of Device link stream
+
+-- ---- a reset
+
+-- a stream between two devices: a reset of one of their links clears one of its ends
+abbrev pub is_peer : ℕ → Bool
+is_peer line = not (nat_lt line 24)
+
+-- whether these ends that a reset clears are on the line
+abbrev pub is_cut : List PortName → ℕ → Bool
+is_cut ends line = list_any (λ e. e.link == line) ends
+
+-- whether it takes the keys of an end; the two ends of a link, and of a segment of its hop, go together
+abbrev pub is_cleared : List PortName → Side → ℕ → Bool
+is_cleared ends side line =
+    if is_peer line then list_any (λ e. is_same_side e.side side && (e.link == line)) ends else is_cut ends line

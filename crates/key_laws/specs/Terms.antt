@@ -3,6 +3,7 @@ pub use Rattle.ide_types.specs.declared.sub.SubKind.{SubKind}
 pub use Rattle.ide_types.specs.declared.sub.SubKind.TheVariants.{Pr, Npr, Cpl}
 pub use Rattle.ide_types.specs.declared.port.Side.{Side}
 pub use Rattle.ide_types.specs.declared.port.Side.TheVariants.{Host, Device}
+pub use Rattle.ide_types.specs.declared.port.PortName.{PortName}
 pub use Rattle.link_events.specs.declared.event.Event.{Event}
 pub use Rattle.link_events.specs.declared.event.Loss.{Loss}
 pub use Rattle.link_events.specs.declared.event.Lost.{Lost}

@@ -1,5 +1,4 @@
 -- Draws that are kept on a stream are from its base on.
-use Rattle.std.proofs.lemmas.Bool.Decides.{nat_tests}
 use Rattle.key_states.proofs.Terms.{◌≡◌, ℕ, ◌≤◌, ◌==◌, Bool, true, false, Option, Some, List, [], ◌∷◌, length, refl, ap}
 use Rattle.key_states.proofs.Terms.{sym, ◌∙◌, arith, ◌&&◌, Event, Loss, Operation, Verdict, KeyPlan, KeyPlace}
 use Rattle.key_states.proofs.Terms.{is_on_stream, Touch, no_keys, keys, Op, Idle}
@@ -7,16 +6,18 @@ use Rattle.key_states.proofs.Terms.{Establishing, Up, Refreshing, Reach, Manager
 use Rattle.key_states.proofs.Terms.{manager_after, History, manager, op_of, draws, worked, on_it, touches, moments}
 use Rattle.key_states.proofs.Terms.{base, begins_keyed, draw_on_at, key_due, KeyCauseLaw}
 use Rattle.key_states.proofs.Terms.{both-true, keys_of, OwnedKeys, AllOwned, behind_owned, came_owned, cleared_owned}
-use Rattle.key_states.proofs.Terms.{owned_on, same_place}
+use Rattle.key_states.proofs.Terms.{owned_on, same_place, op_cut, is_cleared, PortName}
+use Rattle.key_states.proofs.Terms.{Begun, Work, begun_after, by_stream, is_hosted, makes_draw, op_after, worked_owned}
+use Rattle.key_states.proofs.Terms.{None, if◌then◌else◌}
 use Rattle.link_events.specs.declared.event.Event.TheVariants as event
 use Rattle.link_verdicts.specs.declared.verdict.Operation.TheVariants as op
 use Rattle.link_verdicts.specs.declared.verdict.Verdict.TheVariants as v
 use Rattle.key_states.proofs.States.{in_state}
 
-abbrev From : ℕ → Bool → ℕ → Type 0
+abbrev pub From : ℕ → Bool → ℕ → Type 0
 From b set j = b ≤ j
 
-abbrev OpFrom : ℕ → Op → Type 0
+abbrev pub OpFrom : ℕ → Op → Type 0
 OpFrom b (Establishing j n) = b ≤ j
 OpFrom b (Up set j) = b ≤ j
 OpFrom b (Refreshing set j n) = b ≤ j
@@ -24,26 +25,59 @@ OpFrom b _ = Unit {0}
 
 -- the state of a stream after an event, and what the event touches at a place
 pub record Leads (b : ℕ) (p : KeyPlace) (m : Manager) (more : List Touch) : Type 0 where
-  low : b ≤ length m.begun
-  op_from : OpFrom b (m.ops p.link p.stream)
-  from : AllOwned (From b) more
+  pub low : b ≤ length m.begun
+  pub op_from : OpFrom b (m.ops p.link p.stream)
+  pub from : AllOwned (From b) more
 
 -- the draw of an operation is not below the base, nor is that of the state after it
+work_from : (b : ℕ) (o : Operation) (q : Op) (next : ℕ) → b ≤ next → OpFrom b q
+    → makes_draw (work_of o q next).operation ≡ true → b ≤ (work_of o q next).draw
+work_from b o q next low from draws = grind arith
+
+after_from : (b : ℕ) (hosted : Bool) (o : Operation) (q : Op) (next : ℕ) (r : Reach) → b ≤ next → OpFrom b q
+    → OpFrom b (op_after hosted (work_of o q next) r)
+after_from b hosted o q next r low from = grind arith
+
+low_more : (b : ℕ) (bs : List Begun) (link stream : ℕ) (w : Work) → b ≤ length bs
+    → b ≤ length (begun_after bs link stream w)
+low_more b bs link stream w low = grind arith
+
 operated_leads : (m : Manager) (o : Operation) (l s : ℕ) (r : Option Reach) (p : KeyPlace) (b : ℕ) → b ≤ length m.begun
     → OpFrom b (m.ops p.link p.stream)
     → Leads b p (operated m o l s r) (on_it (is_on_stream p l s) (worked (work_of o (m.ops l s) (length m.begun)) r p))
-operated_leads m o l s r p b low from = grind (arith, nat_tests)
+operated_leads m o l s None p b low from = record {
+  low = low;
+  op_from = from;
+  from = by_stream p.link p.stream (λ x y f. AllOwned (From b) (on_it f [])) tt (λ x y. tt) l s;
+}
+operated_leads m o l s (Some r) p b low from = record {
+  low = low_more b m.begun l s (work_of o (m.ops l s) (length m.begun)) low;
+  op_from = by_stream p.link p.stream (λ x y f. OpFrom b
+      (if f then op_after (is_hosted x) (work_of o (m.ops x y) (length m.begun)) r else m.ops p.link p.stream))
+      (after_from b (is_hosted p.link) o (m.ops p.link p.stream) (length m.begun) r low from) (λ x y. from) l s;
+  from = by_stream p.link p.stream
+      (λ x y f. AllOwned (From b) (on_it f (worked (work_of o (m.ops x y) (length m.begun)) (Some r) p)))
+      (let w = work_of o (m.ops p.link p.stream) (length m.begun) in
+      worked_owned (From b) w.operation w.set w.draw w.first w.begins (Some r) p
+      (work_from b o (m.ops p.link p.stream) (length m.begun) low from)) (λ x y. tt) l s;
+}
 
-leads : (m : Manager) (e : Event) (w : Verdict) (p : KeyPlace) (b : ℕ) → b ≤ length m.begun
+cut_from : (b : ℕ) (ends : List PortName) (line : ℕ) (q : Op) → OpFrom b q → OpFrom b (op_cut ends line q)
+cut_from b ends line q from = grind arith
+
+pub leads : (m : Manager) (e : Event) (w : Verdict) (p : KeyPlace) (b : ℕ) → b ≤ length m.begun
     → OpFrom b (m.ops p.link p.stream)
     → Leads b p (manager_after m e w) (touches m.ops (length m.begun) e w p)
 leads m (event.Establish l s loss) w p b low from = operated_leads m op.Establish l s (reach_of op.Establish w) p b low
     from
 leads m (event.Refresh l s loss) w p b low from = operated_leads m op.Refresh l s (reach_of op.Refresh w) p b low from
 leads m (event.Stop l s loss) w p b low from = operated_leads m op.Stop l s (reach_of op.Stop w) p b low from
-leads m (event.Reset l) (v.Reset k) p b low from = record
-    { low = low; op_from = grind arith; from = cleared_owned (From b) (p.link == l) }
-leads m (event.Reset l) w p b low from = record { low = low; op_from = from; from = tt }
+leads m (event.Reset l ends) (v.Reset k) p b low from = record {
+  low = low;
+  op_from = cut_from b ends p.link (m.ops p.link p.stream) from;
+  from = cleared_owned (From b) (is_cleared ends p.side p.link);
+}
+leads m (event.Reset l ends) w p b low from = record { low = low; op_from = from; from = tt }
 leads m e w p b low from = record { low = low; op_from = from; from = came_owned (From b) p w }
 
 -- ---- only an idle stream begins to be keyed

@@ -94,5 +94,5 @@ touches_no_seal ops next (event.Refresh l s lose) x p none = operated_no_seal (i
     (work_of op.Refresh (ops l s) next) (reach_of op.Refresh x) p
 touches_no_seal ops next (event.Stop l s lose) x p none = operated_no_seal (is_on_stream p l s)
     (work_of op.Stop (ops l s) next) (reach_of op.Stop x) p
-touches_no_seal ops next (event.Reset l) x p none = grind arith
+touches_no_seal ops next (event.Reset l ends) x p none = grind arith
 touches_no_seal ops next e x p none = came_no_seal p x none

@@ -1,4 +1,6 @@
 -- A place gets its first key that is On in an establish, under the base of the stream.
+use Rattle.key_laws.specs.Due.{has_refresh}
+use Rattle.key_states.proofs.Terms.{None}
 use Rattle.key_states.proofs.Terms.{◌≡◌, ℕ, ◌≤◌, ◌==◌, Bool, true, false, Option, Some, List, [], ◌∷◌, length, refl, ap}
 use Rattle.key_states.proofs.Terms.{sym, ◌∙◌, arith, ◌&&◌, if◌then◌else◌, is_some, nat_tests, Host, Loss, Verdict}
 use Rattle.key_states.proofs.Terms.{KeyPlan, KeyPlace, Touch, keys, Op, Idle}
@@ -6,7 +8,7 @@ use Rattle.key_states.proofs.Terms.{Establishing, Reach, Manager, work_of, reach
 use Rattle.key_states.proofs.Terms.{draws, moments, keys_there, base, begins_keyed, keeps_live, status_of, PortView}
 use Rattle.key_states.proofs.Terms.{ports_at, establish_on, refresh_on, key_due}
 use Rattle.key_states.proofs.Terms.{KeyCauseLaw, marks, Shape, keys_of, used, started, IsAt, Rising, FitsAt, fits}
-use Rattle.key_states.proofs.Terms.{Operation, StreamStatus}
+use Rattle.key_states.proofs.Terms.{Operation, StreamStatus, op_cut, PortName}
 use Rattle.std.proofs.Math.Bool.{and-false}
 use Rattle.link_events.specs.declared.event.Event.TheVariants as event
 use Rattle.link_verdicts.specs.declared.verdict.Operation.TheVariants as op
@@ -32,6 +34,9 @@ established_is : (m : Manager) (b l s link stream : ℕ) (r : Option Reach) → 
     ((operated m op.Establish l s r).ops link stream)
 established_is m b l s link stream r is = grind (arith, nat_tests)
 
+cut_is : (b : ℕ) (ends : List PortName) (line : ℕ) (q : Op) → OpIs b q → OpIs b (op_cut ends line q)
+cut_is b ends line q is = grind arith
+
 abbrev BaseIs : History → ℕ → ℕ → Type 0
 BaseIs h link stream = OpIs (base h link stream) (op_of h link stream)
 
@@ -47,7 +52,8 @@ base_is ((event.Refresh l s lose, x) ∷ h) link stream =
 base_is ((event.Stop l s lose, x) ∷ h) link stream =
     other_is (manager h) (base h link stream) op.Stop l s link stream (reach_of op.Stop x) (λ e. cc)
     (base_is h link stream)
-base_is ((event.Reset l, v.Reset m) ∷ h) link stream = let before = base_is h link stream in grind arith
+base_is ((event.Reset l ends, v.Reset m) ∷ h) link stream = cut_is (base h link stream) ends link (op_of h link stream)
+    (base_is h link stream)
 base_is ((e, x) ∷ h) link stream = base_is h link stream
 
 -- ---- an establish at a place with no key On
@@ -108,12 +114,18 @@ first_keys plan h p lose x r cause reached none =
 
 -- ---- in a refresh each place has a key
 
+reached_if : (has : Bool) (x y : Verdict) (r : Reach) → x ≡ (if has then y else v.Nothing)
+    → reach_of op.Refresh x ≡ Some r → is_some (reach_of op.Refresh y) ≡ true
+reached_if true x y r is reached = ap (λ (z : Verdict). is_some (reach_of op.Refresh z)) (sym is) ∙ ap is_some reached
+reached_if false x y r is reached = absurd (let none : Some r ≡ None = sym reached ∙ ap (reach_of op.Refresh) is in cc)
+
 pub refresh_state : (plan : KeyPlan) (h : History) (l s : ℕ) (lose : Option Loss) (x : Verdict) (r : Reach) → x
     ≡ key_due plan h (event.Refresh l s lose) x → reach_of op.Refresh x ≡ Some r
     → is_some (reach_of op.Refresh
     (refresh_on plan (op_of h l s) (draws h) (ports_at h) (status_of h Host l s) l s lose)) ≡ true
 unfolding key_due
-refresh_state plan h l s lose x r is reached = grind arith
+refresh_state plan h l s lose x r is reached = reached_if (has_refresh plan l s) x
+    (refresh_on plan (op_of h l s) (draws h) (ports_at h) (status_of h Host l s) l s lose) r is reached
 
 up_of : (plan : KeyPlan) (q : Op) (next : ℕ) (ports : PortView) (host : StreamStatus) (l s : ℕ) (lose : Option Loss)
     → is_some (reach_of op.Refresh (refresh_on plan q next ports host l s lose)) ≡ true → is_up q ≡ true

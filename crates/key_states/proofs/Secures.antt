@@ -1,10 +1,11 @@
 -- No move of a refresh takes a port out of Secure.
+use Rattle.key_laws.specs.Due.{has_refresh}
 use Rattle.key_states.proofs.Terms.{◌≡◌, ℕ, Bool, true, false, Option, Some, None, [], ◌∷◌, refl, ap, ◌∙◌, arith, ◌&&◌}
 use Rattle.key_states.proofs.Terms.{◌||◌, if◌then◌else◌, Host, Event, Loss, StreamStatus, Verdict, KeyPlan, KeyPlace}
 use Rattle.key_states.proofs.Terms.{key_place_at, places_of, is_on_stream}
 use Rattle.key_states.proofs.Terms.{keys, Op, Reach, work_of, reach_of, op_after, operated, History, manager, op_of}
 use Rattle.key_states.proofs.Terms.{draws, worked, on_it, touches_after, moments, keys_there, keeps_live, has_key}
-use Rattle.key_states.proofs.Terms.{has_all}
+use Rattle.key_states.proofs.Terms.{has_all, is_hosted}
 use Rattle.key_states.proofs.Terms.{fails_there, failed_there, status_by, status_of}
 use Rattle.key_states.proofs.Terms.{PortView, ports_at, refresh_on, key_due, KeyCauseLaw, StaysSecure, StaysSecureAt}
 use Rattle.key_states.proofs.Terms.{done, is_cut, performed_is, may_refresh, unless_open, ◌⊎◌}
@@ -19,8 +20,9 @@ use Rattle.key_states.proofs.Ends.{on_same}
 
 -- ---- a stream that is being refreshed has a key in each place
 
-refreshed_up : (q : Op) (next : ℕ) (r : Reach) → is_up (op_after (work_of op.Refresh q next) r) ≡ true
-refreshed_up q next r = grind arith
+refreshed_up : (hosted : Bool) (q : Op) (next : ℕ) (r : Reach)
+    → is_up (op_after hosted (work_of op.Refresh q next) r) ≡ true
+refreshed_up hosted q next r = grind arith
 
 place_keyed : (plan : KeyPlan) (h : History) (link stream : ℕ) (loss : Option Loss) (x : Verdict)
     → KeyCauseLaw plan ((event.Refresh link stream loss, x) ∷ h)
@@ -38,14 +40,15 @@ place_keyed plan h link stream loss x cause p same keyed = by_reach (reach_of op
         (on_it (is_on_stream p link stream) (worked (work_of op.Refresh (op_of h link stream) (draws h)) r p))))
         ≡ true
     by_reach None up = rw (on_same p link stream same) keyed
-    by_reach (Some r) up = up (rw (on_same p link stream same) (refreshed_up (op_of h link stream) (draws h) r))
+    by_reach (Some r) up = up
+        (rw (on_same p link stream same) (refreshed_up (is_hosted link) (op_of h link stream) (draws h) r))
 
 -- ---- no check fails
 
 refresh_free_as : (has : Bool) (plan : KeyPlan) (q : Op) (next : ℕ) (ports : PortView) (host : StreamStatus)
     (link stream : ℕ) (x : Verdict) (side : Side)
     → (x ≡ done link stream (work_of op.Refresh q next)) ⊎ (is_cut x ≡ true) → fails_there side link stream
-    (if has then may_refresh plan next q host (unless_open ports link stream (work_of op.Refresh q next).set) x
+    (if has then may_refresh plan link next q host (unless_open ports link stream (work_of op.Refresh q next).set) x
     else v.Nothing) ≡ false
 refresh_free_as has plan q next ports host link stream x side performs = grind arith
 
@@ -82,7 +85,7 @@ refresh_stays plan h link stream loss x cause side secure =
     (λ p. keeps_live (keys_there ((event.Refresh link stream loss, x) ∷ h) p)) side link stream
     (λ upward u keyed. place_keyed plan h link stream loss x cause (key_place_at side link stream upward u) (refl, refl)
     keyed) says.1 in
-    let free = refresh_free (plan.has_stream link stream) plan (op_of h link stream) (draws h) (ports_at h)
+    let free = refresh_free (has_refresh plan link stream) plan (op_of h link stream) (draws h) (ports_at h)
     (status_of h Host link stream) link stream loss side in
     secure_is (fails_there side link stream x) (failed_there h side link stream) _ _ _
     (ap (fails_there side link stream) cause.0 ∙ free) says.0 all

@@ -13,7 +13,17 @@ pub use Rattle.key_laws.proofs.Terms.{SettledAt}
 pub use Rattle.key_laws.proofs.Terms.{StaysSecure, StaysSecureAt, StreamFacts, went, nat_tests, if◌then◌else◌, is_some}
 pub use Rattle.key_laws.proofs.Terms.{◌&&◌, ◌||◌, Event, Loss, Operation}
 pub use Rattle.key_laws.proofs.Terms.{Verdict, Begun, Establishing, Idle, Manager, Op, Reach, Refreshing, Stopping, Up}
-pub use Rattle.key_laws.proofs.Terms.{Work, manager_after, op_after, operated, reach, reach_of, work_of, PortView}
+pub use Rattle.key_laws.proofs.Terms.{
+  Work,
+  manager_after,
+  op_after,
+  operated,
+  op_cut,
+  reach_of,
+  whole,
+  work_of,
+  PortView,
+}
 pub use Rattle.key_laws.proofs.Terms.{establish_on, ports_at, refresh_on, done, may_establish, may_refresh, unless_open}
 pub use Rattle.key_laws.proofs.Terms.{Host, ◌⊎◌}
 pub use Rattle.key_laws.proofs.Performs.{is_cut, performed_is}
@@ -22,8 +32,19 @@ pub use Rattle.key_laws.proofs.Shapes.{Alone, IsAt, Marks, Shape, keys_of, marks
 unfoldable pub use Rattle.key_laws.proofs.Shapes.{started, used}
 pub use Rattle.key_laws.proofs.Whole.{elsewhere, fits, next_fits}
 pub use Rattle.key_laws.proofs.Tests.{both-true, same-true}
-pub use Rattle.key_laws.proofs.Owners.{AllOwned, OwnedKeys, behind_owned, came_owned, cleared_owned, kept_owned}
+pub use Rattle.key_laws.proofs.Owners.{
+  AllOwned,
+  OwnedKeys,
+  behind_owned,
+  came_owned,
+  cleared_owned,
+  kept_owned,
+  by_stream,
+  worked_owned,
+}
 pub use Rattle.key_laws.proofs.Owners.{owned_on, owner, same_place}
 pub use Rattle.ide_types.specs.declared.status.StreamStatus.{StreamStatus}
 pub use Rattle.key_laws.proofs.Fits.{Fits, FitsAt, establish_begins, establish_ends, establish_goes_on, establish_takes}
+pub use Rattle.key_laws.proofs.Fits.{exchanges_establish, exchanges_refresh}
 pub use Rattle.key_laws.proofs.Stages.{Rising}
+pub use Rattle.key_laws.proofs.Terms.{begun_after, makes_draw, is_hosted, is_cleared, PortName}

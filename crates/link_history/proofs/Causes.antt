@@ -9,10 +9,17 @@ use Rattle.link_history.proofs.Terms.{is_mixed, is_overfull, is_verified, lanes_
 use Rattle.link_history.proofs.Terms.{streams_of, unit_under, Arrival}
 use Rattle.link_history.proofs.Terms.{arrived, arrived_packet, cut_packet, failed, meets_counts, on_draw, packet_at}
 use Rattle.link_history.proofs.Terms.{packet_in, received_in, sealed_packets, units_got, is_quiet, SubStream, has_link}
-use Rattle.link_history.proofs.Terms.{has_port, has_stream, stream_plan}
+use Rattle.link_history.proofs.Terms.{has_stream, stream_plan}
 use Rattle.link_history.proofs.Terms.{AllByRecursion, Alter, Arrive, Cut, Dump, Effect, Establish, Interface, Event}
-use Rattle.link_history.proofs.Terms.{t_due}
-use Rattle.link_history.proofs.Terms.{owner_at, sent_bytes, Pass}
+use Rattle.link_history.proofs.Terms.{sent_bytes, Pass}
+use Rattle.link_history.specs.Due.{bytes_due, through_due, forward_out, forward_first}
+use Rattle.link_history.specs.Hops.{HopTlp, has_hop}
+use Rattle.link_history.specs.Memory.{hop_waiting}
+use Rattle.ide_types.specs.declared.direction.Direction.{Direction}
+use Rattle.link_events.specs.declared.event.Event.TheVariants.{Forward, Absent}
+unfoldable use Rattle.link_history.specs.Due.{t_sealed}
+use Rattle.link_history.specs.Ports.{may_send, outgoing_at}
+unfoldable use Rattle.link_history.specs.Ports.{goes_through, sealing_end}
 use Rattle.link_history.proofs.Terms.{History, Packet, Plan, PortName, Refresh, Reset, SealedPacket, Send, Status, Stop}
 use Rattle.link_history.proofs.Terms.{UnitName, Verdict, if◌then◌else◌, is_some, not}
 use Rattle.link_history.specs.Due.{ending_due}
@@ -95,6 +102,7 @@ pub record IsSealing (plan : Plan) (h : History) (port : PortName) (bytes : List
 abbrev pub is_sealing : Event → Bool
 is_sealing (Send port bytes more trusted) = true
 is_sealing (Access (ae.Answer link)) = true
+is_sealing (Forward link d) = true
 is_sealing _ = false
 
 -- the verdict is that of a packet which the event brought
@@ -103,10 +111,11 @@ record Brought (plan : Plan) (h : History) (e : Event) (w : Verdict) : Type 0 wh
   packet : Packet
   arrival : arrived plan h e ≡ Some at
   cut : cut_of at.bytes ≡ Ok (IdePacket packet)
+  stays : goes_through plan at.port at.bytes ≡ false
   is : w ≡ ending_due plan h at.port (before_tag_of plan h at.port (Ok (IdePacket packet)))
 
 abbrev Sent : Plan → History → Event → List SealedPacket → Type 0
-Sent plan h e ds = (is_sealing e ≡ true) × IsSealing plan h (sending_port e) (sent_bytes plan h e) ds
+Sent plan h e ds = (is_sealing e ≡ true) × IsSealing plan h (sending_port plan e) (sent_bytes plan h e) ds
 
 abbrev Tells : Plan → History → Event → Verdict → Type 0
 Tells plan h e (v.Held port unit) = Brought plan h e (v.Held port unit)
@@ -124,18 +133,18 @@ first_tells plan h e ((true, w) ∷ xs) last all ends = all.0
 first_tells plan h e ((false, w) ∷ xs) last all ends = first_tells plan h e xs last all.1 (λ free. ends (refl, free))
 
 outgoing_tells : (plan : Plan) (h : History) (e : Event) → is_sealing e ≡ true → (more trusted : Bool) (o : Outgoing)
-    → outgoing_of (streams_of plan (sending_port e).link) (sending_port e).side (sent_bytes plan h e) ≡ o
-    → Tells plan h e (send_due plan h (sending_port e) o more trusted)
+    → outgoing_of (streams_of plan (sending_port plan e).link) (sending_port plan e).side (sent_bytes plan h e) ≡ o
+    → Tells plan h e (send_due plan h (sending_port plan e) o more trusted)
 outgoing_tells plan h e seals more trusted (NoTlp f) comes = tt
 outgoing_tells plan h e seals more trusted OnNone comes = tt
 outgoing_tells plan h e seals more trusted (OnStream t stream) comes =
-    let port = sending_port e in
+    let port = sending_port plan e in
     let s : Sending = record {
       port = port;
       stream = stream;
       class = class_of (header t);
       more = more;
-      trusted = t_due plan h port port.side (owner_at plan port.link (header t)) stream trusted;
+      trusted = t_sealed plan h port (header t) stream trusted;
     } in
     first_tells plan h e (refusals (lanes_at plan h port stream) s.class) _
     (tt, (tt, (tt, (tt, (tt, (tt, (tt, (tt, tt))))))))
@@ -162,36 +171,35 @@ if_tells plan h e false x y one two = two
 
 send_tells : (plan : Plan) (h : History) (port : PortName) (bytes : List ℕ) (more trusted here : Bool)
     → Tells plan h (Send port bytes more trusted)
-    (if here then send_due plan h port (outgoing_of (streams_of plan port.link) port.side bytes) more trusted
-    else v.Nothing)
+    (if here then bytes_due plan h (sealing_end plan port bytes) bytes more trusted else v.Nothing)
 unfolding bytes_by
 send_tells plan h port bytes more trusted here =
     let e = Send port bytes more trusted in
     if_tells plan h e here _ v.Nothing
-    (outgoing_tells plan h e refl more trusted (outgoing_of (streams_of plan port.link) port.side bytes) refl) tt
+    (outgoing_tells plan h e refl more trusted (outgoing_at plan (sealing_end plan port bytes) bytes) refl) tt
 
 -- ---- answers
 
 answer_by_tells : (plan : Plan) (h : History) (link interface draw : ℕ) (o : Option (ℕ × ℕ))
     → let e = Access (ae.Answer link) in
-    Tells plan h e (answer_by plan h (sending_port e) interface draw o (answer_out plan h link))
+    Tells plan h e (answer_by plan h (sending_port plan e) interface draw o (answer_out plan h link))
 answer_by_tells plan h link interface draw None = tt
 answer_by_tells plan h link interface draw (Some bound) =
     let e = Access (ae.Answer link) in
     let out = answer_out plan h link in
-    let key = live_key h (sending_port e) (lane_out (sending_port e) bound.0 Cpl) in
+    let key = live_key h (sending_port plan e) (lane_out (sending_port plan e) bound.0 Cpl) in
     if_tells plan h e (not (is_stream bound.0 (stream_taken out))) _ _ tt
     (if_tells plan h e (nat_lt draw bound.1) _ _ tt
     (if_tells plan h e (is_before key bound.1) _ _ tt (outgoing_tells plan h e refl false true out refl)))
 
 answer_of_tells : (plan : Plan) (h : History) (link draw : ℕ) (o : Option Site) → let e = Access (ae.Answer link) in
-    Tells plan h e (answer_from plan h (sending_port e) draw o (answer_out plan h link))
+    Tells plan h e (answer_from plan h (sending_port plan e) draw o (answer_out plan h link))
 answer_of_tells plan h link draw None = tt
 answer_of_tells plan h link draw (Some x) = answer_by_tells plan h link x.number draw (granted_to h (Some x))
 
 answer_first_tells : (plan : Plan) (h : History) (link : ℕ) (rs : List WaitingRead)
     → let e = Access (ae.Answer link) in
-    Tells plan h e (answer_first plan h (sending_port e) rs (answer_out plan h link))
+    Tells plan h e (answer_first plan h (sending_port plan e) rs (answer_out plan h link))
 answer_first_tells plan h link [] = tt
 answer_first_tells plan h link (r ∷ rs) =
     answer_of_tells plan h link r.draw (site_with plan link r.read.requester)
@@ -201,6 +209,14 @@ answer_tells plan h link =
     if_tells plan h (Access (ae.Answer link)) (has_link plan link) _ v.Nothing
     (answer_first_tells plan h link (waiting plan h link)) tt
 
+-- ---- what waits at switches
+
+forward_first_tells : (plan : Plan) (h : History) (link : ℕ) (d : Direction) (xs : List HopTlp)
+    → Tells plan h (Forward link d) (forward_first plan h link d xs)
+forward_first_tells plan h link d [] = tt
+forward_first_tells plan h link d (x ∷ xs) =
+    outgoing_tells plan h (Forward link d) refl false x.t (forward_out plan h link d) refl
+
 -- ---- arrivals
 
 not_sealed : (plan : Plan) (h : History) (port : PortName) (p : Packet) (ds : List SealedPacket)
@@ -208,27 +224,32 @@ not_sealed : (plan : Plan) (h : History) (port : PortName) (p : Packet) (ds : Li
 not_sealed plan h port p ds is = grind arith
 
 packet_tells : (plan : Plan) (h : History) (e : Event) (a : Arrival) (p : Packet) → arrived plan h e ≡ Some a
-    → cut_of a.bytes ≡ Ok (IdePacket p)
+    → cut_of a.bytes ≡ Ok (IdePacket p) → goes_through plan a.port a.bytes ≡ false
     → (w : Verdict) → w ≡ ending_due plan h a.port (before_tag_of plan h a.port (Ok (IdePacket p))) → Tells plan h e w
-packet_tells plan h e a p arrival cut (v.Held port unit) is = record
-    { at = a; packet = p; arrival = arrival; cut = cut; is = is }
-packet_tells plan h e a p arrival cut (v.Accepted port unit effects) is = record
-    { at = a; packet = p; arrival = arrival; cut = cut; is = is }
-packet_tells plan h e a p arrival cut (v.Sealed ds) is = absurd (not_sealed plan h a.port p ds is)
-packet_tells plan h e a p arrival cut _ is = tt
+packet_tells plan h e a p arrival cut stays (v.Held port unit) is = record
+    { at = a; packet = p; arrival = arrival; cut = cut; stays = stays; is = is }
+packet_tells plan h e a p arrival cut stays (v.Accepted port unit effects) is = record
+    { at = a; packet = p; arrival = arrival; cut = cut; stays = stays; is = is }
+packet_tells plan h e a p arrival cut stays (v.Sealed ds) is = absurd (not_sealed plan h a.port p ds is)
+packet_tells plan h e a p arrival cut stays _ is = tt
 
 cut_tells : (plan : Plan) (h : History) (e : Event) (a : Arrival) → arrived plan h e ≡ Some a
-    → (r : Result CutValue PacketFault) → cut_of a.bytes ≡ r
+    → goes_through plan a.port a.bytes ≡ false → (r : Result CutValue PacketFault) → cut_of a.bytes ≡ r
     → Tells plan h e (ending_due plan h a.port (before_tag_of plan h a.port r))
-cut_tells plan h e a arrival (Err f) cut = tt
-cut_tells plan h e a arrival (Ok PlainTlp) cut = tt
-cut_tells plan h e a arrival (Ok (IdePacket p)) cut = packet_tells plan h e a p arrival cut _ refl
+cut_tells plan h e a arrival stays (Err f) cut = tt
+cut_tells plan h e a arrival stays (Ok PlainTlp) cut = tt
+cut_tells plan h e a arrival stays (Ok (IdePacket p)) cut = packet_tells plan h e a p arrival cut stays _ refl
 
 arrival_tells : (plan : Plan) (h : History) (e : Event) (o : Option Arrival) → arrived plan h e ≡ o
     → Tells plan h e (arrival_due plan h o)
 unfolding before_tag
 arrival_tells plan h e None arrival = tt
-arrival_tells plan h e (Some a) arrival = cut_tells plan h e a arrival (cut_of a.bytes) refl
+arrival_tells plan h e (Some a) arrival = by (goes_through plan a.port a.bytes) refl
+  where
+    by : (b : Bool) → goes_through plan a.port a.bytes ≡ b → Tells plan h e (ending_due plan h a.port
+        (if b then Err (through_due plan a.port) else before_tag_of plan h a.port (cut_of a.bytes)))
+    by true through = tt
+    by false stays = cut_tells plan h e a arrival stays (cut_of a.bytes) refl
 
 -- ---- every event
 
@@ -243,7 +264,7 @@ quiet_tells plan h e _ is = tt
 
 tells : (plan : Plan) (h : History) (e : Event) → Tells plan h e (due plan h e)
 unfolding due key_due
-tells plan h (Send port bytes more trusted) = send_tells plan h port bytes more trusted (has_port plan port)
+tells plan h (Send port bytes more trusted) = send_tells plan h port bytes more trusted (may_send plan port)
 tells plan h (Access (ae.Answer link)) = answer_tells plan h link
 tells plan h (Access (ae.Mmio interface bar offset len)) =
     quiet_tells plan h (Access (ae.Mmio interface bar offset len)) _ (mmio_quiet plan h interface bar offset len)
@@ -254,7 +275,7 @@ tells plan h (Refresh link stream lose) = quiet_tells plan h (Refresh link strea
     (refresh_due_quiet plan h link stream lose)
 tells plan h (Stop link stream lose) = quiet_tells plan h (Stop link stream lose) _
     (stop_due_quiet plan h link stream lose)
-tells plan h (Reset link) = quiet_tells plan h (Reset link) _
+tells plan h (Reset link ends) = quiet_tells plan h (Reset link ends) _
     (if_quiet (has_link plan link) (v.Reset link) v.Nothing refl refl)
 tells plan h (Status link stream) = quiet_tells plan h (Status link stream) _
     (if_quiet (is_some (stream_plan plan link stream)) _ v.Nothing refl refl)
@@ -262,6 +283,10 @@ tells plan h (Interface e) = quiet_tells plan h (Interface e) _ (interface_due_q
 tells plan h (Pass n) = arrival_tells plan h (Pass n) (arrived plan h (Pass n)) refl
 tells plan h (Alter n at mask) = arrival_tells plan h (Alter n at mask) (arrived plan h (Alter n at mask)) refl
 tells plan h (Cut n len) = arrival_tells plan h (Cut n len) (arrived plan h (Cut n len)) refl
+tells plan h (Forward link d) =
+    if_tells plan h (Forward link d) (has_hop plan link) _ v.Nothing
+    (forward_first_tells plan h link d (hop_waiting plan h link d)) tt
+tells plan h Absent = tt
 tells plan h (Arrive port bytes) = arrival_tells plan h (Arrive port bytes) (arrived plan h (Arrive port bytes)) refl
 
 -- ---- one lemma a verdict
@@ -310,12 +335,12 @@ ending_is plan h port p unit passed m = grind arith
 
 accepted_of : (plan : Plan) (h : History) (e : Event) (q port : PortName) (p : Packet) (unit : UnitName)
     (effects : List Effect)
-    → (q ≡ port → Came plan h e port p)
+    → (q ≡ port → (came : Came plan h e port p) × (goes_through plan port came.bytes ≡ false))
     → v.Accepted port unit effects ≡ ending_due plan h q (before_tag_of plan h q (Ok (IdePacket p)))
     → AcceptedBy plan h e port unit effects
 unfolding before_tag
 accepted_of plan h e q port p unit effects came is =
-    let came_there = came (grind arith) in
+    let there = came (grind arith) in
     let ends : p.prefix.m ≡ true = grind arith in
     let passed : Passed plan h port p unit =
     record {
@@ -328,8 +353,8 @@ accepted_of plan h e q port p unit effects came is =
     } in
     record {
       packet = p;
-      came = came_there;
-      before = ap (before_tag_of plan h port) came_there.cut ∙ ending_is plan h port p unit passed ends;
+      came = there.0;
+      before = rw there.1 (ap (before_tag_of plan h port) there.0.cut ∙ ending_is plan h port p unit passed ends);
       passed = passed;
       ends = ends;
       verified = grind arith;
@@ -339,10 +364,14 @@ accepted_of plan h e q port p unit effects came is =
 
 pub accepted_by : (plan : Plan) (h : History) (e : Event) (port : PortName) (unit : UnitName) (effects : List Effect)
     → v.Accepted port unit effects ≡ due plan h e → AcceptedBy plan h e port unit effects
+unfolding came_to
 accepted_by plan h e port unit effects is =
     let by : Brought plan h e (v.Accepted port unit effects) = subst (Tells plan h e) (sym is) (tells plan h e) in
     accepted_of plan h e by.at.port port by.packet unit effects
-    (came_to plan h e (v.Accepted port unit effects) port by) by.is
+    (λ same. (
+      came_to plan h e (v.Accepted port unit effects) port by same,
+      subst (λ (q : PortName). goes_through plan q by.at.bytes ≡ false) same by.stays,
+    )) by.is
 
 -- no other event seals
 pub sealed_by_sealing : (plan : Plan) (h : History) (e : Event) (ds : List SealedPacket) → v.Sealed ds ≡ due plan h e
@@ -350,7 +379,7 @@ pub sealed_by_sealing : (plan : Plan) (h : History) (e : Event) (ds : List Seale
 sealed_by_sealing plan h e ds is = (subst (Tells plan h e) (sym is) (tells plan h e)).0
 
 pub sealing_is : (plan : Plan) (h : History) (e : Event) (ds : List SealedPacket) → v.Sealed ds ≡ due plan h e
-    → IsSealing plan h (sending_port e) (sent_bytes plan h e) ds
+    → IsSealing plan h (sending_port plan e) (sent_bytes plan h e) ds
 sealing_is plan h e ds is = (subst (Tells plan h e) (sym is) (tells plan h e)).1
 
 -- ---- what follows

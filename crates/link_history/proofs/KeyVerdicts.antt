@@ -13,16 +13,19 @@ use Rattle.link_events.specs.declared.event.Lost.{Lost}
 use Rattle.key_laws.specs.Due.{lost_at}
 use Rattle.link_history.specs.Memory.{shown_if}
 use Rattle.link_history.specs.Guarded.{mmio_if, mmio_shown, mmio_due, happened}
-use Rattle.guarded_memory.specs.Happenings.{Happened}
+use Rattle.interface_states.specs.{Happened}
 use Rattle.trusted_memory.specs.Regions.{in_one_region}
-use Rattle.key_laws.specs.Due.{if_secure}
+use Rattle.key_laws.specs.Due.{has_refresh, if_secure}
 use Rattle.interface_states.specs.Terms.{View, has_register, kept_report, lock_of, start_answer}
+use Rattle.interface_states.specs.Terms.{bind_answer, unbind_answer}
 use Rattle.interface_states.specs.Sites.{Site, site_at}
 use Rattle.interface_states.specs.Views.{managed, stream_draw, number_in}
 use Rattle.interface_states.specs.Devices.{around_at, tdi_at}
+use Rattle.interface_states.specs.Peers.{has_peer}
 use Rattle.interface_states.specs.Due.{unless_lost, host_status, if_unlocked, locked_as, lock_answer_at, lock_due}
 use Rattle.interface_states.specs.Due.{standing_at, if_locked_or_running, portions, reported_as, if_locked, if_reported}
 use Rattle.interface_states.specs.Due.{if_fresh, started_as, interface_due, on_site, with_number}
+use Rattle.interface_states.specs.Due.{bound_as, unbound_as, op_status}
 unfoldable use Rattle.interface_states.specs.Due.{interface_verdict_due as due_of}
 use Rattle.link_events.specs.declared.event.InterfaceEvent.TheVariants as ie
 use Rattle.interface_words.specs.declared.verdict.InterfaceVerdict.TheVariants as iv
@@ -46,13 +49,13 @@ performed_quiet ports link stream loss w = elim (performed_is ports link stream 
   | inr cut ↦ cut_quiet (performed ports link stream loss w) cut
 ]
 
-establish_quiet : (kp : KeyPlan) (q : Op) (next : ℕ) (x : Verdict) → is_quiet x ≡ true
-    → is_quiet (may_establish kp next q x) ≡ true
-establish_quiet kp q next x is = grind arith
+establish_quiet : (kp : KeyPlan) (q : Op) (line next : ℕ) (x : Verdict) → is_quiet x ≡ true
+    → is_quiet (may_establish kp line next q x) ≡ true
+establish_quiet kp q line next x is = grind arith
 
 refresh_quiet : (kp : KeyPlan) (q : Op) (next : ℕ) (host : StreamStatus) (ports : PortView) (link stream : ℕ)
     (set : Bool) (x : Verdict) → is_quiet x ≡ true
-    → is_quiet (may_refresh kp next q host (unless_open ports link stream set) x) ≡ true
+    → is_quiet (may_refresh kp link next q host (unless_open ports link stream set) x) ≡ true
 refresh_quiet kp q next host ports link stream set x is = grind arith
 
 pub establish_due_quiet : (plan : Plan) (h : History) (link stream : ℕ) (lose : Option Loss)
@@ -60,7 +63,7 @@ pub establish_due_quiet : (plan : Plan) (h : History) (link stream : ℕ) (lose 
 unfolding due key_due
 establish_due_quiet plan h link stream lose =
     if_quiet (is_some (stream_plan plan link stream)) _ v.Nothing
-    (establish_quiet (key_plan plan) (op_of h link stream) (draws h) _
+    (establish_quiet (key_plan plan) (op_of h link stream) link (draws h) _
     (performed_quiet (ports_at h) link stream lose (work_of op.Establish (op_of h link stream) (draws h))))
     refl
 
@@ -68,7 +71,7 @@ pub refresh_due_quiet : (plan : Plan) (h : History) (link stream : ℕ) (lose : 
     → is_quiet (due plan h (Refresh link stream lose)) ≡ true
 unfolding due key_due
 refresh_due_quiet plan h link stream lose =
-    if_quiet (is_some (stream_plan plan link stream)) _ v.Nothing
+    if_quiet (has_refresh (key_plan plan) link stream) _ v.Nothing
     (refresh_quiet (key_plan plan) (op_of h link stream) (draws h) (status_of h Host link stream) (ports_at h) link
     stream (work_of op.Refresh (op_of h link stream) (draws h)).set _ (performed_quiet (ports_at h) link stream lose
     (work_of op.Refresh (op_of h link stream) (draws h)))) refl
@@ -121,6 +124,24 @@ start_quiet x view reported s draw needs loss answer = let q = unless_lost_quiet
     as_quiet : (answer : Result (Unit {0}) ℕ) → is_quiet (started_as x draw answer) ≡ true
     as_quiet answer = grind arith
 
+bind_quiet : (x : Site) (view : View) (s : StreamStatus) (draw needs line : ℕ) (loss : Option Loss)
+    (answer : Result ℕ ℕ)
+    → is_quiet (if_locked_or_running view
+    (if_secure s (if_fresh draw needs (unless_lost loss 1 (bound_as x line answer))))) ≡ true
+bind_quiet x view s draw needs line loss answer = let q = unless_lost_quiet loss 1 (bound_as x line answer)
+    (as_quiet answer) in grind arith
+  where
+    as_quiet : (answer : Result ℕ ℕ) → is_quiet (bound_as x line answer) ≡ true
+    as_quiet answer = grind arith
+
+unbind_quiet : (x : Site) (view : View) (line : ℕ) (loss : Option Loss) (answer : Result (Unit {0}) ℕ)
+    → is_quiet (if_locked_or_running view (unless_lost loss 1 (unbound_as x line answer))) ≡ true
+unbind_quiet x view line loss answer = let q = unless_lost_quiet loss 1 (unbound_as x line answer)
+    (as_quiet answer) in grind arith
+  where
+    as_quiet : (answer : Result (Unit {0}) ℕ) → is_quiet (unbound_as x line answer) ≡ true
+    as_quiet answer = grind arith
+
 own_quiet : (plan : Plan) (h : History) (x : Site) (e : InterfaceEvent) → is_quiet (interface_due plan h x e) ≡ true
 own_quiet plan h x (ie.Lock i loss) = lock_quiet plan h x loss
 own_quiet plan h x (ie.Report i loss) = report_quiet plan x (managed h x).view loss
@@ -131,6 +152,13 @@ own_quiet plan h x (ie.Start i loss) =
     start_quiet x m.view m.reported (host_status h x) draw m.needs loss (start_answer (tdi_at plan h x).state m.nonce)
 own_quiet plan h x (ie.Halt i loss) = unless_lost_quiet loss 1 _ refl
 own_quiet plan h x (ie.State i loss) = unless_lost_quiet loss 1 _ refl
+own_quiet plan h x (ie.Bind i line stream loss) =
+    if_quiet (has_peer plan.peers x.link line stream) _ v.Nothing
+    (bind_quiet x (managed h x).view (op_status (op_of h line stream)) (stream_draw h line stream) (managed h x).needs
+    line loss (bind_answer (tdi_at plan h x) stream ((around_at plan h x).live stream))) refl
+own_quiet plan h x (ie.Unbind i line stream loss) =
+    if_quiet (has_peer plan.peers x.link line stream) _ v.Nothing
+    (unbind_quiet x (managed h x).view line loss (unbind_answer (tdi_at plan h x) stream)) refl
 own_quiet plan h x (ie.View i) = refl
 own_quiet plan h x (ie.Write i register value) = if_quiet (has_register x.plan register) _ v.Nothing refl refl
 own_quiet plan h x (ie.Flr i) = refl

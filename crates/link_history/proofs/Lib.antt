@@ -11,3 +11,6 @@ pub mod Choices
 pub mod LastPlaces
 pub mod ContentsFollow
 pub mod Growth
+pub mod HopFirst
+pub mod HopRows
+pub mod Ends

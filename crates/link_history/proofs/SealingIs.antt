@@ -8,6 +8,7 @@ use Rattle.link_history.proofs.Senders.{has_key, listed, sealed_by_is, and_false
 pub use Rattle.link_history.proofs.Causes.{IsSealing, is_sealing, sealed_by_sealing, sealing_is}
 pub use Rattle.link_history.specs.History.{sending_port}
 use Rattle.link_history.proofs.Terms.{Access}
+use Rattle.link_events.specs.declared.event.Event.TheVariants.{Forward}
 use Rattle.link_events.specs.declared.event.AccessEvent.TheVariants as ae
 use Rattle.link_history.proofs.Terms.{KeyPlace, Op, touches, sealed_here}
 unfoldable use Rattle.link_history.proofs.Terms.{base, manager}
@@ -110,12 +111,14 @@ pub sealing_touches : (ops : ℕ → ℕ → Op) (n : ℕ) (e : Event) (ds : Lis
     → is_sealing e ≡ true → touches ops n e (Sealed ds) p ≡ sealed_here p ds
 sealing_touches ops n (Send q bytes more trusted) ds p seals = refl
 sealing_touches ops n (Access (ae.Answer link)) ds p seals = refl
+sealing_touches ops n (Forward link d) ds p seals = refl
 sealing_touches ops n e ds p seals = absurd cc
 
 pub sealing_manager : (h : History) (e : Event) (w : Verdict) → is_sealing e ≡ true → manager ((e, w) ∷ h) ≡ manager h
 unfolding manager
 sealing_manager h (Send q bytes more trusted) w seals = refl
 sealing_manager h (Access (ae.Answer link)) w seals = refl
+sealing_manager h (Forward link d) w seals = refl
 sealing_manager h e w seals = absurd cc
 
 pub sealing_base : (h : History) (e : Event) (w : Verdict) (link stream : ℕ) → is_sealing e ≡ true
@@ -123,4 +126,5 @@ pub sealing_base : (h : History) (e : Event) (w : Verdict) (link stream : ℕ) �
 unfolding base
 sealing_base h (Send q bytes more trusted) w link stream seals = refl
 sealing_base h (Access (ae.Answer l)) w link stream seals = refl
+sealing_base h (Forward l d) w link stream seals = refl
 sealing_base h e w link stream seals = absurd cc

@@ -62,7 +62,7 @@ pub use Rattle.link_history.specs.Terms.{keys_there, list_any, no_keys, on_in}
 pub use Rattle.link_history.specs.Terms.{received_direction, sent_direction, status_of, sub_bits}
 pub use Rattle.link_history.specs.Units.{rest_after, units_after}
 unfoldable pub use Rattle.link_history.specs.Units.{open_unit, units}
-pub use Rattle.link_history.specs.Terms.{Interface, InterfaceEvent, t_due, owner_at}
+pub use Rattle.link_history.specs.Terms.{Interface, InterfaceEvent}
 pub use Rattle.link_history.specs.Memory.{memory_due, waiting}
 pub use Rattle.link_history.specs.History.{sending_port}
 unfoldable pub use Rattle.link_history.specs.Sent.{bytes_by}

@@ -7,6 +7,7 @@ use Rattle.link_history.specs.Terms.{Write, Grant, write_span, memory_write, is_
 use Rattle.link_history.specs.Terms.{request_effect, mmio_effect, Standing}
 use Rattle.tlp_layout.specs.declared.head.HeadView.{HeadView}
 use Rattle.link_history.specs.Plan.{key_of}
+use Rattle.link_history.specs.Ports.{port_of, at_switch, is_host_port}
 use Rattle.link_history.specs.Packets.{received_in}
 use Rattle.link_verdicts.specs.declared.verdict.Effect.TheVariants as effect
 
@@ -44,9 +45,14 @@ abbrev pub device_effect : List Standing → UnitName → Packet → Result Head
 device_effect standings unit p (Err f) = effect.Delivered
 device_effect standings unit p (Ok head) = mmio_effect standings p.prefix.t unit.stream unit.draw (write_span head)
 
+-- at a switch each TLP waits
+abbrev pub switch_effect : Effect
+switch_effect = effect.Waiting
+
 abbrev pub effect_by : Plan → Policy → ℕ → PortName → UnitName → Packet → Effect
 effect_by plan policy waiting port unit p =
     if is_sync_packet p then effect.Sync
+    else if at_switch plan port then switch_effect
     else if sent_direction port.side == 0
     then host_effect plan policy.grants waiting port unit p (read_head_of p.head)
     else device_effect (policy.standings port.link) unit p (read_head_of p.head)
@@ -63,7 +69,7 @@ effects_each plan policy waiting port unit (p ∷ ps) =
     effect_by plan policy waiting port unit p
     ∷ effects_each plan policy (waiting_then (effect_by plan policy waiting port unit p) waiting) port unit ps
 
--- of the packets of a unit, in order
+-- of the packets of a unit that was accepted at a port, in order
 abbrev pub effects_by : Plan → Policy → PortName → UnitName → List Packet → List Effect
 effects_by plan policy port unit ps = effects_each plan policy (policy.waiting port.link) port unit ps
 
@@ -79,7 +85,7 @@ admitted_as plan grants port unit t payload (Ok head) =
 
 abbrev pub admitted : Plan → Grants → PortName → UnitName → Packet → List ℕ → Option Write
 admitted plan grants port unit p payload =
-    if not (is_sync_packet p) && (sent_direction port.side == 0)
+    if not (is_sync_packet p) && is_host_port plan port
     then admitted_as plan grants port unit p.prefix.t payload (read_head_of p.head) else None
 
 -- of each packet of a unit with this plaintext
@@ -93,6 +99,7 @@ abbrev pub plain_of : Plan → PortName → UnitName → List Packet → List �
 plain_of plan port unit ps =
     open_of (key_of plan unit.draw (received_in port unit)) (iv_of unit.sub unit.unit) (encrypted ps)
 
--- of each packet of a unit
+-- of each packet of a unit that was accepted at an end
 abbrev pub admitted_in : Plan → Grants → PortName → UnitName → List Packet → List (Option Write)
-admitted_in plan grants port unit ps = admitted_each plan grants port unit (plain_of plan port unit ps) ps
+admitted_in plan grants port unit ps =
+    admitted_each plan grants (port_of plan port) unit (plain_of plan port unit ps) ps

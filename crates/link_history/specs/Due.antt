@@ -3,7 +3,18 @@ use Rattle.std.specs.Prelude.{if◌then◌else◌, ◌&&◌, ◌++◌, ◌+◌, 
 use Rattle.std.specs.Prelude.{Result, Some, [], false, true, is_some, length, nat_le, nat_lt, not, ℕ}
 use Rattle.link_history.specs.Terms.{option_map_or, PortName, Device, Host}
 use Rattle.link_history.specs.Terms.{Plan, Event, Access, Alter, Arrive, Cut, Dump, Establish, Interface, Pass, Refresh}
-use Rattle.link_history.specs.Terms.{Reset, Send, Status, Stop, t_due, granted_to, Site, site_with, WaitingRead}
+use Rattle.link_history.specs.Terms.{
+  Reset,
+  Send,
+  Status,
+  Stop,
+  t_at,
+  owners_link,
+  granted_to,
+  Site,
+  site_with,
+  WaitingRead,
+}
 use Rattle.link_history.specs.Terms.{owner_at, SealedPacket, UnitName, Verdict, header, iv_of}
 use Rattle.link_history.specs.Terms.{Packet, packet_bytes}
 use Rattle.link_history.specs.Terms.{CutValue, IdePacket, PlainTlp, cut_of, authenticated, encrypted, PacketFault}
@@ -16,8 +27,9 @@ use Rattle.tlp_layout.specs.Faults.{place_in}
 use Rattle.ide_prefix.specs.Faults.{packet_place}
 use Rattle.fault_words.specs.FaultWords.{tlp_word, packet_word}
 use Rattle.ide_types.specs.declared.sub.FailCause.TheVariants as fail
-use Rattle.link_history.specs.Plan.{SubStream, key_plan, streams_of, stream_plan, lane_out, has_link, has_port}
-use Rattle.link_history.specs.Plan.{has_stream}
+use Rattle.tlp_layout.specs.declared.head.HeadView.{HeadView}
+use Rattle.link_history.specs.Plan.{SubStream, key_plan, streams_of, stream_plan, lane_out, has_link, has_stream}
+use Rattle.link_history.specs.Ports.{port_of, at_switch, may_send, outgoing_at, sealing_end, goes_through}
 use Rattle.link_history.specs.Plan.{mode_of, key_of}
 use Rattle.link_history.specs.Units.{units, open_unit}
 use Rattle.link_history.specs.History.{Arrival, KeyName, sealed_packets, sent, arrived, packet_at, pending, units_got}
@@ -30,7 +42,10 @@ use Rattle.link_verdicts.specs.declared.access.AccessVerdict.TheVariants as av
 use Rattle.link_verdicts.specs.declared.verdict.BlockCause.TheVariants as cause
 use Rattle.link_verdicts.specs.declared.verdict.Verdict.TheVariants as v
 pub use Rattle.link_history.specs.Memory.{effects_of, memory_due}
-use Rattle.link_history.specs.Memory.{waiting}
+use Rattle.link_history.specs.Hops.{HopTlp, has_hop, leaving_end}
+use Rattle.link_history.specs.Memory.{waiting, hop_waiting}
+use Rattle.ide_types.specs.declared.direction.Direction.{Direction}
+use Rattle.link_events.specs.declared.event.Event.TheVariants.{Forward, Absent}
 use Rattle.link_history.specs.Guarded.{mmio_due}
 pub use Rattle.stream_rules.specs.Sending.{first_that_holds, Sending, Lane, Lanes, is_posted, begins_unit, needs_sync}
 pub use Rattle.stream_rules.specs.Sending.{is_worn, is_keyless, refusals, no_key, described, ends_unit, sets_trusted}
@@ -61,9 +76,15 @@ lanes_at plan h port stream = record {
   lane = λ u. lane_at plan h port (lane_out port stream u);
 }
 
+-- T of a TLP that an end seals on a stream: at a switch as it came
+unfoldable pub t_sealed : Plan → History → PortName → HeadView → ℕ → Bool → Bool
+t_sealed plan h end head stream trusted =
+    if at_switch plan end then trusted else t_at plan h end (owner_at plan (owners_link plan end) head) stream trusted
+
+-- of a TLP on the line of an end
 abbrev pub send_due : Plan → History → PortName → Outgoing → Bool → Bool → Verdict
-send_due plan h port (NoTlp f) more trusted = v.Malformed port (tlp_word f) (place_in f)
-send_due plan h port OnNone more trusted = v.Plain port
+send_due plan h port (NoTlp f) more trusted = v.Malformed (port_of plan port) (tlp_word f) (place_in f)
+send_due plan h port OnNone more trusted = v.Plain (port_of plan port)
 send_due plan h port (OnStream t stream) more trusted =
     let s : Sending =
     record {
@@ -71,9 +92,13 @@ send_due plan h port (OnStream t stream) more trusted =
       stream = stream;
       class = class_of (header t);
       more = more;
-      trusted = t_due plan h port port.side (owner_at plan port.link (header t)) stream trusted;
+      trusted = t_sealed plan h port (header t) stream trusted;
     } in
     sent_as (lanes_at plan h port stream) s (length (sealed_packets plan h) + 1)
+
+-- of bytes that are sent at an end
+abbrev pub bytes_due : Plan → History → PortName → List ℕ → Bool → Bool → Verdict
+bytes_due plan h end bytes more trusted = send_due plan h end (outgoing_at plan end bytes) more trusted
 
 -- ---- answers
 
@@ -121,8 +146,24 @@ answer_out plan h link = outgoing_of (streams_of plan link) Host (sent_bytes pla
 abbrev pub answer_due : Plan → History → ℕ → Verdict
 answer_due plan h link =
     if has_link plan link
-    then answer_first plan h (sending_port (Access (ae.Answer link))) (waiting plan h link) (answer_out plan h link)
+    then answer_first plan h (sending_port plan (Access (ae.Answer link))) (waiting plan h link)
+    (answer_out plan h link)
     else v.Nothing
+
+-- ---- what waits at switches
+
+-- what the first TLP that waits comes to on the segment behind the switch
+abbrev pub forward_out : Plan → History → ℕ → Direction → Outgoing
+forward_out plan h link d = outgoing_at plan (leaving_end link d) (sent_bytes plan h (Forward link d))
+
+-- it is sent as it came, with its T
+abbrev pub forward_first : Plan → History → ℕ → Direction → List HopTlp → Verdict
+forward_first plan h link d [] = v.Access (av.Empty link)
+forward_first plan h link d (x ∷ xs) = send_due plan h (leaving_end link d) (forward_out plan h link d) false x.t
+
+abbrev pub forward_due : Plan → History → ℕ → Direction → Verdict
+forward_due plan h link d =
+    if has_hop plan link then forward_first plan h link d (hop_waiting plan h link d) else v.Nothing
 
 -- ---- arrivals
 
@@ -159,17 +200,23 @@ under_keys plan h port p (Some j) other =
     else Err (v.Held port (unit_under h s j))
 
 abbrev pub before_tag_of : Plan → History → PortName → Result CutValue PacketFault → Result Ending Verdict
-before_tag_of plan h port (Err f) = Err (v.Malformed port (packet_word f) (packet_place f))
-before_tag_of plan h port (Ok PlainTlp) = Err (v.Plain port)
+before_tag_of plan h port (Err f) = Err (v.Malformed (port_of plan port) (packet_word f) (packet_place f))
+before_tag_of plan h port (Ok PlainTlp) = Err (v.Plain (port_of plan port))
 before_tag_of plan h port (Ok (IdePacket p)) =
-    if not (has_stream plan port p.prefix.stream) then Err (v.Unknown port p.prefix.stream)
+    if not (has_stream plan port p.prefix.stream) then Err (v.Unknown (port_of plan port) p.prefix.stream)
     else if failed h port p.prefix.stream then Err (v.Insecure port p.prefix.stream)
     else under_keys plan h port p (on_draw h port (receiving port p) p.prefix.k) (on_draw h port (receiving port p)
     (not p.prefix.k))
 
+-- of bytes that a switch leaves unread
+abbrev pub through_due : Plan → PortName → Verdict
+through_due plan port = v.Through (port_of plan port)
+
 -- the packet whose tag is to be verified and its unit, or the verdict without that
 unfoldable pub before_tag : Plan → History → Arrival → Result Ending Verdict
-before_tag plan h a = before_tag_of plan h a.port (cut_of a.bytes)
+before_tag plan h a =
+    if goes_through plan a.port a.bytes then Err (through_due plan a.port)
+    else before_tag_of plan h a.port (cut_of a.bytes)
 
 -- the unit that a packet ends
 abbrev pub ended : Plan → History → PortName → Ending → List Packet
@@ -201,19 +248,18 @@ dump_due n (Some x) = v.Packet n (packet_bytes x.1)
 -- ---- the verdict
 
 -- Each event has one verdict. An operation and a reset get that of their keys, what is asked of an interface that of
--- the interfaces, an access that of the reads that wait or of a device's memory.
+-- the interfaces, an access that of the reads that wait or of a device's memory, a forward that of what waits at a
+-- switch.
 unfoldable pub due : Plan → History → Event → Verdict
 due plan h (Send port bytes more trusted) =
-    if has_port plan port
-    then send_due plan h port (outgoing_of (streams_of plan port.link) port.side bytes) more trusted
-    else v.Nothing
+    if may_send plan port then bytes_due plan h (sealing_end plan port bytes) bytes more trusted else v.Nothing
 due plan h (Access (ae.Answer link)) = answer_due plan h link
 due plan h (Access (ae.Mmio interface bar offset len)) = mmio_due plan h interface bar offset len
 due plan h (Dump n) = dump_due n (packet_at (sealed_packets plan h) n)
 due plan h (Establish link stream lose) = key_due (key_plan plan) h (Establish link stream lose) v.Nothing
 due plan h (Refresh link stream lose) = key_due (key_plan plan) h (Refresh link stream lose) v.Nothing
 due plan h (Stop link stream lose) = key_due (key_plan plan) h (Stop link stream lose) v.Nothing
-due plan h (Reset link) = key_due (key_plan plan) h (Reset link) v.Nothing
+due plan h (Reset link ends) = key_due (key_plan plan) h (Reset link ends) v.Nothing
 due plan h (Interface e) = interface_due plan h e (memory_due plan h e)
 due plan h (Status link stream) =
     if is_some (stream_plan plan link stream) then v.Status link stream (status_of h Host link stream)
@@ -221,4 +267,6 @@ due plan h (Status link stream) =
 due plan h (Pass n) = arrival_due plan h (arrived plan h (Pass n))
 due plan h (Alter n at mask) = arrival_due plan h (arrived plan h (Alter n at mask))
 due plan h (Cut n len) = arrival_due plan h (arrived plan h (Cut n len))
+due plan h (Forward link d) = forward_due plan h link d
+due plan h Absent = v.Nothing
 due plan h (Arrive port bytes) = arrival_due plan h (arrived plan h (Arrive port bytes))

@@ -2,17 +2,15 @@
 use Rattle.std.specs.Prelude.{◌*◌, ◌==◌, ◌&&◌, ◌∷◌, Bool, true, false, Err, List, None, Ok, Option, Result, Some}
 use Rattle.std.specs.Prelude.{[], drop, length, slice_index, take, if◌then◌else◌, ℕ}
 use Rattle.link_history.specs.Terms.{PortName, Plan, Event, UnitName, Verdict, Accepted, read_head_of, TlpFault}
-use Rattle.link_history.specs.Terms.{Packet, is_sync_packet, History, sent_direction}
+use Rattle.link_history.specs.Terms.{Packet, is_sync_packet, History}
+use Rattle.link_history.specs.Ports.{port_of, is_device_port}
 use Rattle.link_history.specs.Terms.{memory_write, bytes_from}
 use Rattle.tlp_layout.specs.declared.head.HeadView.{HeadView}
 use Rattle.interface_states.specs.Sites.{Site, site_at}
 use Rattle.interface_states.specs.Exchanges.{carries, changes_device}
 use Rattle.interface_states.specs.Floors.{place_of, standings_at}
-use Rattle.guarded_memory.specs.declared.standing.Standing.{Standing}
-use Rattle.guarded_memory.specs.Happenings.{Happened, InterfaceReset, AllReset, InterfaceStopped, byte_shown}
-use Rattle.guarded_memory.specs.Happenings.{newest_happened}
-use Rattle.guarded_memory.specs.Stored.{stored_by}
-use Rattle.guarded_memory.specs.Contents.{page_counts, fits_range}
+use Rattle.interface_states.specs.{Standing, Happened, InterfaceReset, AllReset, InterfaceStopped, byte_shown}
+use Rattle.interface_states.specs.{newest_happened, stored_by, page_counts, fits_range}
 use Rattle.link_history.specs.Memory.{unit_ended, plain_of}
 use Rattle.link_events.specs.declared.event.Event.TheVariants as event
 use Rattle.link_events.specs.declared.event.InterfaceEvent.TheVariants as ie
@@ -36,10 +34,10 @@ stored_each xs unit plain [] = []
 stored_each xs unit plain (p ∷ ps) =
     stored_packet xs unit p (take (length p.body) plain) ∷ stored_each xs unit (drop (length p.body) plain) ps
 
--- of a unit that was accepted: at a host's port nothing
+-- of a unit that was accepted: at a host's port and at a switch nothing
 abbrev pub stored_in : List Standing → Plan → PortName → UnitName → List Packet → List (Option Happened)
 stored_in xs plan port unit ps =
-    if sent_direction port.side == 1 then stored_each xs unit (plain_of plan port unit ps) ps else []
+    if is_device_port plan (port_of plan port) then stored_each xs unit (plain_of plan port unit ps) ps else []
 
 -- ---- all that happens
 
@@ -65,8 +63,8 @@ asked_happens plan e w link = []
 -- at the device of a link whose interfaces stand so, if the verdict of an event ends a unit of these packets, or none
 abbrev pub happens_by : Plan → (ℕ → List Standing) → List Packet → Event → Verdict → ℕ → List (Option Happened)
 happens_by plan standings ps e (v.Accepted port unit effects) link =
-    if port.link == link then stored_in (standings port.link) plan port unit ps else []
-happens_by plan standings ps (event.Reset l) (v.Reset k) link = happens_if (l == link) AllReset
+    if (port_of plan port).link == link then stored_in (standings (port_of plan port).link) plan port unit ps else []
+happens_by plan standings ps (event.Reset l ends) (v.Reset k) link = happens_if (l == link) AllReset
 happens_by plan standings ps e w link = asked_happens plan e w link
 
 -- the packets of the unit that a verdict ends

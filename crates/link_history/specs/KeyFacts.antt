@@ -3,6 +3,7 @@ use Rattle.std.specs.Prelude.{if◌then◌else◌, ◌&&◌, ◌<◌, ◌==◌, 
 use Rattle.std.specs.Prelude.{nat_le, not, slice_get, true, ℕ}
 use Rattle.link_history.specs.Terms.{AllByRecursion, PortName, SubKind, Plan, Event, Effect, SealedPacket}
 use Rattle.link_history.specs.Terms.{UnitName, Verdict, Accepted, Fail, Held, Sealed, Packet, History, base, On, key_in}
+use Rattle.key_laws.specs.Places.{is_cut}
 use Rattle.link_events.specs.declared.event.Event.TheVariants as event
 use Rattle.link_history.specs.Plan.{SubStream, is_same, is_same_port, lane_out, lane_in, stream_plan}
 use Rattle.link_history.specs.History.{is_under, KeyName, live_key, sealed_packets, sub_stream_of, draws_got, keys_at}
@@ -24,12 +25,12 @@ is_quiet (Held p unit) = false
 is_quiet (Accepted p unit effects) = false
 is_quiet _ = true
 
--- the event is an operation on a stream of a link: establish, refresh, stop, or a reset of the link
+-- the event is an operation on a stream of a line: establish, refresh, stop, or a reset that clears an end of the line
 unfoldable pub operates : Event → ℕ → ℕ → Bool
 operates (event.Establish l s lose) link stream = (l == link) && (s == stream)
 operates (event.Refresh l s lose) link stream = (l == link) && (s == stream)
 operates (event.Stop l s lose) link stream = (l == link) && (s == stream)
-operates (event.Reset l) link stream = l == link
+operates (event.Reset l ends) link stream = is_cut ends link
 operates _ link stream = false
 
 -- it is on no stream at all

@@ -1,8 +1,11 @@
 pub mod Terms
 pub mod Plan
+pub mod Ports
 pub mod Units
 pub mod Packets
 pub mod Admission
+pub mod Ended
+pub mod Hops
 pub mod Sent
 pub mod History
 pub mod Memory
@@ -12,6 +15,7 @@ pub mod Cause
 pub mod KeyFacts
 pub mod Laws
 pub mod Delivered
+pub mod HopLaws
 pub mod Ordered
 pub mod Numbers
 pub use Rattle.key_laws.specs.History.{base, status_of}
@@ -31,3 +35,15 @@ pub use Rattle.link_history.specs.Laws.{NoForgery, PrefixLaw, DrawsNeverFall, To
 pub use Rattle.link_history.specs.Delivered.{DeliveryLaw, tlps_sent, tlps_got}
 pub use Rattle.link_history.specs.Ordered.{OrderLaw}
 pub use Rattle.link_history.specs.Numbers.{NumbersFresh}
+pub use Rattle.link_history.specs.Hops.{HopTlp, has_hop, first_end, entering_end, leaving_end, last_end}
+unfoldable pub use Rattle.link_history.specs.Hops.{taken_in, forwarded}
+pub use Rattle.link_history.specs.Memory.{taken, hop_waiting}
+unfoldable pub use Rattle.link_history.specs.HopLaws.{sealed_since, draws_since}
+pub use Rattle.link_history.specs.HopLaws.{OneDraw, HopLaw, ThroughLaw}
+pub use Rattle.interface_states.specs.Cause.{owner_of}
+pub use Rattle.interface_states.specs.Devices.{devices}
+pub use Rattle.interface_states.specs.Sites.{Site, site_with}
+pub use Rattle.interface_states.specs.Views.{grant_at, granted_to}
+pub use Rattle.waiting_reads.specs.declared.queue.WaitingRead.{WaitingRead}
+unfoldable pub use Rattle.interface_states.specs.Sites.{sites}
+unfoldable pub use Rattle.waiting_reads.specs.Completions.{completion_bytes}

@@ -2,7 +2,8 @@
 use Rattle.std.specs.Prelude.{◌++◌, ◌∷◌, ◌≡◌, Bool, List, None, Ok, Option, [], drop, false}
 use Rattle.std.specs.Prelude.{length, true, ℕ}
 use Rattle.link_history.specs.Terms.{PortName, Plan, Event, InterfaceEvent, Effect, UnitName, Verdict, Accepted, Packet}
-use Rattle.link_history.specs.Terms.{History, Device, Host, is_sync_packet, read_head_of}
+use Rattle.link_history.specs.Terms.{History, Device, is_sync_packet, read_head_of}
+use Rattle.link_history.specs.Ports.{port_of, is_host_port}
 use Rattle.link_history.specs.Terms.{Write, newest_first, byte_after, bytes_from, in_one_region, grant_at}
 use Rattle.link_history.specs.Terms.{MemoryContents, IsLeftBy, Leads, admitted_write, memory_write, WaitingRead}
 use Rattle.link_history.specs.Terms.{standings_at}
@@ -12,6 +13,8 @@ pub use Rattle.link_history.specs.Admission.{Grants, Policy, bound_of, unit_gran
 pub use Rattle.link_history.specs.Admission.{effect_by, waiting_then, effects_each, effects_by, admitted_as, admitted}
 pub use Rattle.link_history.specs.Admission.{admitted_each, plain_of, admitted_in}
 use Rattle.link_history.specs.Sent.{queued_in, reads_taken}
+use Rattle.link_history.specs.Hops.{HopTlp, entering_end, taken_in, forwarded}
+use Rattle.ide_types.specs.declared.direction.Direction.{Direction}
 use Rattle.link_verdicts.specs.declared.verdict.Verdict.TheVariants as v
 use Rattle.link_events.specs.declared.event.InterfaceEvent.TheVariants as ie
 use Rattle.interface_words.specs.declared.verdict.InterfaceVerdict.TheVariants as iv
@@ -26,6 +29,16 @@ queued plan h link = queued_in plan (sealed_packets plan h) h link
 abbrev pub waiting : Plan → History → ℕ → List WaitingRead
 waiting plan h link = drop (reads_taken h link) (queued plan h link)
 
+-- ---- TLPs at switches
+
+-- those that were accepted at an end since the last reset of the link's hop, in order
+abbrev pub taken : Plan → History → ℕ → PortName → List HopTlp
+taken plan h link end = taken_in plan (sealed_packets plan h) h link end
+
+-- those that wait at its switch in a direction
+abbrev pub hop_waiting : Plan → History → ℕ → Direction → List HopTlp
+hop_waiting plan h link d = drop (forwarded h link d) (taken plan h link (entering_end link d))
+
 -- ---- effects
 
 -- by what the history says of requesters, of the reads that wait, and of devices' interfaces
@@ -37,7 +50,7 @@ policy_at plan h = record {
 }
 
 abbrev pub effects_of : Plan → History → PortName → UnitName → List Packet → List Effect
-effects_of plan h port unit ps = effects_by plan (policy_at plan h) port unit ps
+effects_of plan h port unit ps = effects_by plan (policy_at plan h) (port_of plan port) unit ps
 
 -- ---- the writes that are admitted
 
@@ -90,6 +103,6 @@ pub record ContentsFollow : Type 0 where
   pub sync : (plan : Plan) (grants : Grants) (port : PortName) (unit : UnitName) (p : Packet) (payload : List ℕ)
       → is_sync_packet p ≡ true → admitted plan grants port unit p payload ≡ None
   pub packet : (plan : Plan) (grants : Grants) (port : PortName) (unit : UnitName) (p : Packet) (payload : List ℕ)
-      (head : HeadView) → is_sync_packet p ≡ false → port.side ≡ Host → read_head_of p.head ≡ Ok head
+      (head : HeadView) → is_sync_packet p ≡ false → is_host_port plan port ≡ true → read_head_of p.head ≡ Ok head
       → admitted plan grants port unit p payload
       ≡ admitted_write plan.memory p.prefix.t (unit_grant grants port unit head) (memory_write head payload)

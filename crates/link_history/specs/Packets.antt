@@ -8,6 +8,7 @@ use Rattle.link_history.specs.Terms.{Packet, packet_bytes, CutValue, IdePacket, 
 use Rattle.link_history.specs.Terms.{received_direction, sent_direction}
 use Rattle.ide_types.specs.declared.sub.SubKind.TheVariants.{Pr}
 use Rattle.link_history.specs.Plan.{SubStream, is_same, partner, has_port}
+use Rattle.link_history.specs.Ports.{reached}
 
 -- the sub-stream of a sealed packet
 abbrev pub sub_stream_of : SealedPacket → SubStream
@@ -26,30 +27,34 @@ pub record Arrival : Type 0 where
 abbrev pub packet_at : SealedList → ℕ → Option (SealedPacket × Packet)
 packet_at xs n = if n == 0 then None else slice_get xs (n - 1)
 
--- bytes of packet N arrive at the partner of the port that sealed it
-abbrev pub brought : SealedPacket × Packet → List ℕ → Arrival
-brought x bytes = record { port = partner x.0.port; bytes = bytes }
+-- what bytes that arrive at the port of an end meet there
+abbrev pub arrival_at : Plan → PortName → List ℕ → Arrival
+arrival_at plan end bytes = record { port = reached plan end bytes; bytes = bytes }
 
-abbrev pub altered : ℕ → ℕ → SealedPacket × Packet → Option Arrival
-altered at mask x =
+-- bytes of packet N arrive at the port of the other end of the line on which it was sealed
+abbrev pub brought : Plan → SealedPacket × Packet → List ℕ → Arrival
+brought plan x bytes = arrival_at plan (partner x.0.port) bytes
+
+abbrev pub altered : Plan → ℕ → ℕ → SealedPacket × Packet → Option Arrival
+altered plan at mask x =
     let bytes = packet_bytes x.1 in
-    if nat_lt at (length bytes) then Some (brought x (slice_set bytes at (bit_xor (slice_index bytes at) mask)))
+    if nat_lt at (length bytes) then Some (brought plan x (slice_set bytes at (bit_xor (slice_index bytes at) mask)))
     else None
 
-abbrev pub shortened : ℕ → SealedPacket × Packet → Option Arrival
-shortened len x =
+abbrev pub shortened : Plan → ℕ → SealedPacket × Packet → Option Arrival
+shortened plan len x =
     let bytes = packet_bytes x.1 in
-    if nat_le len (length bytes) then Some (brought x (take len bytes)) else None
+    if nat_le len (length bytes) then Some (brought plan x (take len bytes)) else None
 
 -- what an event brings, and where, by the packets that were sealed; nothing if a packet or byte that it names does not
 -- exist
 abbrev pub arrived_in : Plan → SealedList → Event → Option Arrival
 arrived_in plan xs (Pass n) =
-    option_map (λ (x : SealedPacket × Packet). brought x (packet_bytes x.1)) (packet_at xs n)
-arrived_in plan xs (Alter n at mask) = option_and_then (altered at mask) (packet_at xs n)
-arrived_in plan xs (Cut n len) = option_and_then (shortened len) (packet_at xs n)
+    option_map (λ (x : SealedPacket × Packet). brought plan x (packet_bytes x.1)) (packet_at xs n)
+arrived_in plan xs (Alter n at mask) = option_and_then (altered plan at mask) (packet_at xs n)
+arrived_in plan xs (Cut n len) = option_and_then (shortened plan len) (packet_at xs n)
 arrived_in plan xs (Arrive port bytes) =
-    if has_port plan port then Some (record { port = port; bytes = bytes }) else None
+    if has_port plan port then Some (arrival_at plan port bytes) else None
 arrived_in plan xs _ = None
 
 abbrev pub no_packet : Packet

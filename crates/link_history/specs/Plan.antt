@@ -1,13 +1,16 @@
--- What there is before the first event, by link, stream and sub-stream.
-use Rattle.std.specs.Prelude.{if◌then◌else◌, ◌&&◌, ◌*◌, ◌+◌, ◌/◌, ◌==◌, ◌∷◌, Bool, List, None, Option, Some, [], false}
-use Rattle.std.specs.Prelude.{is_some, length, map, nat_lt, ℕ}
+-- What there is before the first event, by line, stream and sub-stream. A port is the end of a line.
+use Rattle.std.specs.Prelude.{if◌then◌else◌, ◌&&◌, ◌||◌, ◌*◌, ◌+◌, ◌-◌, ◌++◌, ◌/◌, ◌==◌, ◌∷◌, Bool, List, None, Option}
+use Rattle.std.specs.Prelude.{Some, [], false, true, is_some, length, map, nat_lt, replicate, take, ℕ}
 use Rattle.link_history.specs.Terms.{slice_index_or, option_map_or, sub_bits, PortName, Device, Host, SubKind}
 use Rattle.link_history.specs.Terms.{Plan, KeyPlan, received_direction, sent_direction}
 use Rattle.ide_types.specs.declared.port.Side.{Side}
 use Rattle.ide_plan.specs.declared.plan.LinkPlan.{LinkPlan}
+use Rattle.ide_plan.specs.declared.plan.HopPlan.{HopPlan}
+use Rattle.ide_plan.specs.declared.plan.PeerPlan.{PeerPlan}
+use Rattle.ide_plan.specs.declared.stream.Selector.TheVariants.{Selective}
 use Rattle.ide_plan.specs.declared.stream.StreamPlan.{StreamPlan}
 
--- one sub-stream in one direction: 0 is sealed by the host's port, 1 by the device's port
+-- one sub-stream in one direction of a line: 0 is sealed at its near end, 1 at its far end
 pub record SubStream : Type 0 where
   pub link : ℕ
   pub stream : ℕ
@@ -28,7 +31,7 @@ lane_out port stream u = record { link = port.link; stream = stream; direction =
 abbrev pub lane_in : PortName → ℕ → SubKind → SubStream
 lane_in port stream u = record { link = port.link; stream = stream; direction = received_direction port.side; sub = u }
 
--- the other end of its link
+-- the other end of its line
 abbrev pub partner : PortName → PortName
 partner p = record { side = other p.side; link = p.link }
   where
@@ -36,13 +39,45 @@ partner p = record { side = other p.side; link = p.link }
     other Host = Device
     other Device = Host
 
+-- ---- the streams of lines
+
 -- the streams of each link, in the plan's order
 abbrev pub streams_by_link : Plan → List (List StreamPlan)
 streams_by_link plan = map (λ (l : LinkPlan). l.streams) plan.links
 
--- the streams of a link
+-- a stream that is alone on its line takes each TLP that is sent there
+abbrev pub lone_stream : ℕ → ℕ → StreamPlan
+lone_stream id mode = record { id = id; mode = mode; closed = false; selector = Selective None [] true }
+
+abbrev pub hop_streams : Option HopPlan → List StreamPlan
+hop_streams None = []
+hop_streams (Some o) = lone_stream o.id 1 ∷ []
+
+-- the stream of each link's hop
+abbrev pub hop_by_link : Plan → List (List StreamPlan)
+hop_by_link plan = map (λ (l : LinkPlan). hop_streams l.hop) plan.links
+
+abbrev pub peer_streams : Plan → List (List StreamPlan)
+peer_streams plan = map (λ (p : PeerPlan). lone_stream p.id p.mode ∷ []) plan.peers
+
+-- for each of eight links
+abbrev pub in_eight : List (List StreamPlan) → List (List StreamPlan)
+in_eight rows = take 8 (rows ++ replicate 8 [])
+
+-- by line: of the links, of the hops' segments towards the hosts, of those towards the devices, and of the streams
+-- between devices
+abbrev pub behind_near : Plan → List (List StreamPlan)
+behind_near plan = in_eight (hop_by_link plan) ++ peer_streams plan
+
+abbrev pub behind_links : Plan → List (List StreamPlan)
+behind_links plan = in_eight (hop_by_link plan) ++ behind_near plan
+
+unfoldable pub streams_by_line : Plan → List (List StreamPlan)
+streams_by_line plan = in_eight (streams_by_link plan) ++ behind_links plan
+
+-- the streams of a line
 abbrev pub streams_of : Plan → ℕ → List StreamPlan
-streams_of plan link = slice_index_or (streams_by_link plan) link []
+streams_of plan line = slice_index_or (streams_by_line plan) line []
 
 abbrev pub with_id : List StreamPlan → ℕ → Option StreamPlan
 with_id [] id = None
@@ -55,11 +90,15 @@ stream_plan plan link stream = with_id (streams_of plan link) stream
 abbrev pub has_link : Plan → ℕ → Bool
 has_link plan link = nat_lt link (length plan.links)
 
--- the port exists
-abbrev pub has_port : Plan → PortName → Bool
-has_port plan port = has_link plan port.link
+-- the line exists
+abbrev pub has_line : Plan → ℕ → Bool
+has_line plan line = has_link plan line || nat_lt 0 (length (streams_of plan line))
 
--- the port has the stream
+-- the end exists
+abbrev pub has_port : Plan → PortName → Bool
+has_port plan port = has_line plan port.link
+
+-- the end has the stream
 abbrev pub has_stream : Plan → PortName → ℕ → Bool
 has_stream plan port stream = is_some (stream_plan plan port.link stream)
 

@@ -1,5 +1,5 @@
--- What a sealed verdict seals: the TLP of a send, or the completion that answers the oldest read that waits. What an
--- event brought is said by the list of the packets that were sealed, since it names a packet by its number there.
+-- What a sealed verdict seals: the TLP of a send, the completion that answers the oldest read that waits, or the first
+-- TLP that waits at a switch.
 use Rattle.std.specs.Prelude.{if◌then◌else◌, ◌&&◌, ◌++◌, ◌+◌, ◌==◌, ◌∷◌, Bool, Err, List, None, Ok, Option, Result}
 use Rattle.std.specs.Prelude.{Some, [], false, slice_get, ℕ}
 use Rattle.link_history.specs.Terms.{option_map_or, PortName, Host, Plan, Event, Access, Reset, Send, Effect}
@@ -8,28 +8,19 @@ use Rattle.link_history.specs.Terms.{Write, newest_first, byte_after, completion
 use Rattle.link_history.specs.Terms.{MemReadView, WaitingRead, memory_read}
 use Rattle.tlp_layout.specs.declared.head.HeadView.{HeadView}
 use Rattle.link_history.specs.Plan.{SubStream}
-use Rattle.link_history.specs.Packets.{SealedList, arrived_in, packet_in, received_in, is_of}
+use Rattle.link_history.specs.Ports.{port_of, sealing_end}
+use Rattle.link_history.specs.Packets.{SealedList}
+pub use Rattle.link_history.specs.Ended.{unit_accepted}
+unfoldable pub use Rattle.link_history.specs.Ended.{packets_held}
+use Rattle.link_history.specs.Hops.{HopTlp, first_in, leaving_end}
 use Rattle.link_history.specs.Admission.{admitted_in}
+use Rattle.link_events.specs.declared.event.Event.TheVariants.{Forward}
 use Rattle.link_events.specs.declared.event.AccessEvent.TheVariants as ae
 use Rattle.link_verdicts.specs.declared.access.AccessVerdict.TheVariants as av
 use Rattle.link_verdicts.specs.declared.verdict.Effect.TheVariants as effect
 use Rattle.link_verdicts.specs.declared.verdict.Verdict.TheVariants as v
 
--- ---- units that were accepted
-
--- the packets that were held for unit n, in order
-unfoldable pub packets_held : Plan → SealedList → History → SubStream → ℕ → ℕ → List Packet
-packets_held plan xs [] s j n = []
-packets_held plan xs ((e, Held port unit) ∷ h) s j n =
-    if is_of s j port unit && (unit.unit == n) then packets_held plan xs h s j n ++ packet_in (arrived_in plan xs e)
-    ∷ []
-    else packets_held plan xs h s j n
-packets_held plan xs (_ ∷ h) s j n = packets_held plan xs h s j n
-
--- the unit that an accepted verdict ends
-abbrev pub unit_accepted : Plan → SealedList → History → Event → PortName → UnitName → List Packet
-unit_accepted plan xs h e port unit =
-    packets_held plan xs h (received_in port unit) unit.draw unit.unit ++ packet_in (arrived_in plan xs e) ∷ []
+-- ---- writes
 
 -- the writes of accepted units that are admitted, the newest first
 unfoldable pub writes_in : Plan → SealedList → History → List Write
@@ -60,10 +51,10 @@ reads_by draw _ _ = []
 unfoldable pub queued_in : Plan → SealedList → History → ℕ → List WaitingRead
 queued_in plan xs [] link = []
 queued_in plan xs ((e, Accepted port unit effects) ∷ h) link =
-    if port.link == link then queued_in plan xs h link ++ reads_by unit.draw effects
+    if (port_of plan port).link == link then queued_in plan xs h link ++ reads_by unit.draw effects
     (unit_accepted plan xs h e port unit)
     else queued_in plan xs h link
-queued_in plan xs ((Reset k, v.Reset l) ∷ h) link = if l == link then [] else queued_in plan xs h link
+queued_in plan xs ((Reset k ends, v.Reset l) ∷ h) link = if l == link then [] else queued_in plan xs h link
 queued_in plan xs (_ ∷ h) link = queued_in plan xs h link
 
 -- whether it answers a read of the link
@@ -77,7 +68,7 @@ reads_taken [] link = 0
 reads_taken ((e, Sealed ds) ∷ h) link = if is_answer_on link e then reads_taken h link + 1 else reads_taken h link
 reads_taken ((e, v.Access (av.Dropped interface cause)) ∷ h) link =
     if is_answer_on link e then reads_taken h link + 1 else reads_taken h link
-reads_taken ((Reset k, v.Reset l) ∷ h) link = if l == link then 0 else reads_taken h link
+reads_taken ((Reset k ends, v.Reset l) ∷ h) link = if l == link then 0 else reads_taken h link
 reads_taken (_ ∷ h) link = reads_taken h link
 
 -- the oldest that waits
@@ -95,10 +86,12 @@ answer_in plan xs h link =
 unfoldable pub bytes_by : Plan → SealedList → History → Event → List ℕ
 bytes_by plan xs h (Send port bytes more trusted) = bytes
 bytes_by plan xs h (Access (ae.Answer link)) = answer_in plan xs h link
+bytes_by plan xs h (Forward link d) = option_map_or (λ (x : HopTlp). x.bytes) (first_in plan xs h link d) []
 bytes_by plan xs h e = []
 
--- the port that seals them: an answer's is the host's
-abbrev pub sending_port : Event → PortName
-sending_port (Send port bytes more trusted) = port
-sending_port (Access (ae.Answer link)) = record { side = Host; link = link }
-sending_port e = record { side = Host; link = 0 }
+-- the end that seals them: an answer's is the host's port, a forward's is at the switch
+abbrev pub sending_port : Plan → Event → PortName
+sending_port plan (Send port bytes more trusted) = sealing_end plan port bytes
+sending_port plan (Access (ae.Answer link)) = record { side = Host; link = link }
+sending_port plan (Forward link d) = leaving_end link d
+sending_port plan e = record { side = Host; link = 0 }

@@ -34,7 +34,7 @@ pub use Rattle.key_laws.specs.Places.{KeyPlan, KeyPlace, received_direction, sen
 pub use Rattle.interface_states.specs.Views.{grant_at, granted_to}
 pub use Rattle.interface_states.specs.Floors.{standings_at}
 pub use Rattle.interface_states.specs.Sites.{Site, site_with}
-pub use Rattle.interface_states.specs.Cause.{owner_of, owner_at, t_due}
+pub use Rattle.interface_states.specs.Cause.{owner_of, owner_at, owners_link, t_at}
 pub use Rattle.trusted_memory.specs.declared.grant.Grant.{Grant}
 pub use Rattle.trusted_memory.specs.Spans.{write_span}
 pub use Rattle.trusted_memory.specs.Writes.{Write, memory_write, newest_first}
@@ -47,5 +47,4 @@ pub use Rattle.waiting_reads.specs.declared.queue.WaitingRead.{WaitingRead}
 pub use Rattle.waiting_reads.specs.Requests.{memory_read}
 pub use Rattle.waiting_reads.specs.Waiting.{request_effect}
 unfoldable pub use Rattle.waiting_reads.specs.Completions.{completion_bytes}
-pub use Rattle.guarded_memory.specs.declared.standing.Standing.{Standing}
-pub use Rattle.guarded_memory.specs.Causes.{mmio_effect}
+pub use Rattle.interface_states.specs.{Standing, mmio_effect}

@@ -23,7 +23,13 @@ use Rattle.link_history.proofs.Terms.{if◌then◌else◌, is_some, key_in, keys
 use Rattle.link_history.proofs.Terms.{nat_lt, no_keys, status_of, ◌&&◌, open_unit}
 use Rattle.key_laws.proofs.Shapes.{Shape, Bare, Sound, keys_of, live_waiting, live_alone, live_following, live_both}
 use Rattle.key_laws.proofs.Touches.{Goes, waiting_goes, alone_goes, following_goes, both_goes, AllCome}
-use Rattle.key_laws.proofs.Owners.{work_is, same_place}
+use Rattle.key_laws.proofs.Owners.{begun_below, owner, work_is, same_place}
+use Rattle.key_laws.specs.Due.{has_refresh}
+use Rattle.key_laws.specs.History.{begun_under, stop_at}
+use Rattle.key_laws.specs.Operations.{makes_draw, operated}
+use Rattle.key_laws.specs.Places.{is_cleared, is_cut, is_host, is_local, is_peer}
+use Rattle.ide_types.specs.Lines.{is_hosted, is_link_line}
+use Rattle.link_history.proofs.Terms.{Begun, KeyCauseLaw, key_due}
 use Rattle.key_laws.proofs.Fits.{Halting}
 use Rattle.key_laws.proofs.Tests.{lt-true, both-true, true-same}
 use Rattle.key_laws.proofs.Uses.{live_is_on}
@@ -42,9 +48,9 @@ use Rattle.link_history.proofs.SealingIs.{sealed_same, sealed_by_sealing, sealin
 use Rattle.link_keys.proofs.Seats.{own_key, keys_out, keys_into, live_of, live_here, on_key}
 use Rattle.link_keys.proofs.Unplanned.{never_on, acts}
 use Rattle.link_keys.proofs.Given.{key_cause}
-use Rattle.link_keys.proofs.RealFacts.{sealed}
+use Rattle.link_keys.proofs.RealFacts.{sealed, uncleared}
 use Rattle.link_keys.proofs.Moments.{busy_is, sends_lane, sealed_m}
-use Rattle.link_keys.proofs.SealedKeys.{each_more, live_all, below_draws}
+use Rattle.link_keys.proofs.SealedKeys.{each_more, live_all, below_draws, on_is_owned}
 use Rattle.link_keys.proofs.SealedOrder.{on_above}
 use Rattle.link_verdicts.specs.declared.verdict.Operation.TheVariants as op
 use Rattle.link_verdicts.specs.declared.verdict.Verdict.TheVariants as v
@@ -57,12 +63,12 @@ stops Idle = true
 stops (Stopping n) = true
 stops _ = false
 
-halted_bare : (side : Side) → side ≡ Host → (l n : ℕ) (sh : Shape) → Halting side l n sh → sh ≡ Bare
-halted_bare Host is l n sh halted = halted
-halted_bare Device is l n sh halted = absurd cc
+halted_bare : (local : Bool) → local ≡ true → (l n : ℕ) (sh : Shape) → Halting local l n sh → sh ≡ Bare
+halted_bare true is l n sh halted = halted
+halted_bare false is l n sh halted = absurd cc
 
--- then the host's port has no key
-bare_host : (plan : Plan) (h : History) → CauseLaw plan h → (p : KeyPlace) → p.side ≡ Host
+-- then a host's port has no key
+bare_host : (plan : Plan) (h : History) → CauseLaw plan h → (p : KeyPlace) → is_local p ≡ true
     → stops (op_of h p.link p.stream) ≡ true → keys_there h p ≡ no_keys
 bare_host plan h law p host is = by_op (op_of h p.link p.stream) refl is
   where
@@ -71,7 +77,7 @@ bare_host plan h law p host is = by_op (op_of h p.link p.stream) refl is
         keys_of at.fits
     by_op (Stopping n) there is =
         let at = in_state (key_plan plan) h (key_cause plan h law) p (Stopping n) there in
-        let bare = halted_bare p.side host (lane p) n at.shape at.fits.1 in
+        let bare = halted_bare (is_local p) host (stop_at p) n at.shape at.fits.1 in
         at.is.are ∙ ap keys_of bare
     by_op _ there is = absurd cc
 
@@ -143,8 +149,9 @@ if_only : (b : Bool) (ts : List Touch) → OnlyKeys ts → OnlyKeys (on_it b ts)
 if_only true ts only = only
 if_only false ts only = tt
 
-stop_after : (q : Op) (next : ℕ) (r : Reach) → stops (op_after (work_of op.Stop q next) r) ≡ true
-stop_after q next r = grind arith
+stop_after : (hosted : Bool) (q : Op) (next : ℕ) (r : Reach)
+    → stops (op_after hosted (work_of op.Stop q next) r) ≡ true
+stop_after hosted q next r = grind arith
 
 came_out : (p : KeyPlace) (w : Verdict) → p.sends ≡ true → seals_none w ≡ true → came p w ≡ []
 came_out p (v.Sealed ds) sends none = absurd cc
@@ -153,6 +160,9 @@ came_out p _ sends none = refl
 
 none_only : (ts : List Touch) → ts ≡ [] → OnlyKeys ts
 none_only ts is = subst OnlyKeys (sym is) tt
+
+cut_stops : (peer : Bool) → stops (if peer then Stopping 1 else Idle) ≡ true
+cut_stops peer = grind arith
 
 -- a pair that seals nothing leaves the stream stopping or without operation, or programs and starts keys alone
 moved : (h : History) (e : Event) (w : Verdict) → seals_none w ≡ true → (p : KeyPlace) → p.sends ≡ true
@@ -168,15 +178,17 @@ moved h (Refresh l s loss) w none p sends =
     (λ is. cc)))
 moved h (Stop l s loss) w none p sends = elim (acts (manager h) op.Stop l s (reach_of op.Stop w) p) [
   | inl same ↦ inr (none_only _ same.1)
-  | inr act ↦ inl (ap stops act.ops ∙ stop_after ((manager h).ops l s) (draws h) act.reached)
+  | inr act ↦ inl (ap stops act.ops ∙ stop_after (is_hosted l) ((manager h).ops l s) (draws h) act.reached)
 ]
-moved h (Reset l) (v.Reset m) none p sends = by_test (p.link == l)
+moved h (Reset l ends) (v.Reset m) none p sends = by_cut (is_cut ends p.link) refl
   where
-    by_test : (b : Bool) → (stops (if b then Idle else (manager h).ops p.link p.stream) ≡ true)
-        ⊎ OnlyKeys (when b ClearTouch)
-    by_test true = inl refl
-    by_test false = inr tt
-moved h (Reset l) w none p sends = inr tt
+    by_cut : (cut : Bool) → is_cut ends p.link ≡ cut
+        → (stops (if cut then (if is_peer p.link then Stopping 1 else Idle) else (manager h).ops p.link p.stream)
+        ≡ true)
+        ⊎ OnlyKeys (when (is_cleared ends p.side p.link) ClearTouch)
+    by_cut true is = inl (cut_stops (is_peer p.link))
+    by_cut false is = inr (rw (uncleared ends p.side p.link is) tt)
+moved h (Reset l ends) w none p sends = inr tt
 moved h e w none p sends = inr (none_only (came p w) (came_out p w sends none))
 
 -- a stream that is stopping or without operation lets an establish begin alone
@@ -190,8 +202,9 @@ refuses : (kp : KeyPlan) (q : Op) (next : ℕ) (ports : PortView) (host : Stream
     → is_some (reach_of op.Refresh (refresh_on kp q next ports host l s loss)) ≡ true → ⊥
 refuses kp q next ports host l s loss stopped goes = grind arith
 
-if_stops : (b : Bool) (q : Op) → stops q ≡ true → stops (if b then Idle else q) ≡ true
-if_stops b q is = grind arith
+if_stops : (cut peer : Bool) (q : Op) → stops q ≡ true
+    → stops (if cut then (if peer then Stopping 1 else Idle) else q) ≡ true
+if_stops cut peer q is = grind arith
 
 -- it stays so, or an establish begins
 still_stops : (plan : Plan) (h : History) (e : Event) (w : Verdict) → CauseLaw plan ((e, w) ∷ h) → (p : KeyPlace)
@@ -223,9 +236,9 @@ still_stops plan h (Refresh l s loss) w law p is = elim (acts (manager h) op.Ref
 ]
 still_stops plan h (Stop l s loss) w law p is = elim (acts (manager h) op.Stop l s (reach_of op.Stop w) p) [
   | inl same ↦ inl (ap stops same.0 ∙ is)
-  | inr act ↦ inl (ap stops act.ops ∙ stop_after ((manager h).ops l s) (draws h) act.reached)
+  | inr act ↦ inl (ap stops act.ops ∙ stop_after (is_hosted l) ((manager h).ops l s) (draws h) act.reached)
 ]
-still_stops plan h (Reset l) (v.Reset m) law p is = inl (if_stops (p.link == l) _ is)
+still_stops plan h (Reset l ends) (v.Reset m) law p is = inl (if_stops (is_cut ends p.link) (is_peer p.link) _ is)
 still_stops plan h e w law p is = inl is
 
 -- ---- a unit is open of the Live draw alone, or else this holds
@@ -336,14 +349,18 @@ abbrev pub NoneAbove : Plan → History → SubStream → ℕ → Type 0
 NoneAbove plan h s i = (place : ℕ) (x : SealedPacket × Packet) → slice_get (sealed_packets plan h) place ≡ Some x
     → is_same (sub_stream_of x.0) s ≡ true → x.0.draw ≤ i
 
+-- it is a host's port
+abbrev pub local_end : PortName → Bool
+local_end port = is_host port.side && is_hosted port.link
+
 -- an open unit of another draw than the Live one: in a stop, and at a host's port nothing was sealed since
 pub record Excuse (plan : Plan) (h : History) (port : PortName) (stream : ℕ) (u : SubKind) (i : ℕ) : Type 0 where
   pub stopping : stops (op_of h port.link stream) ≡ true
-  pub left : port.side ≡ Host → NoneAbove plan h (lane_out port stream u) i
+  pub left : local_end port ≡ true → NoneAbove plan h (lane_out port stream u) i
 
 -- a host's port seals nothing then
-none_seals : (plan : Plan) (h : History) → CauseLaw plan h → (port : PortName) (stream : ℕ) (u : SubKind) → port.side
-    ≡ Host → stops (op_of h port.link stream) ≡ true
+none_seals : (plan : Plan) (h : History) → CauseLaw plan h → (port : PortName) (stream : ℕ) (u : SubKind)
+    → local_end port ≡ true → stops (op_of h port.link stream) ≡ true
     → (q : PortName) (t : ℕ) (d : SealedPacket) → IsLive plan h q t d
     → is_same (sub_stream_of d) (lane_out port stream u) ≡ true → ⊥
 none_seals plan h law port stream u host is q t d live here =
@@ -355,7 +372,7 @@ none_seals plan h law port stream u host is q t d live here =
 
 still_above : (plan : Plan) (h : History) (e : Event) (ds : List SealedPacket) → CauseLaw plan ((e, v.Sealed ds) ∷ h)
     → (port : PortName) (stream : ℕ) (u : SubKind) (i : ℕ)
-    → port.side ≡ Host → stops (op_of h port.link stream) ≡ true → NoneAbove plan h (lane_out port stream u) i
+    → local_end port ≡ true → stops (op_of h port.link stream) ≡ true → NoneAbove plan h (lane_out port stream u) i
     → NoneAbove plan ((e, v.Sealed ds) ∷ h) (lane_out port stream u) i
 unfolding sealed_packets
 still_above plan h e ds law port stream u i host is none place x at =
@@ -366,7 +383,7 @@ still_above plan h e ds law port stream u i host is none place x at =
     sealing.sending.port sealing.sending.stream ds
     (λ d live here. absurd
     (none_seals plan h law.1 port stream u host is sealing.sending.port sealing.sending.stream d live here))
-    (all_live plan h (sending_port e) (sent_bytes plan h e) ds sealing))
+    (all_live plan h (sending_port plan e) (sent_bytes plan h e) ds sealing))
     none place x at
 
 excuse_sent : (plan : Plan) (h : History) (e : Event) (ds : List SealedPacket) → CauseLaw plan ((e, v.Sealed ds) ∷ h)
@@ -422,8 +439,8 @@ opens_sent plan h e ds law port stream u i opens =
     let is = sealing_is plan h e ds law.0 in
     let done = all_open (Excuse plan h port stream u i) i plan h is.sending.port is.sending.stream
     (ahead_of_packet plan (sealed_packets plan h) (base h)) (sent_bytes plan h e)
-    port stream u ds (sealed_packets plan h) (all_live plan h (sending_port e) (sent_bytes plan h e) ds is)
-    (all_apart plan h (sending_port e) (sent_bytes plan h e) ds is) opens in
+    port stream u ds (sealed_packets plan h) (all_live plan h (sending_port plan e) (sent_bytes plan h e) ds is)
+    (all_apart plan h (sending_port plan e) (sent_bytes plan h e) ds is) opens in
     let keys = sealed plan h e ds law port s in
     elim done [
       | inl none ↦ inl none
@@ -514,6 +531,116 @@ opens_at plan ((e, w) ∷ h) law port stream u i up =
     (opens_at plan h law.1 port stream u i
     (base_up plan h e w law (place_in_sub_stream port (lane_out port stream u) true) i up))
 
+-- ---- a stream that has no refresh has no draw above Base
+
+pub no_link : (line : ℕ) → is_hosted line ≡ false → is_link_line line ≡ false
+no_link line paired = grind (arith, nat_tests)
+
+-- the draws of operations on the stream are up to this one
+abbrev AreLow : List Begun → ℕ → ℕ → ℕ → Type 0
+AreLow bs line stream n =
+    (j : ℕ) (c : Begun) → begun_under bs j ≡ Some c → c.link ≡ line → c.stream ≡ stream → j ≤ n
+
+establish_low : (bs : List Begun) (l s : ℕ) (set begins : Bool) (line stream n : ℕ) → AreLow bs line stream n
+    → AreLow (if begins then record { link = l; stream = s; set = set } ∷ bs else bs) line stream
+    (if (l == line) && (s == stream) && begins then length bs else n)
+establish_low bs l s set false line stream n low j c is on_line on_stream =
+    let most = low j c is on_line on_stream in grind arith
+establish_low bs l s set true line stream n low j c is on_line on_stream = by (length bs == j) refl is
+  where
+    by : (b : Bool) → (length bs == j) ≡ b
+        → (if b then Some (record { link = l; stream = s; set = set }) else begun_under bs j) ≡ Some c
+        → j ≤ (if (l == line) && (s == stream) && true then length bs else n)
+    by true last is =
+        let same : record { link = l; stream = s; set = set } ≡ c = cc (is) in
+        let one : l ≡ line = ap (λ (b : Begun). b.link) same ∙ on_line in
+        let two : s ≡ stream = ap (λ (b : Begun). b.stream) same ∙ on_stream in
+        grind (arith, nat_tests)
+    by false other is =
+        let most = low j c is on_line on_stream in
+        let less = begun_below bs j c is in
+        grind (arith, nat_tests)
+
+other_low : (m : Manager) (o : Operation) (l s : ℕ) (r : Option Reach) (line stream n : ℕ) → (l ≡ line → r ≡ None)
+    → AreLow m.begun line stream n → AreLow (operated m o l s r).begun line stream n
+other_low m o l s None line stream n other low = low
+other_low m o l s (Some r) line stream n other low = by (w.begins && makes_draw w.operation)
+  where
+    w : Work
+    w = work_of o (m.ops l s) (length m.begun)
+
+    by : (b : Bool) → AreLow (if b then record { link = l; stream = s; set = w.set } ∷ m.begun else m.begun) line stream
+        n
+    by false j c is on_line on_stream = low j c is on_line on_stream
+    by true j c is on_line on_stream = by_last (length m.begun == j) is
+      where
+        by_last : (b : Bool) → (if b then Some (record { link = l; stream = s; set = w.set })
+            else begun_under m.begun j) ≡ Some c → j ≤ n
+        by_last true is =
+            let same : record { link = l; stream = s; set = w.set } ≡ c = cc (is) in
+            let none = other (ap (λ (b : Begun). b.link) same ∙ on_line) in
+            absurd cc
+        by_last false is = low j c is on_line on_stream
+
+stop_low : (m : Manager) (l s : ℕ) (r : Option Reach) (line stream n : ℕ) → AreLow m.begun line stream n
+    → AreLow (operated m op.Stop l s r).begun line stream n
+stop_low m l s None line stream n low = low
+stop_low m l s (Some r) line stream n low =
+    subst (λ (b : Bool). AreLow (if b then record { link = l; stream = s; set = w.set } ∷ m.begun else m.begun) line
+    stream
+    n) (sym (ap (λ (o : Operation). w.begins && makes_draw o) (work_is op.Stop (m.ops l s) (length m.begun))
+    ∙ never w.begins)) low
+  where
+    w : Work
+    w = work_of op.Stop (m.ops l s) (length m.begun)
+
+    never : (b : Bool) → (b && false) ≡ false
+    never b = grind arith
+
+pub reached_none : (has : Bool) (o : Operation) (x y : Verdict) → has ≡ false → x ≡ (if has then y else v.Nothing)
+    → reach_of o x ≡ None
+reached_none true o x y none is = absurd cc
+reached_none false o x y none is = ap (reach_of o) is
+
+pub none_first : (a b : Bool) → a ≡ false → (a && b) ≡ false
+none_first a b none = grind arith
+
+none_begins : (a b c : Bool) (m n : ℕ) → (if a && b && (c && false) then m else n) ≡ n
+none_begins a b c m n = grind arith
+
+establishes_low : (m : Manager) (l s : ℕ) (r : Option Reach) (line stream n : ℕ) → AreLow m.begun line stream n
+    → AreLow (operated m op.Establish l s r).begun line stream
+    (if (l == line) && (s == stream) && ((work_of op.Establish (m.ops l s) (length m.begun)).begins && is_some r)
+    then length m.begun else n)
+establishes_low m l s None line stream n low = rw (none_begins (l == line) (s == stream)
+    (work_of op.Establish (m.ops l s) (length m.begun)).begins (length m.begun) n) low
+establishes_low m l s (Some r) line stream n low =
+    subst (λ (b : Bool). AreLow (if w.begins && b then record { link = l; stream = s; set = w.set } ∷ m.begun
+    else m.begun) line stream
+    (if (l == line) && (s == stream) && (w.begins && true) then length m.begun else n))
+    (sym (ap makes_draw (work_is op.Establish (m.ops l s) (length m.begun))))
+    (establish_low m.begun l s w.set (w.begins && true) line stream n low)
+  where
+    w : Work
+    w = work_of op.Establish (m.ops l s) (length m.begun)
+
+alone_below : (kp : KeyPlan) (h : History) → KeyCauseLaw kp h → (line stream : ℕ) → is_link_line line ≡ false
+    → AreLow (manager h).begun line stream (base h line stream)
+unfolding manager base key_due
+alone_below kp [] cause line stream alone = λ j c is on_line on_stream. absurd cc
+alone_below kp ((Establish l s loss, x) ∷ h) cause line stream alone =
+    establishes_low (manager h) l s (reach_of op.Establish x) line stream (base h line stream)
+    (alone_below kp h cause.2 line stream alone)
+alone_below kp ((Refresh l s loss, x) ∷ h) cause line stream alone =
+    other_low (manager h) op.Refresh l s _ line stream (base h line stream)
+    (λ same. reached_none (has_refresh kp l s) op.Refresh x _
+    (none_first (is_link_line l) (kp.has_stream l s) (ap is_link_line same ∙ alone)) cause.0)
+    (alone_below kp h cause.2 line stream alone)
+alone_below kp ((Stop l s loss, x) ∷ h) cause line stream alone =
+    stop_low (manager h) l s _ line stream (base h line stream) (alone_below kp h cause.2 line stream alone)
+alone_below kp ((Reset l ends, v.Reset m) ∷ h) cause line stream alone = alone_below kp h cause.2 line stream alone
+alone_below kp ((e, x) ∷ h) cause line stream alone = alone_below kp h cause.2 line stream alone
+
 -- ---- if the newer draw is On at the receiver
 
 lane_of_partner : (q : PortName) (stream : ℕ) (u : SubKind) → lane_in q stream u ≡ lane_out (partner q) stream u
@@ -522,19 +649,14 @@ lane_of_partner q stream u = grind arith
 host_end : (q : PortName) → (partner q).side ≡ Device → q.side ≡ Host
 host_end q is = grind arith
 
+local_is : (q : PortName) → q.side ≡ Host → is_hosted q.link ≡ true → local_end q ≡ true
+local_is q host hosted = rw (host, hosted) refl
+
 pub ended : (plan : Plan) (h : History) → CauseLaw plan h → (port : PortName) (stream : ℕ) (u : SubKind) (k : Bool)
     (j i place : ℕ) (x : SealedPacket × Packet) → let s = lane_in port stream u in
     key_in (keys_at h port s) k ≡ On j → slice_get (sealed_packets plan h) place ≡ Some x → is_under s j x ≡ true
     → base h s.link s.stream ≤ i → i < j → open_unit (sent plan h s i) ≡ []
-ended plan h law q stream u k j i at x on stands under up less =
-    subst (λ (r : SubStream). open_unit (sent plan h r i) ≡ []) (sym lanes)
-    (elim (opens_at plan h law (partner q) stream u i up) [
-      | inl none ↦ none
-      | inr (inl live) ↦ absurd
-          (let most = live_above plan h law (partner q) stream u i live at x stands here in omega
-          (arith, most, draw, less))
-      | inr (inr e) ↦ by_side (partner q).side refl e
-    ])
+ended plan h law q stream u k j i at x on stands under up less = by_line (is_hosted q.link) refl
   where
     lanes : lane_in q stream u ≡ lane_out (partner q) stream u
     lanes = lane_of_partner q stream u
@@ -546,10 +668,26 @@ ended plan h law q stream u k j i at x on stands under up less =
     draw : x.0.draw ≡ j
     draw = true-same x.0.draw j (both-true (is_same (sub_stream_of x.0) (lane_in q stream u)) (x.0.draw == j) under).1
 
-    by_side : (side : Side) → (partner q).side ≡ side → Excuse plan h (partner q) stream u i
+    by_side : (side : Side) → (partner q).side ≡ side → is_hosted q.link ≡ true → Excuse plan h (partner q) stream u i
         → open_unit (sent plan h (lane_out (partner q) stream u) i) ≡ []
-    by_side Host host e = absurd (let most = e.left host at x stands here in omega (arith, most, draw, less))
-    by_side Device device e =
-        let bare = bare_host plan h law (place_in_sub_stream q (lane_in q stream u) false) (host_end q device)
-        e.stopping in
+    by_side Host host hosted e = absurd
+        (let most = e.left (local_is (partner q) host hosted) at x stands here in omega (arith, most, draw, less))
+    by_side Device device hosted e =
+        let bare = bare_host plan h law (place_in_sub_stream q (lane_in q stream u) false)
+        (local_is q (host_end q device) hosted) e.stopping in
         absurd (never_on k j (ap (λ (ks : Keys). key_in ks k) (sym bare ∙ sym (keys_into h q stream u)) ∙ on))
+
+    by_line : (hosted : Bool) → is_hosted q.link ≡ hosted → open_unit (sent plan h (lane_in q stream u) i) ≡ []
+    by_line true hosted =
+        subst (λ (r : SubStream). open_unit (sent plan h r i) ≡ []) (sym lanes)
+        (elim (opens_at plan h law (partner q) stream u i up) [
+          | inl none ↦ none
+          | inr (inl live) ↦ absurd
+              (let most = live_above plan h law (partner q) stream u i live at x stands here in omega
+              (arith, most, draw, less))
+          | inr (inr e) ↦ by_side (partner q).side refl hosted e
+        ])
+    by_line false paired = absurd
+        (let most = alone_below (key_plan plan) h (key_cause plan h law) q.link stream (no_link q.link paired) j
+        (owner q.link stream k) (on_is_owned h q (lane_in q stream u) k j on) refl refl in
+        omega (arith, most, up, less))

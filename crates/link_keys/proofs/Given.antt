@@ -64,8 +64,8 @@ pub sealed_given : (plan : Plan) (h : History) (e : Event) (ds : List SealedPack
 sealed_given plan h e ds p due_is =
     let is = sealing_is plan h e ds due_is in
     all_uses plan h p is.sending.port is.sending.stream ds
-    (all_live plan h (sending_port e) (sent_bytes plan h e) ds is)
-    (all_apart plan h (sending_port e) (sent_bytes plan h e) ds is)
+    (all_live plan h (sending_port plan e) (sent_bytes plan h e) ds is)
+    (all_apart plan h (sending_port plan e) (sent_bytes plan h e) ds is)
 
 -- ---- what is accepted
 
@@ -122,7 +122,7 @@ pub given_fits : (plan : Plan) (h : History) (e : Event) (w : Verdict) → w ≡
 given_fits plan h (Establish link stream lose) w is = tt
 given_fits plan h (Refresh link stream lose) w is = tt
 given_fits plan h (Stop link stream lose) w is = tt
-given_fits plan h (Reset link) w is = tt
+given_fits plan h (Reset link ends) w is = tt
 given_fits plan h e w is = came_given plan h e w is
 
 due_is_key_due : (plan : Plan) (h : History) (e : Event) (w : Verdict) → w ≡ due plan h e → w
@@ -131,7 +131,7 @@ unfolding due key_due
 due_is_key_due plan h (Establish link stream lose) w is = is
 due_is_key_due plan h (Refresh link stream lose) w is = is
 due_is_key_due plan h (Stop link stream lose) w is = is
-due_is_key_due plan h (Reset link) w is = is
+due_is_key_due plan h (Reset link ends) w is = is
 due_is_key_due plan h _ w is = refl
 
 -- Each verdict that is due is due by the rules of keys.

@@ -18,7 +18,10 @@ use Rattle.link_history.proofs.Terms.{if◌then◌else◌, keeps_live, key_in, k
 use Rattle.key_laws.proofs.Shapes.{used, used_bound, Shape, Both, keys_of, Sound, IsAt, sealed_shape, seals}
 use Rattle.key_laws.proofs.Touches.{AllCome}
 use Rattle.key_laws.proofs.Facts.{key_facts}
-use Rattle.key_laws.proofs.Whole.{fits, next_fits}
+use Rattle.key_laws.proofs.Whole.{fits, next_fits, not_cut}
+use Rattle.key_laws.specs.Places.{is_cleared, is_cut, is_peer}
+use Rattle.std.specs.List.{list_any}
+use Rattle.ide_types.specs.declared.port.Side.{Side}
 use Rattle.link_history.proofs.Tests.{same_port, same_stream, eqb-sym, in_not_out, out_not_in, same_in}
 use Rattle.link_history.proofs.Causes.{accepted_by}
 use Rattle.link_history.proofs.SealingIs.{sealed_by_sealing, sealing_touches}
@@ -37,14 +40,24 @@ steady_came _ none p = refl
 elsewhere_false : (p : KeyPlace) (l s : ℕ) → ((l == p.link) && (s == p.stream)) ≡ false → is_on_stream p l s ≡ false
 elsewhere_false p l s still = (λ i. eqb-sym p.link l i && eqb-sym p.stream s i) ∙ still
 
+-- no end of a line is cleared that is not cut
+pub uncleared : (ends : List PortName) (side : Side) (line : ℕ) → is_cut ends line ≡ false
+    → is_cleared ends side line ≡ false
+uncleared ends side line none = by (is_peer line)
+  where
+    by : (peer : Bool) → (if peer then list_any (λ e. is_same_side e.side side && (e.link == line)) ends
+        else is_cut ends line) ≡ false
+    by true = not_cut ends side line none
+    by false = none
+
 pub steady_touches : (ops : ℕ → ℕ → Op) (next : ℕ) (e : Event) (w : Verdict) (p : KeyPlace) → is_steady w ≡ true
     → operates e p.link p.stream ≡ false → touches ops next e w p ≡ []
 unfolding operates
 steady_touches ops next (Establish l s lose) w p none still = rw (elsewhere_false p l s still) refl
 steady_touches ops next (Refresh l s lose) w p none still = rw (elsewhere_false p l s still) refl
 steady_touches ops next (Stop l s lose) w p none still = rw (elsewhere_false p l s still) refl
-steady_touches ops next (Reset l) (v.Reset m) p none still = rw (eqb-sym p.link l ∙ still) refl
-steady_touches ops next (Reset l) _ p none still = refl
+steady_touches ops next (Reset l ends) (v.Reset m) p none still = rw (uncleared ends p.side p.link still) refl
+steady_touches ops next (Reset l ends) _ p none still = refl
 steady_touches ops next _ w p none still = steady_came w none p
 
 pub steady_moments : (h : History) (e : Event) (w : Verdict) (p : KeyPlace) → is_steady w ≡ true
@@ -186,7 +199,7 @@ unfolding arrived
 brings plan h (Establish l s lose) w p port bytes is = absurd cc
 brings plan h (Refresh l s lose) w p port bytes is = absurd cc
 brings plan h (Stop l s lose) w p port bytes is = absurd cc
-brings plan h (Reset l) w p port bytes is = absurd cc
+brings plan h (Reset l ends) w p port bytes is = absurd cc
 brings plan h _ w p port bytes is = refl
 
 pub accepted_touches : (plan : Plan) (h : History) (e : Event) (port : PortName) (unit : UnitName)

@@ -4,12 +4,24 @@ use Rattle.link_history.proofs.Terms.{ℕ, ◌==◌, ◌∙◌, ◌∷◌, ◌�
 use Rattle.link_history.proofs.Terms.{KeyCauseLaw, Idle, Manager, Op}
 use Rattle.link_history.proofs.Terms.{Reach, Work, op_after, operated, reach_of, work_of, is_on_stream, CauseLaw}
 use Rattle.link_history.proofs.Terms.{keys_at, keys_by, place_in_sub_stream, receives_it, sends_it, SubStream, key_plan}
-use Rattle.link_history.proofs.Terms.{stream_plan}
+use Rattle.link_history.proofs.Terms.{
+  stream_plan,
+  List,
+  ◌&&◌,
+  kept_in,
+  AllByRecursion,
+  Begun,
+  Keyed,
+  Off,
+  Loaded,
+  subst,
+}
 use Rattle.link_history.proofs.Terms.{History, KeyPlan, Keys, On, KeyPlace, Plan}
 use Rattle.link_history.proofs.Terms.{PortName, Verdict, if◌then◌else◌, is_some, key_in, keys_there, no_keys}
-use Rattle.key_laws.proofs.Shapes.{keys_of}
-use Rattle.key_laws.proofs.Owners.{same_place}
-use Rattle.key_states.proofs.States.{in_state}
+use Rattle.key_laws.proofs.Owners.{kept_owned, owner}
+use Rattle.key_laws.specs.Due.{has_refresh}
+use Rattle.key_laws.specs.History.{begun_under}
+use Rattle.ide_types.specs.Lines.{is_hosted, is_link_line}
 use Rattle.link_keys.proofs.Given.{key_cause}
 use Rattle.link_events.specs.declared.event.Event.TheVariants as event
 use Rattle.link_verdicts.specs.declared.verdict.Operation.TheVariants as op
@@ -22,7 +34,8 @@ pub record Acts (m : Manager) (o : Operation) (l s : ℕ) (r : Option Reach) (p 
   pub reached : Reach
   pub is : r ≡ Some reached
   pub here : is_on_stream p l s ≡ true
-  pub ops : (operated m o l s r).ops p.link p.stream ≡ op_after (work_of o (m.ops l s) (length m.begun)) reached
+  pub ops : (operated m o l s r).ops p.link p.stream ≡ op_after (is_hosted l) (work_of o (m.ops l s) (length m.begun))
+      reached
 
 pub acts : (m : Manager) (o : Operation) (l s : ℕ) (r : Option Reach) (p : KeyPlace)
     → (((operated m o l s r).ops p.link p.stream ≡ m.ops p.link p.stream)
@@ -35,7 +48,7 @@ acts m o l s (Some r) p = by_test (is_on_stream p l s) refl
     w = work_of o (m.ops l s) (length m.begun)
 
     by_test : (b : Bool) → is_on_stream p l s ≡ b
-        → (((if is_on_stream p l s then op_after w r else m.ops p.link p.stream) ≡ m.ops p.link p.stream)
+        → (((if is_on_stream p l s then op_after (is_hosted l) w r else m.ops p.link p.stream) ≡ m.ops p.link p.stream)
         × (on_it (is_on_stream p l s) (worked w (Some r) p) ≡ []))
         ⊎ Acts m o l s (Some r) p
     by_test false other = inl (rw other refl, rw other refl)
@@ -43,49 +56,75 @@ acts m o l s (Some r) p = by_test (is_on_stream p l s) refl
 
 -- ---- a stream that the plan does not have
 
-still_idle : (m : Manager) (o : Operation) (a b : ℕ) (r : Option Reach) (p : KeyPlace)
-    → (is_on_stream p a b ≡ true → r ≡ None) → m.ops p.link p.stream ≡ Idle
-    → (operated m o a b r).ops p.link p.stream ≡ Idle
-still_idle m o a b r p none is = elim (acts m o a b r p) [
-  | inl same ↦ same.0 ∙ is
-  | inr act ↦ absurd (let e = none act.here in let some = act.is in cc)
-]
+-- an operation that came to an exchange was on a stream that the plan has
+comes_known : (has : Bool) (o : Operation) (x y : Verdict) → x ≡ (if has then y else v.Nothing)
+    → (reach_of o x ≡ None) ⊎ (has ≡ true)
+comes_known true o x y is = inr refl
+comes_known false o x y is = inl (ap (reach_of o) is)
 
--- an operation on a stream that the plan does not have reaches no exchange
-comes_nowhere : (kp : KeyPlan) (o : Operation) (a b : ℕ) (p : KeyPlace) (x y : Verdict) → x
-    ≡ (if kp.has_stream a b then y else v.Nothing)
-    → kp.has_stream p.link p.stream ≡ false → is_on_stream p a b ≡ true → reach_of o x ≡ None
-comes_nowhere kp o a b p x y is none here =
-    let same = same_place p.link p.stream a b here in
-    let none_there : kp.has_stream a b ≡ false = (λ i. kp.has_stream (sym same.0 i) (sym same.1 i)) ∙ none in
-    ap (reach_of o) is ∙ rw none_there refl
+-- each operation that began with a draw was on one
+abbrev AllKnown : KeyPlan → List Begun → Type 0
+AllKnown kp bs = AllByRecursion (λ (b : Begun). kp.has_stream b.link b.stream ≡ true) bs
 
-if_idle : (f : Bool) (o : Op) → o ≡ Idle → (if f then Idle else o) ≡ Idle
-if_idle f o is = grind arith
+one_more : (kp : KeyPlan) (b : Bool) (l s : ℕ) (set : Bool) (bs : List Begun) → kp.has_stream l s ≡ true
+    → AllKnown kp bs
+    → AllKnown kp (if b then record { link = l; stream = s; set = set } ∷ bs else bs)
+one_more kp true l s set bs known all = (known, all)
+one_more kp false l s set bs known all = all
 
-pub unplanned_idle : (kp : KeyPlan) (h : History) → KeyCauseLaw kp h → (p : KeyPlace) → kp.has_stream p.link p.stream
-    ≡ false → op_of h p.link p.stream ≡ Idle
+more_known : (kp : KeyPlan) (m : Manager) (o : Operation) (l s : ℕ) (r : Option Reach)
+    → (r ≡ None) ⊎ (kp.has_stream l s ≡ true) → AllKnown kp m.begun → AllKnown kp (operated m o l s r).begun
+more_known kp m o l s None known all = all
+more_known kp m o l s (Some r) (inl none) all = absurd cc
+more_known kp m o l s (Some r) (inr known) all = one_more kp _ l s _ m.begun known all
+
+both_second : (a b : Bool) → (a && b) ≡ true → b ≡ true
+both_second a b is = grind arith
+
+refreshes_known : (kp : KeyPlan) (l s : ℕ) (x : Option Reach) → (x ≡ None) ⊎ (has_refresh kp l s ≡ true)
+    → (x ≡ None) ⊎ (kp.has_stream l s ≡ true)
+refreshes_known kp l s x (inl none) = inl none
+refreshes_known kp l s x (inr known) = inr (both_second (is_link_line l) (kp.has_stream l s) known)
+
+begun_known : (kp : KeyPlan) (h : History) → KeyCauseLaw kp h → AllKnown kp (manager h).begun
 unfolding manager key_due
-unplanned_idle kp [] cause p none = refl
-unplanned_idle kp ((event.Establish a b lose, x) ∷ h) cause p none =
-    still_idle (manager h) op.Establish a b _ p (comes_nowhere kp op.Establish a b p x _ cause.0 none)
-    (unplanned_idle kp h cause.2 p none)
-unplanned_idle kp ((event.Refresh a b lose, x) ∷ h) cause p none =
-    still_idle (manager h) op.Refresh a b _ p (comes_nowhere kp op.Refresh a b p x _ cause.0 none)
-    (unplanned_idle kp h cause.2 p none)
-unplanned_idle kp ((event.Stop a b lose, x) ∷ h) cause p none =
-    still_idle (manager h) op.Stop a b _ p (comes_nowhere kp op.Stop a b p x _ cause.0 none)
-    (unplanned_idle kp h cause.2 p none)
-unplanned_idle kp ((event.Reset a, v.Reset m) ∷ h) cause p none = if_idle (p.link == a) _
-    (unplanned_idle kp h cause.2 p none)
-unplanned_idle kp ((e, x) ∷ h) cause p none = unplanned_idle kp h cause.2 p none
+begun_known kp [] cause = tt
+begun_known kp ((event.Establish a b lose, x) ∷ h) cause = more_known kp (manager h) op.Establish a b _
+    (comes_known (kp.has_stream a b) op.Establish x _ cause.0) (begun_known kp h cause.2)
+begun_known kp ((event.Refresh a b lose, x) ∷ h) cause = more_known kp (manager h) op.Refresh a b _
+    (refreshes_known kp a b _ (comes_known (has_refresh kp a b) op.Refresh x _ cause.0)) (begun_known kp h cause.2)
+begun_known kp ((event.Stop a b lose, x) ∷ h) cause = more_known kp (manager h) op.Stop a b _
+    (comes_known (kp.has_stream a b) op.Stop x _ cause.0) (begun_known kp h cause.2)
+begun_known kp ((event.Reset a ends, v.Reset m) ∷ h) cause = begun_known kp h cause.2
+begun_known kp ((e, x) ∷ h) cause = begun_known kp h cause.2
+
+known_under : (kp : KeyPlan) (bs : List Begun) (j : ℕ) (c : Begun) → AllKnown kp bs → begun_under bs j ≡ Some c
+    → kp.has_stream c.link c.stream ≡ true
+known_under kp [] j c all is = absurd cc
+known_under kp (b ∷ bs) j c all is = by (length bs == j) is (known_under kp bs j c all.1)
+  where
+    by : (here : Bool) → (if here then Some b else begun_under bs j) ≡ Some c
+        → (begun_under bs j ≡ Some c → kp.has_stream c.link c.stream ≡ true) → kp.has_stream c.link c.stream ≡ true
+    by true is older = let same : b ≡ c = cc (is) in subst (λ (d : Begun). kp.has_stream d.link d.stream ≡ true) same
+        all.0
+    by false is older = older is
+
+-- ---- a stream that the plan does not have
+
+no_key_kept : (ks : Keys) → ((set : Bool) (j : ℕ) → kept_in (key_in ks set) ≡ Some j → ⊥) → ks ≡ no_keys
+no_key_kept ks none = let first = none false in let second = none true in
+    λ i. record { first = off ks.first first i; second = off ks.second second i }
+  where
+    off : (k : Keyed) → ((j : ℕ) → kept_in k ≡ Some j → ⊥) → k ≡ Off
+    off Off none = refl
+    off (Loaded j) none = absurd (none j refl)
+    off (On j) none = absurd (none j refl)
 
 pub unplanned_keys : (plan : Plan) (h : History) → CauseLaw plan h → (p : KeyPlace)
     → is_some (stream_plan plan p.link p.stream) ≡ false → keys_there h p ≡ no_keys
-unplanned_keys plan h law p none =
-    let cause = key_cause plan h law in
-    let at = in_state (key_plan plan) h cause p Idle (unplanned_idle (key_plan plan) h cause p none) in
-    at.is.are ∙ ap keys_of at.fits
+unplanned_keys plan h law p none = no_key_kept (keys_there h p) (λ set j kept. absurd
+    (let known = known_under (key_plan plan) (manager h).begun j (owner p.link p.stream set)
+    (begun_known (key_plan plan) h (key_cause plan h law)) (kept_owned h p set j kept) in cc))
 
 -- ---- what is On is known
 

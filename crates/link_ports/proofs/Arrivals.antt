@@ -2,6 +2,9 @@
 use Rattle.link_ports.specs.Machine.{Beside}
 use Rattle.stream_rules.specs.Stream.{unit_name}
 use Rattle.link_ports.specs.Stands.{beside_at}
+use Rattle.link_history.specs.Due.{through_due}
+unfoldable use Rattle.link_history.specs.Ports.{port_of, goes_through}
+use Rattle.link_ports.proofs.Terms.{if◌then◌else◌, Bool, false}
 use Rattle.link_ports.proofs.Terms.{◌≡◌, true, List, [], ◌∷◌, ◌++◌, Option, Some, None, Result, Ok, Err, refl, ap}
 use Rattle.link_ports.proofs.Terms.{sym, ◌∙◌, subst, arith, Accepted, Arrival, arrival_due}
 use Rattle.link_ports.proofs.Terms.{arrived, before_tag, before_tag_of, Came, due, effects_of, Event, Failed, find}
@@ -90,7 +93,7 @@ module _ (plan : Plan) (facts : KeyFacts plan) (st : LinkState) (h : History) (e
       → (o : Option StreamState) → find plan st port p.prefix.stream ≡ o
       → Steps plan h e (stepped_packet plan (beside_at plan h) st port p o)
   by_found port p came is None found =
-      quiet plan facts st h e (v.Unknown port p.prefix.stream) stands refl
+      quiet plan facts st h e (v.Unknown (port_of plan port) p.prefix.stream) stands refl
       (rw (not_kept plan st h port p.prefix.stream stands found) at is) still
   by_found port p came is (Some x) found =
       let kept = kept_is plan st h port p.prefix.stream x stands found in
@@ -101,9 +104,9 @@ module _ (plan : Plan) (facts : KeyFacts plan) (st : LinkState) (h : History) (e
   by_cut : (a : Arrival) → arrived plan h e ≡ Some a → (r : Result CutValue PacketFault) → cut_of a.bytes ≡ r
       → ending_due plan h a.port (before_tag_of plan h a.port r) ≡ due plan h e
       → Steps plan h e (stepped_cut plan (beside_at plan h) st a.port r)
-  by_cut a arrival (Err f) cut is = quiet plan facts st h e (v.Malformed a.port (packet_word f) (packet_place f)) stands
-      refl is still
-  by_cut a arrival (Ok PlainTlp) cut is = quiet plan facts st h e (v.Plain a.port) stands refl is still
+  by_cut a arrival (Err f) cut is = quiet plan facts st h e
+      (v.Malformed (port_of plan a.port) (packet_word f) (packet_place f)) stands refl is still
+  by_cut a arrival (Ok PlainTlp) cut is = quiet plan facts st h e (v.Plain (port_of plan a.port)) stands refl is still
   by_cut a arrival (Ok (IdePacket p)) cut is =
       by_found a.port p (record { bytes = a.bytes; arrival = arrival; cut = cut }) is
       (find plan st a.port p.prefix.stream) refl
@@ -112,4 +115,11 @@ module _ (plan : Plan) (facts : KeyFacts plan) (st : LinkState) (h : History) (e
       → Steps plan h e (stepped_arrival plan (beside_at plan h) st o)
   unfolding before_tag
   arrives None arrival is = quiet plan facts st h e v.Nothing stands refl is still
-  arrives (Some a) arrival is = by_cut a arrival (cut_of a.bytes) refl is
+  arrives (Some a) arrival is = by (goes_through plan a.port a.bytes) is
+    where
+      by : (b : Bool) → ending_due plan h a.port (if b then Err (through_due plan a.port)
+          else before_tag_of plan h a.port (cut_of a.bytes)) ≡ due plan h e
+          → Steps plan h e (if b then (through_due plan a.port, st)
+          else stepped_cut plan (beside_at plan h) st a.port (cut_of a.bytes))
+      by true is = quiet plan facts st h e (through_due plan a.port) stands refl is still
+      by false is = by_cut a arrival (cut_of a.bytes) refl is

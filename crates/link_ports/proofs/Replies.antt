@@ -9,9 +9,7 @@ use Rattle.link_ports.proofs.Terms.{sealed_packets, send_due, standing, streams_
 unfoldable use Rattle.link_ports.proofs.Terms.{due}
 use Rattle.ide_types.specs.declared.port.Side.TheVariants.{Host}
 use Rattle.association.specs.Outgoing.{Outgoing, NoTlp, OnNone, OnStream, outgoing_of, stream_taken}
-use Rattle.interface_states.specs.Sites.{Site, site_with}
-use Rattle.interface_states.specs.Views.{grant_at, granted_to}
-use Rattle.waiting_reads.specs.declared.queue.WaitingRead.{WaitingRead}
+use Rattle.link_history.specs.{Site, site_with, grant_at, granted_to, WaitingRead}
 use Rattle.link_events.specs.declared.event.AccessEvent.TheVariants as ae
 use Rattle.link_events.specs.declared.event.Event.TheVariants.{Access}
 use Rattle.interface_words.specs.declared.verdict.InterfaceVerdict.TheVariants as iv

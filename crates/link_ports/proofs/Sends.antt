@@ -7,12 +7,15 @@ use Rattle.link_ports.specs.Machine.{Stepped}
 use Rattle.link_history.specs.History.{sent_bytes}
 unfoldable use Rattle.link_history.specs.Sent.{bytes_by}
 use Rattle.link_events.specs.declared.event.Event.{Event}
-use Rattle.link_history.specs.Terms.{t_due, owner_at}
+unfoldable use Rattle.link_history.specs.Due.{t_sealed}
+use Rattle.link_history.specs.Ports.{may_send, outgoing_at}
+unfoldable use Rattle.link_history.specs.Ports.{port_of, sealing_end}
+use Rattle.link_ports.specs.Machine.{stepped_bytes}
 use Rattle.link_ports.proofs.Terms.{◌≡◌, ℕ, ◌+◌, ◌==◌, Bool, true, false, List, [], ◌∷◌, ◌++◌, length, map, Option}
 use Rattle.link_ports.proofs.Terms.{Some, None, Ok, refl, ap, sym, ◌∙◌, subst, arith, if◌then◌else◌, ◌&&◌, ◌||◌}
 use Rattle.link_ports.proofs.Terms.{is_some, is_none, unwrap_or, after_ends, ahead_of_packet, and_false, stepped_answer}
 use Rattle.link_ports.proofs.Terms.{any_out, AreFalse, base, body, CauseLaw, Cpl, described, due, send_due, each_sub}
-use Rattle.link_ports.proofs.Terms.{failed, find, first_that_holds, ahead_of_unit, has_key, has_live_out, has_port}
+use Rattle.link_ports.proofs.Terms.{failed, find, first_that_holds, ahead_of_unit, has_key, has_live_out}
 use Rattle.link_ports.proofs.Terms.{has_stream, head_bytes, header, History, is_closed, is_keyed, is_keyless, is_on}
 use Rattle.link_ports.proofs.Terms.{is_out, is_quiet, is_same_port, is_same_sub, kept_at, KeyFacts, KeyName, Keys}
 use Rattle.link_ports.proofs.Terms.{keys_at, lane_out, Lanes, lanes_at, lanes_of, length-map, lesser, LinkPacket}
@@ -323,16 +326,15 @@ module _ (plan : Plan) (facts : KeyFacts plan) (st : LinkState) (h : History) (s
       → outgoing_of (streams_of plan port.link) port.side (sent_bytes plan h e) ≡ o
       → send_due plan h port o more trusted ≡ due plan h e
       → Steps plan h e (stepped_send plan (beside_at plan h) st port o more trusted)
-  by_outgoing port (NoTlp f) comes is = tells port (v.Malformed port (tlp_word f) (place_in f)) refl is
-  by_outgoing port OnNone comes is = tells port (v.Plain port) refl is
+  by_outgoing port (NoTlp f) comes is = tells port (v.Malformed (port_of plan port) (tlp_word f) (place_in f)) refl is
+  by_outgoing port OnNone comes is = tells port (v.Plain (port_of plan port)) refl is
   by_outgoing port (OnStream t stream) comes is =
       by_found (record {
         port = port;
         stream = stream;
         class = class_of (header t);
         more = more;
-        trusted = t_due plan h
-            port port.side (owner_at plan port.link (header t)) stream trusted;
+        trusted = t_sealed plan h port (header t) stream trusted;
       }) t
       (on_stream_reads (streams_of plan port.link) port.side (sent_bytes plan h e) t stream comes).0
       (stream_known plan port (sent_bytes plan h e) t stream comes) is (find plan st port stream) refl
@@ -345,14 +347,14 @@ if_steps plan h e false x y one two = two refl
 pub sends : (plan : Plan) → KeyFacts plan → (st : LinkState) (h : History) → PortsStand plan st h
     → (bytes : List ℕ) (more trusted : Bool) (port : PortName)
     → Steps plan h (Send port bytes more trusted)
-    (if has_port plan port
-    then stepped_send plan (beside_at plan h) st port (outgoing_of (streams_of plan port.link) port.side bytes) more
-    trusted
+    (if may_send plan port
+    then stepped_bytes plan (beside_at plan h) st (sealing_end plan port bytes) bytes more trusted
     else (v.Nothing, st))
 unfolding due bytes_by
 sends plan facts st h stands bytes more trusted port =
     let e = Send port bytes more trusted in
-    if_steps plan h e (has_port plan port) _ _
-    (λ here. by_outgoing plan facts st h stands e refl more trusted port
-    (outgoing_of (streams_of plan port.link) port.side bytes) refl (rw here refl))
+    let end = sealing_end plan port bytes in
+    if_steps plan h e (may_send plan port) _ _
+    (λ here. by_outgoing plan facts st h stands e refl more trusted end (outgoing_at plan end bytes) refl
+    (rw here refl))
     (λ none. tells plan facts st h stands e refl more trusted port v.Nothing refl (rw none refl))

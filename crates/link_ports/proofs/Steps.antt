@@ -1,5 +1,6 @@
 -- Each step gives the verdict that is due, and its state stands for the history with it.
 use Rattle.link_ports.specs.Stands.{beside_at}
+use Rattle.link_history.specs.Packets.{arrival_at}
 use Rattle.link_ports.proofs.Terms.{◌≡◌, ℕ, Bool, true, false, List, Option, Some, None, option_map, option_and_then}
 use Rattle.link_ports.proofs.Terms.{refl, ap, sym, ◌∙◌, arith, if◌then◌else◌, Alter, altered, altered_to, Arrival}
 use Rattle.link_ports.proofs.Terms.{arrival_due, Arrive, arrived, brought, Cut, cut_short, due, Dump, dump_due, Event}
@@ -13,7 +14,8 @@ use Rattle.link_ports.proofs.Numbers.{of_numbered}
 use Rattle.link_ports.proofs.Arrivals.{arrives}
 use Rattle.link_ports.proofs.Sends.{sends}
 use Rattle.link_ports.proofs.Replies.{replies}
-use Rattle.link_events.specs.declared.event.Event.TheVariants.{Access}
+use Rattle.link_ports.proofs.Forwards.{forwards}
+use Rattle.link_events.specs.declared.event.Event.TheVariants.{Access, Forward}
 use Rattle.link_events.specs.declared.event.AccessEvent.TheVariants as ae
 
 pub none_status : (l s : ℕ) → IsNoOperation (Status l s)
@@ -33,18 +35,18 @@ given : (plan : Plan) → KeyFacts plan → (st : LinkState) (h : History) (port
     → PortsStand plan st h
     → Steps plan h (Arrive port bytes)
     (if has_port plan port
-    then stepped_arrival plan (beside_at plan h) st (Some (record { port = port; bytes = bytes }))
+    then stepped_arrival plan (beside_at plan h) st (Some (arrival_at plan port bytes))
     else (v.Nothing, st))
 unfolding arrived due
 given plan facts st h port bytes stands = by_port (has_port plan port) refl
   where
-    by_port : (b : Bool) → (if b then Some (record { port = port; bytes = bytes }) else None)
+    by_port : (b : Bool) → (if b then Some (arrival_at plan port bytes) else None)
         ≡ arrived plan h (Arrive port bytes)
         → Steps plan h (Arrive port bytes)
-        (if b then stepped_arrival plan (beside_at plan h) st (Some (record { port = port; bytes = bytes })) else
+        (if b then stepped_arrival plan (beside_at plan h) st (Some (arrival_at plan port bytes)) else
         (v.Nothing, st))
     by_port true is = brought_to plan facts st h (Arrive port bytes) refl stands
-        (Some (record { port = port; bytes = bytes })) is refl
+        (Some (arrival_at plan port bytes)) is refl
     by_port false is = brought_to plan facts st h (Arrive port bytes) refl stands None is refl
 
 dumps : (plan : Plan) → KeyFacts plan → (st : LinkState) (h : History) (n : ℕ) → PortsStand plan st h
@@ -66,20 +68,21 @@ unfolding step_of due arrived
 packets_stand plan facts st h (Send port bytes more trusted) is stands = sends plan facts st h stands bytes more trusted
     port
 packets_stand plan facts st h (Access (ae.Answer link)) is stands = replies plan facts st h stands link
+packets_stand plan facts st h (Forward link d) is stands = forwards plan facts st h stands link d
 packets_stand plan facts st h (Pass n) is stands =
     brought_to plan facts st h (Pass n) refl stands _
-    (of_numbered st.packets (sealed_packets plan h) n stands.packets (option_and_then passed)
-    (option_map (λ x. brought x (packet_bytes x.1))) refl
+    (of_numbered st.packets (sealed_packets plan h) n stands.packets (option_and_then (passed plan))
+    (option_map (λ x. brought plan x (packet_bytes x.1))) refl
     (λ x. refl)) refl
 packets_stand plan facts st h (Alter n at mask) is stands =
     brought_to plan facts st h (Alter n at mask) refl stands _
-    (of_numbered st.packets (sealed_packets plan h) n stands.packets (option_and_then (altered_to at mask))
-    (option_and_then (altered at mask)) refl
+    (of_numbered st.packets (sealed_packets plan h) n stands.packets (option_and_then (altered_to plan at mask))
+    (option_and_then (altered plan at mask)) refl
     (λ x. refl)) refl
 packets_stand plan facts st h (Cut n len) is stands =
     brought_to plan facts st h (Cut n len) refl stands _
-    (of_numbered st.packets (sealed_packets plan h) n stands.packets (option_and_then (cut_short len))
-    (option_and_then (shortened len)) refl (λ x. refl)) refl
+    (of_numbered st.packets (sealed_packets plan h) n stands.packets (option_and_then (cut_short plan len))
+    (option_and_then (shortened plan len)) refl (λ x. refl)) refl
 packets_stand plan facts st h (Arrive port bytes) is stands = given plan facts st h port bytes stands
 packets_stand plan facts st h (Dump n) is stands = dumps plan facts st h n stands
 packets_stand plan facts st h _ is stands = absurd cc

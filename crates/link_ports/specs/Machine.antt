@@ -8,7 +8,7 @@ use Rattle.stream_rules.specs.Stream.{unit_name}
 use Rattle.ide_types.specs.declared.port.PortName.{PortName}
 use Rattle.link_events.specs.declared.event.Event.{Event}
 use Rattle.link_events.specs.declared.event.Event.TheVariants.{Send, Pass, Alter, Cut, Arrive, Dump, Establish, Refresh}
-use Rattle.link_events.specs.declared.event.Event.TheVariants.{Stop, Reset, Status, Interface, Access}
+use Rattle.link_events.specs.declared.event.Event.TheVariants.{Stop, Reset, Status, Interface, Access, Forward, Absent}
 use Rattle.link_events.specs.declared.event.AccessEvent.TheVariants as ae
 use Rattle.interface_words.specs.declared.verdict.InterfaceVerdict.TheVariants as iv
 use Rattle.link_verdicts.specs.declared.verdict.Verdict.{Verdict}
@@ -35,33 +35,38 @@ use Rattle.link_verdicts.specs.declared.verdict.Operation.{Operation}
 use Rattle.link_verdicts.specs.declared.verdict.Operation.TheVariants as op
 use Rattle.ide_types.specs.declared.status.StreamStatus.{StreamStatus}
 use Rattle.ide_types.specs.declared.status.StreamStatus.TheVariants as status
-use Rattle.key_laws.specs.Places.{KeyPlace, sent_direction}
+use Rattle.key_laws.specs.Places.{KeyPlace, is_peer, sent_direction}
+use Rattle.ide_types.specs.Lines.{is_hosted, is_link_line}
 use Rattle.key_laws.specs.Keys.{Touch, refusal_if, is_below}
-use Rattle.key_laws.specs.Operations.{Op, Idle, Work, Reach, work_of, reach_of, op_after, makes_draw}
+use Rattle.key_laws.specs.Operations.{Op, Idle, Stopping, Work, Reach, work_of, reach_of, op_after, makes_draw}
 use Rattle.key_laws.specs.History.{worked}
 use Rattle.key_laws.specs.Due.{PortView, establish_on, refresh_on, stop_on}
 use Rattle.link_ports.specs.Touches.{taken_touches, touched_stream}
 use Rattle.link_history.specs.Plan.{SubStream, key_plan, partner, key_of, streams_of, has_port, mode_of, is_closed}
-use Rattle.link_history.specs.Plan.{streams_by_link}
+use Rattle.link_history.specs.Plan.{streams_by_line}
+use Rattle.link_history.specs.Ports.{port_of, may_send, outgoing_at, sealing_end, goes_through}
+use Rattle.link_history.specs.Packets.{arrival_at}
 use Rattle.ide_plan.specs.declared.plan.Plan.{Plan}
 use Rattle.ide_plan.specs.declared.stream.StreamPlan.{StreamPlan}
 use Rattle.tlp_layout.specs.declared.head.HeadView.{HeadView}
 use Rattle.link_verdicts.specs.declared.verdict.Effect.{Effect}
 use Rattle.link_events.specs.declared.event.InterfaceEvent.{InterfaceEvent}
-use Rattle.link_history.specs.Due.{Sending, refusals, sealed_by, first_that_holds}
+use Rattle.link_history.specs.Due.{Sending, refusals, sealed_by, first_that_holds, through_due}
 use Rattle.link_history.specs.History.{Arrival}
+use Rattle.ide_types.specs.declared.direction.Direction.{Direction}
+use Rattle.link_history.specs.Hops.{HopTlp, leaving_end}
 use Rattle.link_ports.specs.Replies.{BoundCompletion}
 use Rattle.link_ports.specs.Stream.{LaneSlot, LaneSlots, slot_in_set, LiveKey, Live, StreamState}
 use Rattle.link_ports.specs.Stream.{is_live_slot, slots_at, stream_status, no_stream, sealing_draw, receiving_draw}
 use Rattle.link_ports.specs.Stream.{Taken, Insecure, NotKeyed, Failed, Held, Accepted, lanes_of, sealed_all}
 use Rattle.link_ports.specs.Stream.{taken_by, state_after}
 
--- a sealed packet: the port that sealed it, and its bytes
+-- a sealed packet: the end that sealed it, and its bytes
 pub record LinkPacket : Type 0 where
   pub port : PortName
   pub bytes : List ℕ
 
--- of each port, 2 for each link, its streams in the plan's order; of each link the manager's operations on its streams
+-- of each end, 2 for each line, its streams in the plan's order; of each line the manager's operations on its streams
 -- in that order; how many draws were made; and all sealed packets in order
 pub record LinkState : Type 0 where
   pub ports : List (List StreamState)
@@ -113,13 +118,15 @@ abbrev pub kept_at : PortName → Packet → LinkPacket
 kept_at port p = record { port = port; bytes = packet_bytes p }
 
 -- what is said beside the ports: T of a TLP on a stream, what the packets of an accepted unit do, what is due of events
--- on interfaces, what the answer to a link's oldest waiting read comes to, and what is shown of a device's memory
+-- on interfaces, what the answer to a link's oldest waiting read comes to, what is shown of a device's memory, and what
+-- the first TLP comes to that waits in a direction of a link's hop
 pub record Beside : Type 0 where
   pub t : PortName → HeadView → ℕ → Bool → Bool
   pub effects : PortName → UnitName → List Packet → List Effect
   pub answer : InterfaceEvent → Verdict
   pub reply : ℕ → Result BoundCompletion Verdict
   pub shows : ℕ → ℕ → ℕ → ℕ → Verdict
+  pub forward : ℕ → Direction → Result HopTlp Verdict
 
 -- a TLP is refused on its stream, or sealed as these packets
 abbrev pub stepped_answer : Plan → LinkState → Sending → Tlp → StreamState → Option Verdict → List SealedPacket
@@ -137,8 +144,11 @@ stepped_on_stream plan st s t (Some x) =
     stepped_answer plan st s t x (first_that_holds (refusals lanes s.class)) (sealed_by lanes s (length st.packets + 1))
 
 abbrev pub stepped_send : Plan → Beside → LinkState → PortName → Outgoing → Bool → Bool → Stepped
-stepped_send plan beside st port (NoTlp f) more trusted = (v.Malformed port (tlp_word f) (place_in f), st)
-stepped_send plan beside st port OnNone more trusted = (v.Plain port, st)
+stepped_send plan beside st port (NoTlp f) more trusted = (
+  v.Malformed (port_of plan port) (tlp_word f) (place_in f),
+  st,
+)
+stepped_send plan beside st port OnNone more trusted = (v.Plain (port_of plan port), st)
 stepped_send plan beside st port (OnStream t stream) more trusted =
     stepped_on_stream plan st (record {
       port = port;
@@ -147,6 +157,11 @@ stepped_send plan beside st port (OnStream t stream) more trusted =
       more = more;
       trusted = beside.t port (header t) stream trusted;
     }) t (find plan st port stream)
+
+-- of bytes that are sent at an end
+abbrev pub stepped_bytes : Plan → Beside → LinkState → PortName → List ℕ → Bool → Bool → Stepped
+stepped_bytes plan beside st end bytes more trusted =
+    stepped_send plan beside st end (outgoing_at plan end bytes) more trusted
 
 -- ---- answers to reads that wait
 
@@ -171,6 +186,13 @@ stepped_reply plan beside st port (Err verdict) = (verdict, st)
 stepped_reply plan beside st port (Ok r) =
     stepped_completion plan beside st port r (sealing_draw_at Cpl (find plan st port r.stream))
 
+-- ---- what waits at switches
+
+-- it is sealed behind the switch as it came, with its T
+abbrev pub stepped_forward : Plan → Beside → LinkState → PortName → Result HopTlp Verdict → Stepped
+stepped_forward plan beside st port (Err verdict) = (verdict, st)
+stepped_forward plan beside st port (Ok x) = stepped_bytes plan beside st port x.bytes false x.t
+
 -- ---- arrivals
 
 abbrev pub verdict_of_taken : Beside → PortName → Packet → Taken → Verdict
@@ -182,41 +204,44 @@ verdict_of_taken beside port p (Accepted j n unit) = v.Accepted port (unit_name 
     (beside.effects port (unit_name p j n) unit)
 
 abbrev pub stepped_packet : Plan → Beside → LinkState → PortName → Packet → Option StreamState → Stepped
-stepped_packet plan beside st port p None = (v.Unknown port p.prefix.stream, st)
+stepped_packet plan beside st port p None = (v.Unknown (port_of plan port) p.prefix.stream, st)
 stepped_packet plan beside st port p (Some x) =
     let taken = taken_by (mode_of plan port.link p.prefix.stream) (is_closed plan port.link p.prefix.stream) x p in
     (verdict_of_taken beside port p taken, put plan st port p.prefix.stream (state_after x p taken))
 
 abbrev pub stepped_cut : Plan → Beside → LinkState → PortName → Result CutValue PacketFault → Stepped
-stepped_cut plan beside st port (Err f) = (v.Malformed port (packet_word f) (packet_place f), st)
-stepped_cut plan beside st port (Ok PlainTlp) = (v.Plain port, st)
+stepped_cut plan beside st port (Err f) = (v.Malformed (port_of plan port) (packet_word f) (packet_place f), st)
+stepped_cut plan beside st port (Ok PlainTlp) = (v.Plain (port_of plan port), st)
 stepped_cut plan beside st port (Ok (IdePacket p)) = stepped_packet plan beside st port p
     (find plan st port p.prefix.stream)
 
 abbrev pub stepped_arrival : Plan → Beside → LinkState → Option Arrival → Stepped
 stepped_arrival plan beside st None = (v.Nothing, st)
-stepped_arrival plan beside st (Some a) = stepped_cut plan beside st a.port (cut_of a.bytes)
+stepped_arrival plan beside st (Some a) =
+    if goes_through plan a.port a.bytes then (through_due plan a.port, st)
+    else stepped_cut plan beside st a.port (cut_of a.bytes)
 
 -- ---- packets by number
 
 abbrev pub packet_numbered : List LinkPacket → ℕ → Option LinkPacket
 packet_numbered xs n = if n == 0 then None else slice_get xs (n - 1)
 
--- the whole packet arrives at the partner of the port that sealed it
-abbrev pub passed : LinkPacket → Option Arrival
-passed x = Some (record { port = partner x.port; bytes = x.bytes })
+-- bytes of it arrive at the port of the other end of the line on which it was sealed
+abbrev pub brought_to : Plan → LinkPacket → List ℕ → Arrival
+brought_to plan x bytes = arrival_at plan (partner x.port) bytes
 
-abbrev pub altered_to : ℕ → ℕ → LinkPacket → Option Arrival
-altered_to at mask x =
+-- the whole packet arrives
+abbrev pub passed : Plan → LinkPacket → Option Arrival
+passed plan x = Some (brought_to plan x x.bytes)
+
+abbrev pub altered_to : Plan → ℕ → ℕ → LinkPacket → Option Arrival
+altered_to plan at mask x =
     if nat_lt at (length x.bytes)
-    then Some (record {
-      port = partner x.port;
-      bytes = slice_set x.bytes at (bit_xor (slice_index x.bytes at) mask);
-    }) else None
+    then Some (brought_to plan x (slice_set x.bytes at (bit_xor (slice_index x.bytes at) mask))) else None
 
-abbrev pub cut_short : ℕ → LinkPacket → Option Arrival
-cut_short len x =
-    if nat_le len (length x.bytes) then Some (record { port = partner x.port; bytes = take len x.bytes }) else None
+abbrev pub cut_short : Plan → ℕ → LinkPacket → Option Arrival
+cut_short plan len x =
+    if nat_le len (length x.bytes) then Some (brought_to plan x (take len x.bytes)) else None
 
 abbrev pub shown_packet : ℕ → Option LinkPacket → Verdict
 shown_packet n None = v.Nothing
@@ -296,7 +321,7 @@ work_done plan st link stream w (Some r) =
     let touched =
     touched_state plan st link stream (λ side u. touches_at ports w r (place_at_end link stream true side u))
     (λ side u. touches_at ports w r (place_at_end link stream false side u)) in
-    record (put_op plan touched link stream (op_after w r)) { draws = draws_after st.draws w }
+    record (put_op plan touched link stream (op_after (is_hosted link) w r)) { draws = draws_after st.draws w }
 
 abbrev pub stepped_operation : Plan → LinkState → Operation → ℕ → ℕ → Op → Verdict → Stepped
 stepped_operation plan st o link stream q verdict =
@@ -326,44 +351,65 @@ status_found plan st link stream (Some q) =
 
 -- ---- a reset
 
--- both ports of the link begin again, and the manager knows of no operation there
-abbrev pub reset_state : Plan → LinkState → ℕ → LinkState
-reset_state plan st link =
-    let empty = map (λ (s : StreamPlan). no_stream) (streams_of plan link) in
-    record st {
-      ports =
-          slice_set (slice_set st.ports (port_place (port_at Host link)) empty)
-          (port_place (port_at Device link)) empty;
-      ops = slice_set st.ops link (map (λ (s : StreamPlan). Idle) (streams_of plan link));
-    }
+-- the streams of an end begin again
+abbrev pub row_cleared : Plan → PortName → List (List StreamState) → List (List StreamState)
+row_cleared plan end rows =
+    slice_set rows (port_place end) (map (λ (s : StreamPlan). no_stream) (streams_of plan end.link))
+
+-- of a stream between devices one end; of any other line both
+abbrev pub rows_cleared : Plan → PortName → List (List StreamState) → List (List StreamState)
+rows_cleared plan end rows =
+    if is_peer end.link then row_cleared plan end rows
+    else row_cleared plan (port_at Device end.link) (row_cleared plan (port_at Host end.link) rows)
+
+abbrev pub all_cleared : Plan → List PortName → List (List StreamState) → List (List StreamState)
+all_cleared plan [] rows = rows
+all_cleared plan (e ∷ es) rows = all_cleared plan es (rows_cleared plan e rows)
+
+-- the manager's operations on the lines of these ends
+abbrev pub op_when_cut : ℕ → Op
+op_when_cut line = if is_peer line then Stopping 1 else Idle
+
+abbrev pub all_cut : Plan → List PortName → List (List Op) → List (List Op)
+all_cut plan [] rows = rows
+all_cut plan (e ∷ es) rows =
+    all_cut plan es (slice_set rows e.link (map (λ (s : StreamPlan). op_when_cut e.link) (streams_of plan e.link)))
+
+-- the state after a reset that clears these ends
+abbrev pub reset_state : Plan → LinkState → List PortName → LinkState
+reset_state plan st ends =
+    record st { ports = all_cleared plan ends st.ports; ops = all_cut plan ends st.ops }
 
 -- the verdict of an event, and the state after it
 unfoldable pub step_of : Plan → Beside → LinkState → Event → Stepped
 step_of plan beside st (Send port bytes more trusted) =
-    if has_port plan port
-    then stepped_send plan beside st port (outgoing_of (streams_of plan port.link) port.side bytes) more trusted
+    if may_send plan port then stepped_bytes plan beside st (sealing_end plan port bytes) bytes more trusted
     else (v.Nothing, st)
 step_of plan beside st (Pass n) = stepped_arrival plan beside st
-    (option_and_then passed (packet_numbered st.packets n))
+    (option_and_then (passed plan) (packet_numbered st.packets n))
 step_of plan beside st (Alter n at mask) = stepped_arrival plan beside st
-    (option_and_then (altered_to at mask) (packet_numbered st.packets n))
+    (option_and_then (altered_to plan at mask) (packet_numbered st.packets n))
 step_of plan beside st (Cut n len) = stepped_arrival plan beside st
-    (option_and_then (cut_short len) (packet_numbered st.packets n))
+    (option_and_then (cut_short plan len) (packet_numbered st.packets n))
 step_of plan beside st (Arrive port bytes) =
     if has_port plan port
-    then stepped_arrival plan beside st (Some (record { port = port; bytes = bytes }))
+    then stepped_arrival plan beside st (Some (arrival_at plan port bytes))
     else (v.Nothing, st)
 step_of plan beside st (Dump n) = (shown_packet n (packet_numbered st.packets n), st)
 step_of plan beside st (Establish link stream lose) = establish_found plan st link stream lose
     (find_op plan st link stream)
-step_of plan beside st (Refresh link stream lose) = refresh_found plan st link stream lose (find_op plan st link stream)
+step_of plan beside st (Refresh link stream lose) =
+    if is_link_line link then refresh_found plan st link stream lose (find_op plan st link stream) else (v.Nothing, st)
 step_of plan beside st (Stop link stream lose) = stop_found plan st link stream lose (find_op plan st link stream)
-step_of plan beside st (Reset link) =
-    if nat_lt link (length plan.links) then (v.Reset link, reset_state plan st link) else (v.Nothing, st)
+step_of plan beside st (Reset link ends) =
+    if nat_lt link (length plan.links) then (v.Reset link, reset_state plan st ends) else (v.Nothing, st)
 step_of plan beside st (Status link stream) = status_found plan st link stream (find_op plan st link stream)
 step_of plan beside st (Interface e) = (beside.answer e, st)
 step_of plan beside st (Access (ae.Answer link)) = stepped_reply plan beside st (port_at Host link) (beside.reply link)
 step_of plan beside st (Access (ae.Mmio interface bar offset len)) = (beside.shows interface bar offset len, st)
+step_of plan beside st (Forward link d) =
+    stepped_forward plan beside st (leaving_end link d) (beside.forward link d)
+step_of plan beside st Absent = (v.Nothing, st)
 
 -- ---- the beginning
 
@@ -373,14 +419,14 @@ new_key plan s j = record { draw = j; key = key_of plan j s; units = 0; packets 
 
 abbrev pub first_ports : List (List StreamPlan) → List (List StreamState)
 first_ports [] = []
-first_ports (ss ∷ links) =
-    map (λ (s : StreamPlan). no_stream) ss ∷ map (λ (s : StreamPlan). no_stream) ss ∷ first_ports links
+first_ports (ss ∷ lines) =
+    map (λ (s : StreamPlan). no_stream) ss ∷ map (λ (s : StreamPlan). no_stream) ss ∷ first_ports lines
 
 -- the state before the first event
 abbrev pub first_state : Plan → LinkState
 first_state plan = record {
-  ports = first_ports (streams_by_link plan);
-  ops = map (map (λ (s : StreamPlan). Idle)) (streams_by_link plan);
+  ports = first_ports (streams_by_line plan);
+  ops = map (map (λ (s : StreamPlan). Idle)) (streams_by_line plan);
   draws = 0;
   packets = [];
 }

@@ -4,7 +4,7 @@ use Rattle.std.specs.Prelude.{Ok, Err}
 use Rattle.ide_types.specs.declared.port.Side.TheVariants.{Host}
 use Rattle.ide_plan.specs.declared.plan.Plan.{Plan}
 use Rattle.association.specs.Outgoing.{outgoing_of, stream_taken}
-use Rattle.interface_states.specs.Sites.{Site, site_with}
+use Rattle.link_history.specs.{Site, site_with, WaitingRead}
 use Rattle.link_verdicts.specs.declared.access.AccessVerdict.TheVariants as av
 use Rattle.link_verdicts.specs.declared.verdict.BlockCause.TheVariants as cause
 use Rattle.link_verdicts.specs.declared.verdict.Verdict.{Verdict}
@@ -12,7 +12,6 @@ use Rattle.link_verdicts.specs.declared.verdict.Verdict.TheVariants as v
 use Rattle.link_history.specs.Admission.{Grants}
 use Rattle.link_history.specs.Due.{is_stream}
 use Rattle.link_history.specs.Plan.{has_link, streams_of}
-use Rattle.waiting_reads.specs.declared.queue.WaitingRead.{WaitingRead}
 
 -- a completion, the stream that the reader's interface is bound to, and the least draw that it may be sealed under
 pub record BoundCompletion : Type 0 where

@@ -13,14 +13,15 @@ use Rattle.key_laws.specs.History.{History, base, op_of, draws}
 use Rattle.key_laws.specs.Keys.{Keyed, Off, Loaded, On, Keys}
 use Rattle.link_history.specs.History.{keys_at, SealedList, sealed_packets, sent_in, pending, units_got, got_since}
 use Rattle.link_history.specs.History.{failed, has_live_out, has_live_in, posted_count, waits, total_in, units_since}
-use Rattle.link_history.specs.Terms.{t_due, owner_at}
 use Rattle.link_history.specs.Due.{due, effects_of}
+unfoldable use Rattle.link_history.specs.Due.{t_sealed}
 use Rattle.link_history.specs.Guarded.{mmio_due}
-use Rattle.link_history.specs.Memory.{waiting}
+use Rattle.link_history.specs.Memory.{waiting, hop_waiting}
 use Rattle.link_history.specs.History.{sent_bytes}
-use Rattle.interface_states.specs.Views.{grant_at}
+use Rattle.link_history.specs.{grant_at}
 use Rattle.link_events.specs.declared.event.AccessEvent.TheVariants as ae
 use Rattle.link_ports.specs.Replies.{completion_to}
+use Rattle.link_ports.specs.Forwards.{forward_of}
 use Rattle.link_history.specs.Cause.{CauseLaw}
 use Rattle.link_history.specs.KeyFacts.{KeyFacts}
 use Rattle.link_ports.specs.Stream.{
@@ -135,12 +136,13 @@ pub record PortsStandFor (plan : Plan) (st : LinkState) (h : History) : Type 0 w
 -- what the history says beside the ports
 abbrev pub beside_at : Plan → History → Beside
 beside_at plan h = record {
-  t = λ port head stream trusted. t_due plan h port port.side (owner_at plan port.link head) stream trusted;
+  t = t_sealed plan h;
   effects = effects_of plan h;
   answer = λ e. due plan h (event.Interface e);
   reply = λ link. completion_to plan (grant_at plan h) (λ r. sent_bytes plan h (event.Access (ae.Answer link))) link
       (waiting plan h link);
   shows = mmio_due plan h;
+  forward = λ link d. forward_of plan link (hop_waiting plan h link d);
 }
 
 -- A step gives the verdict that is due, and its state stands for the history with it.
@@ -153,10 +155,11 @@ StepStands = (plan : Plan) (st : LinkState) (h : History) (e : Event) → PortsS
 abbrev pub FirstStands : Type 0
 FirstStands = (plan : Plan) → PortsStandFor plan (first_state plan) []
 
--- it is a send or an answer to a read, brings bytes, or shows a packet
+-- it is a send, an answer to a read or a forward, brings bytes, or shows a packet
 abbrev pub is_of_packets : Event → Bool
 is_of_packets (event.Send port bytes more trusted) = true
 is_of_packets (event.Access (ae.Answer link)) = true
+is_of_packets (event.Forward link d) = true
 is_of_packets (event.Pass n) = true
 is_of_packets (event.Alter n at mask) = true
 is_of_packets (event.Cut n len) = true

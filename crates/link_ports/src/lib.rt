@@ -4,4 +4,4 @@
 
 mod stands;
 
-pub use stands::packets_stand;
+pub use stands::{packets_stand, through_stays};

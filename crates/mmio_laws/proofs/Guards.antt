@@ -1,7 +1,11 @@
 -- While a lock stands, a byte of a range that is not open changes only by a write that is stored in RUN.
-use Rattle.std.proofs.Common.{◌≡◌, ◌≢◌, ℕ, ◌+◌, ◌≤◌, ◌==◌, ◌&&◌, ◌∷◌, zero, suc, Bool, true, false, not, List, []}
+use Rattle.std.proofs.Common.{subst}
+use Rattle.mmio_laws.proofs.OnLinks.{no_switch}
+use Rattle.link_history.specs.Ports.{at_switch, port_of}
+use Rattle.link_history.specs.Admission.{effects_by}
+use Rattle.std.proofs.Common.{◌≡◌, ◌≢◌, ℕ, ◌+◌, ◌≤◌, ◌==◌, ◌&&◌, ◌||◌, ◌∷◌, zero, suc, Bool, true, false, not, List, []}
 use Rattle.std.proofs.Common.{Option, Some, None, Result, Ok, Err, length, if◌then◌else◌, refl, sym, ap, ◌∙◌, inl, inr}
-use Rattle.std.proofs.Common.{arith, nat_le}
+use Rattle.std.proofs.Common.{arith}
 use Rattle.std.specs.Prelude.{slice_get, slice_index, take, drop}
 use Rattle.std.specs.Option.{option_map, option_map_or}
 use Rattle.std.proofs.lemmas.Bool.{cases_Bool, true≢false, eqb-true, leb-true}
@@ -21,26 +25,29 @@ unfoldable use Rattle.link_history.specs.Due.{due}
 use Rattle.link_history.specs.Memory.{Policy, unit_ended, plain_of, policy_at, device_effect, effect_by, waiting_then}
 use Rattle.link_history.specs.Memory.{effects_each, effects_of}
 use Rattle.link_history.proofs.Tests.{same_port, eqb-refl}
+use Rattle.tdi_state.specs.Machine.{all_bindings}
+use Rattle.tdi_state.specs.Bindings.{floor_on}
+use Rattle.guarded_memory.specs.Laws.{is_from_floor}
 use Rattle.interface_states.specs.Sites.{Site, site_at}
 use Rattle.interface_states.specs.Exchanges.{carries, changes_device}
 unfoldable use Rattle.interface_states.specs.Devices.{devices}
-use Rattle.interface_states.specs.Devices.{Around, around_at, tdi_at, tdi_if_called, next_tdi, leaves, is_run}
-use Rattle.interface_states.specs.Devices.{runs_at, registers_locked}
+use Rattle.interface_states.specs.Devices.{Around, around_at, tdi_at, tdi_if_called, next_tdi, is_left, is_run}
+use Rattle.interface_states.specs.Devices.{runs_at}
 use Rattle.interface_states.specs.Floors.{place_of, standings_at, device_standing, device_floor}
 use Rattle.interface_states.specs.Laws.{IsLocked}
 use Rattle.interface_states.proofs.Floors.{number_at, standing_placed}
-use Rattle.interface_states.proofs.Locks.{layout_at, lock_with, lock_stands}
+use Rattle.interface_states.proofs.Locks.{layout_at}
 use Rattle.tdi_state.specs.declared.register_set.Registers.{Registers}
 use Rattle.tdi_state.specs.declared.states.TdiState.{TdiState}
 use Rattle.tdi_state.specs.declared.states.TdiState.TheVariants as tdi
 use Rattle.tdi_state.specs.Bars.{bars_of, bar_moved}
 use Rattle.tdi_state.specs.Machine.{Tdi, lock_of, bound_stream, Call}
 use Rattle.tdi_state.specs.Machine.{StopInterface, LevelReset, LinkReset, tdi_after}
+use Rattle.interface_states.specs.Devices.{reset_call}
 use Rattle.tdi_state.specs.declared.states.Lock.{Lock}
 use Rattle.ide_plan.specs.declared.interface.BarPlan.{BarPlan}
 use Rattle.ide_plan.specs.declared.interface.InterfacePlan.{InterfacePlan}
 use Rattle.trusted_memory.specs.declared.span.Span.{Span}
-use Rattle.trusted_memory.specs.Admitted.{is_on_bound}
 use Rattle.trusted_memory.specs.Spans.{enables}
 use Rattle.trusted_memory.specs.Writes.{payload_byte}
 use Rattle.trusted_memory.proofs.Turns.{byte_after-next}
@@ -92,19 +99,20 @@ asked_not a left (event.Interface (ie.Flr i)) w x bar t held =
     ∙ not_called (i == x.number) (changes_device w) true LevelReset t (not_failed t.state) held
 asked_not a left e w x bar t held = refl
 
-not_reset : (b : Bool) (t : Tdi) → Held (tdi_if_called b LinkReset t).state → b ≡ false
-not_reset true t held = absurd (unlocked held)
-not_reset false t held = refl
+not_reset : (own left : Bool) (t : Tdi) → Held (tdi_if_called (own || left) (reset_call own) t).state → own ≡ false
+not_reset true left t held = absurd (unlocked held)
+not_reset false left t held = refl
 
 next_not : (a : Around) (left : Bool) (e : Event) (w : Verdict) (x : Site) (bar : ℕ) (t : Tdi)
     → Held (next_tdi a left x e w t).state → sets_to_zero e w x bar ≡ false
-next_not a left (event.Reset l) (v.Reset k) x bar t held = not_reset (l == x.link) t held
+next_not a left (event.Reset l ends) (v.Reset k) x bar t held = not_reset (l == x.link) left t held
 next_not a left e w x bar t held = asked_not a left e w x bar t held
 
 not_zeroed : (plan : Plan) (h : History) (e : Event) (w : Verdict) (x : Site) (bar : ℕ)
     → IsLocked plan ((e, w) ∷ h) x → sets_to_zero e w x bar ≡ false
 unfolding devices
-not_zeroed plan h e w x bar held = next_not (around_at plan h x) (leaves h e w x) e w x bar (tdi_at plan h x) held
+not_zeroed plan h e w x bar held = next_not (around_at plan h x) (is_left plan h e w x (tdi_at plan h x)) e w x bar
+    (tdi_at plan h x) held
 
 -- ---- a write that changed it
 
@@ -170,14 +178,14 @@ abbrev device_effect_of : List Standing → UnitName → Packet → Effect
 device_effect_of xs unit p = if is_sync_packet p then effect.Sync else device_effect xs unit p (read_head_of p.head)
 
 effect_at : (plan : Plan) (policy : Policy) (k link : ℕ) (unit : UnitName) (ps : List Packet) (n : ℕ) (p : Packet)
-    → slice_get ps n ≡ Some p
+    → at_switch plan (device_port link) ≡ false → slice_get ps n ≡ Some p
     → slice_get (effects_each plan policy k (device_port link) unit ps) n
     ≡ Some (device_effect_of (policy.standings link) unit p)
-effect_at plan policy k link unit [] n p is = absurd (none_is_not p is)
-effect_at plan policy k link unit (q ∷ ps) zero p is = ap
-    (λ (r : Packet). Some (device_effect_of (policy.standings link) unit r)) (some_is q p is)
-effect_at plan policy k link unit (q ∷ ps) (suc n) p is =
-    effect_at plan policy (waiting_then (effect_by plan policy k (device_port link) unit q) k) link unit ps n p is
+effect_at plan policy k link unit [] n p off is = absurd (none_is_not p is)
+effect_at plan policy k link unit (q ∷ ps) zero p off is =
+    rw off (ap (λ (r : Packet). Some (device_effect_of (policy.standings link) unit r)) (some_is q p is))
+effect_at plan policy k link unit (q ∷ ps) (suc n) p off is =
+    effect_at plan policy (waiting_then (effect_by plan policy k (device_port link) unit q) k) link unit ps n p off is
 
 -- ---- why it is stored
 
@@ -291,41 +299,32 @@ guarded_at plan h x bar held shut =
 record IsInRun (plan : Plan) (h : History) (x : Site) (t : Bool) (stream draw : ℕ) : Type 0 where
   trusted : t ≡ true
   runs : runs_at plan h x ≡ true
-  bound : bound_stream (tdi_at plan h x).state ≡ Some stream
-  named : x.plan.stream ≡ stream
-  from_floor : device_floor plan h x ≤ draw
+  floor : ℕ
+  bound : floor_on stream (all_bindings (device_floor plan h x) (tdi_at plan h x)) ≡ Some floor
+  from_floor : floor ≤ draw
 
-record IsBound (o : Option ℕ) (floor stream draw : ℕ) : Type 0 where
-  is : o ≡ Some stream
+record IsFloor (o : Option ℕ) (draw : ℕ) : Type 0 where
+  floor : ℕ
+  is : o ≡ Some floor
   from : floor ≤ draw
 
-bound_by : (o : Option ℕ) (floor stream draw : ℕ) → is_on_bound stream draw (option_map (λ s. (s, floor)) o) ≡ true
-    → IsBound o floor stream draw
-bound_by None floor stream draw is = absurd (true≢false (sym is))
-bound_by (Some s) floor stream draw is =
-    let parts = both (s == stream) (nat_le floor draw) is in
-    record { is = ap Some (eqb-true s stream parts.0); from = leb-true floor draw parts.1 }
-
-named_by : (o : Option Lock) (x : Site) (stream : ℕ) (registers : Registers)
-    → ((l : Lock) → o ≡ Some l → l ≡ lock_with x registers) → option_map (λ (l : Lock). l.stream) o ≡ Some stream
-    → x.plan.stream ≡ stream
-named_by None x stream registers stands is = absurd (none_is_not stream is)
-named_by (Some l) x stream registers stands is =
-    ap (λ (k : Lock). k.stream) (sym (stands l refl)) ∙ some_is l.stream stream is
+floor_by : (o : Option ℕ) (draw : ℕ) → is_from_floor o draw ≡ true → IsFloor o draw
+floor_by None draw is = absurd (true≢false (sym is))
+floor_by (Some floor) draw is = record { floor = floor; is = refl; from = leb-true floor draw is }
 
 in_run : (plan : Plan) (h : History) (x : Site) (t : Bool) (stream draw : ℕ)
     → is_admitted (device_standing plan h x) t stream draw ≡ true → IsInRun plan h x t stream draw
 in_run plan h x t stream draw is =
     let state = (tdi_at plan h x).state in
-    let bound = option_map (λ s. (s, device_floor plan h x)) (bound_stream state) in
-    let parts = both t (is_in_run (interface_state state) && is_on_bound stream draw bound) is in
-    let run = both (is_in_run (interface_state state)) (is_on_bound stream draw bound) parts.1 in
-    let on = bound_by (bound_stream state) (device_floor plan h x) stream draw run.1 in
+    let o = floor_on stream (all_bindings (device_floor plan h x) (tdi_at plan h x)) in
+    let parts = both t (is_in_run (interface_state state) && is_from_floor o draw) is in
+    let run = both (is_in_run (interface_state state)) (is_from_floor o draw) parts.1 in
+    let on = floor_by o draw run.1 in
     record {
       trusted = parts.0;
       runs = run_state state run.0;
+      floor = on.floor;
       bound = on.is;
-      named = named_by (lock_of state) x stream (registers_locked plan h x) (λ l e. lock_stands plan h x l e) on.is;
       from_floor = on.from;
     }
 
@@ -333,24 +332,24 @@ in_run plan h x t stream draw is =
 
 stored_in_run : (plan : Plan) (h : History) (e : Event) (port : PortName) (unit : UnitName) (effects : List Effect)
     (x : Site) (bar offset : ℕ) → Accepted port unit effects ≡ due plan h e → site_at plan x.number ≡ Some x
-    → IsLocked plan h x → has_open_range x.plan.bars bar ≡ false → port ≡ device_port x.link
+    → IsLocked plan h x → has_open_range x.plan.bars bar ≡ false → port_of plan port ≡ device_port x.link
     → effects ≡ effects_of plan h port unit (unit_ended plan h e port unit)
     → IsEnabled (stores plan h e (Accepted port unit effects) x bar) offset
-    → is_same_port port (device_port x.link) ≡ true
+    → is_same_port (port_of plan port) (device_port x.link) ≡ true
     → IsStoredInRun plan h e (Accepted port unit effects) x bar offset
 stored_in_run plan h e port unit effects x bar offset is known held shut at es enabled same =
-    let p = device_port x.link in
-    let ps = unit_ended plan h e p unit in
+    let ps = unit_ended plan h e port unit in
     let xs = standings_at plan h x.link in
-    let stands : slice_get (stored_to xs (place_of plan x) bar (plain_of plan p unit ps) effects ps) enabled.number
+    let stands : slice_get (stored_to xs (place_of plan x) bar (plain_of plan port unit ps) effects ps) enabled.number
     ≡ Some (Some enabled.write) =
-    rw at at (rw same at enabled.stands) in
-    let stored = stored_at xs (place_of plan x) bar (plain_of plan p unit ps) effects ps enabled.number enabled.write
+    rw same at enabled.stands in
+    let are = subst (λ (q : PortName). effects ≡ effects_by plan (policy_at plan h) q unit ps) at es in
+    let stored = stored_at xs (place_of plan x) bar (plain_of plan port unit ps) effects ps enabled.number enabled.write
     stands in
     let here : Some (device_effect_of xs unit stored.packet) ≡ Some effect.Stored =
     sym (effect_at plan (policy_at plan h) ((policy_at plan h).waiting x.link) x.link unit ps enabled.number
-    stored.packet stored.is_packet)
-    ∙ ap (λ (fs : List Effect). slice_get fs enabled.number) (sym (rw at at es)) ∙ stored.effect_is in
+    stored.packet (no_switch plan x known) stored.is_packet)
+    ∙ ap (λ (fs : List Effect). slice_get fs enabled.number) (sym are) ∙ stored.effect_is in
     let cause = not_sync (is_sync_packet stored.packet) (device_effect xs unit stored.packet
     (read_head_of stored.packet.head)) (some_is (device_effect_of xs unit stored.packet) effect.Stored here) in
     let happening = head_stores xs unit stored.packet (place_of plan x) bar stored.payload enabled.write
@@ -362,7 +361,9 @@ stored_in_run plan h e port unit effects x bar offset is known held shut at es e
     record {
       unit = unit;
       effects = effects;
-      accepted = ap (λ (q : PortName). Accepted q unit effects) at;
+      end = port;
+      at_device = at;
+      accepted = refl;
       number = enabled.number;
       packet = stored.packet;
       is_packet = stored.is_packet;
@@ -372,8 +373,8 @@ stored_in_run plan h e port unit effects x bar offset is known held shut at es e
       enabled = enabled.enabled;
       trusted = run.trusted;
       runs = run.runs;
+      floor = run.floor;
       bound = run.bound;
-      named = run.named;
       from_floor = run.from_floor;
     }
 
@@ -384,10 +385,11 @@ by_pair : (plan : Plan) (h : History) (e : Event) (w : Verdict) (x : Site) (bar 
     → site_at plan x.number ≡ Some x → IsLocked plan h x → has_open_range x.plan.bars bar ≡ false
     → IsEnabled (stores plan h e w x bar) offset → IsStoredInRun plan h e w x bar offset
 by_pair plan h e (Accepted port unit effects) x bar offset is known held shut enabled =
-    elim (cases_Bool (is_same_port port (device_port x.link))) [
+    elim (cases_Bool (is_same_port (port_of plan port) (device_port x.link))) [
       | inl same ↦
           stored_in_run plan h e port unit effects x bar offset is known held shut
-          (same_port port (device_port x.link) same) (effects_there plan h e port unit effects is) enabled same
+          (same_port (port_of plan port) (device_port x.link) same) (effects_there plan h e port unit effects is)
+          enabled same
       | inr other ↦ absurd (none_enabled offset (rw other at enabled))
     ]
 by_pair plan h e w x bar offset is known held shut enabled = absurd (none_enabled offset enabled)

@@ -1,4 +1,8 @@
 -- What happened, by all pairs, left the writes that the effects in verdicts say.
+use Rattle.mmio_laws.proofs.OnLinks.{no_switch}
+use Rattle.link_history.specs.Ports.{at_switch, is_device_port, port_of}
+use Rattle.link_history.specs.Admission.{effects_by}
+use Rattle.std.specs.Prelude.{not, Option}
 use Rattle.std.proofs.Common.{◌≡◌, ℕ, ◌==◌, ◌&&◌, ◌∷◌, Bool, true, false, not, List, [], Option, Some, None}
 use Rattle.std.proofs.Common.{if◌then◌else◌, refl, sym, ap, ◌∙◌, subst, inl, inr}
 use Rattle.std.proofs.lemmas.Bool.{cases_Bool, true≢false, eqb-true}
@@ -137,17 +141,21 @@ none_zero e port unit effects x bar = refl
 -- at another port than the device's of the link
 elsewhere_none : (xs : ℕ → List Standing) (plan : Plan) (port : PortName) (unit : UnitName) (ps : List Packet)
     (link : ℕ)
-    → is_same_port port (device_port link) ≡ false
-    → (if port.link == link then stored_in (xs port.link) plan port unit ps else []) ≡ []
-elsewhere_none xs plan port unit ps link is = by port.side (port.link == link) is
+    → is_same_port (port_of plan port) (device_port link) ≡ false
+    → (if (port_of plan port).link == link then stored_in (xs (port_of plan port).link) plan port unit ps else []) ≡ []
+elsewhere_none xs plan port unit ps link is =
+    by (port_of plan port).side (at_switch plan (port_of plan port)) ((port_of plan port).link == link) is
   where
-    by : (s : Side) (b : Bool) → ((sent_direction s == 1) && b) ≡ false
-        → (if b then (if sent_direction s == 1 then stored_each (xs port.link) unit (plain_of plan port unit ps) ps else
-        []) else []) ≡ []
-    by side.Host true is = refl
-    by side.Host false is = refl
-    by side.Device true is = absurd (true≢false is)
-    by side.Device false is = refl
+    each : List (Option Happened)
+    each = stored_each (xs (port_of plan port).link) unit (plain_of plan port unit ps) ps
+
+    by : (s : Side) (c b : Bool) → ((sent_direction s == 1) && b) ≡ false
+        → (if b then (if not c && (sent_direction s == 1) then each else []) else []) ≡ []
+    by side.Host true true is = refl
+    by side.Host false true is = refl
+    by side.Host c false is = refl
+    by side.Device c true is = absurd (true≢false is)
+    by side.Device c false is = refl
 
 pub effects_there : (plan : Plan) (h : History) (e : Event) (port : PortName) (unit : UnitName) (effects : List Effect)
     → Accepted port unit effects ≡ due plan h e
@@ -159,43 +167,53 @@ effects_there plan h e port unit effects is =
     (sym (unit_that_ends plan h e port unit by.packet by.came by.passed))
 
 unit_there : (plan : Plan) (h : History) (e : Event) (port : PortName) (unit : UnitName) (effects : List Effect)
-    (x : Site) (bar : ℕ) → Accepted port unit effects ≡ due plan h e → is_same_port port (device_port x.link) ≡ true
+    (x : Site) (bar : ℕ) → site_at plan x.number ≡ Some x → Accepted port unit effects ≡ due plan h e
+    → is_same_port (port_of plan port) (device_port x.link) ≡ true
     → writes_since (newest_happened (happens plan h e (Accepted port unit effects) x.link) (happened plan h x.link))
     (place_of plan x) bar
     ≡ newest_first (stores plan h e (Accepted port unit effects) x bar)
     (writes_since (happened plan h x.link) (place_of plan x) bar)
-unit_there plan h e port unit effects x bar is same =
-    by port (same_port port (device_port x.link) same) effects (effects_there plan h e port unit effects is)
+unit_there plan h e port unit effects x bar known is same =
+    by (port_of plan port) (same_port (port_of plan port) (device_port x.link) same) effects
+    (effects_there plan h e port unit effects is)
   where
-    by : (q : PortName) → q ≡ device_port x.link → (es : List Effect)
-        → es ≡ effects_of plan h q unit (unit_ended plan h e q unit)
-        → writes_since (newest_happened (happens plan h e (Accepted q unit es) x.link) (happened plan h x.link))
-        (place_of plan x) bar
-        ≡ newest_first (stores plan h e (Accepted q unit es) x bar)
+    ps : List Packet
+    ps = unit_ended plan h e port unit
+
+    plain : List ℕ
+    plain = plain_of plan port unit ps
+
+    by : (q : PortName) → q ≡ device_port x.link → (es : List Effect) → es
+        ≡ effects_by plan (policy_at plan h) q unit ps
+        → writes_since (newest_happened (if q.link == x.link
+        then (if is_device_port plan q then stored_each (standings_at plan h q.link) unit plain ps else []) else [])
+        (happened plan h x.link)) (place_of plan x) bar
+        ≡ newest_first (if is_same_port q (device_port x.link)
+        then stored_to (standings_at plan h x.link) (place_of plan x) bar plain es ps else [])
         (writes_since (happened plan h x.link) (place_of plan x) bar)
     by q at es are =
-        let p = device_port x.link in
-        let ps = unit_ended plan h e p unit in
-        rw (at, eqb-refl x.link) (subst (λ (fs : List Effect).
-        writes_since (newest_happened (stored_each (standings_at plan h x.link) unit (plain_of plan p unit ps) ps)
+        rw (at, eqb-refl x.link, no_switch plan x known) (subst (λ (fs : List Effect).
+        writes_since (newest_happened (stored_each (standings_at plan h x.link) unit plain ps)
         (happened plan h x.link)) (place_of plan x) bar
-        ≡ newest_first (stored_to (standings_at plan h x.link) (place_of plan x) bar (plain_of plan p unit ps) fs ps)
+        ≡ newest_first (stored_to (standings_at plan h x.link) (place_of plan x) bar plain fs ps)
         (writes_since (happened plan h x.link) (place_of plan x) bar))
         (sym (rw at at are))
         (unit_stores plan (policy_at plan h) ((policy_at plan h).waiting x.link) x.link unit (place_of plan x) bar
-        (plain_of plan p unit ps) ps (happened plan h x.link)))
+        plain ps (happened plan h x.link) (no_switch plan x known)))
 
 unit_same : (plan : Plan) (h : History) (e : Event) (port : PortName) (unit : UnitName) (effects : List Effect)
-    (x : Site) (bar : ℕ) → Accepted port unit effects ≡ due plan h e
+    (x : Site) (bar : ℕ) → site_at plan x.number ≡ Some x → Accepted port unit effects ≡ due plan h e
     → writes_since (newest_happened (happens plan h e (Accepted port unit effects) x.link) (happened plan h x.link))
     (place_of plan x) bar
     ≡ newest_first (stores plan h e (Accepted port unit effects) x bar)
     (writes_since (happened plan h x.link) (place_of plan x) bar)
-unit_same plan h e port unit effects x bar is = elim (cases_Bool (is_same_port port (device_port x.link))) [
-  | inl same ↦ unit_there plan h e port unit effects x bar is same
-  | inr other ↦
-      rw (other, elsewhere_none (standings_at plan h) plan port unit (unit_ended plan h e port unit) x.link other) refl
-]
+unit_same plan h e port unit effects x bar known is =
+    elim (cases_Bool (is_same_port (port_of plan port) (device_port x.link))) [
+      | inl same ↦ unit_there plan h e port unit effects x bar known is same
+      | inr other ↦
+          rw (other, elsewhere_none (standings_at plan h) plan port unit (unit_ended plan h e port unit) x.link other)
+          refl
+    ]
 
 -- ---- all pairs
 
@@ -208,7 +226,7 @@ PairSame plan h e w x bar =
 -- which ends no unit
 other_same : (plan : Plan) (h : History) (e : Event) (w : Verdict) (x : Site) (bar : ℕ)
     → site_at plan x.number ≡ Some x → accepts_unit w ≡ false → PairSame plan h e w x bar
-other_same plan h (event.Reset l) (v.Reset k) x bar known none = by (l == x.link)
+other_same plan h (event.Reset l ends) (v.Reset k) x bar known none = by (l == x.link)
   where
     by : (b : Bool) → Clears (happens_if b AllReset) b (happened plan h x.link) (place_of plan x) bar
     by true = refl
@@ -219,7 +237,7 @@ other_same plan h e w x bar known none = asked_clears plan e w x bar (happened p
 pair_same : (plan : Plan) (h : History) (e : Event) (w : Verdict) (x : Site) (bar : ℕ) → site_at plan x.number ≡ Some x
     → w ≡ due plan h e → PairSame plan h e w x bar
 pair_same plan h e (Accepted port unit effects) x bar known is =
-    rw (none_zero e port unit effects x bar) (unit_same plan h e port unit effects x bar is)
+    rw (none_zero e port unit effects x bar) (unit_same plan h e port unit effects x bar known is)
 pair_same plan h e w x bar known is = other_same plan h e w x bar known refl
 
 -- the writes that stand in a range

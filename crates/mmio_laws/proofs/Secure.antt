@@ -1,4 +1,8 @@
 -- While a lock stands, its stream is Secure at the device's port.
+use Rattle.std.proofs.Common.{if◌then◌else◌}
+use Rattle.ide_types.specs.declared.port.Side.{Side}
+use Rattle.ide_types.specs.declared.port.Side.TheVariants.{Host, Device}
+use Rattle.std.specs.Prelude.{◌||◌, ◌&&◌}
 use Rattle.std.proofs.Common.{◌≡◌, ℕ, ◌==◌, ◌&&◌, ◌∷◌, ◌⊎◌, Bool, true, false, not, List, [], Option, Some}
 use Rattle.std.proofs.Common.{refl, sym, ap, ◌∙◌, inl, inr, arith}
 use Rattle.std.proofs.lemmas.Bool.{true≢false}
@@ -20,7 +24,7 @@ use Rattle.link_history.proofs.KeyVerdicts.{interface_due_quiet}
 use Rattle.interface_states.specs.Sites.{Site}
 use Rattle.interface_states.specs.Exchanges.{carries}
 unfoldable use Rattle.interface_states.specs.Devices.{devices}
-use Rattle.interface_states.specs.Devices.{Around, around_at, tdi_at, tdi_if_called, next_tdi, leaves, is_secure}
+use Rattle.interface_states.specs.Devices.{Around, around_at, tdi_at, tdi_if_called, next_tdi, is_left, is_secure}
 use Rattle.interface_states.specs.Devices.{has_secure_stream, accepts_lock}
 use Rattle.interface_states.specs.Laws.{IsLocked}
 use Rattle.interface_states.proofs.Locks.{Made, next_made}
@@ -28,7 +32,7 @@ use Rattle.tdi_state.specs.declared.states.Lock.{Lock}
 use Rattle.tdi_state.specs.declared.states.TdiState.{TdiState}
 use Rattle.tdi_state.specs.declared.states.TdiState.TheVariants as tdi
 use Rattle.tdi_state.specs.Machine.{Tdi, state_code, lock_of, lock_answer, after_failure, StreamLeft}
-use Rattle.tdi_state.specs.Machine.{LinkReset}
+use Rattle.interface_states.specs.Devices.{reset_call}
 use Rattle.link_verdicts.specs.declared.verdict.Verdict.TheVariants as v
 use Rattle.link_events.specs.declared.event.Event.TheVariants as event
 use Rattle.link_events.specs.declared.event.InterfaceEvent.TheVariants as ie
@@ -143,44 +147,44 @@ quiet_fails link stream w quiet = grind (arith, quiet)
 -- before it
 before : (plan : Plan) (h : History) (e : Event) (w : Verdict) (x : Site)
     → (Held (tdi_at plan h x).state → has_secure_stream h x ≡ true)
-    → Held (next_tdi (around_at plan h x) (leaves h e w x) x e w (tdi_at plan h x)).state
+    → Held (next_tdi (around_at plan h x) (is_left plan h e w x (tdi_at plan h x)) x e w (tdi_at plan h x)).state
     → has_secure_stream h x ≡ true
 before plan h e w x earlier held =
     let a = around_at plan h x in
     let t = tdi_at plan h x in
-    let has = has_lock (next_tdi a (leaves h e w x) x e w t).state held in
-    by has.lock (next_made a (leaves h e w x) x e w t has.lock has.stands)
+    let has = has_lock (next_tdi a (is_left plan h e w x t) x e w t).state held in
+    by has.lock (next_made a (is_left plan h e w x t) x e w t has.lock has.stands)
   where
     by : (l : Lock) → Made (around_at plan h x) x e w (tdi_at plan h x) l → has_secure_stream h x ≡ true
     by l (inl stood) = earlier (lock_held (tdi_at plan h x).state l stood.0)
     by l (inr made) = accepts_secure (around_at plan h x) x e w (tdi_at plan h x) made.0
 
-not_left : (b c : Bool) (t : Tdi) → Held (tdi_if_called (b && not c) StreamLeft t).state → b ≡ true → c ≡ true
-not_left true true t held is = refl
-not_left true false t held is = absurd (not_failed t.state held)
-not_left false c t held is = absurd (true≢false (sym is))
+not_left_by : (b c a : Bool) (t : Tdi) → Held (tdi_if_called ((b && not c) || a) StreamLeft t).state → b ≡ true
+    → c ≡ true
+not_left_by true true a t held is = refl
+not_left_by true false a t held is = absurd (not_failed t.state held)
+not_left_by false c a t held is = absurd (true≢false (sym is))
 
-other_link : (b : Bool) (t : Tdi) → Held (tdi_if_called b LinkReset t).state → b ≡ false
-other_link true t (inl e) = absurd cc
-other_link true t (inr e) = absurd cc
-other_link false t held = refl
-
-eqb_swap : (m l k : ℕ) → m ≡ k → (l == k) ≡ false → (m == l) ≡ false
-eqb_swap m l k at apart = grind (arith, nat_tests, at, apart)
+-- a reset that leaves it locked is of another link, and leaves no stream that it is bound to
+other_link : (own b c a : Bool) (t : Tdi)
+    → Held (tdi_if_called (own || ((b && not c) || a)) (reset_call own) t).state → b ≡ true → c ≡ true
+other_link true b c a t (inl e) is = absurd cc
+other_link true b c a t (inr e) is = absurd cc
+other_link false b c a t held is = not_left_by b c a t held is
 
 -- and after it
 after : (plan : Plan) (h : History) (e : Event) (w : Verdict) (x : Site) → w ≡ due plan h e
-    → Held (next_tdi (around_at plan h x) (leaves h e w x) x e w (tdi_at plan h x)).state
+    → Held (next_tdi (around_at plan h x) (is_left plan h e w x (tdi_at plan h x)) x e w (tdi_at plan h x)).state
     → has_secure_stream h x ≡ true → has_secure_stream ((e, w) ∷ h) x ≡ true
 after plan h (event.Interface e) w x is held secure =
     let quiet : is_quiet w ≡ true = ap (λ (u : Verdict). is_quiet u) is ∙ interface_due_quiet plan h e in
     stays_secure h (event.Interface e) w x (λ p at. quiet_came p w quiet)
     (quiet_fails x.link x.plan.stream w quiet) secure
-after plan h (event.Reset l) (v.Reset k) x is held secure =
-    let apart = other_link (l == x.link) (tdi_at plan h x) held in
-    stays_secure h (event.Reset l) (v.Reset k) x (λ p at. rw (eqb_swap p.link l x.link at apart) refl) refl secure
+after plan h (event.Reset l ends) (v.Reset k) x is held secure =
+    other_link (l == x.link) (has_secure_stream h x) (has_secure_stream ((event.Reset l ends, v.Reset k) ∷ h) x) _
+    (tdi_at plan h x) held secure
 after plan h e w x is held secure =
-    not_left (has_secure_stream h x) (has_secure_stream ((e, w) ∷ h) x) (tdi_at plan h x) held secure
+    not_left_by (has_secure_stream h x) (has_secure_stream ((e, w) ∷ h) x) _ (tdi_at plan h x) held secure
 
 pub locked_secure : (plan : Plan) (h : History) → CauseLaw plan h → (x : Site) → IsLocked plan h x
     → has_secure_stream h x ≡ true

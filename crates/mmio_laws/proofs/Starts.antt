@@ -10,17 +10,20 @@ use Rattle.key_laws.specs.Keys.{Keyed, Off, Loaded, On, Keys, key_in, on_in, is_
 use Rattle.key_laws.specs.History.{History, keys_there, keeps_live, has_key, has_all, failed_there}
 use Rattle.link_history.specs.Terms.{Plan, Event, Verdict}
 use Rattle.link_history.specs.Cause.{CauseLaw}
+use Rattle.tdi_state.specs.Machine.{BindStream, UnbindStream, bind_answer, unbind_answer}
+use Rattle.tdi_state.proofs.Bound.{bound_state, unbound_state}
 use Rattle.interface_states.specs.Sites.{Site}
 use Rattle.interface_states.specs.Exchanges.{carries, changes_device}
 use Rattle.interface_states.specs.Views.{is_number, number_in}
 unfoldable use Rattle.interface_states.specs.Devices.{devices}
-use Rattle.interface_states.specs.Devices.{Around, around_at, tdi_at, tdi_if_called, next_tdi, leaves, is_run}
+use Rattle.interface_states.specs.Devices.{Around, around_at, tdi_at, tdi_if_called, next_tdi, is_left, is_run}
 use Rattle.interface_states.specs.Devices.{runs_at, has_secure_stream, lock_call}
 use Rattle.interface_states.specs.Floors.{greatest_on, posted_receiver, draw_at_device, floor_after}
 unfoldable use Rattle.interface_states.specs.Floors.{device_floor}
 use Rattle.tdi_state.specs.declared.states.TdiState.{TdiState}
 use Rattle.tdi_state.specs.declared.states.TdiState.TheVariants as tdi
 use Rattle.tdi_state.specs.Machine.{Tdi, Call, StartInterface, StopInterface, WriteRegister, LevelReset}
+use Rattle.interface_states.specs.Devices.{reset_call}
 use Rattle.tdi_state.specs.Machine.{FirmwareUpdate, StreamLeft, LinkReset, LockInterface, tdi_after, after_failure}
 use Rattle.tdi_state.specs.Machine.{after_change, locked_with, new_lock, lock_answer, lock_flags}
 use Rattle.tdi_state.specs.RegisterValues.{changes_listed, has_bit}
@@ -28,6 +31,7 @@ use Rattle.tdi_state.specs.declared.states.Lock.{Lock}
 use Rattle.mmio_laws.specs.Mmio.{IsStartedUnder, KeepsFloors}
 use Rattle.mmio_laws.proofs.SameWrites.{and_none}
 use Rattle.mmio_laws.proofs.Secure.{Held, secure_parts, locked_secure}
+use Rattle.mmio_laws.proofs.RunLocks.{runs_unlocked, same_locks}
 use Rattle.link_verdicts.specs.declared.verdict.Verdict.TheVariants as v
 use Rattle.link_events.specs.declared.event.Event.TheVariants as event
 use Rattle.link_events.specs.declared.event.InterfaceEvent.TheVariants as ie
@@ -108,6 +112,10 @@ call_rests t (LockInterface flags stream offset secure drawn) other rests =
     locked_rests t (new_lock t flags stream offset) (lock_answer t flags offset secure drawn) rests
 call_rests t (StartInterface nonce) other rests = absurd (true≢false other)
 call_rests t StopInterface other rests = refl
+call_rests t (BindStream stream live) other rests =
+    ap is_run (bound_state t stream (bind_answer t stream live)) ∙ rests
+call_rests t (UnbindStream stream) other rests =
+    ap is_run (unbound_state t stream (unbind_answer t stream)) ∙ rests
 call_rests t (WriteRegister register value) other rests = changed_rests
     (changes_listed (lock_flags t.state) t.registers register value) t.state rests
 call_rests t LevelReset other rests = failed_rests t.state
@@ -128,7 +136,7 @@ start_held t nonce rests runs = by t.state rests runs
     by (tdi.Run lock) rests runs = inr refl
     by tdi.Error rests runs = absurd (true≢false (sym runs))
 
--- what a call other than a start leaves, if it comes, and if it is this interface's
+-- what a call other than a start is_left, if it comes, and if it is this interface's
 left_at_rest : (n b : Bool) (c : Call) (t : Tdi) → is_start c ≡ false → is_run t.state ≡ false
     → is_run (if n then tdi_if_called b c t else t).state ≡ true → ⊥
 left_at_rest true true c t other rests runs = true≢false (sym runs ∙ call_rests t c other rests)
@@ -151,6 +159,11 @@ start_starts true true nonce t draw floor rests runs = (refl, start_held t nonce
 start_starts true false nonce t draw floor rests runs = absurd (true≢false (sym runs ∙ rests))
 start_starts false b nonce t draw floor rests runs = absurd (true≢false (sym runs ∙ rests))
 
+reset_starts_none : (own : Bool) → is_start (reset_call own) ≡ false
+unfolding is_start
+reset_starts_none true = refl
+reset_starts_none false = refl
+
 starts_it : (a : Around) (left : Bool) (e : Event) (w : Verdict) (x : Site) (t : Tdi) (draw floor : ℕ)
     → is_run t.state ≡ false → is_run (next_tdi a left x e w t).state ≡ true → StartsIt e x t draw floor
 unfolding is_start
@@ -161,6 +174,10 @@ starts_it a left (event.Interface (ie.Lock i loss)) w x t draw floor rests runs 
     (left_at_rest (i == x.number) (carries w 3) (lock_call a x) t refl rests runs)
 starts_it a left (event.Interface (ie.Halt i loss)) w x t draw floor rests runs = absurd
     (left_at_rest (i == x.number) (carries w 1) StopInterface t refl rests runs)
+starts_it a left (event.Interface (ie.Bind i line stream loss)) w x t draw floor rests runs = absurd
+    (left_at_rest (i == x.number) (carries w 1) (BindStream stream (a.live stream)) t refl rests runs)
+starts_it a left (event.Interface (ie.Unbind i line stream loss)) w x t draw floor rests runs = absurd
+    (left_at_rest (i == x.number) (carries w 1) (UnbindStream stream) t refl rests runs)
 starts_it a left (event.Interface (ie.Write i register value)) w x t draw floor rests runs = absurd
     (left_at_rest (i == x.number) (changes_device w) (WriteRegister register value) t refl rests runs)
 starts_it a left (event.Interface (ie.Flr i)) w x t draw floor rests runs = absurd
@@ -169,8 +186,9 @@ starts_it a left (event.Interface (ie.Firmware i)) w x t draw floor rests runs =
     (left_at_rest (i == x.number) (changes_device w) FirmwareUpdate t refl rests runs)
 starts_it a left (event.Interface e) w x t draw floor rests runs = absurd
     (same_at_rest (is_number (number_in e) x.number) t rests runs)
-starts_it a left (event.Reset l) (v.Reset k) x t draw floor rests runs = absurd
-    (left_at_rest true (l == x.link) LinkReset t refl rests runs)
+starts_it a left (event.Reset l ends) (v.Reset k) x t draw floor rests runs = absurd
+    (left_at_rest true ((l == x.link) || left) (reset_call (l == x.link)) t (reset_starts_none (l == x.link)) rests
+    runs)
 starts_it a left e w x t draw floor rests runs = absurd (left_at_rest true left StreamLeft t refl rests runs)
 
 -- ---- all pairs
@@ -187,8 +205,9 @@ unfolding device_floor
 floor_next plan h e w x ran before now = rw (before, now) refl
 
 kept_on : (plan : Plan) (h : History) (e : Event) (w : Verdict) (x : Site) (floor : ℕ) → device_floor plan h x ≡ floor
+    → runs_at plan ((e, w) ∷ h) x ≡ true
     → IsStartedUnder plan h x (device_floor plan h x) → IsStartedUnder plan ((e, w) ∷ h) x floor
-kept_on plan h e w x floor same was = record {
+kept_on plan h e w x floor same now was = record {
   event = was.event;
   verdict = was.verdict;
   older = was.older;
@@ -196,6 +215,7 @@ kept_on plan h e w x floor same was = record {
   came = ap (λ (g : History). (e, w) ∷ g) was.came;
   rested = was.rested;
   runs = was.runs;
+  same_lock = was.same_lock ∙ sym (same_locks plan h e w x (runs_unlocked plan h e w x now));
   greatest = was.greatest ∙ same;
   set = was.set;
   on = was.on ∙ ap Some same;
@@ -206,7 +226,8 @@ just_started : (plan : Plan) (h : History) (e : Event) (w : Verdict) (x : Site) 
     → IsStartedUnder plan ((e, w) ∷ h) x (device_floor plan ((e, w) ∷ h) x)
 unfolding devices
 just_started plan h e w x cause rests runs =
-    let it = starts_it (around_at plan h x) (leaves h e w x) e w x (tdi_at plan h x) (draw_at_device h x)
+    let it = starts_it (around_at plan h x) (is_left plan h e w x (tdi_at plan h x)) e w x (tdi_at plan h x)
+    (draw_at_device h x)
     (device_floor plan h x) rests runs in
     let floor : draw_at_device h x ≡ device_floor plan ((e, w) ∷ h) x =
     sym (floor_next plan h e w x false rests runs ∙ it.floor_is) in
@@ -219,6 +240,7 @@ just_started plan h e w x cause rests runs =
       came = refl;
       rested = rests;
       runs = runs;
+      same_lock = sym (same_locks plan h e w x (runs_unlocked plan h e w x runs));
       greatest = floor;
       set = on.set;
       on = on.on ∙ ap Some floor;
@@ -231,6 +253,6 @@ keeps_floors plan ((e, w) ∷ h) cause i x at runs = elim (cases_Bool (runs_at p
   | inl ran ↦
       kept_on plan h e w x (device_floor plan ((e, w) ∷ h) x)
       (sym (floor_next plan h e w x true ran runs ∙ floor_stays e x (draw_at_device h x) (device_floor plan h x)))
-      (keeps_floors plan h cause.1 i x at ran)
+      runs (keeps_floors plan h cause.1 i x at ran)
   | inr rests ↦ just_started plan h e w x cause.1 rests runs
 ]

@@ -1,4 +1,6 @@
 -- What a unit stores in a range, by the packets' own causes and by the effects in the verdict.
+use Rattle.link_history.specs.Ports.{at_switch}
+use Rattle.link_history.specs.Admission.{switch_effect}
 use Rattle.std.proofs.Common.{◌≡◌, ℕ, Bool, true, false, List, [], ◌∷◌, Option, Some, None, Result}
 use Rattle.std.proofs.Common.{Ok, Err, length, if◌then◌else◌, refl, sym, ap, ◌∙◌}
 use Rattle.std.specs.Prelude.{take, drop}
@@ -57,22 +59,25 @@ by_head xs unit p place bar payload (Ok head) older =
     by_span xs p.prefix.t unit.stream unit.draw place bar payload (write_span head) older
 
 one_packet : (plan : Plan) (policy : Policy) (n link : ℕ) (unit : UnitName) (p : Packet) (place bar : ℕ)
-    (payload : List ℕ)
+    (payload : List ℕ) → at_switch plan (device_port link) ≡ false
     → StoresAs (stored_packet (policy.standings link) unit p payload) place bar
     (if_stored (effect_by plan policy n (device_port link) unit p)
     (claimed_write (policy.standings link) place bar (write_read payload (read_head_of p.head))))
-one_packet plan policy n link unit p place bar payload older = by (is_sync_packet p)
+one_packet plan policy n link unit p place bar payload off older =
+    by (is_sync_packet p) (at_switch plan (device_port link)) off
   where
-    by : (s : Bool)
+    by : (s c : Bool) → c ≡ false
         → writes_since (cons_option
         (if s then None else stored_as (policy.standings link) unit p.prefix.t payload (read_head_of p.head)) older)
         place bar
         ≡ cons_option (if_stored
-        (if s then effect.Sync else device_effect (policy.standings link) unit p (read_head_of p.head))
+        (if s then effect.Sync else if c then switch_effect
+        else device_effect (policy.standings link) unit p (read_head_of p.head))
         (claimed_write (policy.standings link) place bar (write_read payload (read_head_of p.head))))
         (writes_since older place bar)
-    by true = refl
-    by false = by_head (policy.standings link) unit p place bar payload (read_head_of p.head) older
+    by true c is = refl
+    by false true is = absurd cc
+    by false false is = by_head (policy.standings link) unit p place bar payload (read_head_of p.head) older
 
 -- ---- all of them
 
@@ -82,12 +87,12 @@ first_of None os ws = refl
 first_of (Some w) os ws = refl
 
 pub unit_stores : (plan : Plan) (policy : Policy) (n link : ℕ) (unit : UnitName) (place bar : ℕ) (plain : List ℕ)
-    (ps : List Packet) (older : List Happened)
+    (ps : List Packet) (older : List Happened) → at_switch plan (device_port link) ≡ false
     → writes_since (newest_happened (stored_each (policy.standings link) unit plain ps) older) place bar
     ≡ newest_first (stored_to (policy.standings link) place bar plain
     (effects_each plan policy n (device_port link) unit ps) ps) (writes_since older place bar)
-unit_stores plan policy n link unit place bar plain [] older = refl
-unit_stores plan policy n link unit place bar plain (p ∷ ps) older =
+unit_stores plan policy n link unit place bar plain [] older off = refl
+unit_stores plan policy n link unit place bar plain (p ∷ ps) older off =
     let e = effect_by plan policy n (device_port link) unit p in
     let h = stored_packet (policy.standings link) unit p (take (length p.body) plain) in
     let o = if_stored e (claimed_write (policy.standings link) place bar
@@ -95,5 +100,6 @@ unit_stores plan policy n link unit place bar plain (p ∷ ps) older =
     let os = stored_to (policy.standings link) place bar (drop (length p.body) plain)
     (effects_each plan policy (waiting_then e n) (device_port link) unit ps) ps in
     unit_stores plan policy (waiting_then e n) link unit place bar (drop (length p.body) plain) ps (cons_option h older)
-    ∙ ap (newest_first os) (one_packet plan policy n link unit p place bar (take (length p.body) plain) older)
+    off
+    ∙ ap (newest_first os) (one_packet plan policy n link unit p place bar (take (length p.body) plain) off older)
     ∙ sym (first_of o os (writes_since older place bar))

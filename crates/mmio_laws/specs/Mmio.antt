@@ -2,14 +2,16 @@
 -- profile).
 use Rattle.std.specs.Prelude.{◌+◌, ◌<◌, ◌≡◌, ◌≢◌, ◌≤◌, ◌∷◌, ◌++◌, Bool, true, false, List, Some, [], length, slice_get}
 use Rattle.std.specs.Prelude.{ℕ}
-use Rattle.link_history.specs.Terms.{Plan, Event, Effect, UnitName, Verdict, Accepted, Packet, History, Write}
+use Rattle.link_history.specs.Ports.{port_of}
+use Rattle.link_history.specs.Terms.{PortName, Plan, Event, Effect, UnitName, Verdict, Accepted, Packet, History, Write}
 use Rattle.link_history.specs.Memory.{unit_ended}
 use Rattle.key_laws.specs.History.{draw_on_at}
 use Rattle.interface_states.specs.Sites.{Site, site_at}
-use Rattle.interface_states.specs.Devices.{tdi_at, runs_at}
+use Rattle.interface_states.specs.Devices.{tdi_at, runs_at, locks_at}
 use Rattle.interface_states.specs.Floors.{posted_receiver, draw_at_device, device_floor}
 use Rattle.interface_states.specs.Laws.{IsLocked}
-use Rattle.tdi_state.specs.Machine.{bound_stream}
+use Rattle.tdi_state.specs.Machine.{all_bindings}
+use Rattle.tdi_state.specs.Bindings.{floor_on}
 use Rattle.trusted_memory.specs.Spans.{enables}
 use Rattle.guarded_memory.specs.Standings.{has_open_range}
 use Rattle.mmio_laws.specs.Stored.{stores, stored_byte}
@@ -37,27 +39,29 @@ ShowsStored plan h e w = Unit {0}
 
 -- ---- what is guarded
 
--- The pair ends a unit at the device's port, and stores a write that enables the byte: the write of a packet of the
--- unit with the effect `stored`. It has T, the interface is in RUN, and the unit came on the stream that its lock
--- named,
--- under a draw from the floor on.
+-- The pair ends a unit at an end at the device's port, and stores a write that enables the byte: the write of a packet
+-- of the
+-- unit with the effect `stored`. It has T, the interface is in RUN, and the unit came on a stream that the interface is
+-- bound to, under a draw from its floor there on.
 pub record IsStoredInRun (plan : Plan) (h : History) (e : Event) (w : Verdict) (x : Site) (bar offset : ℕ) : Type 0
   where
     pub unit : UnitName
     pub effects : List Effect
-    pub accepted : w ≡ Accepted (device_port x.link) unit effects
+    pub end : PortName
+    pub at_device : port_of plan end ≡ device_port x.link
+    pub accepted : w ≡ Accepted end unit effects
     pub number : ℕ
     pub packet : Packet
-    pub is_packet : slice_get (unit_ended plan h e (device_port x.link) unit) number ≡ Some packet
+    pub is_packet : slice_get (unit_ended plan h e end unit) number ≡ Some packet
     pub effect_is : slice_get effects number ≡ Some effect.Stored
     pub write : Write
     pub is_write : slice_get (stores plan h e w x bar) number ≡ Some (Some write)
     pub enabled : enables write.span offset ≡ true
     pub trusted : packet.prefix.t ≡ true
     pub runs : runs_at plan h x ≡ true
-    pub bound : bound_stream (tdi_at plan h x).state ≡ Some unit.stream
-    pub named : x.plan.stream ≡ unit.stream
-    pub from_floor : device_floor plan h x ≤ unit.draw
+    pub floor : ℕ
+    pub bound : floor_on unit.stream (all_bindings (device_floor plan h x) (tdi_at plan h x)) ≡ Some floor
+    pub from_floor : floor ≤ unit.draw
 
 -- in CONFIG_LOCKED and RUN, before the pair and after it, a byte of a range that is not open changes so alone
 abbrev pub GuardsBytes : Plan → History → Event → Verdict → Type 0
@@ -68,8 +72,9 @@ GuardsBytes plan h e w = (i : ℕ) (x : Site) (bar offset : ℕ) → site_at pla
 
 -- ---- the floor
 
--- A pair brought the interface into RUN, and before that pair its floor was the greatest draw that was On where the
--- device receives posted requests on its stream.
+-- A pair brought the interface into the RUN that it is in, under the lock that stands, and before that pair its floor
+-- was
+-- the greatest draw that was On where the device receives posted requests on its stream.
 pub record IsStartedUnder (plan : Plan) (h : History) (x : Site) (floor : ℕ) : Type 0 where
   pub event : Event
   pub verdict : Verdict
@@ -78,6 +83,7 @@ pub record IsStartedUnder (plan : Plan) (h : History) (x : Site) (floor : ℕ) :
   pub came : since ++ (event, verdict) ∷ older ≡ h
   pub rested : runs_at plan older x ≡ false
   pub runs : runs_at plan ((event, verdict) ∷ older) x ≡ true
+  pub same_lock : locks_at plan older x ≡ locks_at plan h x
   pub greatest : draw_at_device older x ≡ floor
   pub set : Bool
   pub on : draw_on_at older (posted_receiver x) set ≡ Some floor

@@ -1,4 +1,5 @@
 -- The writes that stand in the range of a BAR of an interface, by the effects in verdicts.
+use Rattle.link_history.specs.Ports.{port_of}
 use Rattle.std.specs.Prelude.{◌==◌, ◌&&◌, ◌∷◌, Bool, false, Err, List, None, Ok, Option, Result, Some, [], drop}
 use Rattle.std.specs.Prelude.{length, not, take, if◌then◌else◌, ℕ}
 use Rattle.ide_types.specs.Ports.{device_port}
@@ -55,7 +56,7 @@ stored_to xs place bar plain _ _ = []
 -- what a pair stores in the range of a BAR of an interface, packet by packet of the unit that it ends
 abbrev pub stores : Plan → History → Event → Verdict → Site → ℕ → List (Option Write)
 stores plan h e (Accepted port unit effects) x bar =
-    if is_same_port port (device_port x.link)
+    if is_same_port (port_of plan port) (device_port x.link)
     then stored_to (standings_at plan h x.link) (place_of plan x) bar
     (plain_of plan port unit (unit_ended plan h e port unit)) effects (unit_ended plan h e port unit)
     else []
@@ -72,7 +73,7 @@ asked_zero e w x bar = false
 
 -- a pair sets it to 0: it resets the link, or the interface is asked so
 abbrev pub sets_to_zero : Event → Verdict → Site → ℕ → Bool
-sets_to_zero (event.Reset l) (v.Reset k) x bar = l == x.link
+sets_to_zero (event.Reset l ends) (v.Reset k) x bar = l == x.link
 sets_to_zero e w x bar = asked_zero e w x bar
 
 -- the writes that were stored in it since it was last set to 0, the newest first

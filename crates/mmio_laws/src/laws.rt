@@ -7,7 +7,7 @@ ghost use Rattle.mmio_laws.specs.Statements.{MmioLawHolds};
 /// CONFIG_LOCKED or RUN, a byte of a range without attribute bit 2 changes only by a stored write of a trusted
 /// packet, in RUN, on the stream that the lock named, under a draw from the device's floor on. In RUN that floor is
 /// the greatest draw that was On where the device receives posted requests on that stream when the interface was
-/// started (PCI Express Base 6.0 chapter 11, in this profile).
+/// started under the lock that stands (PCI Express Base 6.0 chapter 11, in this profile).
 pub fn mmio_law()
     ensures { MmioLawHolds }
 {}

@@ -1,9 +1,10 @@
 -- The laws of interfaces and of trusted memory.
 use Rattle.origin_laws.specs.Statements.{InterfacesHaveCauses, RunLawHolds, MemoryLawHolds, OriginLawHolds}
-use Rattle.origin_laws.specs.Statements.{ReadLawHolds, ReadOriginLawHolds}
+use Rattle.origin_laws.specs.Statements.{BindOriginLawHolds, ReadLawHolds, ReadOriginLawHolds}
 use Rattle.interface_states.proofs.RunLaws.{run_law as runs}
 use Rattle.link_keys.proofs.Draws.{draws}
 use Rattle.sealing_laws.proofs.OfPlans.{streams_fit}
+use Rattle.origin_laws.proofs.BoundPackets.{bind_origin_law as bound_origins}
 use Rattle.origin_laws.proofs.Causes.{interface_cause}
 use Rattle.origin_laws.proofs.Memory.{memory_law as in_memory}
 use Rattle.origin_laws.proofs.Origins.{origin_law as from_run}
@@ -20,10 +21,14 @@ pub memory_law : MemoryLawHolds
 memory_law plan h cause = in_memory plan h cause
 
 pub origin_law : OriginLawHolds
-origin_law plan fits h cause forged = from_run plan (streams_fit plan fits) (draws plan) h cause forged
+origin_law plan fits h cause forged = from_run plan fits (streams_fit plan fits) (draws plan) h cause forged
 
 pub read_law : ReadLawHolds
 read_law plan h cause = reads_hold plan (draws plan) h cause
 
 pub read_origin_law : ReadOriginLawHolds
-read_origin_law plan fits h cause forged = read_origins plan (streams_fit plan fits) (draws plan) h cause forged
+read_origin_law plan fits h cause forged = read_origins plan fits (streams_fit plan fits) (draws plan) h cause forged
+
+pub bind_origin_law : BindOriginLawHolds
+bind_origin_law plan fits h cause forged =
+    bound_origins plan fits (streams_fit plan fits) (draws plan) h cause forged

@@ -1,4 +1,6 @@
 -- What is due of interfaces is due by them alone, and T is set as they say.
+use Rattle.interface_states.specs.Sites.{Site}
+use Rattle.std.specs.Prelude.{Option}
 use Rattle.sealing_laws.proofs.Terms.{◌≡◌, ℕ, ◌+◌, Bool, true, false, List, [], ◌∷◌, length, Result}
 use Rattle.sealing_laws.proofs.Terms.{refl, ap, sym, subst, if◌then◌else◌, unwrap_or, AllByRecursion, Plan}
 use Rattle.sealing_laws.proofs.Terms.{History, Event, Send, Verdict, PortName, Tlp, header, read_of, CauseLaw, Sending}
@@ -9,12 +11,24 @@ use Rattle.tlp_layout.specs.declared.fault.TlpFault.{TlpFault}
 use Rattle.stream_rules.specs.Sending.{first_that_holds, refusals, sealed_by}
 use Rattle.association.specs.Outgoing.{Outgoing, NoTlp, OnNone, OnStream, outgoing_of}
 use Rattle.association.proofs.Outgoing.{on_stream_reads}
-use Rattle.link_history.specs.Plan.{has_port, streams_of}
-use Rattle.link_history.specs.Due.{send_due}
+use Rattle.link_history.specs.Plan.{has_link, has_port, streams_of}
+use Rattle.link_history.specs.Due.{bytes_due, send_due}
+unfoldable use Rattle.link_history.specs.Due.{t_sealed}
+use Rattle.link_history.specs.Ports.{at_switch, goes_to_hop, may_send, outgoing_at}
+unfoldable use Rattle.link_history.specs.Ports.{sealing_end}
+use Rattle.ide_plan.specs.Ends.{hop_end}
+use Rattle.ide_types.specs.declared.port.Side.{Side}
+use Rattle.ide_types.specs.declared.port.Side.TheVariants.{Host, Device}
+use Rattle.tlp_layout.specs.declared.head.HeadView.{HeadView}
+use Rattle.std.specs.Prelude.{nat_le, nat_lt, not, ◌&&◌}
+use Rattle.std.proofs.Common.{arith, ◌∙◌}
+use Rattle.std.proofs.lemmas.Bool.Decides.{nat_tests}
 use Rattle.link_history.specs.Memory.{memory_due}
 use Rattle.interface_states.specs.Terms.{InterfaceEvent, SealedPacket}
 unfoldable use Rattle.interface_states.specs.Due.{interface_verdict_due as interface_due}
-use Rattle.interface_states.specs.Cause.{InterfaceCause, PairFits, SealFits, t_due, owner_at, owner_read}
+use Rattle.interface_states.specs.Cause.{InterfaceCause, PairFits, SealFits, is_peer, owner_at, owner_read, owners_link}
+use Rattle.interface_states.specs.Cause.{t_at}
+use Rattle.interface_states.specs.Devices.{peer_t}
 use Rattle.link_events.specs.declared.event.Event.TheVariants as event
 use Rattle.link_events.specs.declared.event.InterfaceEvent.TheVariants as ie
 use Rattle.link_verdicts.specs.declared.verdict.Verdict.TheVariants as v
@@ -31,6 +45,8 @@ given_free plan h (ie.Report i loss) w is = is
 given_free plan h (ie.Start i loss) w is = is
 given_free plan h (ie.Halt i loss) w is = is
 given_free plan h (ie.State i loss) w is = is
+given_free plan h (ie.Bind i line stream loss) w is = is
+given_free plan h (ie.Unbind i line stream loss) w is = is
 given_free plan h (ie.View i) w is = is
 given_free plan h (ie.Write i register value) w is = is
 given_free plan h (ie.Flr i) w is = is
@@ -54,19 +70,19 @@ first_fits plan h port bytes more trusted ((false, w) ∷ xs) last all ends = fi
 -- a sync packet, and the TLP's
 sync_fits : (plan : Plan) (h : History) (bytes : List ℕ) (trusted : Bool) (x : Lanes) (s : Sending) (u : SubKind)
     (number : ℕ) (m : Bool)
-    → SealFits plan h s.port bytes trusted (described x s u number m false true)
-sync_fits plan h bytes trusted x s u number m = record { port_is = refl; t_is = refl }
+    → SealFits plan h bytes trusted (described x s u number m false true)
+sync_fits plan h bytes trusted x s u number m = record { t_is = refl }
 
 tlp_fits : (plan : Plan) (h : History) (bytes : List ℕ) (trusted : Bool) (x : Lanes) (s : Sending) (u : SubKind)
     (number : ℕ) (m : Bool)
-    → s.trusted ≡ t_due plan h s.port s.port.side (owner_read plan s.port.link (read_of bytes)) s.stream trusted
-    → SealFits plan h s.port bytes trusted (described x s u number m (sets_trusted s.port s.trusted) false)
-tlp_fits plan h bytes trusted x s u number m t = record { port_is = refl; t_is = t }
+    → s.trusted ≡ t_at plan h s.port (owner_read plan (owners_link plan s.port) (read_of bytes)) s.stream trusted
+    → SealFits plan h bytes trusted (described x s u number m (sets_trusted s.port s.trusted) false)
+tlp_fits plan h bytes trusted x s u number m t = record { t_is = t }
 
 listed_fits : (plan : Plan) (h : History) (bytes : List ℕ) (trusted : Bool) (x : Lanes) (s : Sending) (number : ℕ)
     (n c : Bool)
-    → s.trusted ≡ t_due plan h s.port s.port.side (owner_read plan s.port.link (read_of bytes)) s.stream trusted
-    → AllByRecursion (SealFits plan h s.port bytes trusted) (listed x s number n c)
+    → s.trusted ≡ t_at plan h s.port (owner_read plan (owners_link plan s.port) (read_of bytes)) s.stream trusted
+    → AllByRecursion (SealFits plan h bytes trusted) (listed x s number n c)
 unfolding listed
 listed_fits plan h bytes trusted x s number false false t =
     (tlp_fits plan h bytes trusted x s s.class _ (ends_unit x s) t, tt)
@@ -85,47 +101,103 @@ listed_fits plan h bytes trusted x s number true true t = (
 )
 
 sealed_fits : (plan : Plan) (h : History) (bytes : List ℕ) (trusted : Bool) (x : Lanes) (s : Sending) (number : ℕ)
-    → s.trusted ≡ t_due plan h s.port s.port.side (owner_read plan s.port.link (read_of bytes)) s.stream trusted
-    → AllByRecursion (SealFits plan h s.port bytes trusted) (sealed_by x s number)
+    → s.trusted ≡ t_at plan h s.port (owner_read plan (owners_link plan s.port) (read_of bytes)) s.stream trusted
+    → AllByRecursion (SealFits plan h bytes trusted) (sealed_by x s number)
 sealed_fits plan h bytes trusted x s number t =
-    subst (AllByRecursion (SealFits plan h s.port bytes trusted)) (sym (sealed_by_is x s number))
+    subst (AllByRecursion (SealFits plan h bytes trusted)) (sym (sealed_by_is x s number))
     (listed_fits plan h bytes trusted x s number (needs_sync x s.class Npr) (needs_sync x s.class Cpl) t)
 
-outgoing_fits : (plan : Plan) (h : History) (port : PortName) (bytes : List ℕ) (more trusted : Bool) (o : Outgoing)
-    → outgoing_of (streams_of plan port.link) port.side bytes ≡ o
-    → Fits plan h port bytes more trusted (send_due plan h port o more trusted)
-outgoing_fits plan h port bytes more trusted (NoTlp f) comes = tt
-outgoing_fits plan h port bytes more trusted OnNone comes = tt
-outgoing_fits plan h port bytes more trusted (OnStream t stream) comes =
+-- an end that sends its own TLPs: on a device's side it is at no switch
+abbrev pub SendsOwn : Plan → PortName → Type 0
+SendsOwn plan port = port.side ≡ Device → at_switch plan port ≡ false
+
+late_is_none : (a : Bool) (line links : ℕ) → (a && (nat_le 16 line && nat_lt line 24)) ≡ true
+    → (nat_le 24 line && not (nat_lt line links)) ≡ false
+late_is_none a line links at = grind (arith, nat_tests)
+
+host_t : (a late trusted peer : Bool) → (a ≡ true → late ≡ false)
+    → (if a then trusted else if late then peer else trusted) ≡ (if late then peer else trusted)
+host_t a late trusted peer other = grind arith
+
+own_t : (plan : Plan) (h : History) (port : PortName) (head : HeadView) (stream : ℕ) (trusted : Bool)
+    → SendsOwn plan port
+    → t_sealed plan h port head stream trusted
+    ≡ t_at plan h port (owner_at plan (owners_link plan port) head) stream trusted
+unfolding t_sealed
+own_t plan h port head stream trusted own = by port.side refl
+  where
+    owner : Option Site
+    owner = owner_at plan (owners_link plan port) head
+
+    by : (side : Side) → port.side ≡ side
+        → (if at_switch plan (record { side = side; link = port.link }) then trusted
+        else t_at plan h (record { side = side; link = port.link }) owner stream trusted)
+        ≡ t_at plan h (record { side = side; link = port.link }) owner stream trusted
+    by Host is = host_t (not (has_link plan port.link) && (nat_le 16 port.link && nat_lt port.link 24))
+        (is_peer plan port)
+        trusted
+        (peer_t plan h owner stream)
+        (late_is_none (not (has_link plan port.link)) port.link (length plan.links))
+    by Device is =
+        let off : at_switch plan (record { side = Device; link = port.link }) ≡ false =
+        subst (λ (side : Side). at_switch plan (record { side = side; link = port.link }) ≡ false) is (own is) in
+        rw off refl
+
+outgoing_fits : (plan : Plan) (h : History) (sender port : PortName) (bytes : List ℕ) (more trusted : Bool)
+    (o : Outgoing) → SendsOwn plan port → outgoing_of (streams_of plan port.link) port.side bytes ≡ o
+    → Fits plan h sender bytes more trusted (send_due plan h port o more trusted)
+outgoing_fits plan h sender port bytes more trusted (NoTlp f) own comes = tt
+outgoing_fits plan h sender port bytes more trusted OnNone own comes = tt
+outgoing_fits plan h sender port bytes more trusted (OnStream t stream) own comes =
     let s : Sending = record {
       port = port;
       stream = stream;
       class = class_of (header t);
       more = more;
-      trusted = t_due plan h port port.side (owner_at plan port.link (header t)) stream trusted;
+      trusted = t_sealed plan h port (header t) stream trusted;
     } in
-    first_fits plan h port bytes more trusted (refusals (lanes_at plan h port stream) s.class) _
+    first_fits plan h sender bytes more trusted (refusals (lanes_at plan h port stream) s.class) _
     (tt, (tt, (tt, (tt, (tt, (tt, (tt, (tt, tt))))))))
     (sealed_fits plan h bytes trusted (lanes_at plan h port stream) s (length (sealed_packets plan h) + 1)
-    (ap (λ (r : Result Tlp TlpFault). t_due plan h port port.side (owner_read plan port.link r) stream trusted)
+    (own_t plan h port (header t) stream trusted own
+    ∙ ap (λ (r : Result Tlp TlpFault). t_at plan h port (owner_read plan (owners_link plan port) r) stream trusted)
     (sym (on_stream_reads (streams_of plan port.link) port.side bytes t stream comes).0)))
 
-here_fits : (plan : Plan) (h : History) (port : PortName) (bytes : List ℕ) (more trusted here : Bool)
+-- where it goes to the hop it is sealed at the hop's end
+own_end : (plan : Plan) (port : PortName) (bytes : List ℕ) → at_switch plan port ≡ false
+    → SendsOwn plan (sealing_end plan port bytes)
+unfolding sealing_end
+own_end plan port bytes own = by (goes_to_hop plan port bytes)
+  where
+    by : (b : Bool) → SendsOwn plan (if b then hop_end port.side port.link else port)
+    by true is = by_side port.side is
+      where
+        by_side : (side : Side) → SendsOwn plan (hop_end side port.link)
+        by_side Host is = absurd cc
+        by_side Device is = grind (arith, nat_tests)
+    by false is = own
+
+here_fits : (plan : Plan) (h : History) (port : PortName) (bytes : List ℕ) (more trusted : Bool)
     → Fits plan h port bytes more trusted
-    (if here then send_due plan h port (outgoing_of (streams_of plan port.link) port.side bytes) more trusted
-    else v.Nothing)
-here_fits plan h port bytes more trusted false = tt
-here_fits plan h port bytes more trusted true = outgoing_fits plan h port bytes more trusted
-    (outgoing_of (streams_of plan port.link) port.side bytes) refl
+    (if may_send plan port then bytes_due plan h (sealing_end plan port bytes) bytes more trusted else v.Nothing)
+here_fits plan h port bytes more trusted = by (has_port plan port) (at_switch plan port) refl
+  where
+    by : (has switch : Bool) → at_switch plan port ≡ switch → Fits plan h port bytes more trusted
+        (if has && not switch then bytes_due plan h (sealing_end plan port bytes) bytes more trusted else v.Nothing)
+    by true false own = outgoing_fits plan h port (sealing_end plan port bytes) bytes more trusted
+        (outgoing_at plan (sealing_end plan port bytes) bytes) (own_end plan port bytes own) refl
+    by true true own = tt
+    by false switch own = tt
 
 -- of what was sealed
 pub sent_fits : (plan : Plan) (h : History) (port : PortName) (bytes : List ℕ) (more trusted : Bool)
-    (ds : List SealedPacket)
+    (ds : List SealedPacket) → SendsOwn plan port
     → v.Sealed ds ≡ send_due plan h port (outgoing_of (streams_of plan port.link) port.side bytes) more trusted
-    → AllByRecursion (SealFits plan h port bytes trusted) ds
-sent_fits plan h port bytes more trusted ds is =
+    → AllByRecursion (SealFits plan h bytes trusted) ds
+sent_fits plan h port bytes more trusted ds own is =
     subst (Fits plan h port bytes more trusted) (sym is)
-    (outgoing_fits plan h port bytes more trusted (outgoing_of (streams_of plan port.link) port.side bytes) refl)
+    (outgoing_fits plan h port port bytes more trusted (outgoing_of (streams_of plan port.link) port.side bytes) own
+    refl)
 
 -- ---- all events
 
@@ -134,7 +206,7 @@ unfolding due
 pair_fits plan h (event.Interface e) w is = given_free plan h e w is
 pair_fits plan h (event.Send port bytes more trusted) w is =
     subst (Fits plan h port bytes more trusted) (sym is)
-    (here_fits plan h port bytes more trusted (has_port plan port))
+    (here_fits plan h port bytes more trusted)
 pair_fits plan h e w is = tt
 
 pub interface_cause : (plan : Plan) (h : History) → CauseLaw plan h → InterfaceCause plan h

@@ -4,9 +4,19 @@ use Rattle.sealing_laws.proofs.Terms.{[], ◌∷◌, ◌++◌, length, length-ap
 use Rattle.sealing_laws.proofs.Terms.{arith, if◌then◌else◌, AllByRecursion, nat_tests, Plan, History, base, Event, Send}
 use Rattle.sealing_laws.proofs.Terms.{Verdict, Sealed, SealedPacket, PortName, Packet, SealedList, ahead_of_packet}
 use Rattle.sealing_laws.proofs.Terms.{with_sealed, open_unit, sent_in, sub_stream_of, eqb-refl}
-use Rattle.sealing_laws.proofs.Terms.{CauseLaw, due, sealing_is, sealed_by_sealing, AllLive, all_live, sent_bytes}
+unfoldable use Rattle.sealing_laws.proofs.Terms.{due}
+use Rattle.sealing_laws.proofs.Terms.{CauseLaw, sealing_is, sealed_by_sealing, AllLive, all_live, sent_bytes}
 use Rattle.sealing_laws.proofs.Terms.{sending_port, ◌∙◌}
-use Rattle.link_history.proofs.Terms.{Host, Device, Side}
+use Rattle.ide_types.specs.declared.direction.Direction.{Direction}
+use Rattle.ide_types.specs.declared.direction.Direction.TheVariants.{Downstream, Upstream}
+use Rattle.ide_plan.specs.Fits.{FitsPlan}
+use Rattle.link_history.specs.Hops.{has_hop, leaving_end}
+use Rattle.link_history.specs.Plan.{has_link}
+use Rattle.link_history.specs.Due.{answer_first, answer_out}
+use Rattle.link_history.specs.Memory.{waiting}
+use Rattle.ide_types.specs.Ports.{host_port}
+use Rattle.read_order.proofs.Forwarded.{forward_means}
+use Rattle.link_history.proofs.Terms.{Device}
 unfoldable use Rattle.link_history.proofs.Terms.{bytes_by}
 use Rattle.link_events.specs.declared.event.AccessEvent.TheVariants as ae
 unfoldable use Rattle.sealing_laws.proofs.Terms.{sealed_packets, packet_of}
@@ -116,37 +126,47 @@ sealing_later plan h x k d p at = record {
   new = at.new;
 }
 
--- an answer's packets are the host's
-live_port : (plan : Plan) (h : History) (port : PortName) (stream : ℕ) (ds : List SealedPacket) (i : ℕ)
+-- the packets of an event are those of its end
+pub live_port : (plan : Plan) (h : History) (port : PortName) (stream : ℕ) (ds : List SealedPacket) (i : ℕ)
     (d : SealedPacket) → AllLive plan h port stream ds → slice_get ds i ≡ Some d → d.port ≡ port
 live_port plan h port stream [] i d all is = absurd cc
 live_port plan h port stream (y ∷ ds) zero d all is =
     let same : y ≡ d = cc (is) in ap (λ (z : SealedPacket). z.port) (sym same) ∙ all.0.port_is
 live_port plan h port stream (y ∷ ds) (suc i) d all is = live_port plan h port stream ds i d all.1 is
 
-answered_by_host : (plan : Plan) (h : History) (link : ℕ) (ds : List SealedPacket) (i : ℕ) (d : SealedPacket)
-    → Sealed ds ≡ due plan h (event.Access (ae.Answer link)) → slice_get ds i ≡ Some d
-    → d.port ≡ record { side = Host; link = link }
-answered_by_host plan h link ds i d is at =
-    let e = event.Access (ae.Answer link) in
+sealed_at_end : (plan : Plan) (h : History) (e : Event) (ds : List SealedPacket) (i : ℕ) (d : SealedPacket)
+    → Sealed ds ≡ due plan h e → slice_get ds i ≡ Some d → d.port ≡ sending_port plan e
+sealed_at_end plan h e ds i d is at =
     let sealing = sealing_is plan h e ds is in
     live_port plan h sealing.sending.port sealing.sending.stream ds i d
-    (all_live plan h (sending_port e) (sent_bytes plan h e) ds sealing) at
+    (all_live plan h (sending_port plan e) (sent_bytes plan h e) ds sealing) at
     ∙ sealing.at_port
 
-host_or_device : (side : Side) → side ≡ Host → side ≡ Device → ⊥
-host_or_device side host device = absurd cc
+-- an answer and a forward that seal are of a link, and of a link's hop, that the topology has
+answers_link : (plan : Plan) (h : History) (link : ℕ) (ds : List SealedPacket)
+    → Sealed ds ≡ due plan h (event.Access (ae.Answer link)) → has_link plan link ≡ true
+unfolding due
+answers_link plan h link ds is = by (has_link plan link) refl is
+  where
+    by : (b : Bool) → has_link plan link ≡ b
+        → Sealed ds ≡ (if b
+        then answer_first plan h (sending_port plan (event.Access (ae.Answer link))) (waiting plan h link)
+        (answer_out plan h link) else v.Nothing) → has_link plan link ≡ true
+    by true known is = known
+    by false known is = absurd cc
 
--- of a device's packet
-pub sealing_of : (plan : Plan) (h : History) → CauseLaw plan h → (k : ℕ) (d : SealedPacket) (p : Packet)
-    → d.port.side ≡ Device → slice_get (sealed_packets plan h) k ≡ Some (d, p) → Sealing plan h k d p
+-- of a packet that was sealed at no end of an answer or of a forward
+pub sealing_by : (plan : Plan) (h : History) → CauseLaw plan h → (k : ℕ) (d : SealedPacket) (p : Packet)
+    → ((link : ℕ) → has_link plan link ≡ true → d.port ≡ host_port link → ⊥)
+    → ((link : ℕ) (way : Direction) → has_hop plan link ≡ true → d.port ≡ leaving_end link way → ⊥)
+    → slice_get (sealed_packets plan h) k ≡ Some (d, p) → Sealing plan h k d p
 unfolding sealed_packets bytes_by
-sealing_of plan [] cause k d p device is = absurd cc
-sealing_of plan ((Send port bytes more trusted, Sealed ds) ∷ h) cause k d p device is =
+sealing_by plan [] cause k d p answers forwards is = absurd cc
+sealing_by plan ((Send port bytes more trusted, Sealed ds) ∷ h) cause k d p answers forwards is =
     elim (with_at plan (ahead_of_packet plan (sealed_packets plan h) (base h)) bytes ds (sealed_packets plan h) k (d, p)
     is) [
       | inl before ↦ sealing_later plan h (Send port bytes more trusted, Sealed ds) k d p
-          (sealing_of plan h cause.1 k d p device before)
+          (sealing_by plan h cause.1 k d p answers forwards before)
       | inr new ↦ record {
         port = port;
         bytes = bytes;
@@ -161,18 +181,47 @@ sealing_of plan ((Send port bytes more trusted, Sealed ds) ∷ h) cause k d p de
         new = new.1;
       }
     ]
-sealing_of plan ((event.Access (ae.Answer link), Sealed ds) ∷ h) cause k d p device is =
+sealing_by plan ((event.Access (ae.Answer link), Sealed ds) ∷ h) cause k d p answers forwards is =
     let e = event.Access (ae.Answer link) in
     elim (with_at plan (ahead_of_packet plan (sealed_packets plan h) (base h)) (sent_bytes plan h e) ds
     (sealed_packets plan h) k (d, p) is) [
-      | inl before ↦ sealing_later plan h (e, Sealed ds) k d p (sealing_of plan h cause.1 k d p device before)
-      | inr new ↦ absurd (host_or_device d.port.side
-          (ap (λ (q : PortName). q.side) (answered_by_host plan h link ds new.1.index d cause.0 new.1.listed)) device)
+      | inl before ↦ sealing_later plan h (e, Sealed ds) k d p
+          (sealing_by plan h cause.1 k d p answers forwards before)
+      | inr new ↦ absurd (answers link (answers_link plan h link ds cause.0)
+          (sealed_at_end plan h e ds new.1.index d cause.0 new.1.listed))
     ]
-sealing_of plan ((e, Sealed ds) ∷ h) cause k d p device is = absurd
+sealing_by plan ((event.Forward link way, Sealed ds) ∷ h) cause k d p answers forwards is =
+    let e = event.Forward link way in
+    elim (with_at plan (ahead_of_packet plan (sealed_packets plan h) (base h)) (sent_bytes plan h e) ds
+    (sealed_packets plan h) k (d, p) is) [
+      | inl before ↦ sealing_later plan h (e, Sealed ds) k d p
+          (sealing_by plan h cause.1 k d p answers forwards before)
+      | inr new ↦ absurd (forwards link way (forward_means plan h link way ds cause.0).known
+          (sealed_at_end plan h e ds new.1.index d cause.0 new.1.listed))
+    ]
+sealing_by plan ((e, Sealed ds) ∷ h) cause k d p answers forwards is = absurd
     (let sealing = sealed_by_sealing plan h e ds cause.0 in cc)
-sealing_of plan ((e, w) ∷ h) cause k d p device is =
-    sealing_later plan h (e, w) k d p (sealing_of plan h cause.1 k d p device is)
+sealing_by plan ((e, w) ∷ h) cause k d p answers forwards is =
+    sealing_later plan h (e, w) k d p (sealing_by plan h cause.1 k d p answers forwards is)
+
+host_or_device : (e : PortName) (link : ℕ) → e ≡ host_port link → e.side ≡ Device → ⊥
+host_or_device e link host device = let side = ap (λ (q : PortName). q.side) host in absurd cc
+
+-- a switch is on no link
+leaving_far : (plan : Plan) → FitsPlan plan → (link : ℕ) (way : Direction)
+    → (leaving_end link way).link < length plan.links → ⊥
+leaving_far plan fits link Downstream less = let most = fits.links_most in omega (arith, less, most)
+leaving_far plan fits link Upstream less = let most = fits.links_most in omega (arith, less, most)
+
+-- of a packet of a link's device
+pub sealing_of : (plan : Plan) → FitsPlan plan → (h : History) → CauseLaw plan h
+    → (k : ℕ) (d : SealedPacket) (p : Packet)
+    → d.port.side ≡ Device → d.port.link < length plan.links → slice_get (sealed_packets plan h) k ≡ Some (d, p)
+    → Sealing plan h k d p
+sealing_of plan fits h cause k d p device less is =
+    sealing_by plan h cause k d p (λ link known same. host_or_device d.port link same device)
+    (λ link way known same. leaving_far plan fits link way
+    (subst (λ (q : PortName). q.link < length plan.links) same less)) is
 
 -- ---- what holds of a history holds at each pair that it came from
 

@@ -1,4 +1,6 @@
 -- Exactly the admitted writes are applied, and memory shows what they left.
+use Rattle.link_history.specs.Ports.{at_switch, port_of}
+use Rattle.link_history.specs.Admission.{switch_effect}
 use Rattle.sealing_laws.proofs.Terms.{◌≡◌, ℕ, ◌+◌, ◌<◌, ◌==◌, ◌&&◌, zero, suc, Bool, true, false, not, List, [], ◌∷◌}
 use Rattle.sealing_laws.proofs.Terms.{length, map, take, drop, slice_get, is_some, Option, Some, None, Result, Ok, Err}
 use Rattle.sealing_laws.proofs.Terms.{refl, ap, sym, ◌∙◌, arith, if◌then◌else◌, Plan, History, Event, Verdict, Accepted}
@@ -107,16 +109,19 @@ device_says xs unit p (Ok head) = mmio_says xs p.prefix.t unit.stream unit.draw 
 effect_says : (plan : Plan) (policy : Policy) (n : ℕ) (port : PortName) (unit : UnitName) (p : Packet)
     (payload : List ℕ)
     → is_applied (effect_by plan policy n port unit p) ≡ is_some (admitted plan policy.grants port unit p payload)
-effect_says plan policy n port unit p payload = by (is_sync_packet p) (sent_direction port.side == 0)
+effect_says plan policy n port unit p payload = by (is_sync_packet p) (at_switch plan port)
+    (sent_direction port.side == 0)
   where
-    by : (s b : Bool) → is_applied
-        (if s then effect.Sync else if b then host_effect plan policy.grants n port unit p (read_head_of p.head)
+    by : (s c b : Bool) → is_applied
+        (if s then effect.Sync else if c then switch_effect else if b then host_effect plan policy.grants n port unit p
+        (read_head_of p.head)
         else device_effect (policy.standings port.link) unit p (read_head_of p.head))
-        ≡ is_some (if not s && b then admitted_as plan policy.grants port unit p.prefix.t payload
+        ≡ is_some (if not s && (not c && b) then admitted_as plan policy.grants port unit p.prefix.t payload
         (read_head_of p.head) else None)
-    by true b = refl
-    by false false = device_says (policy.standings port.link) unit p (read_head_of p.head)
-    by false true = head_says plan policy n port unit p payload (read_head_of p.head)
+    by true c b = refl
+    by false true b = refl
+    by false false false = device_says (policy.standings port.link) unit p (read_head_of p.head)
+    by false false true = head_says plan policy n port unit p payload (read_head_of p.head)
 
 each_says : (plan : Plan) (policy : Policy) (n : ℕ) (port : PortName) (unit : UnitName) (plain : List ℕ)
     (ps : List Packet)
@@ -137,7 +142,7 @@ applies plan h e port unit effects is =
     let same = unit_that_ends plan h e port unit by.packet by.came by.passed in
     let effects_are = by.effects_are ∙ ap (λ (ps : List Packet). effects_of plan h port unit ps) (sym same) in
     ap (λ (es : List Effect). map is_applied es) effects_are
-    ∙ each_says plan (policy_at plan h) ((policy_at plan h).waiting port.link) port unit
+    ∙ each_says plan (policy_at plan h) ((policy_at plan h).waiting (port_of plan port).link) (port_of plan port) unit
     (plain_of plan port unit (unit_ended plan h e port unit)) (unit_ended plan h e port unit)
 
 -- ---- what is shown

@@ -27,7 +27,11 @@ use Rattle.trusted_memory.specs.Writes.{byte_after}
 use Rattle.waiting_reads.specs.declared.read.MemReadView.{MemReadView}
 unfoldable use Rattle.waiting_reads.specs.Completions.{completion_bytes}
 use Rattle.interface_states.specs.Views.{view_at, floor_at}
-use Rattle.interface_states.specs.Cause.{SealFits}
+use Rattle.interface_states.specs.Cause.{SealFits, t_at, owner_read, owners_link}
+use Rattle.interface_states.specs.Devices.{peer_t}
+use Rattle.link_history.specs.Plan.{has_link}
+use Rattle.std.specs.Prelude.{length, nat_le}
+use Rattle.ide_types.specs.declared.port.Side.TheVariants.{Host}
 use Rattle.link_verdicts.specs.declared.verdict.BlockCause.{BlockCause}
 use Rattle.link_verdicts.specs.declared.verdict.BlockCause.TheVariants as blocks
 use Rattle.link_events.specs.declared.event.AccessEvent.TheVariants as ae
@@ -45,15 +49,16 @@ use Rattle.std.proofs.lemmas.Bool.{true≢false}
 
 -- ---- the oldest that waits
 
-record Owned (plan : Plan) (h : History) (link : ℕ) (w : Verdict) (read : WaitingRead) : Type 0 where
-  site : Site
-  owns : site_with plan link read.read.requester ≡ Some site
-  is : w ≡ answer_by plan h (sending_port (Access (ae.Answer link))) site.number read.draw (granted_to h (Some site))
+pub record Owned (plan : Plan) (h : History) (link : ℕ) (w : Verdict) (read : WaitingRead) : Type 0 where
+  pub site : Site
+  pub owns : site_with plan link read.read.requester ≡ Some site
+  pub is : w ≡ answer_by plan h (sending_port plan (Access (ae.Answer link))) site.number read.draw
+      (granted_to h (Some site))
       (answer_out plan h link)
 
-owned_means : (plan : Plan) (h : History) (link : ℕ) (w : Verdict) (read : WaitingRead) (o : Option Site)
+pub owned_means : (plan : Plan) (h : History) (link : ℕ) (w : Verdict) (read : WaitingRead) (o : Option Site)
     → takes w ≡ true → site_with plan link read.read.requester ≡ o
-    → w ≡ answer_from plan h (sending_port (Access (ae.Answer link))) read.draw o (answer_out plan h link)
+    → w ≡ answer_from plan h (sending_port plan (Access (ae.Answer link))) read.draw o (answer_out plan h link)
     → Owned plan h link w read
 owned_means plan h link w read None take owns is = absurd (clash w v.Nothing take refl is)
 owned_means plan h link w read (Some x) take owns is = record { site = x; owns = owns; is = is }
@@ -122,7 +127,7 @@ dropped_with : (plan : Plan) (h : History) (link i : ℕ) (cause : BlockCause)
     (owned : Owned plan h link (v.Access (av.Dropped i cause)) first.read) → IsDropped plan h link i
 dropped_with plan h link i cause first owned = record {
   of = oldest_of plan h link (v.Access (av.Dropped i cause)) first owned;
-  number = dropped_by plan h (sending_port (Access (ae.Answer link))) i owned.site.number first.read.draw cause
+  number = dropped_by plan h (sending_port plan (Access (ae.Answer link))) i owned.site.number first.read.draw cause
       (granted_to h (Some owned.site)) (answer_out plan h link) owned.is;
 }
 
@@ -136,37 +141,40 @@ dropped plan h link i cause is =
 
 -- ---- sealed
 
-record Under (plan : Plan) (h : History) (link : ℕ) (ds : List SealedPacket) (x : Site) (draw : ℕ) : Type 0 where
-  bound : ℕ × ℕ
-  is : granted_to h (Some x) ≡ Some bound
-  stream : is_stream bound.0 (stream_taken (answer_out plan h link)) ≡ true
-  fresh : nat_lt draw bound.1 ≡ false
-  key : is_before (live_key h (sending_port (Access (ae.Answer link)))
-      (lane_out (sending_port (Access (ae.Answer link))) bound.0 Cpl)) bound.1 ≡ false
-  sent : Sealed ds ≡ send_due plan h (sending_port (Access (ae.Answer link))) (answer_out plan h link) false true
+pub record Under (plan : Plan) (h : History) (link : ℕ) (ds : List SealedPacket) (x : Site) (draw : ℕ) : Type 0 where
+  pub bound : ℕ × ℕ
+  pub is : granted_to h (Some x) ≡ Some bound
+  pub stream : is_stream bound.0 (stream_taken (answer_out plan h link)) ≡ true
+  pub fresh : nat_lt draw bound.1 ≡ false
+  pub key : is_before (live_key h (sending_port plan (Access (ae.Answer link)))
+      (lane_out (sending_port plan (Access (ae.Answer link))) bound.0 Cpl)) bound.1 ≡ false
+  pub sent : Sealed ds ≡ send_due plan h (sending_port plan (Access (ae.Answer link))) (answer_out plan h link) false
+      true
 
 not_true : (b : Bool) → not b ≡ false → b ≡ true
 not_true true e = refl
 not_true false e = absurd cc
 
-under_means : (plan : Plan) (h : History) (link : ℕ) (ds : List SealedPacket) (x : Site) (draw : ℕ)
+pub under_means : (plan : Plan) (h : History) (link : ℕ) (ds : List SealedPacket) (x : Site) (draw : ℕ)
     (o : Option (ℕ × ℕ)) → granted_to h (Some x) ≡ o
-    → Sealed ds ≡ answer_by plan h (sending_port (Access (ae.Answer link))) x.number draw o (answer_out plan h link)
+    → Sealed ds ≡ answer_by plan h (sending_port plan (Access (ae.Answer link))) x.number draw o
+    (answer_out plan h link)
     → Under plan h link ds x draw
 under_means plan h link ds x draw None bound is = absurd cc
 under_means plan h link ds x draw (Some b) bound is =
     by (not (is_stream b.0 (stream_taken (answer_out plan h link)))) (nat_lt draw b.1)
-    (is_before (live_key h (sending_port (Access (ae.Answer link)))
-    (lane_out (sending_port (Access (ae.Answer link))) b.0 Cpl)) b.1) refl refl refl is
+    (is_before (live_key h (sending_port plan (Access (ae.Answer link)))
+    (lane_out (sending_port plan (Access (ae.Answer link))) b.0 Cpl)) b.1) refl refl refl is
   where
     by : (p q r : Bool) → not (is_stream b.0 (stream_taken (answer_out plan h link))) ≡ p → nat_lt draw b.1 ≡ q
-        → is_before (live_key h (sending_port (Access (ae.Answer link)))
-        (lane_out (sending_port (Access (ae.Answer link))) b.0 Cpl)) b.1 ≡ r
+        → is_before (live_key h (sending_port plan (Access (ae.Answer link)))
+        (lane_out (sending_port plan (Access (ae.Answer link))) b.0 Cpl)) b.1 ≡ r
         → Sealed ds ≡ (if p then v.Access (av.Dropped x.number blocks.WrongStream)
         else if q then v.Access (av.Dropped x.number blocks.Stale)
-        else if r then v.Interface (iv.RefusedRefreshFirst (draw_of (live_key h (sending_port (Access (ae.Answer link)))
-        (lane_out (sending_port (Access (ae.Answer link))) b.0 Cpl))) b.1)
-        else send_due plan h (sending_port (Access (ae.Answer link))) (answer_out plan h link) false true)
+        else if r then v.Interface
+        (iv.RefusedRefreshFirst (draw_of (live_key h (sending_port plan (Access (ae.Answer link)))
+        (lane_out (sending_port plan (Access (ae.Answer link))) b.0 Cpl))) b.1)
+        else send_due plan h (sending_port plan (Access (ae.Answer link))) (answer_out plan h link) false true)
         → Under plan h link ds x draw
     by true q r s f k is = absurd cc
     by false true r s f k is = absurd cc
@@ -186,23 +194,42 @@ took : (out : Outgoing) (t : Tlp) (bound stream : ℕ) → out ≡ OnStream t st
 took out t bound stream comes is =
     same_number stream bound (subst (λ (o : Outgoing). is_stream bound (stream_taken o) ≡ true) comes is)
 
+abbrev answering : ℕ → Event
+answering link = Access (ae.Answer link)
+
+abbrev host_owner : Plan → History → ℕ → Option Site
+host_owner plan h link = owner_read plan (owners_link plan (record { side = Host; link = link }))
+    (read_of (sent_bytes plan h (Access (ae.Answer link))))
+
+-- the end of a link's host is of no stream between devices
+host_t : (plan : Plan) (h : History) (link : ℕ) (owner : Option Site) (stream : ℕ) → has_link plan link ≡ true
+    → t_at plan h (record { side = Host; link = link }) owner stream true ≡ true
+host_t plan h link owner stream has = by (nat_le 24 link) (nat_lt link (length plan.links)) has
+  where
+    by : (late there : Bool) → there ≡ true
+        → (if late && not there then peer_t plan h owner stream else true) ≡ true
+    by late there is = grind arith
+
 carried : (plan : Plan) (h : History) (link : ℕ) (x : Site) (bound : ℕ × ℕ) (port : PortName) (stream : ℕ)
     (d : SealedPacket) → bound ≡ (x.plan.stream, floor_at h x)
-    → port ≡ sending_port (Access (ae.Answer link)) → stream ≡ bound.0
-    → is_before (live_key h (sending_port (Access (ae.Answer link)))
-    (lane_out (sending_port (Access (ae.Answer link))) bound.0 Cpl)) bound.1 ≡ false
+    → port ≡ sending_port plan (Access (ae.Answer link)) → stream ≡ bound.0
+    → is_before (live_key h (sending_port plan (Access (ae.Answer link)))
+    (lane_out (sending_port plan (Access (ae.Answer link))) bound.0 Cpl)) bound.1 ≡ false
     → IsLive plan h port stream d → (d.sync ≡ false → d.sub ≡ Cpl)
-    → SealFits plan h (sending_port (Access (ae.Answer link))) (sent_bytes plan h (Access (ae.Answer link))) true d
+    → has_link plan link ≡ true → SealFits plan h (sent_bytes plan h (Access (ae.Answer link))) true d
     → Carries h link x d
-carried plan h link x bound port stream d bound_is port_is stream_is key live class fits = record {
+carried plan h link x bound port stream d bound_is port_is stream_is key live class has fits = record {
   port_is = live.port_is ∙ port_is;
   stream_is = live.stream_is ∙ (stream_is ∙ ap (λ (c : ℕ × ℕ). c.0) bound_is);
-  t_is = λ plain. fits.t_is ∙ ap (λ (b : Bool). if b then false else true) plain;
+  t_is = λ plain. fits.t_is ∙ ((λ i. if plain i then false
+      else t_at plan h ((live.port_is ∙ port_is) i)
+      (owner_read plan (owners_link plan ((live.port_is ∙ port_is) i)) (read_of (sent_bytes plan h (answering link))))
+      d.stream true) ∙ host_t plan h link (host_owner plan h link) d.stream has);
   sub_is = class;
   draw_is = λ plain.
       let is_cpl = class plain in
-      let there : live_key h (sending_port (Access (ae.Answer link)))
-      (lane_out (sending_port (Access (ae.Answer link))) bound.0 Cpl) ≡ Some live.key =
+      let there : live_key h (sending_port plan (Access (ae.Answer link)))
+      (lane_out (sending_port plan (Access (ae.Answer link))) bound.0 Cpl) ≡ Some live.key =
       sym (λ i. live_key h (port_is i) (lane_out (port_is i) (stream_is i) (is_cpl i))) ∙ live.live in
       let up = none_before _ live.key bound.1 there key in
       let floor = ap (λ (c : ℕ × ℕ). c.1) bound_is in
@@ -211,17 +238,17 @@ carried plan h link x bound port stream d bound_is port_is stream_is key live cl
 
 all_carried : (plan : Plan) (h : History) (link : ℕ) (x : Site) (bound : ℕ × ℕ) (port : PortName) (stream : ℕ)
     (ds : List SealedPacket) → bound ≡ (x.plan.stream, floor_at h x)
-    → port ≡ sending_port (Access (ae.Answer link)) → stream ≡ bound.0
-    → is_before (live_key h (sending_port (Access (ae.Answer link)))
-    (lane_out (sending_port (Access (ae.Answer link))) bound.0 Cpl)) bound.1 ≡ false
+    → port ≡ sending_port plan (Access (ae.Answer link)) → stream ≡ bound.0
+    → is_before (live_key h (sending_port plan (Access (ae.Answer link)))
+    (lane_out (sending_port plan (Access (ae.Answer link))) bound.0 Cpl)) bound.1 ≡ false
     → AllLive plan h port stream ds → AllByRecursion (λ (d : SealedPacket). d.sync ≡ false → d.sub ≡ Cpl) ds
-    → AllByRecursion (SealFits plan h (sending_port (Access (ae.Answer link)))
-    (sent_bytes plan h (Access (ae.Answer link))) true) ds
+    → has_link plan link ≡ true
+    → AllByRecursion (SealFits plan h (sent_bytes plan h (Access (ae.Answer link))) true) ds
     → AllByRecursion (Carries h link x) ds
-all_carried plan h link x bound port stream [] a b c key live class fits = tt
-all_carried plan h link x bound port stream (d ∷ ds) a b c key live class fits = (
-  carried plan h link x bound port stream d a b c key live.0 class.0 fits.0,
-  all_carried plan h link x bound port stream ds a b c key live.1 class.1 fits.1,
+all_carried plan h link x bound port stream [] a b c key live class has fits = tt
+all_carried plan h link x bound port stream (d ∷ ds) a b c key live class has fits = (
+  carried plan h link x bound port stream d a b c key live.0 class.0 has fits.0,
+  all_carried plan h link x bound port stream ds a b c key live.1 class.1 has fits.1,
 )
 
 -- each packet but a sync packet is of the sub-stream of its TLP
@@ -234,7 +261,7 @@ all_class plan port stream live from class xs (d ∷ ds) is all = (
   all_class plan port stream live from class (xs ++ (d, no_packet) ∷ []) ds is (all.1 no_packet),
 )
 
-not_less : (m n : ℕ) → nat_lt m n ≡ false → n ≤ m
+pub not_less : (m n : ℕ) → nat_lt m n ≡ false → n ≤ m
 not_less m n e = grind (arith, nat_tests)
 
 -- ---- what is read of a completion's bytes is a completion: no other begins with the byte 4Ah
@@ -292,11 +319,12 @@ answered_with plan facts h link ds cause due_is first owned under =
       tlp = sealing.tlp;
       reads = sealing.reads;
       packets = all_carried plan h link owned.site under.bound t.port t.stream ds view.1 sealing.at_port stream
-          under.key (all_live plan h (sending_port e) (sent_bytes plan h e) ds sealing)
+          under.key (all_live plan h (sending_port plan e) (sent_bytes plan h e) ds sealing)
           (all_class plan t.port t.stream (live_at plan h t.port t.stream) (from_at plan h t.port t.stream) t.class
           (sealed_packets plan h) ds class
-          (all_of_sealing plan facts h cause (sending_port e) (sent_bytes plan h e) ds sealing))
-          (sent_fits plan h (sending_port e) (sent_bytes plan h e) false true ds under.sent);
+          (all_of_sealing plan facts h cause (sending_port plan e) (sent_bytes plan h e) ds sealing))
+          first.known
+          (sent_fits plan h (sending_port plan e) (sent_bytes plan h e) false true ds (λ host. absurd cc) under.sent);
     }
 
 answered : (plan : Plan) → DrawFacts plan → (h : History) (link : ℕ) (ds : List SealedPacket) → CauseLaw plan h

@@ -2,9 +2,18 @@
 -- It is a packet that was got, so packet m of what was got is packet m of what was sealed, with its header and its T.
 -- It has T since the device's port sealed it for that interface. While the manager's view is Running, each such packet
 -- of a draw from the floor on was sealed in RUN under the present lock.
+use Rattle.link_history.specs.Plan.{has_stream}
+use Rattle.link_history.specs.Due.{due}
+use Rattle.link_history.proofs.Causes.{accepted_by}
+use Rattle.ide_plan.specs.Fits.{FitsPlan}
+use Rattle.ide_plan.specs.Ends.{own_has_id}
+use Rattle.link_history.specs.Ports.{at_switch, port_of}
+use Rattle.link_history.proofs.Ends.{own_port}
+use Rattle.origin_laws.proofs.OwnStreams.{own_stream}
 use Rattle.sealing_laws.proofs.Terms.{◌≡◌, ℕ, ◌+◌, ◌≤◌, ◌==◌, ◌&&◌, zero, suc, Bool, true, false, not, List, [], ◌∷◌}
 use Rattle.sealing_laws.proofs.Terms.{◌++◌, length, take, drop, slice_get, Option, Some, None, Result, Ok, Err, refl}
-use Rattle.sealing_laws.proofs.Terms.{ap, sym, ◌∙◌, arith, nat_tests, if◌then◌else◌, Plan, SubStream, History, Event}
+use Rattle.sealing_laws.proofs.Terms.{ap, ◌<◌, sym, ◌∙◌, arith, nat_tests, if◌then◌else◌, Plan, SubStream, History}
+use Rattle.sealing_laws.proofs.Terms.{Event}
 use Rattle.sealing_laws.proofs.Terms.{Send, Verdict, Sealed, Accepted, UnitName, Effect, SealedPacket, Packet, Prefix}
 use Rattle.sealing_laws.proofs.Terms.{PortName, is_sync_packet, is_same-refl, received_in, sent, CauseLaw, NoForgery}
 use Rattle.sealing_laws.proofs.Terms.{DrawFacts, StreamsFit, Tlp, header, head_bytes, read_of, sub_stream_of}
@@ -45,6 +54,7 @@ use Rattle.interface_states.specs.Laws.{IsTrusted, InRun}
 use Rattle.interface_states.proofs.Views.{views_hold}
 use Rattle.origin_laws.specs.Origin.{IsFrom, AreFrom, OriginLaw}
 use Rattle.origin_laws.proofs.Causes.{interface_cause}
+use Rattle.interface_states.proofs.OnLinks.{number_on_link}
 use Rattle.origin_laws.proofs.Found.{get_less, all_get, get_behind, IsNew, sealing_of, cause_before, trusted_before}
 use Rattle.origin_laws.proofs.Found.{found_by_number}
 use Rattle.read_order.proofs.Requesters.{requester_meets}
@@ -80,32 +90,35 @@ both : (a b : Bool) → (a && b) ≡ true → (a ≡ true) × (b ≡ true)
 both true b e = (refl, e)
 both false b e = absurd cc
 
-admitted_means : (plan : Plan) (h : History) (port : PortName) (unit : UnitName) (p : Packet) (payload : List ℕ)
+pub admitted_means : (plan : Plan) (h : History) (port : PortName) (unit : UnitName) (p : Packet) (payload : List ℕ)
     (w : Write) → admitted plan (grant_at plan h) port unit p payload ≡ Some w
     → Admitted plan h port unit p
-admitted_means plan h port unit p payload w is = by (not (is_sync_packet p)) (sent_direction port.side == 0) refl
-    (read_head_of p.head) refl is
+admitted_means plan h port unit p payload w is = by (not (is_sync_packet p)) (at_switch plan port)
+    (sent_direction port.side == 0) refl (read_head_of p.head) refl is
   where
-    by : (a b : Bool) → (sent_direction port.side == 0) ≡ b → (r : Result HeadView TlpFault) → read_head_of p.head ≡ r
-        → (if a && b then admitted_as plan (grant_at plan h) port unit p.prefix.t payload r else None) ≡ Some w
+    by : (a c b : Bool) → (sent_direction port.side == 0) ≡ b → (r : Result HeadView TlpFault) → read_head_of p.head ≡ r
+        → (if a && (not c && b) then admitted_as plan (grant_at plan h) port unit p.prefix.t payload r else None)
+        ≡ Some w
         → Admitted plan h port unit p
-    by false b host r reads is = absurd cc
-    by true false host r reads is = absurd cc
-    by true true host (Err f) reads is = absurd cc
-    by true true host (Ok head) reads is =
+    by false c b host r reads is = absurd cc
+    by true true b host r reads is = absurd cc
+    by true false false host r reads is = absurd cc
+    by true false true host (Err f) reads is = absurd cc
+    by true false true host (Ok head) reads is =
         let tests = both p.prefix.t _ (placed_means plan.memory _ (memory_write head payload) w is) in
         record { head = head; reads = reads; host = host; trusted = tests.0; bound = tests.1 }
 
 -- the interface that it is admitted for
-record For (plan : Plan) (h : History) (link stream draw : ℕ) (head : HeadView) : Type 0 where
-  site : Site
-  known : site_at plan site.number ≡ Some site
-  link_is : site.link ≡ link
-  owns : owner_at plan link head ≡ Some site
-  requester : owner_of head ≡ Some site.plan.requester
-  view : view_at h site ≡ Running
-  stream_is : site.plan.stream ≡ stream
-  floor : floor_at h site ≤ draw
+pub record For (plan : Plan) (h : History) (link stream draw : ℕ) (head : HeadView) : Type 0 where
+  pub site : Site
+  pub known : site_at plan site.number ≡ Some site
+  pub own : FitsPlan plan → own_has_id (slice_get plan.links site.link) site.plan.stream ≡ true
+  pub link_is : site.link ≡ link
+  pub owns : owner_at plan link head ≡ Some site
+  pub requester : owner_of head ≡ Some site.plan.requester
+  pub view : view_at h site ≡ Running
+  pub stream_is : site.plan.stream ≡ stream
+  pub floor : floor_at h site ≤ draw
 
 record Granted (h : History) (o : Option Site) (b : ℕ × ℕ) : Type 0 where
   site : Site
@@ -124,7 +137,8 @@ granted_means h (Some x) b e =
     { site = x; is = refl; view = is.0; bound = is.1 }
 
 -- of the requester
-owner_means : (plan : Plan) (h : History) (link stream draw : ℕ) (head : HeadView) (o : Option ℕ) → owner_of head ≡ o
+pub owner_means : (plan : Plan) (h : History) (link stream draw : ℕ) (head : HeadView) (o : Option ℕ) → owner_of head
+    ≡ o
     → is_on_bound stream draw (option_and_then (grant_at plan h link) o) ≡ true → For plan h link stream draw head
 owner_means plan h link stream draw head None named e = absurd cc
 owner_means plan h link stream draw head (Some rid) named e =
@@ -134,6 +148,7 @@ owner_means plan h link stream draw head (Some rid) named e =
     record {
       site = g.site;
       known = found_by_number plan (λ x. (x.link == link) && (x.plan.requester == rid)) g.site g.is;
+      own = λ fits. own_stream plan fits link rid g.site g.is;
       link_is = meets.0;
       owns = ap (option_and_then (site_with plan link)) named ∙ g.is;
       requester = named ∙ ap (λ (r : ℕ). Some r) (sym meets.1);
@@ -141,6 +156,25 @@ owner_means plan h link stream draw head (Some rid) named e =
       stream_is = ap (λ (c : ℕ × ℕ). c.0) (sym g.bound) ∙ b.stream_is;
       floor = let f = ap (λ (c : ℕ × ℕ). c.1) g.bound in omega (arith, f, b.floor);
     }
+
+-- what is admitted at the port of an end came at the port itself, on a stream of its link
+pub at_port : (plan : Plan) → FitsPlan plan → (h : History) (port : PortName) (unit : UnitName) (p : Packet)
+    → has_stream plan port unit.stream ≡ true → Admitted plan h (port_of plan port) unit p → Admitted plan h port unit p
+at_port plan fits h port unit p known adm =
+    let q = port_of plan port in
+    let for = owner_means plan h q.link unit.stream unit.draw adm.head (owner_of adm.head) refl adm.bound in
+    let own : own_has_id (slice_get plan.links q.link) unit.stream ≡ true =
+    subst (λ (l : ℕ). own_has_id (slice_get plan.links l) unit.stream ≡ true) for.link_is
+    (subst (λ (n : ℕ). own_has_id (slice_get plan.links for.site.link) n ≡ true) for.stream_is (for.own fits)) in
+    subst (λ (r : PortName). Admitted plan h r unit p) (own_port plan fits port unit.stream known own) adm
+
+-- an accepted unit is of a stream of its end
+pub accepted_known : (plan : Plan) (h : History) (e : Event) (port : PortName) (unit : UnitName) (effects : List Effect)
+    → Accepted port unit effects ≡ due plan h e → has_stream plan port unit.stream ≡ true
+accepted_known plan h e port unit effects is =
+    let by = accepted_by plan h e port unit effects is in
+    subst (λ (n : ℕ). has_stream plan port n ≡ true) (sym (ap (λ (u : UnitName). u.stream) by.passed.named))
+    by.passed.known
 
 -- ---- packet n of a unit
 
@@ -175,7 +209,8 @@ no_head head is =
     let size = ap length spells.spelled ∙ right.size in
     omega (arith, size, head_size_at_least (get_or (head_bytes head) 0 0))
 
-head_of : (bytes : List ℕ) (head : HeadView) (r : Result Tlp TlpFault) → read_of bytes ≡ r → read_head_of (head_in r)
+pub head_of : (bytes : List ℕ) (head : HeadView) (r : Result Tlp TlpFault) → read_of bytes ≡ r
+    → read_head_of (head_in r)
     ≡ Ok head → (t : Tlp) × (r ≡ Ok t) × (header t ≡ head)
 head_of bytes head (Ok t) reads is =
     let again = (read_head_spells (header t) (head_bytes (header t))).0 (is_read bytes t reads).head in
@@ -188,7 +223,7 @@ unfolding packet_of
 head_is plan ahead bytes d unfinished sync = rw sync refl
 
 -- a port with the link of a host's port and the direction that this receives is the device's
-at_device_end : (p : PortName) (side : Side) (link : ℕ) → p.link ≡ link → sent_direction p.side
+pub at_device_end : (p : PortName) (side : Side) (link : ℕ) → p.link ≡ link → sent_direction p.side
     ≡ received_direction side → (sent_direction side == 0) ≡ true
     → p ≡ record { side = Device; link = link }
 at_device_end p side link same direction host =
@@ -200,13 +235,13 @@ at_device_end p side link same direction host =
 
 -- ---- packet m of what was got is packet m of what was sealed
 
-got_next : (plan : Plan) (h : History) (e : Event) (port : PortName) (unit : UnitName) (effects : List Effect)
+pub got_next : (plan : Plan) (h : History) (e : Event) (port : PortName) (unit : UnitName) (effects : List Effect)
     → got plan ((e, Accepted port unit effects) ∷ h) (received_in port unit) unit.draw
     ≡ got plan h (received_in port unit) unit.draw ++ unit_ended plan h e port unit
 unfolding got
 got_next plan h e port unit effects = rw (is_same-refl (received_in port unit), eqb-refl unit.draw) refl
 
-sent_at : (plan : Plan) → StreamsFit plan → DrawFacts plan → (h : History) (e : Event) (port : PortName)
+pub sent_at : (plan : Plan) → StreamsFit plan → DrawFacts plan → (h : History) (e : Event) (port : PortName)
     (unit : UnitName) (effects : List Effect)
     → CauseLaw plan ((e, Accepted port unit effects) ∷ h) → NoForgery plan ((e, Accepted port unit effects) ∷ h)
     → (n : ℕ) (p : Packet)
@@ -228,13 +263,13 @@ sent_at plan fits facts h e port unit effects cause forged n p is =
 -- ---- one packet
 
 -- the packet that was sealed at a pair, as one of a sub-stream and draw, is the interface's
-trusted_there : (plan : Plan) (h : History) (port : PortName) (unit : UnitName) (p : Packet)
+pub trusted_there : (plan : Plan) (h : History) (port : PortName) (unit : UnitName) (p : Packet)
     (adm : Admitted plan h port unit p) (for : For plan h port.link unit.stream unit.draw adm.head)
-    (d : SealedPacket) (q : Packet) (older : History) (sender : PortName) (bytes : List ℕ) (trusted : Bool)
+    (d : SealedPacket) (q : Packet) (older : History) (bytes : List ℕ) (trusted : Bool)
     (ds : List SealedPacket)
     → q ≡ p → sub_stream_of d ≡ received_in port unit → IsNew plan bytes ds d q
-    → SealFits plan older sender bytes trusted d → IsTrusted plan for.site sender bytes d
-trusted_there plan h port unit p adm for d q older sender bytes trusted ds same stream new fit =
+    → SealFits plan older bytes trusted d → IsTrusted plan for.site bytes d
+trusted_there plan h port unit p adm for d q older bytes trusted ds same stream new fit =
     let prefix = ap (λ (r : Packet). r.prefix) new.packet ∙ prefix_is plan new.ahead bytes d new.unfinished in
     let has_t : d.t ≡ true = sym (ap (λ (f : Prefix). f.t) prefix) ∙
     (ap (λ (r : Packet). r.prefix.t) same ∙ adm.trusted) in
@@ -246,7 +281,7 @@ trusted_there plan h port unit p adm for d q older sender bytes trusted ds same 
     let port_is = at_device_end d.port port.side port.link (ap (λ (s : SubStream). s.link) stream)
     (ap (λ (s : SubStream). s.direction) stream) adm.host in
     record {
-      at_device = sym fit.port_is ∙ (port_is ∙ ap (λ (l : ℕ). record { side = Device; link = l }) (sym for.link_is));
+      at_device = port_is ∙ ap (λ (l : ℕ). record { side = Device; link = l }) (sym for.link_is);
       on_stream = ap (λ (s : SubStream). s.stream) stream ∙ sym for.stream_is;
       has_t = has_t;
       owned = ap (owner_read plan for.site.link) tlp.1 ∙ ((λ i. owner_at plan (for.link_is i) (tlp.2 i)) ∙ for.owns);
@@ -256,13 +291,14 @@ some_same : (p q : Packet) → Some p ≡ Some q → p ≡ q
 some_same p q e = cc (e)
 
 -- packet n of the unit, if it is admitted
-pub origin_of : (plan : Plan) → StreamsFit plan → DrawFacts plan → (h : History) (e : Event) (port : PortName)
+pub origin_of : (plan : Plan) → FitsPlan plan → StreamsFit plan → DrawFacts plan
+    → (h : History) (e : Event) (port : PortName)
     (unit : UnitName) (effects : List Effect)
     → CauseLaw plan ((e, Accepted port unit effects) ∷ h) → NoForgery plan ((e, Accepted port unit effects) ∷ h)
     → (n : ℕ) (p : Packet) → Admitted plan h port unit p
     → slice_get (unit_ended plan h e port unit) n ≡ Some p
     → IsFrom plan h port unit p (length (got plan h (received_in port unit) unit.draw) + n)
-origin_of plan fits facts h e port unit effects cause forged n p adm stands =
+origin_of plan whole fits facts h e port unit effects cause forged n p adm stands =
     let s = received_in port unit in
     let m = length (got plan h s unit.draw) + n in
     let for = owner_means plan h port.link unit.stream unit.draw adm.head (owner_of adm.head) refl adm.bound in
@@ -273,18 +309,22 @@ origin_of plan fits facts h e port unit effects cause forged n p adm stands =
     let d = among.sealed.0 in
     let device = at_device_end d.port port.side port.link (ap (λ (t : SubStream). t.link) names.2)
     (ap (λ (t : SubStream). t.direction) names.2) adm.host in
-    let seal = sealing_of plan h cause.1 among.place d among.sealed.1 (ap (λ (q : PortName). q.side) device)
+    let below = number_on_link plan x for.known in
+    let same : d.port.link ≡ x.link = ap (λ (q : PortName). q.link) device ∙ sym for.link_is in
+    let on_link : d.port.link < length plan.links = grind (arith, nat_tests, below, same) in
+    let seal = sealing_of plan whole h cause.1 among.place d among.sealed.1 (ap (λ (q : PortName). q.side) device)
+    on_link
     among.stands in
     let known = interface_cause plan h cause.1 in
-    let fit = all_get (SealFits plan seal.older seal.port seal.bytes seal.trusted) seal.ds seal.new.index d
+    let fit = all_get (SealFits plan seal.older seal.bytes seal.trusted) seal.ds seal.new.index d
     (cause_before plan ((Send seal.port seal.bytes seal.more seal.trusted, Sealed seal.ds) ∷ seal.older) h seal.came
     known).0 seal.new.listed in
-    let is_trusted = trusted_there plan h port unit p adm for d among.sealed.1 seal.older seal.port seal.bytes
+    let is_trusted = trusted_there plan h port unit p adm for d among.sealed.1 seal.older seal.bytes
     seal.trusted seal.ds among.packet names.2 seal.new fit in
     let runs = (views_hold plan (key_plan plan) h (key_cause plan h cause.1) known x for.known).running for.view in
     let since = trusted_before plan x (λ g d. floor_at h x ≤ d.draw → InRun plan x (locks_at plan h x) g)
     ((Send seal.port seal.bytes seal.more seal.trusted, Sealed seal.ds) ∷ seal.older) h seal.came runs.since in
-    let there = all_get (λ (y : SealedPacket). IsTrusted plan x seal.port seal.bytes y → floor_at h x ≤ y.draw
+    let there = all_get (λ (y : SealedPacket). IsTrusted plan x seal.bytes y → floor_at h x ≤ y.draw
     → InRun plan x (locks_at plan h x) seal.older) seal.ds seal.new.index d since.0 seal.new.listed in
     let in_run = there is_trusted (omega (arith, for.floor, names.1)) in
     let less = get_less (sent plan h s unit.draw) m p at in
@@ -318,28 +358,32 @@ origin_of plan fits facts h e port unit effects cause forged n p adm stands =
       same = among.packet;
     }
 
-origin_at : (plan : Plan) → StreamsFit plan → DrawFacts plan → (h : History) (e : Event) (port : PortName)
+origin_at : (plan : Plan) → FitsPlan plan → StreamsFit plan → DrawFacts plan
+    → (h : History) (e : Event) (port : PortName)
     (unit : UnitName) (effects : List Effect)
     → CauseLaw plan ((e, Accepted port unit effects) ∷ h) → NoForgery plan ((e, Accepted port unit effects) ∷ h)
     → AreFrom plan h e (Accepted port unit effects)
-origin_at plan fits facts h e port unit effects cause forged n w p is stands =
-    let each = each_at plan h port unit (plain_of plan port unit (unit_ended plan h e port unit))
+origin_at plan whole fits facts h e port unit effects cause forged n w p is stands =
+    let q = port_of plan port in
+    let each = each_at plan h q unit (plain_of plan port unit (unit_ended plan h e port unit))
     (unit_ended plan h e port unit) n (Some w) is in
     let same : each.packet ≡ p = some_same each.packet p (sym each.stands ∙ stands) in
-    let adm = subst (Admitted plan h port unit) same
-    (admitted_means plan h port unit each.packet each.payload w each.is) in
-    origin_of plan fits facts h e port unit effects cause forged n p adm stands
+    let adm = at_port plan whole h port unit p (accepted_known plan h e port unit effects cause.0)
+    (subst (Admitted plan h q unit) same (admitted_means plan h q unit each.packet each.payload w each.is)) in
+    origin_of plan whole fits facts h e port unit effects cause forged n p adm stands
 
 -- ---- the law
 
-are_from : (plan : Plan) → StreamsFit plan → DrawFacts plan → (h : History) (e : Event) (w : Verdict)
+are_from : (plan : Plan) → FitsPlan plan → StreamsFit plan → DrawFacts plan → (h : History) (e : Event) (w : Verdict)
     → CauseLaw plan ((e, w) ∷ h) → NoForgery plan ((e, w) ∷ h) → AreFrom plan h e w
-are_from plan fits facts h e (Accepted port unit effects) cause forged = origin_at plan fits facts h e port unit effects
+are_from plan whole fits facts h e (Accepted port unit effects) cause forged = origin_at plan whole fits facts h e port
+    unit effects
     cause forged
-are_from plan fits facts h e w cause forged = tt
+are_from plan whole fits facts h e w cause forged = tt
 
-pub origin_law : (plan : Plan) → StreamsFit plan → DrawFacts plan → (h : History) → CauseLaw plan h → NoForgery plan h
+pub origin_law : (plan : Plan) → FitsPlan plan → StreamsFit plan → DrawFacts plan → (h : History) → CauseLaw plan h
+    → NoForgery plan h
     → OriginLaw plan h
-origin_law plan fits facts [] cause forged = tt
-origin_law plan fits facts ((e, w) ∷ h) cause forged =
-    (are_from plan fits facts h e w cause forged, origin_law plan fits facts h cause.1 forged.1)
+origin_law plan whole fits facts [] cause forged = tt
+origin_law plan whole fits facts ((e, w) ∷ h) cause forged =
+    (are_from plan whole fits facts h e w cause forged, origin_law plan whole fits facts h cause.1 forged.1)

@@ -23,7 +23,10 @@ use Rattle.link_history.specs.Memory.{Policy, policy_at, unit_grant, host_effect
 use Rattle.link_history.specs.Memory.{effects_each, waiting_then, unit_ended}
 use Rattle.read_order.proofs.Order.{request_waits, device_waits}
 use Rattle.origin_laws.specs.ReadLaws.{QueuedFrom, ReadOriginLaw}
-use Rattle.origin_laws.proofs.Origins.{Admitted, origin_of}
+use Rattle.origin_laws.proofs.Origins.{Admitted, accepted_known, at_port, origin_of}
+use Rattle.ide_plan.specs.Fits.{FitsPlan}
+use Rattle.link_history.specs.Ports.{at_switch, port_of}
+use Rattle.link_history.specs.Admission.{switch_effect}
 
 -- ---- what it means that a read is queued
 
@@ -49,16 +52,18 @@ request_means regions t g n head is =
 queued_means : (plan : Plan) (h : History) (k : ℕ) (port : PortName) (unit : UnitName) (p : Packet)
     → effect_by plan (policy_at plan h) k port unit p ≡ effect.Queued → Admitted plan h port unit p
 queued_means plan h k port unit p is =
-    by (is_sync_packet p) (sent_direction port.side == 0) refl (read_head_of p.head) refl is
+    by (is_sync_packet p) (at_switch plan port) (sent_direction port.side == 0) refl (read_head_of p.head) refl is
   where
-    by : (a b : Bool) → (sent_direction port.side == 0) ≡ b → (r : Result HeadView TlpFault) → read_head_of p.head ≡ r
-        → (if a then effect.Sync else if b then host_effect plan (grant_at plan h) k port unit p r
+    by : (a c b : Bool) → (sent_direction port.side == 0) ≡ b → (r : Result HeadView TlpFault) → read_head_of p.head ≡ r
+        → (if a then effect.Sync else if c then switch_effect else if b then host_effect plan (grant_at plan h) k port
+        unit p r
         else device_effect ((policy_at plan h).standings port.link) unit p r) ≡ effect.Queued
         → Admitted plan h port unit p
-    by true b host r reads is = absurd cc
-    by false false host r reads is = absurd (device_waits ((policy_at plan h).standings port.link) unit p r is)
-    by false true host (Err f) reads is = absurd cc
-    by false true host (Ok head) reads is =
+    by true c b host r reads is = absurd cc
+    by false true b host r reads is = absurd cc
+    by false false false host r reads is = absurd (device_waits ((policy_at plan h).standings port.link) unit p r is)
+    by false false true host (Err f) reads is = absurd cc
+    by false false true host (Ok head) reads is =
         let tests = request_means plan.memory p.prefix.t (unit_grant (grant_at plan h) port unit head) k head is in
         record { head = head; reads = reads; host = host; trusted = tests.0; bound = tests.1 }
 
@@ -76,28 +81,33 @@ queued_at plan policy w port unit (q ∷ ps) (suc n) p is at =
 
 -- ---- the law
 
-accepted_from : (plan : Plan) → StreamsFit plan → DrawFacts plan → (h : History) (e : Event) (port : PortName)
+accepted_from : (plan : Plan) → FitsPlan plan → StreamsFit plan → DrawFacts plan
+    → (h : History) (e : Event) (port : PortName)
     (unit : UnitName) (effects : List Effect)
     → CauseLaw plan ((e, Accepted port unit effects) ∷ h) → NoForgery plan ((e, Accepted port unit effects) ∷ h)
     → QueuedFrom plan h e (Accepted port unit effects)
-accepted_from plan fits facts h e port unit effects cause forged n p is stands =
+accepted_from plan whole fits facts h e port unit effects cause forged n p is stands =
     let by = accepted_by plan h e port unit effects cause.0 in
     let same = unit_that_ends plan h e port unit by.packet by.came by.passed in
     let effects_are : effects ≡ effects_of plan h port unit (unit_ended plan h e port unit) = by.effects_are ∙ ap
     (λ (ps : List Packet). effects_of plan h port unit ps) (sym same) in
-    let there = queued_at plan (policy_at plan h) ((policy_at plan h).waiting port.link) port unit
+    let there = queued_at plan (policy_at plan h) ((policy_at plan h).waiting (port_of plan port).link)
+    (port_of plan port) unit
     (unit_ended plan h e port unit) n p (ap (λ (es : List Effect). slice_get es n) (sym effects_are) ∙ is) stands in
-    origin_of plan fits facts h e port unit effects cause forged n p (queued_means plan h there.0 port unit p there.1)
+    origin_of plan whole fits facts h e port unit effects cause forged n p
+    (at_port plan whole h port unit p (accepted_known plan h e port unit effects cause.0)
+    (queued_means plan h there.0 (port_of plan port) unit p there.1))
     stands
 
-queued_from : (plan : Plan) → StreamsFit plan → DrawFacts plan → (h : History) (e : Event) (w : Verdict)
+queued_from : (plan : Plan) → FitsPlan plan → StreamsFit plan → DrawFacts plan → (h : History) (e : Event) (w : Verdict)
     → CauseLaw plan ((e, w) ∷ h) → NoForgery plan ((e, w) ∷ h) → QueuedFrom plan h e w
-queued_from plan fits facts h e (Accepted port unit effects) cause forged = accepted_from plan fits facts h e port unit
+queued_from plan whole fits facts h e (Accepted port unit effects) cause forged = accepted_from plan whole fits facts h
+    e port unit
     effects cause forged
-queued_from plan fits facts h e w cause forged = tt
+queued_from plan whole fits facts h e w cause forged = tt
 
-pub read_origins : (plan : Plan) → StreamsFit plan → DrawFacts plan → (h : History) → CauseLaw plan h
+pub read_origins : (plan : Plan) → FitsPlan plan → StreamsFit plan → DrawFacts plan → (h : History) → CauseLaw plan h
     → NoForgery plan h → ReadOriginLaw plan h
-read_origins plan fits facts [] cause forged = tt
-read_origins plan fits facts ((e, w) ∷ h) cause forged =
-    (queued_from plan fits facts h e w cause forged, read_origins plan fits facts h cause.1 forged.1)
+read_origins plan whole fits facts [] cause forged = tt
+read_origins plan whole fits facts ((e, w) ∷ h) cause forged =
+    (queued_from plan whole fits facts h e w cause forged, read_origins plan whole fits facts h cause.1 forged.1)

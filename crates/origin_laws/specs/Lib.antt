@@ -1,3 +1,4 @@
 pub mod Origin
 pub mod ReadLaws
+pub mod Bindings
 pub mod Statements

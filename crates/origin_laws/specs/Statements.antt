@@ -6,6 +6,7 @@ use Rattle.link_history.specs.Cause.{CauseLaw}
 use Rattle.link_history.specs.Laws.{NoForgery}
 use Rattle.interface_states.specs.Cause.{InterfaceCause}
 use Rattle.interface_states.specs.Laws.{RunLaw}
+use Rattle.origin_laws.specs.Bindings.{BindOriginLaw}
 use Rattle.origin_laws.specs.Origin.{MemoryLaw, OriginLaw}
 use Rattle.origin_laws.specs.ReadLaws.{ReadLaw, ReadOriginLaw}
 
@@ -27,3 +28,7 @@ ReadLawHolds = (plan : Plan) (h : History) → CauseLaw plan h → ReadLaw plan 
 abbrev pub ReadOriginLawHolds : Type 0
 ReadOriginLawHolds = (plan : Plan) → FitsPlan plan → (h : History) → CauseLaw plan h → NoForgery plan h
     → ReadOriginLaw plan h
+
+abbrev pub BindOriginLawHolds : Type 0
+BindOriginLawHolds = (plan : Plan) → FitsPlan plan → (h : History) → CauseLaw plan h → NoForgery plan h
+    → BindOriginLaw plan h

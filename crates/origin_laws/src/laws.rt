@@ -1,7 +1,7 @@
 //! Laws of interfaces and of trusted memory.
 
 ghost use Rattle.origin_laws.specs.Statements.{InterfacesHaveCauses, MemoryLawHolds, OriginLawHolds, RunLawHolds};
-ghost use Rattle.origin_laws.specs.Statements.{ReadLawHolds, ReadOriginLawHolds};
+ghost use Rattle.origin_laws.specs.Statements.{BindOriginLawHolds, ReadLawHolds, ReadOriginLawHolds};
 
 /// What is due of events on interfaces is due by the interfaces alone, and T is set as they say.
 pub fn interfaces_have_causes()
@@ -41,4 +41,11 @@ pub fn read_law()
 /// queued for.
 pub fn read_origin_law()
     ensures { ReadOriginLawHolds }
+{}
+
+/// In every history in which each verdict is the one that is due: provided no tag verified on a unit that its partner
+/// had not sealed, each accepted packet with T on a stream between devices was sealed while the owner of its TLP was in
+/// RUN and bound to that stream.
+pub fn bind_origin_law()
+    ensures { BindOriginLawHolds }
 {}

@@ -4,5 +4,6 @@
 mod laws;
 
 pub use laws::{
-    interfaces_have_causes, memory_law, origin_law, read_law, read_origin_law, run_law,
+    bind_origin_law, interfaces_have_causes, memory_law, origin_law, read_law, read_origin_law,
+    run_law,
 };

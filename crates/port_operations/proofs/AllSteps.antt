@@ -13,9 +13,9 @@ use Rattle.port_operations.proofs.Terms.{StepStands, Stop, stop_found, stop_on, 
 use Rattle.port_operations.proofs.Terms.{work_done, work_of}
 use Rattle.link_events.specs.declared.event.Event.TheVariants.{Interface, Access}
 use Rattle.link_events.specs.declared.event.AccessEvent.TheVariants as ae
-use Rattle.link_history.specs.Guarded.{mmio_due}
+use Rattle.link_ports.specs.{mmio_due}
 use Rattle.link_events.specs.declared.event.InterfaceEvent.{InterfaceEvent}
-use Rattle.link_history.proofs.KeyVerdicts.{interface_due_quiet, mmio_quiet}
+use Rattle.link_ports.proofs.{interface_due_quiet, mmio_quiet}
 use Rattle.link_ports.specs.Stands.{beside_at}
 use Rattle.link_verdicts.specs.declared.verdict.Operation.TheVariants as op
 use Rattle.link_verdicts.specs.declared.verdict.Verdict.TheVariants as v
@@ -27,18 +27,29 @@ use Rattle.port_operations.proofs.Views.{ports_is}
 use Rattle.port_operations.proofs.Statuses.{status_is}
 use Rattle.port_operations.proofs.Resets.{reset_stands, reset_nothing}
 use Rattle.port_operations.proofs.Worked.{asked_stands}
+use Rattle.ide_types.specs.Lines.{is_link_line}
+use Rattle.link_events.specs.declared.event.Event.TheVariants.{Absent}
+use Rattle.ide_types.specs.declared.port.PortName.{PortName}
+use Rattle.key_laws.specs.Operations.{op_cut}
+use Rattle.key_laws.specs.Places.{is_cut}
 
 abbrev AllStep : Plan → History → Event → Stepped → Type 0
 AllStep plan h e r = (r.0 ≡ due plan h e) × PortsStandFor plan r.1 ((e, r.0) ∷ h)
 
 -- ---- events that are no operations
 
+uncut : (ends : List PortName) (line : ℕ) (q : Op) → is_cut ends line ≡ false → op_cut ends line q ≡ q
+uncut ends line q none = rw none refl
+
 manager_same : (h : History) (e : Event) (x : Verdict) → IsNoOperation e → manager ((e, x) ∷ h) ≡ manager h
 unfolding manager operates
 manager_same h (Establish l s lose) x still = absurd (grind (arith, nat_tests, still l s))
 manager_same h (Refresh l s lose) x still = absurd (grind (arith, nat_tests, still l s))
 manager_same h (Stop l s lose) x still = absurd (grind (arith, nat_tests, still l s))
-manager_same h (Reset l) x still = absurd (grind (arith, nat_tests, still l 0))
+manager_same h (Reset l ends) (v.Reset k) still =
+    let same : (a s : ℕ) → op_cut ends a ((manager h).ops a s) ≡ (manager h).ops a s =
+    λ a s. uncut ends a ((manager h).ops a s) (still a s) in
+    λ i. record { ops = λ a s. same a s i; begun = (manager h).begun }
 manager_same h _ x still = refl
 
 abbrev ops_of : Plan → ℕ → ℕ → Manager → Option Op
@@ -120,11 +131,11 @@ module _ (plan : Plan) (st : LinkState) (h : History) (stands : PortsStandFor pl
       ((λ i. establish_on (key_plan plan) (know.1 i) (stands.draws_is i) (ports_is plan st h stands.ports_stand i) link
       stream lose) ∙ sym (rw know.0 refl))
 
-  refreshes : (lose : Option Loss) (o : Option Op) → find_op plan st link stream ≡ o
+  refreshes_there : (lose : Option Loss) → is_link_line link ≡ true → (o : Option Op) → find_op plan st link stream ≡ o
       → AllStep plan h (Refresh link stream lose) (refresh_found plan st link stream lose o)
   unfolding due key_due
-  refreshes lose None is = does_nothing op.Refresh lose (rw (unknown is) refl)
-  refreshes lose (Some q) is =
+  refreshes_there lose line None is = does_nothing op.Refresh lose (rw (line, unknown is) refl)
+  refreshes_there lose line (Some q) is =
       let know = known q is in
       let host = status_is plan st h stands.ports_stand Host link stream know.0 in
       let ports = ports_is plan st h stands.ports_stand in
@@ -132,7 +143,14 @@ module _ (plan : Plan) (st : LinkState) (h : History) (stands : PortsStandFor pl
       (refresh_on (key_plan plan) q st.draws (ports_of plan st) (status_at plan st Host link stream) link stream
       lose) is
       ((λ i. refresh_on (key_plan plan) (know.1 i) (stands.draws_is i) (ports i) (host i) link stream lose) ∙ sym
-      (rw know.0 refl))
+      (rw (line, know.0) refl))
+
+  refreshes : (lose : Option Loss) (line : Bool) → is_link_line link ≡ line
+      → AllStep plan h (Refresh link stream lose)
+      (if line then refresh_found plan st link stream lose (find_op plan st link stream) else (v.Nothing, st))
+  unfolding due key_due
+  refreshes lose true line = refreshes_there lose line (find_op plan st link stream) refl
+  refreshes lose false line = does_nothing op.Refresh lose (rw line refl)
 
   stops : (lose : Option Loss) (o : Option Op) → find_op plan st link stream ≡ o
       → AllStep plan h (Stop link stream lose) (stop_found plan st link stream lose o)
@@ -164,20 +182,20 @@ module _ (plan : Plan) (st : LinkState) (h : History) (stands : PortsStandFor pl
 
 -- ---- a reset
 
-due_reset : (plan : Plan) (h : History) (link : ℕ) →
-    (if nat_lt link (length plan.links) then v.Reset link else v.Nothing) ≡ due plan h (Reset link)
+due_reset : (plan : Plan) (h : History) (link : ℕ) (ends : List PortName) →
+    (if nat_lt link (length plan.links) then v.Reset link else v.Nothing) ≡ due plan h (Reset link ends)
 unfolding due key_due
-due_reset plan h link = refl
+due_reset plan h link ends = refl
 
-resets : (plan : Plan) (st : LinkState) (h : History) (link : ℕ) → PortsStandFor plan st h
-    → AllStep plan h (Reset link)
-    (if nat_lt link (length plan.links) then (v.Reset link, reset_state plan st link) else (v.Nothing, st))
-resets plan st h link stands = by_has (nat_lt link (length plan.links)) (due_reset plan h link)
+resets : (plan : Plan) (st : LinkState) (h : History) (link : ℕ) (ends : List PortName) → PortsStandFor plan st h
+    → AllStep plan h (Reset link ends)
+    (if nat_lt link (length plan.links) then (v.Reset link, reset_state plan st ends) else (v.Nothing, st))
+resets plan st h link ends stands = by_has (nat_lt link (length plan.links)) (due_reset plan h link ends)
   where
-    by_has : (b : Bool) → (if b then v.Reset link else v.Nothing) ≡ due plan h (Reset link)
-        → AllStep plan h (Reset link) (if b then (v.Reset link, reset_state plan st link) else (v.Nothing, st))
-    by_has true is = (is, reset_stands plan st h link stands is)
-    by_has false is = (is, reset_nothing plan st h link stands is)
+    by_has : (b : Bool) → (if b then v.Reset link else v.Nothing) ≡ due plan h (Reset link ends)
+        → AllStep plan h (Reset link ends) (if b then (v.Reset link, reset_state plan st ends) else (v.Nothing, st))
+    by_has true is = (is, reset_stands plan st h link ends stands is)
+    by_has false is = (is, reset_nothing plan st h link ends stands is)
 
 -- ---- all events
 
@@ -212,16 +230,26 @@ shows plan st h i bar offset len stands =
     (quiet plan (facts plan) st h e (mmio_due plan h i bar offset len) stands.ports_stand
     (mmio_quiet plan h i bar offset len) refl (no_mmio i bar offset len)) (refl, refl)
 
+no_absent : IsNoOperation Absent
+unfolding operates
+no_absent link stream = refl
+
+absent : (plan : Plan) (st : LinkState) (h : History) → PortsStandFor plan st h → AllStep plan h Absent (v.Nothing, st)
+unfolding due
+absent plan st h stands =
+    plain plan st h Absent (v.Nothing, st) no_absent stands
+    (quiet plan (facts plan) st h Absent v.Nothing stands.ports_stand refl refl no_absent) (refl, refl)
+
 pub steps : StepStands
 unfolding step_of
 steps plan st h (Establish link stream lose) stands = establishes plan st h stands link stream lose
     (find_op plan st link stream) refl
-steps plan st h (Refresh link stream lose) stands = refreshes plan st h stands link stream lose
-    (find_op plan st link stream) refl
+steps plan st h (Refresh link stream lose) stands = refreshes plan st h stands link stream lose (is_link_line link) refl
 steps plan st h (Stop link stream lose) stands = stops plan st h stands link stream lose (find_op plan st link stream)
     refl
 steps plan st h (Status link stream) stands = told plan st h stands link stream (find_op plan st link stream) refl
-steps plan st h (Reset link) stands = resets plan st h link stands
+steps plan st h (Reset link ends) stands = resets plan st h link ends stands
+steps plan st h Absent stands = absent plan st h stands
 steps plan st h (Interface e) stands = asks plan st h e stands
 steps plan st h (Access (ae.Mmio i bar offset len)) stands = shows plan st h i bar offset len stands
 steps plan st h e stands = packets_step plan st h e refl stands

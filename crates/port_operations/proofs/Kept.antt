@@ -1,5 +1,8 @@
 -- A send, an answer to a read or an arrival leaves the manager's operations and the draws.
 use Rattle.link_ports.specs.Machine.{Beside, port_at, sealing_draw_at, stepped_completion, stepped_reply}
+use Rattle.link_ports.specs.Machine.{stepped_forward}
+use Rattle.link_events.specs.declared.event.Event.TheVariants.{Forward}
+use Rattle.link_ports.specs.{HopTlp, leaving_end, may_send, outgoing_at}
 use Rattle.link_ports.specs.Replies.{BoundCompletion}
 use Rattle.link_events.specs.declared.event.Event.TheVariants.{Access}
 use Rattle.link_events.specs.declared.event.AccessEvent.TheVariants as ae
@@ -11,6 +14,8 @@ use Rattle.std.specs.Prelude.{unwrap_or}
 use Rattle.key_laws.specs.Keys.{is_below}
 use Rattle.port_operations.proofs.Terms.{arith, if◌then◌else◌, Alter, stepped_answer, Arrival, Arrive, stepped_arrival}
 use Rattle.port_operations.proofs.Terms.{Cut}
+unfoldable use Rattle.link_ports.specs.{sealing_end}
+use Rattle.link_ports.specs.{arrival_at}
 use Rattle.port_operations.proofs.Terms.{Dump, Event, find, has_port, is_of_packets, LinkState, Pass, Plan, PortName}
 use Rattle.port_operations.proofs.Terms.{put, Send, stepped_on_stream, stepped_send, streams_of}
 use Rattle.port_operations.proofs.Terms.{Sending, step_of, Stepped}
@@ -71,18 +76,24 @@ reply_kept plan beside st port (Err w) = (refl, refl)
 reply_kept plan beside st port (Ok r) =
     completed_kept plan beside st port r (sealing_draw_at Cpl (find plan st port r.stream))
 
+forward_kept : (plan : Plan) (beside : Beside) (st : LinkState) (port : PortName) (r : Result HopTlp Verdict)
+    → Kept st (stepped_forward plan beside st port r)
+forward_kept plan beside st port (Err w) = (refl, refl)
+forward_kept plan beside st port (Ok x) = send_kept plan beside st port (outgoing_at plan port x.bytes) false x.t true
+
 pub step_kept : (plan : Plan) (beside : Beside) (st : LinkState) (e : Event) → is_of_packets e ≡ true
     → Kept st (step_of plan beside st e)
 unfolding step_of
-step_kept plan beside st (Send port bytes more trusted) is = send_kept plan beside st port
-    (outgoing_of (streams_of plan port.link) port.side bytes) more trusted (has_port plan port)
+step_kept plan beside st (Send port bytes more trusted) is = send_kept plan beside st (sealing_end plan port bytes)
+    (outgoing_at plan (sealing_end plan port bytes) bytes) more trusted (may_send plan port)
 step_kept plan beside st (Access (ae.Answer link)) is =
     reply_kept plan beside st (port_at Host link) (beside.reply link)
+step_kept plan beside st (Forward link d) is = forward_kept plan beside st (leaving_end link d) (beside.forward link d)
 step_kept plan beside st (Arrive port bytes) is = by_port (has_port plan port)
   where
     by_port : (b : Bool) → Kept st
-        (if b then stepped_arrival plan beside st (Some (record { port = port; bytes = bytes })) else (v.Nothing, st))
-    by_port true = arrive_kept plan beside st (Some (record { port = port; bytes = bytes }))
+        (if b then stepped_arrival plan beside st (Some (arrival_at plan port bytes)) else (v.Nothing, st))
+    by_port true = arrive_kept plan beside st (Some (arrival_at plan port bytes))
     by_port false = (refl, refl)
 step_kept plan beside st (Pass n) is = arrive_kept plan beside st _
 step_kept plan beside st (Alter n at mask) is = arrive_kept plan beside st _

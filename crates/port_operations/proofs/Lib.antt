@@ -13,3 +13,8 @@ pub mod AllSteps
 pub mod Resets
 pub mod Cases
 pub mod Points
+pub use Rattle.link_ports.proofs.{facts, key_cause, InOrder, in_order, keys_into, keys_out, unplanned_keys}
+pub use Rattle.link_ports.proofs.Answers.{Says, answer_is, packet_due, says, taken_at}
+pub use Rattle.link_ports.proofs.Changes.{kept_is}
+pub use Rattle.link_ports.proofs.Frames.{failed_live}
+pub use Rattle.link_ports.proofs.Numbers.{of_numbered}

@@ -1,4 +1,5 @@
 -- The manager's operations and the number of draws stand for the history.
+use Rattle.ide_types.specs.Lines.{is_hosted}
 use Rattle.port_operations.proofs.Terms.{◌≡◌, ℕ, ◌+◌, ◌==◌, Bool, true, false, Option, Some, None, List, [], ◌∷◌}
 use Rattle.port_operations.proofs.Terms.{length, refl, ap, sym, ◌∙◌, subst, arith, if◌then◌else◌, ◌&&◌, is_some}
 use Rattle.port_operations.proofs.Terms.{slice_set, Begun, changed_by_id, Device, draws_after, draws_made, place_at_end}
@@ -115,7 +116,8 @@ ops_worked plan st h o link stream (Some r) stands known l s =
     let into : Side → SubKind → List Touch = λ side u. touches_at (ports_of plan st) w r
     (place_at_end link stream false side u)
     in
-    ops_after plan st (touched_state plan st link stream out into) h link stream (draws_after st.draws w) (op_after w r)
+    ops_after plan st (touched_state plan st link stream out into) h link stream (draws_after st.draws w)
+    (op_after (is_hosted link) w r)
     (touched_ops plan st link stream out into) stands known l s
 
 pub draws_worked : (plan : Plan) (st : LinkState) (h : History) (o : Operation) (link stream : ℕ) (r : Option Reach)

@@ -24,9 +24,8 @@ use Rattle.port_operations.proofs.Terms.{is_some, refuses}
 use Rattle.key_laws.specs.Keys.{refusal_if}
 use Rattle.key_laws.proofs.Whole.{fits, next_fits}
 use Rattle.key_states.proofs.Firsts.{first_keys, refresh_keyed, base_kept}
-use Rattle.link_history.proofs.KeyVerdicts.{establish_due_quiet, refresh_due_quiet, stop_due_quiet}
-use Rattle.link_keys.proofs.Moments.{none_sent, none_posted, none_finished, none_since, no_units, none_held, none_got}
-use Rattle.link_keys.proofs.Moments.{busy_is, sends_lane}
+use Rattle.link_ports.proofs.{establish_due_quiet, refresh_due_quiet, stop_due_quiet, none_sent, none_posted}
+use Rattle.link_ports.proofs.{none_finished, none_since, no_units, none_held, none_got, busy_is, sends_lane}
 use Rattle.port_operations.proofs.Operations.{takes_nothing}
 use Rattle.port_operations.proofs.Runs.{are_first, NewIn, out_run, in_run, halted_is, cleared_are}
 

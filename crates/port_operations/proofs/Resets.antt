@@ -14,11 +14,21 @@ use Rattle.port_operations.proofs.Terms.{operates, Plan, port_at, port_place, Po
 use Rattle.port_operations.proofs.Terms.{posted_sum, Pr, Reset, reset_state, rx_slots, sealed_packets, sealed_same}
 use Rattle.port_operations.proofs.Terms.{sent_direction, Side, slice_index_or, standing, standing_if_planned}
 use Rattle.port_operations.proofs.Terms.{PortsStandFor, stays}
-use Rattle.port_operations.proofs.Terms.{stream_plan, streams_by_link, streams_of, StreamState, SubKind, total_in}
+use Rattle.port_operations.proofs.Terms.{stream_plan, streams_by_line, streams_of, StreamState, SubKind, total_in}
 use Rattle.port_operations.proofs.Terms.{tx_slots, units_since, with_id, within}
 use Rattle.link_verdicts.specs.declared.verdict.Verdict.TheVariants as v
 use Rattle.ide_plan.specs.declared.stream.StreamPlan.{StreamPlan}
-use Rattle.port_operations.proofs.Worked.{Still, untouched, still_stands}
+use Rattle.port_operations.proofs.Worked.{Still, StillAt, untouched, still_stands, still_standing}
+use Rattle.link_ports.specs.Machine.{row_cleared, rows_cleared, all_cleared, op_when_cut, all_cut}
+use Rattle.link_ports.proofs.Puts.{place_is}
+use Rattle.link_ports.proofs.{same_port, seat_same}
+use Rattle.link_ports.specs.{is_same_port}
+use Rattle.key_laws.specs.Places.{is_cleared, is_cut, is_peer, is_same_side}
+use Rattle.key_laws.specs.Keys.{Clear}
+use Rattle.key_laws.specs.History.{touches_after, when}
+use Rattle.std.specs.List.{list_any}
+use Rattle.std.specs.Prelude.{Option}
+use Rattle.port_operations.proofs.Terms.{place_in_sub_stream}
 
 -- ---- a stream without keys
 
@@ -71,27 +81,26 @@ module _ (plan : Plan) (port : PortName) (stream : ℕ) where
 
 -- ---- after a reset
 
-cleared_out : (plan : Plan) (h : History) (side : Side) (l stream : ℕ) (u : SubKind)
-    → keys_at ((Reset l, v.Reset l) ∷ h) (port_at side l) (lane_out (port_at side l) stream u) ≡ no_keys
-unfolding moments
-cleared_out plan h side l stream u =
-    keys_out ((Reset l, v.Reset l) ∷ h) (port_at side l) stream u
-    ∙ rw (eqb-refl l) ((clears true
-    (moments h (record { side = side; link = l; stream = stream; sends = true; sub = u }))).are)
+module _ (plan : Plan) (h : History) (l : ℕ) (ends : List PortName) (port : PortName)
+    (here : is_cleared ends port.side port.link ≡ true)
+    (stream : ℕ) where
+  cleared_out : (u : SubKind) → keys_at ((Reset l ends, v.Reset l) ∷ h) port (lane_out port stream u) ≡ no_keys
+  unfolding moments
+  cleared_out u =
+      keys_out ((Reset l ends, v.Reset l) ∷ h) port stream u
+      ∙ rw here ((clears true
+      (moments h (record { side = port.side; link = port.link; stream = stream; sends = true; sub = u }))).are)
 
-cleared_in : (plan : Plan) (h : History) (side : Side) (l stream : ℕ) (u : SubKind)
-    → keys_at ((Reset l, v.Reset l) ∷ h) (port_at side l) (lane_in (port_at side l) stream u) ≡ no_keys
-unfolding moments
-cleared_in plan h side l stream u =
-    keys_into ((Reset l, v.Reset l) ∷ h) (port_at side l) stream u
-    ∙ rw (eqb-refl l) ((clears false
-    (moments h (record { side = side; link = l; stream = stream; sends = false; sub = u }))).are)
+  cleared_in : (u : SubKind) → keys_at ((Reset l ends, v.Reset l) ∷ h) port (lane_in port stream u) ≡ no_keys
+  unfolding moments
+  cleared_in u =
+      keys_into ((Reset l ends, v.Reset l) ∷ h) port stream u
+      ∙ rw here ((clears false
+      (moments h (record { side = port.side; link = port.link; stream = stream; sends = false; sub = u }))).are)
 
-reset_standing : (plan : Plan) (h : History) (side : Side) (l stream : ℕ)
-    → standing plan ((Reset l, v.Reset l) ∷ h) (port_at side l) stream ≡ no_stream
-reset_standing plan h side l stream =
-    empty_standing plan (port_at side l) stream ((Reset l, v.Reset l) ∷ h)
-    (record { out = cleared_out plan h side l stream; into = cleared_in plan h side l stream })
+  reset_standing : standing plan ((Reset l ends, v.Reset l) ∷ h) port stream ≡ no_stream
+  reset_standing =
+      empty_standing plan port stream ((Reset l ends, v.Reset l) ∷ h) (record { out = cleared_out; into = cleared_in })
 
 -- ---- the lists
 
@@ -125,139 +134,266 @@ filled {A} ss rows i id x there = by_known (is_some (with_id ss id)) refl
 
 -- ---- the ports after a reset
 
-apart_ends : (l : ℕ) → port_place (port_at Host l) ≢ port_place (port_at Device l)
-apart_ends l same = absurd (omega (arith, same))
+abbrev seen : Plan → List (List StreamState) → PortName → ℕ → Option StreamState
+seen plan rows port t = found_by_id (streams_of plan port.link) (slice_index_or rows (port_place port) []) t
 
-reset_here : (plan : Plan) (st : LinkState) (h : History) (side : Side) (l t : ℕ) → PortsStand plan st h
-    → find plan (reset_state plan st l) (port_at side l) t ≡
-    (if is_some (stream_plan plan l t) then Some no_stream else None)
-unfolding find stream_plan
-reset_here plan st h side l t stands = by_side side
+-- each planned stream has its state
+abbrev Shaped : Plan → List (List StreamState) → Type 0
+Shaped plan rows = (port : PortName) (t : ℕ) → is_some (with_id (streams_of plan port.link) t) ≡ true
+    → is_some (seen plan rows port t) ≡ true
+
+abbrev blank : Plan → PortName → ℕ → Option StreamState
+blank plan port t = if is_some (with_id (streams_of plan port.link) t) then Some no_stream else None
+
+row_seen : (plan : Plan) (rows : List (List StreamState)) (e : PortName) → Shaped plan rows → (port : PortName) (t : ℕ)
+    → seen plan (row_cleared plan e rows) port t
+    ≡ (if is_same_port e port then blank plan port t else seen plan rows port t)
+row_seen plan rows e shaped port t = by (is_same_port e port) refl
   where
-    ss : List StreamPlan
-    ss = streams_of plan l
-
     row : List StreamState
-    row = map (λ (s : StreamPlan). no_stream) ss
+    row = map (λ (s : StreamPlan). no_stream) (streams_of plan e.link)
 
-    host : ℕ
-    host = port_place (port_at Host l)
+    by : (b : Bool) → is_same_port e port ≡ b → seen plan (row_cleared plan e rows) port t
+        ≡ (if b then blank plan port t else seen plan rows port t)
+    by true same = subst (λ (q : PortName). seen plan (row_cleared plan e rows) q t ≡ blank plan q t)
+        (same_port e port same) (filled (streams_of plan e.link) rows (port_place e) t no_stream (shaped e t))
+    by false other = ap (λ (xs : List StreamState). found_by_id (streams_of plan port.link) xs t)
+        (get_or-set_other rows (port_place e) (port_place port) row []
+        (λ same. absurd (let is = place_is e port (sym same) in cc)))
 
-    device : ℕ
-    device = port_place (port_at Device l)
+if_shaped : (b : Bool) (known : Bool) (o : Option StreamState) → known ≡ true → is_some o ≡ true
+    → is_some (if b then (if known then Some no_stream else None) else o) ≡ true
+if_shaped b known o is there = grind arith
 
-    there : (side : Side) → is_some (with_id ss t) ≡ true → is_some (find plan st (port_at side l) t) ≡ true
-    there side known = let here : is_some (standing_if_planned plan h (port_at side l) t)
-        ≡ true = rw known refl in ap is_some (stands.streams (port_at side l) t)
-        ∙ here
+row_shaped : (plan : Plan) (rows : List (List StreamState)) (e : PortName) → Shaped plan rows
+    → Shaped plan (row_cleared plan e rows)
+row_shaped plan rows e shaped port t known = ap is_some (row_seen plan rows e shaped port t)
+    ∙ if_shaped (is_same_port e port) _ (seen plan rows port t) known (shaped port t known)
 
-    by_side : (side : Side) → find plan (reset_state plan st l) (port_at side l) t
-        ≡ (if is_some (with_id ss t) then Some no_stream else None)
-    by_side Host =
-        ap (λ (xs : List StreamState). found_by_id ss xs t)
-        (get_or-set_other (slice_set st.ports host row) device host row [] (apart_ends l))
-        ∙ filled ss st.ports host t no_stream (there Host)
-    by_side Device =
-        filled ss (slice_set st.ports host row) device t no_stream
-        (λ known. ap (λ (xs : List StreamState). is_some (found_by_id ss xs t))
-        (get_or-set_other st.ports host device row [] (λ same. apart_ends l (sym same)))
-        ∙ there Device known)
+-- the end is cleared for this one's sake
+abbrev hits : PortName → PortName → Bool
+hits e port = if is_peer port.link then is_same_side e.side port.side && (e.link == port.link)
+    else e.link == port.link
 
-other_place : (l : ℕ) (side : Side) (port : PortName) → (l == port.link) ≡ false
-    → port_place port ≢ port_place (port_at side l)
-other_place l side port other same = absurd (grind (arith, nat_tests))
-
-reset_there : (plan : Plan) (st : LinkState) (l : ℕ) (port : PortName) (t : ℕ) → (l == port.link) ≡ false
-    → find plan (reset_state plan st l) port t ≡ find plan st port t
-unfolding find
-reset_there plan st l port t other =
-    let row = map (λ (s : StreamPlan). no_stream) (streams_of plan l) in
-    let host = port_place (port_at Host l) in
-    ap (λ (xs : List StreamState). found_by_id (streams_of plan port.link) xs t)
-    (get_or-set_other (slice_set st.ports host row) (port_place (port_at Device l)) (port_place port) row []
-    (other_place l Device port other)
-    ∙ get_or-set_other st.ports host (port_place port) row [] (other_place l Host port other))
-
-reset_streams : (plan : Plan) (st : LinkState) (h : History) (l : ℕ) → PortsStand plan st h → v.Reset l
-    ≡ due plan h (Reset l) → (port : PortName) (t : ℕ) → find plan (reset_state plan st l) port t
-    ≡ standing_if_planned plan ((Reset l, v.Reset l) ∷ h) port t
-unfolding operates
-reset_streams plan st h l stands is port t = by_link (l == port.link) refl
+hits_end : (e port : PortName) → is_peer e.link ≡ true → is_same_port e port ≡ hits e port
+hits_end e port peer = by (e.link == port.link) refl
   where
-    here : (side : Side) → find plan (reset_state plan st l) (port_at side l) t
-        ≡ standing_if_planned plan ((Reset l, v.Reset l) ∷ h) (port_at side l) t
-    here side = reset_here plan st h side l t stands ∙ ap
-        (λ (x : StreamState). if is_some (stream_plan plan l t) then Some x else None)
-        (sym (reset_standing plan h side l t))
+    by : (b : Bool) → (e.link == port.link) ≡ b
+        → (is_same_side e.side port.side && b) ≡ (if is_peer port.link then is_same_side e.side port.side && b else b)
+    by true same =
+        let line : e.link ≡ port.link = grind (arith, nat_tests) in
+        let there : is_peer port.link ≡ true = subst (λ (n : ℕ). is_peer n ≡ true) line peer in
+        rw there refl
+    by false other = none (is_same_side e.side port.side) (is_peer port.link)
+      where
+        none : (a p : Bool) → (a && false) ≡ (if p then a && false else false)
+        none a p = grind arith
 
-    by_link : (b : Bool) → (l == port.link) ≡ b → find plan (reset_state plan st l) port t
-        ≡ standing_if_planned plan ((Reset l, v.Reset l) ∷ h) port t
-    by_link true e =
-        let same : l ≡ port.link = grind (arith, nat_tests) in
-        subst (λ (n : ℕ). find plan (reset_state plan st l) (port_at port.side n) t
-        ≡ standing_if_planned plan ((Reset l, v.Reset l) ∷ h) (port_at port.side n) t) same (here port.side)
-    by_link false e = reset_there plan st l port t e ∙ stays plan (facts plan) st h (Reset l) (v.Reset l) stands is port
-        t e refl refl
+hits_line : (e port : PortName) → is_peer e.link ≡ false → (e.link == port.link) ≡ hits e port
+hits_line e port line = by (e.link == port.link) refl
+  where
+    by : (b : Bool) → (e.link == port.link) ≡ b
+        → b ≡ (if is_peer port.link then is_same_side e.side port.side && b else b)
+    by true same =
+        let one : e.link ≡ port.link = grind (arith, nat_tests) in
+        let there : is_peer port.link ≡ false = subst (λ (n : ℕ). is_peer n ≡ false) one line in
+        rw there refl
+    by false other = none (is_same_side e.side port.side) (is_peer port.link)
+      where
+        none : (a p : Bool) → false ≡ (if p then a && false else false)
+        none a p = grind arith
+
+rows_shaped : (plan : Plan) (rows : List (List StreamState)) (e : PortName) → Shaped plan rows
+    → Shaped plan (rows_cleared plan e rows)
+rows_shaped plan rows e shaped = by (is_peer e.link)
+  where
+    by : (peer : Bool) → Shaped plan (if peer then row_cleared plan e rows
+        else row_cleared plan (port_at Device e.link) (row_cleared plan (port_at Host e.link) rows))
+    by true port t known = row_shaped plan rows e shaped port t known
+    by false port t known = row_shaped plan (row_cleared plan (port_at Host e.link) rows) (port_at Device e.link)
+        (row_shaped plan rows (port_at Host e.link) shaped) port t known
+
+one_of_two : (side : Side) (line : Bool) (x y : Option StreamState)
+    → (if (sent_direction Device == sent_direction side) && line then x
+    else if (sent_direction Host == sent_direction side) && line then x else y) ≡ (if line then x else y)
+one_of_two side line x y = grind arith
+
+rows_seen : (plan : Plan) (rows : List (List StreamState)) (e : PortName) → Shaped plan rows → (port : PortName) (t : ℕ)
+    → seen plan (rows_cleared plan e rows) port t
+    ≡ (if hits e port then blank plan port t else seen plan rows port t)
+rows_seen plan rows e shaped port t = by (is_peer e.link) refl
+  where
+    by : (peer : Bool) → is_peer e.link ≡ peer → seen plan (if peer then row_cleared plan e rows
+        else row_cleared plan (port_at Device e.link) (row_cleared plan (port_at Host e.link) rows)) port t
+        ≡ (if hits e port then blank plan port t else seen plan rows port t)
+    by true peer = row_seen plan rows e shaped port t
+        ∙ ap (λ (b : Bool). if b then blank plan port t else seen plan rows port t) (hits_end e port peer)
+    by false line =
+        row_seen plan (row_cleared plan (port_at Host e.link) rows) (port_at Device e.link)
+        (row_shaped plan rows (port_at Host e.link) shaped) port t
+        ∙ (ap (λ (o : Option StreamState). if is_same_port (port_at Device e.link) port then blank plan port t else o)
+        (row_seen plan rows (port_at Host e.link) shaped port t)
+        ∙ (one_of_two port.side (e.link == port.link) (blank plan port t) (seen plan rows port t)
+        ∙ ap (λ (b : Bool). if b then blank plan port t else seen plan rows port t) (hits_line e port line)))
+
+none_cleared : (side : Side) (line : ℕ) → is_cleared [] side line ≡ false
+none_cleared side line = by (is_peer line)
+  where
+    by : (peer : Bool) → (if peer then false else false) ≡ false
+    by true = refl
+    by false = refl
+
+more_cleared : (e : PortName) (es : List PortName) (port : PortName)
+    → (hits e port || is_cleared es port.side port.link) ≡ is_cleared (e ∷ es) port.side port.link
+more_cleared e es port = by (is_peer port.link)
+  where
+    by : (peer : Bool) → ((if peer then is_same_side e.side port.side && (e.link == port.link) else e.link == port.link)
+        || (if peer then list_any (λ d. is_same_side d.side port.side && (d.link == port.link)) es
+        else is_cut es port.link))
+        ≡ (if peer then list_any (λ d. is_same_side d.side port.side && (d.link == port.link)) (e ∷ es)
+        else is_cut (e ∷ es) port.link)
+    by true = refl
+    by false = refl
+
+either : {A : Type 0} (a b : Bool) (x y : A) → (if b then x else if a then x else y) ≡ (if a || b then x else y)
+either a b x y = grind arith
+
+all_seen : (plan : Plan) (ends : List PortName) (rows : List (List StreamState)) → Shaped plan rows → (port : PortName)
+    (t : ℕ) → seen plan (all_cleared plan ends rows) port t
+    ≡ (if is_cleared ends port.side port.link then blank plan port t else seen plan rows port t)
+all_seen plan [] rows shaped port t = sym
+    (ap (λ (b : Bool). if b then blank plan port t else seen plan rows port t) (none_cleared port.side port.link))
+all_seen plan (e ∷ es) rows shaped port t =
+    all_seen plan es (rows_cleared plan e rows) (rows_shaped plan rows e shaped) port t
+    ∙ (ap (λ (o : Option StreamState). if is_cleared es port.side port.link then blank plan port t else o)
+    (rows_seen plan rows e shaped port t)
+    ∙ (either (hits e port) (is_cleared es port.side port.link) (blank plan port t) (seen plan rows port t)
+    ∙ ap (λ (b : Bool). if b then blank plan port t else seen plan rows port t) (more_cleared e es port)))
+
+-- what a reset does not clear stays
+not_reset : (plan : Plan) (h : History) (l : ℕ) (ends : List PortName) (port : PortName)
+    → is_cleared ends port.side port.link ≡ false
+    → StillAt plan h (Reset l ends) (v.Reset l) port
+unfolding moments base
+not_reset plan h l ends port none = record {
+  quiet = refl;
+  keys = λ s here. seat_same plan ((Reset l ends, v.Reset l) ∷ h) h port s
+      (λ sends. ap (λ (b : Bool). touches_after (moments h (place_in_sub_stream port s sends)) (when b Clear))
+      (ap (is_cleared ends port.side) here ∙ none));
+  based = λ stream. refl;
+}
+
+reset_streams : (plan : Plan) (st : LinkState) (h : History) (l : ℕ) (ends : List PortName) → PortsStand plan st h
+    → (port : PortName) (t : ℕ)
+    → find plan (reset_state plan st ends) port t ≡ standing_if_planned plan ((Reset l ends, v.Reset l) ∷ h) port t
+unfolding find stream_plan
+reset_streams plan st h l ends stands port t =
+    all_seen plan ends st.ports shaped port t ∙ by (is_cleared ends port.side port.link) refl
+  where
+    shaped : Shaped plan st.ports
+    shaped q n known = ap is_some (stands.streams q n) ∙ rw known refl
+
+    by : (b : Bool) → is_cleared ends port.side port.link ≡ b
+        → (if b then blank plan port t else seen plan st.ports port t)
+        ≡ (if is_some (with_id (streams_of plan port.link) t)
+        then Some (standing plan ((Reset l ends, v.Reset l) ∷ h) port t) else None)
+    by true here = ap
+        (λ (x : StreamState). if is_some (with_id (streams_of plan port.link) t) then Some x else None)
+        (sym (reset_standing plan h l ends port here t))
+    by false none = stands.streams port t
+        ∙ ap (λ (x : StreamState). if is_some (with_id (streams_of plan port.link) t) then Some x else None)
+        (sym (still_standing plan h (Reset l ends) (v.Reset l) port (not_reset plan h l ends port none) t))
 
 -- ---- the manager after a reset
 
-op_here : (plan : Plan) (st : LinkState) (h : History) (l s : ℕ) → PortsStandFor plan st h
-    → find_op plan (reset_state plan st l) l s ≡ (if is_some (stream_plan plan l s) then Some Idle else None)
-unfolding find_op stream_plan
-op_here plan st h l s stands = filled (streams_of plan l) st.ops l s Idle there
+abbrev seen_op : Plan → List (List Op) → ℕ → ℕ → Option Op
+seen_op plan rows line s = found_by_id (streams_of plan line) (slice_index_or rows line []) s
+
+abbrev ShapedOps : Plan → List (List Op) → Type 0
+ShapedOps plan rows = (line s : ℕ) → is_some (with_id (streams_of plan line) s) ≡ true
+    → is_some (seen_op plan rows line s) ≡ true
+
+abbrev cut_op : Plan → ℕ → ℕ → Option Op
+cut_op plan line s = if is_some (with_id (streams_of plan line) s) then Some (op_when_cut line) else None
+
+abbrev row_cut : Plan → ℕ → List (List Op) → List (List Op)
+row_cut plan line rows = slice_set rows line (map (λ (s : StreamPlan). op_when_cut line) (streams_of plan line))
+
+op_seen : (plan : Plan) (rows : List (List Op)) (l : ℕ) → ShapedOps plan rows → (line s : ℕ)
+    → seen_op plan (row_cut plan l rows) line s
+    ≡ (if l == line then cut_op plan line s else seen_op plan rows line s)
+op_seen plan rows l shaped line s = by (l == line) refl
   where
-    there : is_some (with_id (streams_of plan l) s) ≡ true → is_some
-        (found_by_id (streams_of plan l) (slice_index_or st.ops l []) s) ≡ true
-    there known = let here : is_some (op_at plan h l s) ≡ true = rw known refl in ap is_some (stands.ops_is l s) ∙ here
+    by : (b : Bool) → (l == line) ≡ b → seen_op plan (row_cut plan l rows) line s
+        ≡ (if b then cut_op plan line s else seen_op plan rows line s)
+    by true same =
+        let one : l ≡ line = grind (arith, nat_tests) in
+        subst (λ (n : ℕ). seen_op plan (row_cut plan l rows) n s ≡ cut_op plan n s) one
+        (filled (streams_of plan l) rows l s (op_when_cut l) (shaped l s))
+    by false other = ap (λ (xs : List Op). found_by_id (streams_of plan line) xs s)
+        (get_or-set_other rows l line (map (λ (x : StreamPlan). op_when_cut l) (streams_of plan l)) []
+        (λ same. grind (arith, nat_tests)))
 
-op_there : (plan : Plan) (st : LinkState) (l a s : ℕ) → (a == l) ≡ false → find_op plan (reset_state plan st l) a s
-    ≡ find_op plan st a s
-unfolding find_op
-op_there plan st l a s other =
-    ap (λ (xs : List Op). found_by_id (streams_of plan a) xs s)
-    (get_or-set_other st.ops l a (map (λ (x : StreamPlan). Idle) (streams_of plan l)) []
-    (λ same. grind (arith, nat_tests)))
+if_shaped_op : (b known : Bool) (q : Op) (o : Option Op) → known ≡ true → is_some o ≡ true
+    → is_some (if b then (if known then Some q else None) else o) ≡ true
+if_shaped_op b known q o is there = grind arith
 
-reset_ops : (plan : Plan) (st : LinkState) (h : History) (l : ℕ) → PortsStandFor plan st h → (a s : ℕ)
-    → find_op plan (reset_state plan st l) a s ≡ op_at plan ((Reset l, v.Reset l) ∷ h) a s
+ops_shaped : (plan : Plan) (rows : List (List Op)) (l : ℕ) → ShapedOps plan rows → ShapedOps plan (row_cut plan l rows)
+ops_shaped plan rows l shaped line s known = ap is_some (op_seen plan rows l shaped line s)
+    ∙ if_shaped_op (l == line) _ (op_when_cut line) (seen_op plan rows line s) known (shaped line s known)
+
+ops_seen : (plan : Plan) (ends : List PortName) (rows : List (List Op)) → ShapedOps plan rows → (line s : ℕ)
+    → seen_op plan (all_cut plan ends rows) line s
+    ≡ (if is_cut ends line then cut_op plan line s else seen_op plan rows line s)
+ops_seen plan [] rows shaped line s = refl
+ops_seen plan (e ∷ es) rows shaped line s =
+    ops_seen plan es (row_cut plan e.link rows) (ops_shaped plan rows e.link shaped) line s
+    ∙ (ap (λ (o : Option Op). if is_cut es line then cut_op plan line s else o)
+    (op_seen plan rows e.link shaped line s)
+    ∙ either (e.link == line) (is_cut es line) (cut_op plan line s) (seen_op plan rows line s))
+
+if_known : (cut known : Bool) (q o : Op) → (if cut then (if known then Some q else None)
+    else if known then Some o else None) ≡ (if known then Some (if cut then q else o) else None)
+if_known cut known q o = grind arith
+
+reset_ops : (plan : Plan) (st : LinkState) (h : History) (l : ℕ) (ends : List PortName) → PortsStandFor plan st h
+    → (a s : ℕ)
+    → find_op plan (reset_state plan st ends) a s ≡ op_at plan ((Reset l ends, v.Reset l) ∷ h) a s
+unfolding find_op stream_plan manager
+reset_ops plan st h l ends stands a s =
+    ops_seen plan ends st.ops (λ line n known. ap is_some (stands.ops_is line n) ∙ rw known refl) a s
+    ∙ (ap (λ (o : Option Op). if is_cut ends a then cut_op plan a s else o) (stands.ops_is a s)
+    ∙ if_known (is_cut ends a) (is_some (with_id (streams_of plan a) s)) (op_when_cut a) (op_of h a s))
+
+reset_draws : (h : History) (l : ℕ) (ends : List PortName) → draws_made h ≡ draws_made ((Reset l ends, v.Reset l) ∷ h)
 unfolding manager
-reset_ops plan st h l stands a s = by_link (a == l) refl
-  where
-    by_link : (b : Bool) → (a == l) ≡ b → find_op plan (reset_state plan st l) a s
-        ≡ (if is_some (stream_plan plan a s) then Some (if b then Idle else op_of h a s) else None)
-    by_link true e =
-        let same : l ≡ a = grind (arith, nat_tests) in
-        subst (λ (n : ℕ). find_op plan (reset_state plan st l) n s
-        ≡ (if is_some (stream_plan plan n s) then Some Idle else None)) same (op_here plan st h l s stands)
-    by_link false e = op_there plan st l a s e ∙ stands.ops_is a s
+reset_draws h l ends = refl
 
-reset_draws : (h : History) (l : ℕ) → draws_made h ≡ draws_made ((Reset l, v.Reset l) ∷ h)
-unfolding manager
-reset_draws h l = refl
-
-pub reset_stands : (plan : Plan) (st : LinkState) (h : History) (l : ℕ) → PortsStandFor plan st h → v.Reset l
-    ≡ due plan h (Reset l) → PortsStandFor plan (reset_state plan st l) ((Reset l, v.Reset l) ∷ h)
-reset_stands plan st h l stands is = record {
+pub reset_stands : (plan : Plan) (st : LinkState) (h : History) (l : ℕ) (ends : List PortName)
+    → PortsStandFor plan st h → v.Reset l
+    ≡ due plan h (Reset l ends) → PortsStandFor plan (reset_state plan st ends) ((Reset l ends, v.Reset l) ∷ h)
+reset_stands plan st h l ends stands is = record {
   ports_stand = record {
     cause = (is, stands.ports_stand.cause);
-    streams = reset_streams plan st h l stands.ports_stand is;
-    packets = stands.ports_stand.packets ∙ ap kept_all (sym (sealed_same plan h (Reset l) (v.Reset l) refl));
+    streams = reset_streams plan st h l ends stands.ports_stand;
+    packets = stands.ports_stand.packets ∙ ap kept_all (sym (sealed_same plan h (Reset l ends) (v.Reset l) refl));
   };
-  ops_is = reset_ops plan st h l stands;
-  draws_is = stands.draws_is ∙ reset_draws h l;
+  ops_is = reset_ops plan st h l ends stands;
+  draws_is = stands.draws_is ∙ reset_draws h l ends;
 }
 
 -- a link that the plan does not have
-reset_still : (plan : Plan) (h : History) (l : ℕ) → Still plan h (Reset l) v.Nothing
+reset_still : (plan : Plan) (h : History) (l : ℕ) (ends : List PortName) → Still plan h (Reset l ends) v.Nothing
 unfolding base
-reset_still plan h l = record
-    { quiet = refl; keys = untouched plan h (Reset l) v.Nothing (λ p. refl); based = λ a s. refl }
+reset_still plan h l ends = record
+    { quiet = refl; keys = untouched plan h (Reset l ends) v.Nothing (λ p. refl); based = λ a s. refl }
 
-pub reset_nothing : (plan : Plan) (st : LinkState) (h : History) (l : ℕ) → PortsStandFor plan st h → v.Nothing
-    ≡ due plan h (Reset l) → PortsStandFor plan st ((Reset l, v.Nothing) ∷ h)
+pub reset_nothing : (plan : Plan) (st : LinkState) (h : History) (l : ℕ) (ends : List PortName)
+    → PortsStandFor plan st h → v.Nothing
+    ≡ due plan h (Reset l ends) → PortsStandFor plan st ((Reset l ends, v.Nothing) ∷ h)
 unfolding manager
-reset_nothing plan st h l stands is = record {
-  ports_stand = still_stands plan st h (Reset l) v.Nothing stands.ports_stand is (reset_still plan h l);
+reset_nothing plan st h l ends stands is = record {
+  ports_stand = still_stands plan st h (Reset l ends) v.Nothing stands.ports_stand is (reset_still plan h l ends);
   ops_is =
       stands.ops_is;
   draws_is = stands.draws_is;
@@ -292,13 +428,13 @@ begins plan = record {
     cause = tt;
     streams = λ port stream.
         ap (λ (xs : List StreamState). found_by_id (streams_of plan port.link) xs stream)
-        (ports_first (streams_by_link plan) port.link port.side)
+        (ports_first (streams_by_line plan) port.link port.side)
         ∙ (all_found (streams_of plan port.link) stream no_stream
         ∙ ap (λ (x : StreamState). if is_some (with_id (streams_of plan port.link) stream) then Some x else None)
         (sym (empty_standing plan port stream [] (no_keys_first plan port stream))));
     packets = refl;
   };
-  ops_is = λ l s. ap (λ (xs : List Op). found_by_id (streams_of plan l) xs s) (ops_first (streams_by_link plan) l) ∙
+  ops_is = λ l s. ap (λ (xs : List Op). found_by_id (streams_of plan l) xs s) (ops_first (streams_by_line plan) l) ∙
       all_found
       (streams_of plan l) s Idle;
   draws_is = refl;

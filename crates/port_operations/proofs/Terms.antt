@@ -55,14 +55,12 @@ pub use Rattle.key_laws.specs.Operations.{operated as operated_manager, reach_of
 pub use Rattle.key_laws.specs.Places.{KeyPlace, is_on_stream, sent_direction}
 pub use Rattle.link_events.specs.declared.event.Event.TheVariants.{Establish, Refresh, Reset, Stop}
 pub use Rattle.link_events.specs.declared.event.Loss.{Loss}
-pub use Rattle.link_history.specs.History.{place_in_sub_stream}
-unfoldable pub use Rattle.link_history.specs.History.{keys_at, posted_in, sent_in}
-pub use Rattle.link_history.specs.Plan.{key_plan, streams_by_link, with_id}
-unfoldable pub use Rattle.link_history.specs.Plan.{stream_plan}
-pub use Rattle.link_keys.proofs.AllFacts.{facts}
-pub use Rattle.link_keys.proofs.Failures.{failed_next, in_keyed, out_keyed}
-pub use Rattle.link_keys.proofs.Given.{key_cause}
-pub use Rattle.link_keys.proofs.Seats.{keys_into, keys_out}
+pub use Rattle.link_ports.specs.{place_in_sub_stream}
+unfoldable pub use Rattle.link_ports.specs.{keys_at, posted_in, sent_in}
+pub use Rattle.link_ports.specs.{key_plan, with_id}
+unfoldable pub use Rattle.link_ports.specs.{streams_by_line}
+unfoldable pub use Rattle.link_ports.specs.{stream_plan}
+pub use Rattle.link_ports.proofs.{facts, failed_next, in_keyed, out_keyed, key_cause, keys_into, keys_out}
 pub use Rattle.link_ports.proofs.Answers.{any_on, at_each, keyed_in}
 pub use Rattle.link_ports.proofs.Changes.{Steps, at_place, kept_all, kept_is, none_of_packets, put_packets, quiet}
 pub use Rattle.link_ports.proofs.Changes.{quiet_everywhere, stays}

@@ -10,7 +10,7 @@ use Rattle.port_operations.proofs.Terms.{slot_in_set}
 use Rattle.port_operations.proofs.Terms.{slot_of, LaneSlots, slots_at, standing, StreamState, SubStream, tx_slots}
 use Rattle.port_operations.proofs.Terms.{tx_standing, TxSub}
 use Rattle.key_laws.specs.Keys.{refusal_if}
-use Rattle.link_keys.proofs.Unplanned.{unplanned_keys}
+use Rattle.link_ports.proofs.{unplanned_keys}
 
 -- ---- slots
 

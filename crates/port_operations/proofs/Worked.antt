@@ -13,7 +13,8 @@ use Rattle.port_operations.proofs.Terms.{rx_slots, rx_slots_same, sealed_same, s
 use Rattle.port_operations.proofs.Terms.{SubKind, SubStream, total_in, touches, tx_slots, units_same, units_since}
 use Rattle.port_operations.proofs.Terms.{Verdict, Work, work_done}
 use Rattle.link_verdicts.specs.declared.verdict.Operation.TheVariants as op
-use Rattle.link_keys.proofs.RealFacts.{seat_same}
+use Rattle.link_ports.proofs.{seat_same}
+use Rattle.ide_types.specs.Lines.{is_hosted}
 use Rattle.port_operations.proofs.Operations.{takes_nothing, failed_quiet}
 use Rattle.port_operations.proofs.OperationSteps.{operation_steps}
 use Rattle.port_operations.proofs.Operates.{outs, ins, asked, asked_quiet, asked_work, is_operation}
@@ -26,55 +27,69 @@ pub record Still (plan : Plan) (h : History) (e : Event) (x : Verdict) : Type 0 
   pub keys : (port : PortName) (s : SubStream) → keys_at ((e, x) ∷ h) port s ≡ keys_at h port s
   pub based : (link stream : ℕ) → base ((e, x) ∷ h) link stream ≡ base h link stream
 
+-- one that changes nothing at a port
+pub record StillAt (plan : Plan) (h : History) (e : Event) (x : Verdict) (port : PortName) : Type 0 where
+  pub quiet : is_quiet x ≡ true
+  pub keys : (s : SubStream) → s.link ≡ port.link → keys_at ((e, x) ∷ h) port s ≡ keys_at h port s
+  pub based : (stream : ℕ) → base ((e, x) ∷ h) port.link stream ≡ base h port.link stream
+
 abbrev any_on : Keys → Bool
 any_on ks = is_on ks.first || is_on ks.second
 
-module _ (plan : Plan) (h : History) (e : Event) (x : Verdict) (is : Still plan h e x) (port : PortName) (stream : ℕ)
-  where
-    still_out : has_live_out ((e, x) ∷ h) port stream ≡ has_live_out h port stream
-    unfolding has_live_out
-    still_out = let keys = λ (u : SubKind). is.keys port (lane_out port stream u) in λ i. any_on (keys Pr i)
-        || any_on (keys Npr i) || any_on (keys Cpl i)
+module _ (plan : Plan) (h : History) (e : Event) (x : Verdict) (port : PortName) (is : StillAt plan h e x port)
+    (stream : ℕ) where
+  still_out : has_live_out ((e, x) ∷ h) port stream ≡ has_live_out h port stream
+  unfolding has_live_out
+  still_out = let keys = λ (u : SubKind). is.keys (lane_out port stream u) refl in λ i. any_on (keys Pr i)
+      || any_on (keys Npr i) || any_on (keys Cpl i)
 
-    still_in : has_live_in ((e, x) ∷ h) port stream ≡ has_live_in h port stream
-    unfolding has_live_in
-    still_in = let keys = λ (u : SubKind). is.keys port (lane_in port stream u) in λ i. any_on (keys Pr i)
-        || any_on (keys Npr i) || any_on (keys Cpl i)
+  still_in : has_live_in ((e, x) ∷ h) port stream ≡ has_live_in h port stream
+  unfolding has_live_in
+  still_in = let keys = λ (u : SubKind). is.keys (lane_in port stream u) refl in λ i. any_on (keys Pr i)
+      || any_on (keys Npr i) || any_on (keys Cpl i)
 
-    still_failed : failed ((e, x) ∷ h) port stream ≡ failed h port stream
-    still_failed = failed_quiet plan h e x is.quiet port stream ∙
-        ((λ i. failed h port stream && (still_out i || still_in i)) ∙ failed_live plan h port stream)
+  still_failed : failed ((e, x) ∷ h) port stream ≡ failed h port stream
+  still_failed = failed_quiet plan h e x is.quiet port stream ∙
+      ((λ i. failed h port stream && (still_out i || still_in i)) ∙ failed_live plan h port stream)
 
-    still_standing : standing plan ((e, x) ∷ h) port stream ≡ standing plan h port stream
-    unfolding standing
-    still_standing =
-        let g = (e, x) ∷ h in
-        let xs = sealed_same plan h e x (quiet_seals_none x is.quiet) in
-        let from = is.based port.link stream in
-        let none = λ (u : SubKind). takes_nothing x is.quiet (lane_in port stream u) in
-        let slots = λ (u : SubKind). let s = lane_in port stream u in
-        rx_slots_same plan g h port s (keys_at g port s) still_failed (λ j. units_same h e x s j (none u).0)
-        (λ j n. held_same plan h e x s j n (none u).1)
-        ∙ ap (rx_slots plan h port s) (is.keys port s) in
-        let got = λ (u : SubKind). let s = lane_in port stream u in ap (got_since plan g s) from ∙ got_same plan h e x s
-        (base h port.link stream) (none u).0 in
-        let units = λ (u : SubKind). let s = lane_in port stream u in ap (units_since g s) from ∙ since_same h e x s
-        (base h port.link stream) (none u).0 in
-        λ i. record {
-          tx = each_sub (λ u. let s = lane_out port stream u in
-              record {
-                slots = tx_slots plan (xs i) s (is.keys port s i);
-                posted = if still_out i then posted_in (xs i) s (from i) else 0;
-                total = if still_out i then total_in (xs i) s (from i) else 0;
-              });
-          rx = each_sub (λ u. record {
-            slots = slots u i;
-            sum = if still_in i then posted_sum (got u i) else 0;
-            got = if still_in i then length (got u i) else 0;
-            total = if still_in i then units u i else 0;
-          });
-          failed = still_failed i;
-        }
+  pub still_standing : standing plan ((e, x) ∷ h) port stream ≡ standing plan h port stream
+  unfolding standing
+  still_standing =
+      let g = (e, x) ∷ h in
+      let xs = sealed_same plan h e x (quiet_seals_none x is.quiet) in
+      let from = is.based stream in
+      let none = λ (u : SubKind). takes_nothing x is.quiet (lane_in port stream u) in
+      let slots = λ (u : SubKind). let s = lane_in port stream u in
+      rx_slots_same plan g h port s (keys_at g port s) still_failed (λ j. units_same h e x s j (none u).0)
+      (λ j n. held_same plan h e x s j n (none u).1)
+      ∙ ap (rx_slots plan h port s) (is.keys s refl) in
+      let got = λ (u : SubKind). let s = lane_in port stream u in ap (got_since plan g s) from ∙ got_same plan h e x s
+      (base h port.link stream) (none u).0 in
+      let units = λ (u : SubKind). let s = lane_in port stream u in ap (units_since g s) from ∙ since_same h e x s
+      (base h port.link stream) (none u).0 in
+      λ i. record {
+        tx = each_sub (λ u. let s = lane_out port stream u in
+            record {
+              slots = tx_slots plan (xs i) s (is.keys s refl i);
+              posted = if still_out i then posted_in (xs i) s (from i) else 0;
+              total = if still_out i then total_in (xs i) s (from i) else 0;
+            });
+        rx = each_sub (λ u. record {
+          slots = slots u i;
+          sum = if still_in i then posted_sum (got u i) else 0;
+          got = if still_in i then length (got u i) else 0;
+          total = if still_in i then units u i else 0;
+        });
+        failed = still_failed i;
+      }
+
+still_at : (plan : Plan) (h : History) (e : Event) (x : Verdict) → Still plan h e x → (port : PortName)
+    → StillAt plan h e x port
+still_at plan h e x still port = record {
+  quiet = still.quiet;
+  keys = λ s here. still.keys port s;
+  based = still.based port.link;
+}
 
 pub still_stands : (plan : Plan) (st : LinkState) (h : History) (e : Event) (x : Verdict) → PortsStand plan st h → x
     ≡ due plan h e → Still plan h e x → PortsStand plan st ((e, x) ∷ h)
@@ -82,7 +97,7 @@ still_stands plan st h e x stands is still = record {
   cause = (is, stands.cause);
   streams = λ port stream. stands.streams port stream ∙ ap
       (λ (y : StreamState). if has_stream plan port stream then Some y else None)
-      (sym (still_standing plan h e x still port stream));
+      (sym (still_standing plan h e x port (still_at plan h e x still port) stream));
   packets = stands.packets ∙ ap kept_all (sym (sealed_same plan h e x (quiet_seals_none x still.quiet)));
 }
 
@@ -138,7 +153,7 @@ by_ports : (plan : Plan) (st : LinkState) (h g : History) (link stream : ℕ) (w
     (touched_state plan st link stream (outs h link stream w r) (ins h link stream w r)) g
     → PortsStand plan (work_done plan st link stream w (Some r)) g
 by_ports plan st h g link stream w r stands after =
-    beside plan _ g link stream (op_after w r) (draws_after st.draws w)
+    beside plan _ g link stream (op_after (is_hosted link) w r) (draws_after st.draws w)
     (subst (λ (ports : PortView). PortsStand plan
     (touched_state plan st link stream (λ side u. touches_at ports w r (place_at_end link stream true side u))
     (λ side u. touches_at ports w r (place_at_end link stream false side u))) g)

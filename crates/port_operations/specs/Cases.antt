@@ -1,6 +1,7 @@
 -- Worked cases: operations among sends, by the definitions and by the machine.
 use Rattle.std.specs.Prelude.{◌≡◌, Some, None, ℕ, Bool, false, true, List, [], ◌∷◌, map, replicate, Err}
-use Rattle.ide_types.specs.Ports.{device_port}
+use Rattle.ide_types.specs.Ports.{host_port, device_port}
+use Rattle.ide_types.specs.declared.line.LineKind.TheVariants.{Link}
 use Rattle.ide_types.specs.declared.sub.SubKind.TheVariants.{Pr}
 use Rattle.link_events.specs.declared.event.Lost.TheVariants.{Request, Reply}
 use Rattle.link_events.specs.declared.event.Event.{Event}
@@ -13,7 +14,7 @@ use Rattle.link_verdicts.specs.declared.verdict.SealedPacket.{SealedPacket}
 use Rattle.ide_plan.specs.declared.plan.Plan.{Plan}
 use Rattle.ide_plan.specs.declared.stream.Selector.TheVariants.{Selective}
 use Rattle.key_laws.specs.History.{History}
-use Rattle.link_history.specs.Due.{due}
+use Rattle.link_ports.specs.{due}
 use Rattle.link_verdicts.specs.declared.verdict.Effect.TheVariants as effect
 use Rattle.link_ports.specs.Machine.{Beside, LinkState, step_of, first_state}
 
@@ -30,8 +31,10 @@ port_plan = record {
         streams = record { id = 5; mode = 4; closed = false; selector = Selective None [] true }
             ∷ [];
         interfaces = [];
+        hop = None;
       } ∷ [];
   memory = [];
+  peers = [];
 }
 
 -- a write of 11 22 33 44 at 10000000h by the requester 0100h
@@ -63,6 +66,7 @@ no_interfaces = record {
   answer = λ e. v.Nothing;
   reply = λ link. Err v.Nothing;
   shows = λ i bar offset len. v.Nothing;
+  forward = λ link d. Err v.Nothing;
 }
 
 abbrev pub port_verdicts_on : History → List Event → List Verdict
@@ -90,14 +94,15 @@ abbrev pub lost_on_the_way : List Event
 lost_on_the_way =
     Establish 0 5 (Some (record { exchange = 11; lost = Request })) ∷ Status 0 5 ∷ Refresh 0 5 None ∷ Establish 0 5 None
     ∷ Establish 0 5 None
-    ∷ Stop 0 5 (Some (record { exchange = 3; lost = Reply })) ∷ Establish 0 5 None ∷ Reset 0 ∷ Establish 0 6 None
+    ∷ Stop 0 5 (Some (record { exchange = 3; lost = Reply })) ∷ Establish 0 5 None
+    ∷ Reset 0 (host_port 0 ∷ device_port 0 ∷ []) ∷ Establish 0 6 None
     ∷ Status 0 5 ∷ []
 
 abbrev pub lost_verdicts : List Verdict
 lost_verdicts =
-    v.LostRequest 11 ∷ v.Status 0 5 status.Secure status.Partial ∷ v.RefusedBusy op.Establish ∷ v.Established 0 5 0
+    v.LostRequest 11 ∷ v.Status 0 5 status.Secure status.Partial ∷ v.RefusedBusy Link op.Establish ∷ v.Established 0 5 0
     ∷ v.RefusedNotIdle
-    ∷ v.LostReply 3 ∷ v.RefusedBusy op.Stop ∷ v.Reset 0 ∷ v.Nothing ∷ v.Status 0 5 status.Idle status.Idle ∷ []
+    ∷ v.LostReply 3 ∷ v.RefusedBusy Link op.Stop ∷ v.Reset 0 ∷ v.Nothing ∷ v.Status 0 5 status.Idle status.Idle ∷ []
 
 abbrev pub WorkedCases : Type 0
 WorkedCases =

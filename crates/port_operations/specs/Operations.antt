@@ -7,15 +7,12 @@ use Rattle.ide_types.specs.declared.port.PortName.{PortName}
 use Rattle.link_events.specs.declared.event.Event.{Event}
 use Rattle.link_verdicts.specs.declared.verdict.Verdict.{Verdict}
 use Rattle.ide_plan.specs.declared.plan.Plan.{Plan}
-use Rattle.link_history.specs.Plan.{SubStream, lane_out, lane_in}
-use Rattle.link_history.specs.Units.{open_unit}
+use Rattle.link_ports.specs.{SubStream, lane_out, lane_in, open_unit, SealedList, waits, keys_at, sent_in}
+use Rattle.link_ports.specs.{sealed_packets, posted_count, has_live_out, has_live_in, total_in, units_since, due}
+use Rattle.link_ports.specs.{KeyFacts, is_quiet, operates}
 use Rattle.key_laws.specs.History.{History, base}
-use Rattle.link_history.specs.History.{SealedList, waits, keys_at, sent_in, sealed_packets, posted_count, has_live_out}
-use Rattle.link_history.specs.History.{has_live_in, total_in, units_since}
 use Rattle.key_laws.specs.Keys.{Touch, Program, Go, Stop, Clear, Keyed, Off, Loaded, On, Keys, no_keys, key_in}
 use Rattle.key_laws.specs.Keys.{with_key}
-use Rattle.link_history.specs.Due.{due}
-use Rattle.link_history.specs.KeyFacts.{KeyFacts, is_quiet, operates}
 use Rattle.link_ports.specs.Machine.{LinkState, new_key, touched_state}
 use Rattle.link_ports.specs.Stands.{PortsStand, receiving_key, got_in, standing}
 use Rattle.link_ports.specs.Touches.{touched_stream}

@@ -6,7 +6,7 @@ use Rattle.link_verdicts.specs.declared.verdict.Operation.TheVariants as op
 use Rattle.ide_plan.specs.declared.plan.Plan.{Plan}
 use Rattle.key_laws.specs.Operations.{Idle, Establishing, Refreshing}
 use Rattle.key_laws.specs.History.{History, kept_draw, draw_on_at, go_at}
-use Rattle.link_history.specs.Plan.{SubStream, lane_out, lane_in, key_of}
+use Rattle.link_ports.specs.{SubStream, lane_out, lane_in, key_of}
 use Rattle.link_ports.specs.Stream.{LaneSlot, Empty, Programmed, Armed, Live, StreamState, slot_in_set, slots_at}
 use Rattle.link_ports.specs.Machine.{LinkState, find, find_op, port_at, place_at_end}
 use Rattle.link_ports.specs.Stands.{PortsStandFor}

@@ -1,5 +1,6 @@
 -- Packets are named by their numbers, so that what events brought, and with it units, writes and reads, may be said by
 -- any list that begins with the packets that had been sealed.
+use Rattle.link_history.specs.Ports.{port_of}
 use Rattle.link_history.proofs.Terms.{◌≡◌, ℕ, ◌==◌, ◌&&◌, ◌-◌, Bool, true, false, List, [], ◌∷◌, ◌++◌, slice_get}
 use Rattle.link_history.proofs.Terms.{Option, Some, None, refl, ap, sym, subst, ◌∙◌, append_assoc, if◌then◌else◌}
 use Rattle.link_history.proofs.Terms.{Plan, History, Event, Verdict, Accepted, Held, UnitName, Effect, Packet, PortName}
@@ -44,9 +45,10 @@ mapped_more xs more n f a (Some x) found is = ap (option_map f) (packet_more xs 
 arrived_more : (plan : Plan) (xs more : SealedList) (e : Event) (a : Arrival) → arrived_in plan xs e ≡ Some a
     → arrived_in plan (xs ++ more) e ≡ Some a
 arrived_more plan xs more (Pass n) a is = mapped_more xs more n
-    (λ (x : SealedPacket × Packet). brought x (packet_bytes x.1)) a (packet_at xs n) refl is
-arrived_more plan xs more (Alter n at mask) a is = passed_more xs more n (altered at mask) a (packet_at xs n) refl is
-arrived_more plan xs more (Cut n len) a is = passed_more xs more n (shortened len) a (packet_at xs n) refl is
+    (λ (x : SealedPacket × Packet). brought plan x (packet_bytes x.1)) a (packet_at xs n) refl is
+arrived_more plan xs more (Alter n at mask) a is = passed_more xs more n (altered plan at mask) a (packet_at xs n) refl
+    is
+arrived_more plan xs more (Cut n len) a is = passed_more xs more n (shortened plan len) a (packet_at xs n) refl is
 arrived_more plan xs more e a is = is
 
 -- the list begins with the packets that had been sealed
@@ -116,10 +118,10 @@ queued_same plan ((e, Accepted port unit effects) ∷ h) cause xs ys left right 
     let before = queued_same plan h cause.1 xs ys one two link in
     let same = unit_same plan h e port unit effects cause xs one ∙ sym
     (unit_same plan h e port unit effects cause ys two) in
-    (λ i. if port.link == link then before i ++ reads_by unit.draw effects (same i) else before i)
-queued_same plan ((Reset k, v.Reset l) ∷ h) cause xs ys left right link =
-    let before = queued_same plan h cause.1 xs ys (behind_earlier plan h (Reset k) (v.Reset l) xs left)
-    (behind_earlier plan h (Reset k) (v.Reset l) ys right) link in
+    (λ i. if (port_of plan port).link == link then before i ++ reads_by unit.draw effects (same i) else before i)
+queued_same plan ((Reset k ends, v.Reset l) ∷ h) cause xs ys left right link =
+    let before = queued_same plan h cause.1 xs ys (behind_earlier plan h (Reset k ends) (v.Reset l) xs left)
+    (behind_earlier plan h (Reset k ends) (v.Reset l) ys right) link in
     (λ i. if l == link then [] else before i)
 queued_same plan ((e, w) ∷ h) cause xs ys left right link = queued_same plan h cause.1 xs ys
     (behind_earlier plan h e w xs left) (behind_earlier plan h e w ys right) link

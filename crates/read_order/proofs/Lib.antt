@@ -2,3 +2,6 @@ pub mod ByNumber
 pub mod Oldest
 pub mod Order
 pub mod Requesters
+pub mod Taken
+pub mod Forwarded
+pub mod Followed

@@ -50,22 +50,23 @@ clash w x a b is = true≢false (sym a ∙ ap takes is ∙ b)
 
 -- the read that it takes, and what it then comes to
 pub record First (plan : Plan) (h : History) (link : ℕ) (w : Verdict) : Type 0 where
+  pub known : has_link plan link ≡ true
   pub read : WaitingRead
   pub oldest : slice_get (queued plan h link) (reads_taken h link) ≡ Some read
-  pub is : w ≡ answer_from plan h (sending_port (Access (ae.Answer link))) read.draw
+  pub is : w ≡ answer_from plan h (sending_port plan (Access (ae.Answer link))) read.draw
       (site_with plan link read.read.requester) (answer_out plan h link)
 
 pub first_means : (plan : Plan) (h : History) (link : ℕ) (w : Verdict) → takes w ≡ true → w ≡ answer_due plan h link
     → First plan h link w
-first_means plan h link w take is = by (has_link plan link) (waiting plan h link) refl is
+first_means plan h link w take is = by (has_link plan link) (waiting plan h link) refl refl is
   where
-    by : (b : Bool) (rs : List WaitingRead) → waiting plan h link ≡ rs
-        → w ≡ (if b then answer_first plan h (sending_port (Access (ae.Answer link))) rs (answer_out plan h link)
+    by : (b : Bool) (rs : List WaitingRead) → has_link plan link ≡ b → waiting plan h link ≡ rs
+        → w ≡ (if b then answer_first plan h (sending_port plan (Access (ae.Answer link))) rs (answer_out plan h link)
         else v.Nothing) → First plan h link w
-    by false rs waits is = absurd (clash w v.Nothing take refl is)
-    by true [] waits is = absurd (clash w (v.Access (av.Empty link)) take refl is)
-    by true (r ∷ rs) waits is = record
-        { read = r; oldest = drop_first (reads_taken h link) (queued plan h link) r rs waits; is = is }
+    by false rs known waits is = absurd (clash w v.Nothing take refl is)
+    by true [] known waits is = absurd (clash w (v.Access (av.Empty link)) take refl is)
+    by true (r ∷ rs) known waits is = record
+        { known = known; read = r; oldest = drop_first (reads_taken h link) (queued plan h link) r rs waits; is = is }
 
 -- the bytes that it seals: the completion, from what the writes so far left in memory
 pub bytes_are : (plan : Plan) (h : History) (link : ℕ) (read : WaitingRead) → CauseLaw plan h

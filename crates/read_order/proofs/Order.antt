@@ -1,5 +1,7 @@
 -- What answers took are the first of the reads that were queued, and no more than 64 wait. An accepted unit queues at
 -- the end, while there is room, and nothing else touches the reads of a link but its reset.
+use Rattle.link_history.specs.Ports.{at_switch, port_of}
+use Rattle.link_history.specs.Admission.{switch_effect}
 use Rattle.link_history.proofs.Terms.{◌≡◌, ℕ, ◌+◌, ◌<◌, ◌≤◌, ◌==◌, Bool, true, false, List, [], ◌∷◌, ◌++◌}
 use Rattle.link_history.proofs.Terms.{length, Option, Some, None, Result, Ok, Err, refl, ap, sym, subst, ◌∙◌}
 use Rattle.link_history.proofs.Terms.{arith, nat_tests, nat_le, if◌then◌else◌, length-append, append-nil, Plan, History}
@@ -92,7 +94,7 @@ takes_first plan ((e, v.Access (av.Dropped i c)) ∷ h) cause link =
 takes_first plan ((e, Accepted port unit effects) ∷ h) cause link =
     let le = takes_first plan h cause.1 link in
     let same = ap length (here_after plan h e (Accepted port unit effects) cause link) in
-    by (port.link == link) (omega (arith, le, same))
+    by ((port_of plan port).link == link) (omega (arith, le, same))
   where
     xs : List (SealedPacket × Packet)
     xs = sealed_packets plan ((e, Accepted port unit effects) ∷ h)
@@ -111,15 +113,15 @@ takes_first plan ((e, Accepted port unit effects) ∷ h) cause link =
           (reads_by unit.draw effects (unit_accepted plan xs h e port unit)),
     )
     by false le = le
-takes_first plan ((Reset k, v.Reset l) ∷ h) cause link =
+takes_first plan ((Reset k ends, v.Reset l) ∷ h) cause link =
     let le = takes_first plan h cause.1 link in
-    let same = ap length (here_after plan h (Reset k) (v.Reset l) cause link) in
+    let same = ap length (here_after plan h (Reset k ends) (v.Reset l) cause link) in
     by (l == link) (omega (arith, le, same))
   where
     by : (b : Bool) → reads_taken h link ≤ length
-        (queued_in plan (sealed_packets plan ((Reset k, v.Reset l) ∷ h)) h link)
+        (queued_in plan (sealed_packets plan ((Reset k ends, v.Reset l) ∷ h)) h link)
         → (if b then 0 else reads_taken h link) ≤ length
-        (if b then [] else queued_in plan (sealed_packets plan ((Reset k, v.Reset l) ∷ h)) h link)
+        (if b then [] else queued_in plan (sealed_packets plan ((Reset k ends, v.Reset l) ∷ h)) h link)
     by true le = omega arith
     by false le = le
 takes_first plan ((e, w) ∷ h) cause link =
@@ -199,15 +201,18 @@ device_waits xs unit p (Ok head) is = mmio_waits xs p.prefix.t unit.stream unit.
 effect_room : (plan : Plan) (policy : Policy) (n : ℕ) (port : PortName) (unit : UnitName) (p : Packet)
     → effect_by plan policy n port unit p ≡ effect.Queued → n < 64
 effect_room plan policy n port unit p is =
-    by (is_sync_packet p) (sent_direction port.side == 0) (read_head_of p.head) is
+    by (is_sync_packet p) (at_switch plan port) (sent_direction port.side == 0) (read_head_of p.head) is
   where
-    by : (a b : Bool) (r : Result HeadView TlpFault)
-        → (if a then effect.Sync else if b then host_effect plan policy.grants n port unit p r
+    by : (a c b : Bool) (r : Result HeadView TlpFault)
+        → (if a then effect.Sync else if c then switch_effect else if b then host_effect plan policy.grants n port
+        unit p r
         else device_effect (policy.standings port.link) unit p r) ≡ effect.Queued → n < 64
-    by true b r is = absurd cc
-    by false false r is = absurd (device_waits (policy.standings port.link) unit p r is)
-    by false true (Err f) is = absurd cc
-    by false true (Ok head) is = request_room plan.memory p.prefix.t (unit_grant policy.grants port unit head) n head is
+    by true c b r is = absurd cc
+    by false true b r is = absurd cc
+    by false false false r is = absurd (device_waits (policy.standings port.link) unit p r is)
+    by false false true (Err f) is = absurd cc
+    by false false true (Ok head) is = request_room plan.memory p.prefix.t
+        (unit_grant policy.grants port unit head) n head is
 
 one_read : (draw : ℕ) (o : Option MemReadView) → length (read_under draw o) ≤ 1
 one_read draw (Some read) = omega arith
@@ -237,11 +242,12 @@ unit_room plan policy port unit (p ∷ ps) n le = by (λ k few. unit_room plan p
     by more effect.Delivered is = more n le
     by more effect.Applied is = more n le
     by more effect.Stored is = more n le
+    by more effect.Waiting is = more n le
     by more (effect.Blocked c) is = more n le
 
 -- those that an accepted unit queues find room
 unit_few : (plan : Plan) (h : History) (e : Event) (port : PortName) (unit : UnitName) (effects : List Effect)
-    → CauseLaw plan ((e, Accepted port unit effects) ∷ h) → (link : ℕ) → port.link ≡ link
+    → CauseLaw plan ((e, Accepted port unit effects) ∷ h) → (link : ℕ) → (port_of plan port).link ≡ link
     → length (waiting plan h link) ≤ 64 → length (waiting plan h link) + length
     (reads_by unit.draw effects (unit_ended plan h e port unit)) ≤ 64
 unit_few plan h e port unit effects cause link same few =
@@ -249,9 +255,9 @@ unit_few plan h e port unit effects cause link same few =
     let ends = unit_that_ends plan h e port unit by.packet by.came by.passed in
     let effects_are : effects ≡ effects_of plan h port unit (unit_ended plan h e port unit) = by.effects_are ∙ ap
     (λ (ps : List Packet). effects_of plan h port unit ps) (sym ends) in
-    let room = unit_room plan (policy_at plan h) port unit (unit_ended plan h e port unit)
+    let room = unit_room plan (policy_at plan h) (port_of plan port) unit (unit_ended plan h e port unit)
     (length (waiting plan h link)) few in
-    let at = ap (λ (l : ℕ). effects_each plan (policy_at plan h) (length (waiting plan h l)) port unit
+    let at = ap (λ (l : ℕ). effects_each plan (policy_at plan h) (length (waiting plan h l)) (port_of plan port) unit
     (unit_ended plan h e port unit)) same in
     subst (λ (es : List Effect). length (waiting plan h link) + length
     (reads_by unit.draw es (unit_ended plan h e port unit)) ≤ 64) (sym (effects_are ∙ at)) room
@@ -284,22 +290,23 @@ few_more plan ((e, v.Access (av.Dropped i c)) ∷ h) cause link =
         (if b then reads_taken h link + 1 else reads_taken h link) + 64
     by true le = omega (arith, le)
     by false le = le
-few_more plan ((Reset k, v.Reset l) ∷ h) cause link =
+few_more plan ((Reset k ends, v.Reset l) ∷ h) cause link =
     let le = few_more plan h cause.1 link in
-    let same = ap length (here_after plan h (Reset k) (v.Reset l) cause link) in
+    let same = ap length (here_after plan h (Reset k ends) (v.Reset l) cause link) in
     by (l == link) (omega (arith, le, same))
   where
-    by : (b : Bool) → length (queued_in plan (sealed_packets plan ((Reset k, v.Reset l) ∷ h)) h link) ≤ reads_taken h
+    by : (b : Bool) → length (queued_in plan (sealed_packets plan
+        ((Reset k ends, v.Reset l) ∷ h)) h link) ≤ reads_taken h
         link +
         64
-        → length (if b then [] else queued_in plan (sealed_packets plan ((Reset k, v.Reset l) ∷ h)) h link) ≤
+        → length (if b then [] else queued_in plan (sealed_packets plan ((Reset k ends, v.Reset l) ∷ h)) h link) ≤
         (if b then 0 else reads_taken h link) + 64
     by true le = omega arith
     by false le = le
 few_more plan ((e, Accepted port unit effects) ∷ h) cause link =
     let le = few_more plan h cause.1 link in
     let same = ap length (here_after plan h e (Accepted port unit effects) cause link) in
-    by (port.link == link) refl (omega (arith, le, same)) le same
+    by ((port_of plan port).link == link) refl (omega (arith, le, same)) le same
   where
     xs : List (SealedPacket × Packet)
     xs = sealed_packets plan ((e, Accepted port unit effects) ∷ h)
@@ -307,7 +314,7 @@ few_more plan ((e, Accepted port unit effects) ∷ h) cause link =
     behind : IsBehind plan h (sealed_packets plan ((e, Accepted port unit effects) ∷ h))
     behind = let grown = packets_grow plan h e (Accepted port unit effects) in (grown.0, grown.1)
 
-    by : (b : Bool) → (port.link == link) ≡ b → length
+    by : (b : Bool) → ((port_of plan port).link == link) ≡ b → length
         (queued_in plan (sealed_packets plan ((e, Accepted port unit effects) ∷ h)) h link) ≤ reads_taken h link + 64
         → length (queued plan h link) ≤ reads_taken h link + 64
         → length (queued_in plan (sealed_packets plan ((e, Accepted port unit effects) ∷ h)) h link)
@@ -320,7 +327,7 @@ few_more plan ((e, Accepted port unit effects) ∷ h) cause link =
     by true here le few same =
         let drops = length-drop (reads_taken h link) (queued plan h link) in
         let first = takes_first plan h cause.1 link in
-        let room = unit_few plan h e port unit effects cause link (same_number port.link link here)
+        let room = unit_few plan h e port unit effects cause link (same_number (port_of plan port).link link here)
         (omega (arith, drops, few)) in
         let us = ap (λ (ps : List Packet). length (reads_by unit.draw effects ps))
         (unit_same plan h e port unit effects cause xs behind) in

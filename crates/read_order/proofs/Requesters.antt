@@ -4,8 +4,8 @@ use Rattle.std.proofs.Common.{arith, refl}
 use Rattle.std.proofs.lemmas.Bool.Decides.{nat_tests}
 use Rattle.std.specs.Prelude.{find, if◌then◌else◌}
 use Rattle.ide_plan.specs.declared.plan.Plan.{Plan}
-use Rattle.interface_states.specs.Sites.{Site, site_with}
-unfoldable use Rattle.interface_states.specs.Sites.{sites}
+use Rattle.link_history.specs.{Site, site_with}
+unfoldable use Rattle.link_history.specs.{sites}
 
 -- what is found meets the test
 pub found_meets : (test : Site → Bool) (xs : List Site) (x : Site) → find test xs ≡ Some x → test x ≡ true

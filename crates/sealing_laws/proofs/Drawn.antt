@@ -13,7 +13,7 @@ use Rattle.key_laws.specs.Places.{KeyPlan}
 use Rattle.key_laws.specs.Operations.{Op, Idle, Establishing, Up, Refreshing, Work, Reach, Manager, work_of}
 use Rattle.key_laws.specs.Operations.{reach_of, makes_draw, operated}
 use Rattle.key_laws.specs.Due.{PortView, ports_at, begun_with_draw, may_establish, may_refresh, unless_open, if_secure}
-use Rattle.key_laws.specs.Due.{is_live_sender}
+use Rattle.key_laws.specs.Due.{has_refresh, is_live_sender}
 unfoldable use Rattle.key_laws.specs.Due.{key_due}
 use Rattle.key_laws.specs.History.{draws}
 unfoldable use Rattle.key_laws.specs.History.{manager}
@@ -47,11 +47,11 @@ drawn_finds kp next o w = by_pool (nat_lt next kp.pool) refl
     by_pool true is = inl (grind (arith, nat_tests))
     by_pool false is = inr refl
 
-establish_finds : (kp : KeyPlan) (next : ℕ) (o : Op) (w : Verdict) → (work_of op.Establish o next).begins ≡ true
-    → FindsBy kp.pool next op.Establish (may_establish kp next o w)
-establish_finds kp next Idle w begins = drawn_finds kp next op.Establish w
-establish_finds kp next (Establishing j n) w begins = absurd cc
-establish_finds kp next _ w begins = inr refl
+establish_finds : (kp : KeyPlan) (line next : ℕ) (o : Op) (w : Verdict) → (work_of op.Establish o next).begins ≡ true
+    → FindsBy kp.pool next op.Establish (may_establish kp line next o w)
+establish_finds kp line next Idle w begins = drawn_finds kp next op.Establish w
+establish_finds kp line next (Establishing j n) w begins = absurd cc
+establish_finds kp line next _ w begins = inr refl
 
 open_finds : (pool next : ℕ) (ports : PortView) (link stream : ℕ) (set : Bool) (w : Verdict)
     → FindsBy pool next op.Refresh w → FindsBy pool next op.Refresh (unless_open ports link stream set w)
@@ -67,7 +67,7 @@ secure_finds pool next _ w finds = inr refl
 
 refresh_finds : (kp : KeyPlan) (next : ℕ) (o : Op) (host : StreamStatus) (ports : PortView) (link stream : ℕ)
     (set : Bool) (w : Verdict) → (work_of op.Refresh o next).begins ≡ true
-    → FindsBy kp.pool next op.Refresh (may_refresh kp next o host (unless_open ports link stream set) w)
+    → FindsBy kp.pool next op.Refresh (may_refresh kp link next o host (unless_open ports link stream set) w)
 refresh_finds kp next (Up current j) host ports link stream set w begins =
     secure_finds kp.pool next host _
     (open_finds kp.pool next ports link stream set _ (drawn_finds kp next op.Refresh w))
@@ -98,15 +98,15 @@ draws_within kp ((event.Establish link stream loss, w) ∷ h) cause =
     begun_within kp.pool (manager h) op.Establish link stream (reach_of op.Establish w) (draws_within kp h cause.2)
     (λ begins makes. subst (FindsBy kp.pool (draws h) op.Establish) (sym cause.0)
     (planned_finds kp.pool (draws h) op.Establish (kp.has_stream link stream) _
-    (establish_finds kp (draws h) ((manager h).ops link stream) _ begins)))
+    (establish_finds kp link (draws h) ((manager h).ops link stream) _ begins)))
 draws_within kp ((event.Refresh link stream loss, w) ∷ h) cause =
     begun_within kp.pool (manager h) op.Refresh link stream (reach_of op.Refresh w) (draws_within kp h cause.2)
     (λ begins makes. subst (FindsBy kp.pool (draws h) op.Refresh) (sym cause.0)
-    (planned_finds kp.pool (draws h) op.Refresh (kp.has_stream link stream) _
+    (planned_finds kp.pool (draws h) op.Refresh (has_refresh kp link stream) _
     (refresh_finds kp (draws h) ((manager h).ops link stream) _ (ports_at h) link stream _ _ begins)))
 draws_within kp ((event.Stop link stream loss, w) ∷ h) cause =
     begun_within kp.pool (manager h) op.Stop link stream (reach_of op.Stop w) (draws_within kp h cause.2)
     (λ begins makes. absurd cc)
-draws_within kp ((event.Reset link, v.Reset l) ∷ h) cause = draws_within kp h cause.2
-draws_within kp ((event.Reset link, _) ∷ h) cause = draws_within kp h cause.2
+draws_within kp ((event.Reset link ends, v.Reset l) ∷ h) cause = draws_within kp h cause.2
+draws_within kp ((event.Reset link ends, _) ∷ h) cause = draws_within kp h cause.2
 draws_within kp ((e, w) ∷ h) cause = draws_within kp h cause.2

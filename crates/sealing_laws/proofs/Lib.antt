@@ -14,3 +14,6 @@ pub mod OfPlans
 pub mod Drawn
 pub mod Worn
 pub mod Numbers
+pub use Rattle.link_keys.proofs.Draws.{draws}
+pub use Rattle.link_keys.proofs.Given.{accepted_on}
+pub use Rattle.link_keys.proofs.SealedKeys.{on_is_owned}

@@ -19,29 +19,42 @@ use Rattle.key_laws.specs.Keys.{Keys, Keyed, On}
 use Rattle.key_laws.specs.History.{History}
 use Rattle.interface_states.specs.Sites.{Site, sites}
 unfoldable use Rattle.interface_states.specs.Floors.{device_floor}
-use Rattle.interface_states.specs.Floors.{greatest_on, posted_receiver, draw_at_device, device_standing, standings_at}
+use Rattle.interface_states.specs.Floors.{greatest_on, draw_at_device, device_standing, standings_at}
+use Rattle.interface_states.specs.Peers.{receiver_at}
+use Rattle.ide_types.specs.declared.port.PortName.{PortName}
+use Rattle.key_laws.specs.History.{keys_there}
 use Rattle.interface_machine.specs.Machine.{Face}
 use Rattle.interface_machine.specs.Stands.{face_at}
-use Rattle.guarded_memory.specs.declared.standing.Standing.{Standing}
-use Rattle.guarded_memory.specs.Happenings.{Happened, newest_happened}
-use Rattle.waiting_reads.specs.declared.queue.WaitingRead.{WaitingRead}
+use Rattle.interface_states.specs.{Standing, Happened, newest_happened}
+use Rattle.link_history.specs.{WaitingRead}
 use Rattle.link_history.specs.Plan.{SubStream, lane_in, stream_plan}
 use Rattle.link_history.specs.Cause.{CauseLaw}
+use Rattle.link_history.specs.Ports.{port_of}
 use Rattle.link_history.specs.History.{SealedList, sealed_packets, keys_at}
 use Rattle.link_history.specs.Memory.{queued, waiting, unit_ended}
 unfoldable use Rattle.link_history.specs.Sent.{reads_taken, queued_in}
 use Rattle.link_history.specs.Sent.{is_answer_on, reads_by, unit_accepted}
 unfoldable use Rattle.link_history.specs.Guarded.{happened}
 use Rattle.link_history.specs.Guarded.{happens_by, unit_of}
-use Rattle.link_keys.proofs.Unplanned.{unplanned_keys}
-use Rattle.link_keys.proofs.Seats.{keys_into}
-use Rattle.link_ports.specs.Machine.{LinkState, port_at, receiving_draw_at}
-use Rattle.link_ports.specs.Stands.{PortsStand, standing_if_planned, rx_slots}
-unfoldable use Rattle.link_ports.specs.Stands.{standing}
-use Rattle.link_ports.specs.Stream.{StreamState, receiving_draw}
+use Rattle.port_operations.proofs.{unplanned_keys, keys_into}
+use Rattle.port_operations.specs.{LinkState, port_at, receiving_draw_at, PortsStand, standing_if_planned, rx_slots}
+unfoldable use Rattle.port_operations.specs.{standing}
+use Rattle.port_operations.specs.{StreamState, receiving_draw}
 use Rattle.read_order.proofs.Order.{here_after, takes_first}
 use Rattle.read_order.proofs.ByNumber.{unit_again}
-use Rattle.whole_machine.specs.Accesses.{standings_on, waiting_reads_after, device_draw_at, floors_after}
+use Rattle.read_order.specs.Waiting.{tlps_ended, waiting_next}
+use Rattle.read_order.proofs.Followed.{waiting_follows}
+use Rattle.ide_types.specs.declared.direction.Direction.{Direction}
+use Rattle.link_history.specs.Hops.{HopTlp, tlps_with}
+use Rattle.link_history.specs.Memory.{hop_waiting, plain_of}
+use Rattle.whole_machine.specs.Accesses.{unit_tlps}
+use Rattle.whole_machine.specs.Accesses.{
+  standings_on,
+  waiting_reads_after,
+  device_draw_at,
+  posted_draw_at,
+  floors_after,
+}
 
 -- these are the packets of the unit that a verdict ends, if it ends one
 abbrev pub AreEnded : Plan → History → List Packet → Event → Verdict → Type 0
@@ -64,10 +77,10 @@ one_taken false n xs ys same = ap (drop n) (sym same)
 
 pub waiting_is : (plan : Plan) (h : History) (e : Event) (w : Verdict) (ps : List Packet)
     → CauseLaw plan ((e, w) ∷ h) → AreEnded plan h ps e w
-    → (link : ℕ) → waiting_reads_after ps e w link (waiting plan h link) ≡ waiting plan ((e, w) ∷ h) link
+    → (link : ℕ) → waiting_reads_after plan ps e w link (waiting plan h link) ≡ waiting plan ((e, w) ∷ h) link
 unfolding reads_taken queued_in
 waiting_is plan h e (v.Accepted port unit effects) ps law units link =
-    by (port.link == link) (here_after plan h e (v.Accepted port unit effects) law link)
+    by ((port_of plan port).link == link) (here_after plan h e (v.Accepted port unit effects) law link)
     (units ∙ sym (unit_again plan h e port unit effects law))
   where
     xs : SealedList
@@ -94,12 +107,13 @@ waiting_is plan h e (v.Sealed ds) ps law units link =
 waiting_is plan h e (v.Access (av.Dropped i c)) ps law units link =
     one_taken (is_answer_on link e) (reads_taken h link) (queued plan h link) _
     (here_after plan h e (v.Access (av.Dropped i c)) law link)
-waiting_is plan h (event.Reset k) (v.Reset l) ps law units link = by (l == link)
-    (here_after plan h (event.Reset k) (v.Reset l) law link)
+waiting_is plan h (event.Reset k ends) (v.Reset l) ps law units link = by (l == link)
+    (here_after plan h (event.Reset k ends) (v.Reset l) law link)
   where
-    by : (b : Bool) → queued_in plan (sealed_packets plan ((event.Reset k, v.Reset l) ∷ h)) h link ≡ queued plan h link
+    by : (b : Bool) → queued_in plan (sealed_packets plan ((event.Reset k ends, v.Reset l) ∷ h)) h link
+        ≡ queued plan h link
         → (if b then [] else waiting plan h link) ≡ drop (if b then 0 else reads_taken h link)
-        (if b then [] else queued_in plan (sealed_packets plan ((event.Reset k, v.Reset l) ∷ h)) h link)
+        (if b then [] else queued_in plan (sealed_packets plan ((event.Reset k ends, v.Reset l) ∷ h)) h link)
     by true here = refl
     by false here = ap (drop (reads_taken h link)) (sym here)
 waiting_is plan h e w ps law units link = ap (drop (reads_taken h link)) (sym (here_after plan h e w law link))
@@ -107,33 +121,34 @@ waiting_is plan h e w ps law units link = ap (drop (reads_taken h link)) (sym (h
 -- ---- the floors
 
 -- the greatest draw that is Live at a receiver is the greatest that is On
-greatest_is : (plan : Plan) (h : History) (s : SubStream) (ks : Keys)
-    → unwrap_or (receiving_draw (rx_slots plan h (port_at Device s.link) s ks)) 0 ≡ greatest_on ks
-greatest_is plan h s ks = by ks.first ks.second
+greatest_is : (plan : Plan) (h : History) (port : PortName) (s : SubStream) (ks : Keys)
+    → unwrap_or (receiving_draw (rx_slots plan h port s ks)) 0 ≡ greatest_on ks
+greatest_is plan h port s ks = by ks.first ks.second
   where
-    by : (a b : Keyed) → unwrap_or (receiving_draw (rx_slots plan h (port_at Device s.link) s
+    by : (a b : Keyed) → unwrap_or (receiving_draw (rx_slots plan h port s
         (record { first = a; second = b }))) 0 ≡ greatest_on (record { first = a; second = b })
     by (On i) (On j) = grind (arith, nat_tests)
     by a b = grind arith
 
+pub posted_draw_is : (plan : Plan) (st : LinkState) (h : History) → PortsStand plan st h
+    → (port : PortName) (stream : ℕ)
+    → posted_draw_at plan st port stream ≡ greatest_on (keys_there h (receiver_at port stream))
+unfolding standing
+posted_draw_is plan st h stands port stream = elim (cases_Bool (is_some (stream_plan plan port.link stream))) [
+  | inl known ↦
+      let s = lane_in port stream Pr in
+      let here : standing_if_planned plan h port stream ≡ Some (standing plan h port stream) = rw known refl in
+      ap (λ (o : Option StreamState). unwrap_or (receiving_draw_at Pr o) 0) (stands.streams port stream ∙ here)
+      ∙ (greatest_is plan h port s (keys_at h port s) ∙ ap greatest_on (keys_into h port stream Pr))
+  | inr none ↦
+      let here : standing_if_planned plan h port stream ≡ None = rw none refl in
+      ap (λ (o : Option StreamState). unwrap_or (receiving_draw_at Pr o) 0) (stands.streams port stream ∙ here)
+      ∙ sym (ap greatest_on (unplanned_keys plan h stands.cause (receiver_at port stream) none))
+]
+
 device_draw_is : (plan : Plan) (st : LinkState) (h : History) → PortsStand plan st h → (x : Site)
     → device_draw_at plan st x ≡ draw_at_device h x
-unfolding standing
-device_draw_is plan st h stands x = elim (cases_Bool (is_some (stream_plan plan x.link x.plan.stream))) [
-  | inl known ↦
-      let s = lane_in (port_at Device x.link) x.plan.stream Pr in
-      let here : standing_if_planned plan h (port_at Device x.link) x.plan.stream
-      ≡ Some (standing plan h (port_at Device x.link) x.plan.stream) = rw known refl in
-      ap (λ (o : Option StreamState). unwrap_or (receiving_draw_at Pr o) 0)
-      (stands.streams (port_at Device x.link) x.plan.stream ∙ here)
-      ∙ (greatest_is plan h s (keys_at h (port_at Device x.link) s)
-      ∙ ap greatest_on (keys_into h (port_at Device x.link) x.plan.stream Pr))
-  | inr none ↦
-      let here : standing_if_planned plan h (port_at Device x.link) x.plan.stream ≡ None = rw none refl in
-      ap (λ (o : Option StreamState). unwrap_or (receiving_draw_at Pr o) 0)
-      (stands.streams (port_at Device x.link) x.plan.stream ∙ here)
-      ∙ sym (ap greatest_on (unplanned_keys plan h stands.cause (posted_receiver x) none))
-]
+device_draw_is plan st h stands x = posted_draw_is plan st h stands (port_at Device x.link) x.plan.stream
 
 floors_map : (plan : Plan) (h : History) (e : Event) (w : Verdict) (xs : List Site)
     → floors_after e (draw_at_device h) xs (map (face_at plan h) xs) (map (face_at plan ((e, w) ∷ h)) xs)
@@ -183,7 +198,7 @@ happens_same : (plan : Plan) (standings : ℕ → List Standing) (h : History) (
     → happens_by plan standings ps e w link ≡ happens_by plan standings (unit_of plan h e w) e w link
 happens_same plan standings h ps e (v.Accepted port unit effects) link units =
     ap (λ (us : List Packet). happens_by plan standings us e (v.Accepted port unit effects) link) units
-happens_same plan standings h ps (event.Reset k) (v.Reset l) link units = refl
+happens_same plan standings h ps (event.Reset k ends) (v.Reset l) link units = refl
 happens_same plan standings h ps e w link units = refl
 
 pub happened_is : (plan : Plan) (h : History) (e : Event) (w : Verdict) (ps : List Packet) (faces : List Face)
@@ -196,3 +211,18 @@ happened_is plan h e w ps faces floors old same units link =
     ap (λ (hs : List (Option Happened)). newest_happened hs (happened plan h link))
     ((λ i. happens_by plan (λ l. standings_are plan h faces floors old same l i) ps e w link)
     ∙ happens_same plan (standings_at plan h) h ps e w link units)
+
+-- ---- the TLPs that wait at switches
+
+tlps_same : (plan : Plan) (h : History) (ps : List Packet) (e : Event) (w : Verdict) → AreEnded plan h ps e w
+    → unit_tlps plan ps w ≡ tlps_ended plan h e w
+tlps_same plan h ps e (v.Accepted port unit effects) units =
+    ap (λ (us : List Packet). tlps_with (plain_of plan port unit us) us) units
+tlps_same plan h ps e w units = refl
+
+pub carried_is : (plan : Plan) (h : History) (e : Event) (w : Verdict) (ps : List Packet) → CauseLaw plan ((e, w) ∷ h)
+    → AreEnded plan h ps e w → (link : ℕ) (d : Direction)
+    → waiting_next (unit_tlps plan ps w) link d e w (hop_waiting plan h link d) ≡ hop_waiting plan ((e, w) ∷ h) link d
+carried_is plan h e w ps law units link d =
+    ap (λ (xs : List HopTlp). waiting_next xs link d e w (hop_waiting plan h link d)) (tlps_same plan h ps e w units)
+    ∙ sym (waiting_follows plan h e w law link d)

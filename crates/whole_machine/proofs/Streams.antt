@@ -11,17 +11,58 @@ use Rattle.key_laws.specs.Keys.{Keys}
 use Rattle.key_laws.specs.History.{History, op_of, keys_there, keeps_live, has_key, has_all, status_of}
 use Rattle.ide_types.specs.Ports.{status_by}
 unfoldable use Rattle.key_laws.specs.History.{failed_there}
-use Rattle.link_history.specs.Plan.{key_plan, stream_plan}
+use Rattle.link_history.specs.Plan.{stream_plan}
 use Rattle.link_history.specs.Cause.{CauseLaw}
-use Rattle.link_ports.specs.Machine.{LinkState, find_op, port_at, status_at, status_if_planned}
-use Rattle.link_ports.specs.Stands.{PortsStand, standing_if_planned, PortsStandFor}
-use Rattle.link_keys.proofs.Given.{key_cause}
-use Rattle.link_keys.proofs.Unplanned.{unplanned_keys, unplanned_idle}
+use Rattle.port_operations.specs.{LinkState, find_op, port_at, status_at, status_if_planned, PortsStand}
+use Rattle.port_operations.specs.{standing_if_planned, PortsStandFor}
+use Rattle.port_operations.proofs.{unplanned_keys}
+use Rattle.std.proofs.Common.{if◌then◌else◌, Option, Some, List, ◌==◌}
+use Rattle.key_laws.specs.History.{draws}
+use Rattle.key_laws.specs.Operations.{Op, Idle, Reach, reach_of, work_of}
+use Rattle.key_laws.specs.Terms.{Operation}
+unfoldable use Rattle.key_laws.specs.Due.{key_due}
+unfoldable use Rattle.link_history.specs.Due.{due}
+use Rattle.interface_machine.specs.Machine.{Streams, Face, Faces, with_each, face_after, faces_after}
+use Rattle.interface_states.specs.Sites.{Site, sites}
+use Rattle.interface_states.specs.Views.{Managed, managed_after, view_broken}
+use Rattle.link_events.specs.declared.event.Event.{Event}
+use Rattle.link_events.specs.declared.event.Event.TheVariants as event
+use Rattle.link_verdicts.specs.declared.verdict.Operation.TheVariants as op
+use Rattle.link_verdicts.specs.declared.verdict.Verdict.{Verdict}
+use Rattle.link_verdicts.specs.declared.verdict.Verdict.TheVariants as v
+use Rattle.whole_machine.specs.Machine.{draw_after}
 use Rattle.port_operations.proofs.Statuses.{status_is}
 use Rattle.interface_machine.specs.Stands.{streams_at, secure_of}
 use Rattle.interface_states.specs.Devices.{is_secure}
 use Rattle.interface_states.specs.Views.{stream_draw}
-use Rattle.whole_machine.specs.Machine.{Whole, op_or_idle, secure_in, whole_streams}
+use Rattle.whole_machine.specs.Machine.{Whole, op_or_idle, secure_in, live_if, live_in, ends_in, whole_streams}
+use Rattle.whole_machine.specs.Accesses.{posted_draw_at}
+use Rattle.whole_machine.proofs.Accesses.{posted_draw_is}
+use Rattle.ide_types.specs.declared.port.PortName.{PortName}
+use Rattle.ide_types.specs.Lines.{peer_line}
+use Rattle.ide_types.specs.Ports.{host_port, device_port}
+use Rattle.ide_plan.specs.Ends.{peer_has_id}
+use Rattle.ide_plan.specs.declared.plan.PeerPlan.{PeerPlan}
+use Rattle.interface_states.specs.Peers.{has_peer, live_at}
+unfoldable use Rattle.interface_states.specs.Peers.{peer_end}
+use Rattle.interface_states.specs.Due.{asked_due, bind_due}
+use Rattle.interface_states.specs.Views.{is_bind_asked}
+use Rattle.interface_machine.specs.Machine.{
+  EndsRead,
+  face_standing,
+  asked_due_of,
+  answer_to,
+  interface_answer,
+  find_face,
+}
+use Rattle.interface_machine.specs.Stands.{ends_read}
+use Rattle.link_history.proofs.Ends.{stream_is_there}
+use Rattle.link_events.specs.declared.event.InterfaceEvent.{InterfaceEvent}
+use Rattle.link_events.specs.declared.event.InterfaceEvent.TheVariants as ie
+use Rattle.std.specs.Option.{option_map_or}
+use Rattle.std.specs.Prelude.{nat_lt, slice_get, suc, ◌+◌, ◌-◌, ◌≤◌, ◌||◌}
+use Rattle.std.proofs.lemmas.Bool.Decides.{nat_tests}
+use Rattle.interface_states.specs.Views.{number_in}
 
 -- ---- a stream that the plan does not have
 
@@ -77,26 +118,184 @@ status_all plan st h stands side link stream = elim (cases_Bool (is_some (stream
       (unplanned_status plan h stands.cause side link stream none)
 ]
 
+-- what the manager knows of the streams that the plan has; of others nothing is asked
+abbrev pub seen_ops : Plan → History → ℕ → ℕ → Op
+seen_ops plan h link stream = if is_some (stream_plan plan link stream) then op_of h link stream else Idle
+
+abbrev pub seen_at : Plan → History → Streams
+seen_at plan h = record (streams_at h) { op = seen_ops plan h }
+
 ops_all : (plan : Plan) (st : LinkState) (h : History) → PortsStandFor plan st h → (link stream : ℕ)
-    → op_or_idle (find_op plan st link stream) ≡ op_of h link stream
-ops_all plan st h stands link stream = ap op_or_idle (stands.ops_is link stream) ∙ elim
-    (cases_Bool (is_some (stream_plan plan link stream))) [
-      | inl known ↦ rw known refl
-      | inr none ↦ rw none (sym
-          (unplanned_idle (key_plan plan) h (key_cause plan h stands.ports_stand.cause)
-          (key_place_at Host link stream false Pr)
-          none))
-    ]
+    → op_or_idle (find_op plan st link stream) ≡ seen_ops plan h link stream
+ops_all plan st h stands link stream = ap op_or_idle (stands.ops_is link stream)
+    ∙ by (is_some (stream_plan plan link stream))
+  where
+    by : (b : Bool) → op_or_idle (if b then Some (op_of h link stream) else None)
+        ≡ (if b then op_of h link stream else Idle)
+    by true = refl
+    by false = refl
 
 pub secure_all : (plan : Plan) (st : LinkState) (h : History) → PortsStand plan st h → secure_in plan st ≡ secure_of h
 secure_all plan st h stands = λ i link stream. is_secure (status_all plan st h stands Device link stream i)
 
+live_all : (plan : Plan) (st : LinkState) (h : History) → PortsStand plan st h → (end : PortName) (stream : ℕ)
+    → live_in plan st end stream ≡ live_at h end stream
+live_all plan st h stands end stream = λ i. live_if
+    (is_secure (status_all plan st h stands end.side end.link stream i)) (posted_draw_is plan st h stands end stream i)
+
+pub ends_all : (plan : Plan) (st : LinkState) (h : History) → PortsStand plan st h → ends_in plan st ≡ ends_read h
+ends_all plan st h stands = λ i. record {
+  secure = secure_all plan st h stands i;
+  live = λ end stream. live_all plan st h stands end stream i;
+}
+
 pub streams_are : (plan : Plan) (w : Whole) (h : History) → PortsStandFor plan w.links h → w.draw ≡ stream_draw h
-    → whole_streams plan w ≡ streams_at h
+    → whole_streams plan w ≡ seen_at plan h
 streams_are plan w h stands draw = λ i. record {
   secure = secure_all plan w.links h stands.ports_stand i;
+  live = λ end stream. live_all plan w.links h stands.ports_stand end stream i;
   host = λ link stream. status_all plan w.links h stands.ports_stand Host link stream i;
   draw = draw i;
   op = λ link stream. ops_all plan w.links h stands link stream i;
   drawn = stands.draws_is i;
 }
+
+-- ---- an operation on a stream that the plan does not have comes to no exchange
+
+comes_none : (has : Bool) (o : Operation) (x y : Verdict) → x ≡ (if has then y else v.Nothing) → has ≡ false
+    → reach_of o x ≡ None
+comes_none true o x y is none = absurd cc
+comes_none false o x y is none = ap (reach_of o) is
+
+begins_same : (planned : Bool) (o : Operation) (q : Op) (next : ℕ) (r : Option Reach) → (planned ≡ false → r ≡ None)
+    → ((work_of o (if planned then q else Idle) next).begins && is_some r)
+    ≡ ((work_of o q next).begins && is_some r)
+begins_same true o q next r none = refl
+begins_same false o q next r none = rw (none refl)
+    (none_and (work_of o Idle next).begins ∙ sym (none_and (work_of o q next).begins))
+  where
+    none_and : (b : Bool) → (b && false) ≡ false
+    none_and b = grind arith
+
+managed_same : (plan : Plan) (h : History) (e : Event) (w : Verdict) → w ≡ due plan h e → (x : Site) (m : Managed)
+    → managed_after (seen_ops plan h) (draws h) x e w m ≡ managed_after (op_of h) (draws h) x e w m
+unfolding due key_due
+managed_same plan h (event.Stop link stream loss) w is x m =
+    ap (λ (b : Bool). if ((link == x.link) && (stream == x.plan.stream) && b)
+    || (is_bind_asked link m.asked && is_some (reach_of op.Stop w))
+    then record m { view = view_broken m.view } else m)
+    (begins_same (is_some (stream_plan plan link stream)) op.Stop (op_of h link stream) (draws h) (reach_of op.Stop w)
+    (comes_none (is_some (stream_plan plan link stream)) op.Stop w _ is))
+managed_same plan h (event.Interface e) w is x m = refl
+managed_same plan h (event.Reset link ends) (v.Reset l) is x m = refl
+managed_same plan h e w is x m = refl
+
+each_same : (plan : Plan) (h : History) (after : EndsRead) (used : ℕ → ℕ) (e : Event) (w : Verdict)
+    → w ≡ due plan h e → (xs : List Site) (fs : List Face)
+    → with_each (face_after plan (seen_at plan h) after used e w) xs fs
+    ≡ with_each (face_after plan (streams_at h) after used e w) xs fs
+each_same plan h after used e w is [] fs = refl
+each_same plan h after used e w is (x ∷ xs) [] = refl
+each_same plan h after used e w is (x ∷ xs) (f ∷ fs) =
+    let first = managed_same plan h e w is x f.managed in
+    let rest = each_same plan h after used e w is xs fs in
+    λ i. record {
+      tdi = (face_after plan (streams_at h) after used e w x f).tdi;
+      managed = first i;
+    } ∷ rest i
+
+pub faces_same : (plan : Plan) (h : History) (after : EndsRead) (e : Event) (w : Verdict) (fs : Faces)
+    → w ≡ due plan h e → faces_after plan (seen_at plan h) after e w fs ≡ faces_after plan (streams_at h) after e w fs
+faces_same plan h after e w fs is =
+    let list = each_same plan h after fs.used e w is (sites plan) fs.list in
+    λ i. record { list = list i; used = (faces_after plan (streams_at h) after e w fs).used }
+
+-- ---- what is asked of an interface
+
+-- an end that is there is of the line
+abbrev is_of_line : Option PortName → ℕ → Bool
+is_of_line o line = option_map_or (λ (e : PortName). e.link == line) o false
+
+-- a stream between devices that ends at a link is one of the plan's, on its line
+peer_known : (ps : List PeerPlan) (n link line id : ℕ) → is_of_line (peer_end ps n link id) line ≡ true
+    → (24 + n ≤ line) × (peer_has_id (slice_get ps (line - 24 - n)) id ≡ true)
+unfolding peer_end
+peer_known [] n link line id is = absurd cc
+peer_known (p ∷ ps) n link line id is =
+    by ((p.id == id) && (p.near == link)) ((p.id == id) && (p.far == link)) refl refl
+    (peer_known ps (n + 1) link line id) is
+  where
+    here : (24 + n == line) ≡ true → (p.id == id) ≡ true
+        → (24 + n ≤ line) × (peer_has_id (slice_get (p ∷ ps) (line - 24 - n)) id ≡ true)
+    here at same =
+        let le : 24 + n ≤ line = grind (arith, nat_tests, at) in
+        let first : line - 24 - n ≡ 0 = grind (arith, nat_tests, at) in
+        (le, rw first same)
+
+    first_of : (a b : Bool) → (a && b) ≡ true → a ≡ true
+    first_of a b is = grind arith
+
+    by : (near far : Bool) → ((p.id == id) && (p.near == link)) ≡ near → ((p.id == id) && (p.far == link)) ≡ far
+        → (is_of_line (peer_end ps (n + 1) link id) line ≡ true
+        → (24 + (n + 1) ≤ line) × (peer_has_id (slice_get ps (line - 24 - (n + 1))) id ≡ true))
+        → is_of_line (if near then Some (host_port (peer_line n))
+        else if far then Some (device_port (peer_line n)) else peer_end ps (n + 1) link id) line ≡ true
+        → (24 + n ≤ line) × (peer_has_id (slice_get (p ∷ ps) (line - 24 - n)) id ≡ true)
+    by true far near_is far_is more is = here is (first_of (p.id == id) (p.near == link) near_is)
+    by false true near_is far_is more is = here is (first_of (p.id == id) (p.far == link) far_is)
+    by false false near_is far_is more is =
+        let rest = more is in
+        let le = rest.0 in
+        let next : line - 24 - n ≡ suc (line - 24 - (n + 1)) = omega (arith, le) in
+        (omega (arith, le), rw next rest.1)
+
+peer_planned : (plan : Plan) (link line stream : ℕ) → has_peer plan.peers link line stream ≡ true
+    → is_some (stream_plan plan line stream) ≡ true
+peer_planned plan link line stream is =
+    let known = peer_known plan.peers 0 link line stream is in
+    let le = known.0 in
+    let place : line - 24 - 0 ≡ line - 24 = omega arith in
+    let a : nat_lt line 8 ≡ false = grind (arith, nat_tests, le) in
+    let b : nat_lt line 16 ≡ false = grind (arith, nat_tests, le) in
+    let c : nat_lt line 24 ≡ false = grind (arith, nat_tests, le) in
+    stream_is_there plan line stream
+    ∙ rw (a, b, c) (ap (λ (k : ℕ). peer_has_id (slice_get plan.peers k) stream) (sym place) ∙ known.1)
+
+-- so what is due of an operation on an interface reads of the manager's streams only those that the plan has
+asked_same : (plan : Plan) (h : History) (used : ℕ → ℕ) (x : Site) (f : Face) (e : InterfaceEvent)
+    → asked_due plan x (face_standing plan (seen_at plan h) used x f) e
+    ≡ asked_due plan x (face_standing plan (streams_at h) used x f) e
+asked_same plan h used x f (ie.Bind i line stream loss) =
+    by (has_peer plan.peers x.link line stream) (λ is. peer_planned plan x.link line stream is)
+  where
+    by : (b : Bool) → (b ≡ true → is_some (stream_plan plan line stream) ≡ true)
+        → (if b then bind_due x (face_standing plan (seen_at plan h) used x f) line stream loss else v.Nothing)
+        ≡ (if b then bind_due x (face_standing plan (streams_at h) used x f) line stream loss else v.Nothing)
+    by true known = rw (known refl) refl
+    by false known = refl
+asked_same plan h used x f (ie.Unbind i line stream loss) = refl
+asked_same plan h used x f e = refl
+
+pub answer_same : (plan : Plan) (h : History) (fs : Faces) (e : InterfaceEvent) (given : Verdict)
+    → interface_answer plan (seen_at plan h) fs e given ≡ interface_answer plan (streams_at h) fs e given
+answer_same plan h fs e given = of_number (number_in e)
+  where
+    of_face : (o : Option (Site × Face))
+        → asked_due_of plan (seen_at plan h) fs.used e o ≡ asked_due_of plan (streams_at h) fs.used e o
+    of_face None = refl
+    of_face (Some y) = asked_same plan h fs.used y.0 y.1 e
+
+    of_number : (o : Option ℕ) → answer_to plan (seen_at plan h) fs e o given
+        ≡ answer_to plan (streams_at h) fs e o given
+    of_number None = refl
+    of_number (Some i) = of_face (find_face (λ x. x.number == i) (sites plan) fs.list)
+
+pub draw_same : (plan : Plan) (h : History) (e : Event) (w : Verdict) (draw : ℕ → ℕ → ℕ) → w ≡ due plan h e
+    → draw_after (seen_ops plan h) (draws h) e w draw ≡ draw_after (op_of h) (draws h) e w draw
+unfolding due key_due
+draw_same plan h (event.Establish l s loss) w draw is =
+    let same = begins_same (is_some (stream_plan plan l s)) op.Establish (op_of h l s) (draws h)
+    (reach_of op.Establish w) (comes_none (is_some (stream_plan plan l s)) op.Establish w _ is) in
+    λ i link stream. if (l == link) && (s == stream) && same i then draws h else draw link stream
+draw_same plan h (event.Refresh l s loss) (v.Refreshed a b j) draw is = refl
+draw_same plan h e w draw is = refl

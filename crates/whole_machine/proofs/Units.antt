@@ -18,14 +18,14 @@ use Rattle.link_history.specs.History.{pending, failed, on_draw}
 unfoldable use Rattle.link_history.specs.History.{arrived}
 use Rattle.link_history.specs.Due.{Ending, effects_of, due, ending_due, before_tag_of, under_keys, receiving, ended}
 unfoldable use Rattle.link_history.specs.Due.{before_tag}
+use Rattle.link_history.specs.Due.{through_due}
+use Rattle.link_history.specs.Ports.{goes_through}
 use Rattle.link_history.specs.Memory.{unit_ended}
 use Rattle.link_history.proofs.Causes.{Came, Passed, AcceptedBy, accepted_by, ending, packet_that_came, received_there}
 use Rattle.link_history.proofs.Causes.{numbered}
-use Rattle.link_ports.specs.Stream.{Taken, Insecure, NotKeyed, Failed, Held, Accepted}
-use Rattle.link_ports.specs.Machine.{LinkState, find, verdict_of_taken, passed, altered_to, cut_short}
-use Rattle.link_ports.specs.Stands.{PortsStand, standing, standing_if_planned, beside_at}
-use Rattle.link_ports.proofs.Numbers.{of_numbered}
-use Rattle.link_ports.proofs.Answers.{answer_is, packet_due, taken_at, Says, says}
+use Rattle.port_operations.specs.{Taken, Insecure, NotKeyed, Failed, Held, Accepted, LinkState, find, verdict_of_taken}
+use Rattle.port_operations.specs.{passed, altered_to, cut_short, PortsStand, standing, standing_if_planned, beside_at}
+use Rattle.port_operations.proofs.{of_numbered, answer_is, packet_due, taken_at, Says, says}
 use Rattle.whole_machine.specs.Machine.{arrival_of, unit_taken, unit_found, unit_cut, unit_in}
 
 -- ---- what an event brings
@@ -34,14 +34,14 @@ arrival_is : (plan : Plan) (st : LinkState) (h : History) → PortsStand plan st
     ≡ arrived plan h e
 unfolding arrived
 arrival_is plan st h stands (event.Pass n) =
-    of_numbered st.packets (sealed_packets plan h) n stands.packets (option_and_then passed)
-    (option_map (λ x. brought x (packet_bytes x.1))) refl (λ x. refl)
+    of_numbered st.packets (sealed_packets plan h) n stands.packets (option_and_then (passed plan))
+    (option_map (λ x. brought plan x (packet_bytes x.1))) refl (λ x. refl)
 arrival_is plan st h stands (event.Alter n at mask) =
-    of_numbered st.packets (sealed_packets plan h) n stands.packets (option_and_then (altered_to at mask))
-    (option_and_then (altered at mask)) refl (λ x. refl)
+    of_numbered st.packets (sealed_packets plan h) n stands.packets (option_and_then (altered_to plan at mask))
+    (option_and_then (altered plan at mask)) refl (λ x. refl)
 arrival_is plan st h stands (event.Cut n len) =
-    of_numbered st.packets (sealed_packets plan h) n stands.packets (option_and_then (cut_short len))
-    (option_and_then (shortened len)) refl (λ x. refl)
+    of_numbered st.packets (sealed_packets plan h) n stands.packets (option_and_then (cut_short plan len))
+    (option_and_then (shortened plan len)) refl (λ x. refl)
 arrival_is plan st h stands (event.Arrive port bytes) = refl
 arrival_is plan st h stands e = refl
 
@@ -51,6 +51,11 @@ is_known : (b : Bool) (x y z : Result Ending Verdict) → b ≡ true → (if not
 is_known true x y z known is = is
 is_known false x y z known is = absurd cc
 
+read_there : (b : Bool) (w : Verdict) (x : Result Ending Verdict) (y : Ending) → (if b then Err w else x) ≡ Ok y
+    → x ≡ Ok y
+read_there true w x y is = absurd cc
+read_there false w x y is = is
+
 -- the packet passed all checks, so that it is accepted
 due_accepted : (plan : Plan) (h : History) (e : Event) (port : PortName) (unit : UnitName) (effects : List Effect)
     (by : AcceptedBy plan h e port unit effects)
@@ -58,7 +63,8 @@ due_accepted : (plan : Plan) (h : History) (e : Event) (port : PortName) (unit :
 unfolding before_tag
 due_accepted plan h e port unit effects by =
     let p = by.packet in
-    let before = ap (before_tag_of plan h port) (sym by.came.cut) ∙ by.before in
+    let before = ap (before_tag_of plan h port) (sym by.came.cut)
+    ∙ read_there (goes_through plan port by.came.bytes) (through_due plan port) _ _ by.before in
     let keyed : (if failed h port p.prefix.stream then Err (v.Insecure port p.prefix.stream)
     else under_keys plan h port p (on_draw h port (receiving port p) p.prefix.k)
     (on_draw h port (receiving port p) (not p.prefix.k))) ≡ Ok (ending p unit) =

@@ -14,7 +14,12 @@ use Rattle.link_verdicts.specs.declared.verdict.Verdict.{Verdict}
 use Rattle.link_verdicts.specs.declared.verdict.Verdict.TheVariants as v
 use Rattle.key_laws.specs.History.{History, op_of, draws}
 unfoldable use Rattle.interface_states.specs.Views.{stream_draw}
-use Rattle.interface_states.specs.Cause.{owner_of, owner_at, t_due}
+use Rattle.interface_states.specs.Cause.{is_peer, owner_of, owner_at, t_due}
+use Rattle.interface_states.specs.Devices.{peer_t}
+use Rattle.ide_plan.specs.Ends.{port_at}
+unfoldable use Rattle.link_history.specs.Due.{t_sealed}
+use Rattle.link_history.specs.Ports.{at_switch}
+unfoldable use Rattle.link_history.specs.Ports.{port_of}
 use Rattle.interface_states.specs.Views.{grant_at}
 unfoldable use Rattle.interface_states.specs.Due.{interface_verdict_due as interface_due}
 use Rattle.interface_machine.specs.Machine.{Faces, faces_after, interface_answer, grant_of}
@@ -27,13 +32,13 @@ use Rattle.link_history.specs.Memory.{policy_at, effects_by, admitted_in, shown_
 unfoldable use Rattle.link_history.specs.Sent.{reads_taken, queued_in}
 unfoldable use Rattle.link_history.specs.Guarded.{happened}
 use Rattle.link_history.specs.Guarded.{mmio_by, happens_by}
-use Rattle.guarded_memory.specs.Happenings.{newest_happened}
+use Rattle.interface_states.specs.{newest_happened}
 unfoldable use Rattle.interface_states.specs.Floors.{device_floor}
 use Rattle.interface_states.specs.Sites.{sites, site_with}
-use Rattle.waiting_reads.specs.declared.queue.WaitingRead.{WaitingRead}
-unfoldable use Rattle.waiting_reads.specs.Completions.{completion_bytes}
+use Rattle.link_history.specs.{WaitingRead}
+unfoldable use Rattle.link_history.specs.{completion_bytes}
 use Rattle.link_events.specs.declared.event.AccessEvent.TheVariants as ae
-use Rattle.link_ports.specs.Replies.{completion_of, completion_first, completion_to}
+use Rattle.port_operations.specs.{completion_of, completion_first, completion_to}
 use Rattle.read_order.proofs.Oldest.{drop_first, bytes_are}
 unfoldable use Rattle.link_history.specs.Memory.{writes}
 use Rattle.trusted_memory.specs.Writes.{Write, newest_first}
@@ -42,26 +47,59 @@ use Rattle.trusted_memory.specs.Regions.{in_one_region}
 use Rattle.trusted_memory.specs.Memory.{bytes_from}
 use Rattle.link_events.specs.declared.event.InterfaceEvent.TheVariants as ie
 unfoldable use Rattle.link_history.specs.Due.{due}
-use Rattle.link_ports.specs.Machine.{Beside, LinkState, step_of}
-use Rattle.link_ports.specs.Stands.{beside_at, PortsStandFor}
+use Rattle.port_operations.specs.{Beside, LinkState, step_of, beside_at, PortsStandFor, forward_of}
 use Rattle.port_operations.proofs.AllSteps.{steps}
 use Rattle.port_operations.proofs.Resets.{begins as first}
-use Rattle.whole_machine.specs.Machine.{Whole, t_by, memory_shown, written_after, beside_of, whole_streams, draw_after}
+use Rattle.whole_machine.specs.Machine.{
+  Whole,
+  t_by,
+  t_kept,
+  memory_shown,
+  written_after,
+  beside_of,
+  whole_streams,
+  draw_after,
+}
 use Rattle.whole_machine.specs.Machine.{policy_of, completed, completion_in, ended_unit, whole_faces_after, whole_after}
 use Rattle.whole_machine.specs.Accesses.{standings_on, waiting_reads_after, accesses_after}
 use Rattle.whole_machine.specs.Stands.{AccessesStandFor, StandsFor, WholeBegins, WholeSteps}
 use Rattle.whole_machine.proofs.Units.{unit_is}
-use Rattle.whole_machine.proofs.Streams.{secure_all, streams_are}
-use Rattle.whole_machine.proofs.Accesses.{AreEnded, waiting_is, floors_are, standings_are, happened_is}
+use Rattle.whole_machine.proofs.Streams.{answer_same, draw_same, ends_all, faces_same, streams_are}
+use Rattle.interface_machine.specs.Stands.{ends_read}
+use Rattle.interface_machine.specs.Machine.{peer_t_of}
+unfoldable use Rattle.link_history.specs.Hops.{taken_in, forwarded}
+use Rattle.read_order.specs.Waiting.{waiting_next}
+use Rattle.whole_machine.specs.Accesses.{unit_tlps}
+use Rattle.whole_machine.proofs.Accesses.{AreEnded, waiting_is, floors_are, standings_are, happened_is, carried_is}
 
 -- ---- what the ports read of the interfaces
 
-t_says : (plan : Plan) (fs : Faces) (h : History) → FacesStandFor plan fs h
+t_by_says : (plan : Plan) (fs : Faces) (h : History) → FacesStandFor plan fs h
     → (port : PortName) (side : Side) (head : HeadView) (stream : ℕ) (trusted : Bool)
     → t_by plan fs port side head stream trusted ≡ t_due plan h port side (owner_at plan port.link head) stream trusted
-t_says plan fs h stands port Host head stream trusted = refl
-t_says plan fs h stands port Device head stream trusted = faces_stand.t plan fs h port.link stream (owner_of head)
+t_by_says plan fs h stands port Host head stream trusted = refl
+t_by_says plan fs h stands port Device head stream trusted = faces_stand.t plan fs h port.link stream (owner_of head)
     stands
+
+t_says : (plan : Plan) (fs : Faces) (h : History) → FacesStandFor plan fs h
+    → (port : PortName) (head : HeadView) (stream : ℕ) (trusted : Bool)
+    → t_kept plan fs port head stream trusted ≡ t_sealed plan h port head stream trusted
+unfolding t_sealed
+t_says plan fs h stands port head stream trusted = by (at_switch plan port) (is_peer plan port)
+  where
+    by : (switch late : Bool)
+        → (if switch then trusted
+        else if late then peer_t_of plan fs (if late then (port_at plan.peers port).link else port.link) stream
+        (owner_of head)
+        else t_by plan fs port port.side head stream trusted)
+        ≡ (if switch then trusted
+        else if late then peer_t plan h (owner_at plan (if late then (port_at plan.peers port).link else port.link)
+        head) stream
+        else t_due plan h port port.side (owner_at plan (if late then (port_at plan.peers port).link else port.link)
+        head) stream trusted)
+    by true late = refl
+    by false true = faces_stand.peer plan fs h (port_at plan.peers port).link stream (owner_of head) stands
+    by false false = t_by_says plan fs h stands port port.side head stream trusted
 
 memory_says : (plan : Plan) (h : History) (ws : List Write) → ws ≡ writes plan h → (e : InterfaceEvent)
     → memory_shown plan ws e ≡ memory_due plan h e
@@ -76,7 +114,8 @@ unfolding due
 answer_says plan w h stands e =
     (λ i. interface_answer plan (streams_are plan w h stands.links stands.draw i) w.faces e
     (memory_says plan h w.written stands.written e i))
-    ∙ faces_stand.answer plan w.faces h e (memory_due plan h e) stands.faces
+    ∙ (answer_same plan h w.faces e (memory_due plan h e)
+    ∙ faces_stand.answer plan w.faces h e (memory_due plan h e) stands.faces)
 
 grants_are : (plan : Plan) (fs : Faces) (h : History) → FacesStandFor plan fs h → grant_of plan fs ≡ grant_at plan h
 grants_are plan fs h stands = λ i link requester. faces_stand.grant plan fs h link requester stands i
@@ -121,11 +160,12 @@ reply_is plan w h stands link =
 
 beside_is : (plan : Plan) (w : Whole) (h : History) → StandsFor plan w h → beside_of plan w ≡ beside_at plan h
 beside_is plan w h stands = λ i. record {
-  t = λ port head stream trusted. t_says plan w.faces h stands.faces port port.side head stream trusted i;
-  effects = effects_by plan (policy_is plan w h stands i);
+  t = λ port head stream trusted. t_says plan w.faces h stands.faces port head stream trusted i;
+  effects = λ port. effects_by plan (policy_is plan w h stands i) (port_of plan port);
   answer = λ e. answer_says plan w h stands e i;
   reply = λ link. reply_is plan w h stands link i;
   shows = mmio_by plan (λ link. stands.accesses.happened link i);
+  forward = λ link d. forward_of plan link (stands.accesses.carried link d i);
 }
 
 -- ---- draws
@@ -163,7 +203,7 @@ accesses_are plan w h e x faces stands is next =
     let law : CauseLaw plan ((e, x) ∷ h) = (is, stands.links.ports_stand.cause) in
     let units = units_are plan w h e x stands is in
     record {
-      waiting = λ link. ap (waiting_reads_after (ended_unit plan w e) e x link) (stands.accesses.waiting link)
+      waiting = λ link. ap (waiting_reads_after plan (ended_unit plan w e) e x link) (stands.accesses.waiting link)
           ∙ waiting_is plan h e x (ended_unit plan w e) law units link;
       floors = floors_are plan w.links h e x w.faces.list faces.list w.accesses.floors stands.links.ports_stand
           stands.faces.faces next.faces stands.accesses.floors;
@@ -172,6 +212,9 @@ accesses_are plan w h e x faces stands is next =
           link)) (stands.accesses.happened link)
           ∙ happened_is plan h e x (ended_unit plan w e) w.faces.list w.accesses.floors stands.faces.faces
           stands.accesses.floors units link;
+      carried = λ link d. ap (waiting_next (unit_tlps plan (ended_unit plan w e) x) link d e x)
+          (stands.accesses.carried link d)
+          ∙ carried_is plan h e x (ended_unit plan w e) law units link d;
     }
 
 -- ---- one step
@@ -183,12 +226,14 @@ after_stands plan w h e x links stands is next =
     let streams = streams_are plan w h stands.links stands.draw in
     let faces : FacesStandFor plan (whole_faces_after plan w e x links) ((e, x) ∷ h) =
     subst (λ (fs : Faces). FacesStandFor plan fs ((e, x) ∷ h))
-    (λ i. faces_after plan (sym streams i) (sym (secure_all plan links ((e, x) ∷ h) next.ports_stand) i) e x w.faces)
+    (sym (faces_same plan h (ends_read ((e, x) ∷ h)) e x w.faces is)
+    ∙ (λ i. faces_after plan (sym streams i) (sym (ends_all plan links ((e, x) ∷ h) next.ports_stand) i) e x w.faces))
     (faces_stand.step plan w.faces h e x stands.faces) in
     record {
       links = next;
       faces = faces;
-      draw = (λ i. draw_after (streams i).op (stands.links.draws_is i) e x (stands.draw i)) ∙ draw_is h e x;
+      draw = (λ i. draw_after (streams i).op (stands.links.draws_is i) e x (stands.draw i))
+          ∙ (draw_same plan h e x (stream_draw h) is ∙ draw_is h e x);
       written = written_is plan w h e x stands is;
       accesses = accesses_are plan w h e x (whole_faces_after plan w e x links) stands is faces;
     }
@@ -212,11 +257,11 @@ pub whole_steps : WholeSteps
 whole_steps plan w h e stands = at_step plan w h e (beside_of plan w) (beside_is plan w h stands) stands
 
 pub whole_begins : WholeBegins
-unfolding stream_draw writes reads_taken queued_in device_floor happened
+unfolding stream_draw writes reads_taken queued_in device_floor happened taken_in forwarded
 whole_begins plan = record {
   links = first plan;
   faces = faces_stand.first plan;
   draw = refl;
   written = refl;
-  accesses = record { waiting = λ link. refl; floors = refl; happened = λ link. refl };
+  accesses = record { waiting = λ link. refl; floors = refl; happened = λ link. refl; carried = λ link d. refl };
 }

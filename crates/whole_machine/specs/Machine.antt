@@ -1,5 +1,6 @@
 -- All that is kept of ports and interfaces, and one step of it.
-use Rattle.std.specs.Prelude.{ℕ, ◌==◌, ◌&&◌, Bool, if◌then◌else◌, Option, Some, None, Result, Ok, [], List, length}
+use Rattle.std.specs.Prelude.{ℕ, ◌==◌, ◌&&◌, Bool, false, if◌then◌else◌, Option, Some, None, Result, Ok, [], List}
+use Rattle.std.specs.Prelude.{length}
 use Rattle.std.specs.Option.{option_and_then}
 use Rattle.ide_types.specs.declared.port.PortName.{PortName}
 use Rattle.ide_types.specs.declared.port.Side.{Side}
@@ -15,12 +16,16 @@ use Rattle.link_verdicts.specs.declared.verdict.Verdict.TheVariants as v
 use Rattle.key_laws.specs.Operations.{Op, Idle}
 use Rattle.key_laws.specs.History.{begins_keyed}
 use Rattle.interface_states.specs.Devices.{is_secure}
-use Rattle.interface_states.specs.Cause.{owner_of}
-use Rattle.interface_machine.specs.Machine.{Faces, new_faces, Streams, faces_after, interface_answer, t_of, grant_of}
+use Rattle.interface_states.specs.Cause.{is_peer, owner_of, owners_link}
+use Rattle.interface_machine.specs.Machine.{Faces, new_faces, Streams, EndsRead, faces_after, interface_answer, t_of}
+use Rattle.interface_machine.specs.Machine.{peer_t_of, grant_of}
+use Rattle.port_operations.specs.{forward_of}
 use Rattle.link_history.specs.Memory.{Policy, effects_by, admitted_in, shown_if}
 use Rattle.link_history.specs.Guarded.{mmio_by}
 use Rattle.link_history.specs.History.{Arrival}
 use Rattle.link_history.specs.Plan.{has_port, mode_of, is_closed}
+use Rattle.link_history.specs.Ports.{port_of, at_switch}
+use Rattle.link_history.specs.Packets.{arrival_at}
 use Rattle.trusted_memory.specs.Writes.{Write, newest_first}
 unfoldable use Rattle.trusted_memory.specs.Writes.{byte_after}
 use Rattle.trusted_memory.specs.Regions.{in_one_region}
@@ -28,14 +33,13 @@ use Rattle.trusted_memory.specs.Memory.{bytes_from}
 use Rattle.ide_prefix.specs.declared.fault.PacketFault.{PacketFault}
 use Rattle.ide_prefix.specs.Reading.{CutValue, IdePacket, cut_of}
 use Rattle.link_events.specs.declared.event.InterfaceEvent.TheVariants as ie
-use Rattle.link_ports.specs.Stream.{StreamState, Taken, Accepted, taken_by}
-use Rattle.link_ports.specs.Machine.{Beside, LinkState, find, find_op, status_at, step_of, first_state, passed}
-use Rattle.link_ports.specs.Machine.{altered_to, cut_short, packet_numbered}
-use Rattle.link_ports.specs.Replies.{BoundCompletion, completion_to}
+use Rattle.port_operations.specs.{StreamState, Taken, Accepted, taken_by, Beside, LinkState, find, find_op, status_at}
+use Rattle.port_operations.specs.{step_of, first_state, passed, altered_to, cut_short, packet_numbered, BoundCompletion}
+use Rattle.port_operations.specs.{completion_to}
 use Rattle.interface_states.specs.Sites.{sites}
-use Rattle.waiting_reads.specs.declared.queue.WaitingRead.{WaitingRead}
-unfoldable use Rattle.waiting_reads.specs.Completions.{completion_bytes}
-use Rattle.whole_machine.specs.Accesses.{Accesses, first_accesses, standings_on, accesses_after}
+use Rattle.link_history.specs.{WaitingRead}
+unfoldable use Rattle.link_history.specs.{completion_bytes}
+use Rattle.whole_machine.specs.Accesses.{Accesses, first_accesses, standings_on, posted_draw_at, accesses_after}
 
 -- ---- what is kept
 
@@ -66,9 +70,21 @@ op_or_idle (Some q) = q
 abbrev pub secure_in : Plan → LinkState → ℕ → ℕ → Bool
 secure_in plan st link stream = is_secure (status_at plan st Device link stream)
 
+-- the draw that is Live where an end receives posted requests, if the stream is Secure there
+abbrev pub live_if : Bool → ℕ → Option ℕ
+live_if secure draw = if secure then Some draw else None
+
+abbrev pub live_in : Plan → LinkState → PortName → ℕ → Option ℕ
+live_in plan st end stream =
+    live_if (is_secure (status_at plan st end.side end.link stream)) (posted_draw_at plan st end stream)
+
+abbrev pub ends_in : Plan → LinkState → EndsRead
+ends_in plan st = record { secure = secure_in plan st; live = live_in plan st }
+
 abbrev pub whole_streams : Plan → Whole → Streams
 whole_streams plan w = record {
   secure = secure_in plan w.links;
+  live = live_in plan w.links;
   host = λ link stream. status_at plan w.links Host link stream;
   draw = w.draw;
   op = λ link stream. op_or_idle (find_op plan w.links link stream);
@@ -78,6 +94,13 @@ whole_streams plan w = record {
 abbrev pub t_by : Plan → Faces → PortName → Side → HeadView → ℕ → Bool → Bool
 t_by plan fs port Host head stream trusted = trusted
 t_by plan fs port Device head stream trusted = t_of plan fs port.link stream (owner_of head)
+
+-- T of a TLP that an end seals on a stream
+abbrev pub t_kept : Plan → Faces → PortName → HeadView → ℕ → Bool → Bool
+t_kept plan fs end head stream trusted =
+    if at_switch plan end then trusted
+    else if is_peer plan end then peer_t_of plan fs (owners_link plan end) stream (owner_of head)
+    else t_by plan fs end end.side head stream trusted
 
 -- ---- memory
 
@@ -89,11 +112,11 @@ memory_shown plan written e = v.Nothing
 
 -- what an event brings
 abbrev pub arrival_of : Plan → LinkState → Event → Option Arrival
-arrival_of plan st (event.Pass n) = option_and_then passed (packet_numbered st.packets n)
-arrival_of plan st (event.Alter n at mask) = option_and_then (altered_to at mask) (packet_numbered st.packets n)
-arrival_of plan st (event.Cut n len) = option_and_then (cut_short len) (packet_numbered st.packets n)
+arrival_of plan st (event.Pass n) = option_and_then (passed plan) (packet_numbered st.packets n)
+arrival_of plan st (event.Alter n at mask) = option_and_then (altered_to plan at mask) (packet_numbered st.packets n)
+arrival_of plan st (event.Cut n len) = option_and_then (cut_short plan len) (packet_numbered st.packets n)
 arrival_of plan st (event.Arrive port bytes) =
-    if has_port plan port then Some (record { port = port; bytes = bytes }) else None
+    if has_port plan port then Some (arrival_at plan port bytes) else None
 arrival_of plan st e = None
 
 abbrev pub unit_taken : Taken → List Packet
@@ -133,11 +156,12 @@ completion_in plan w link = completion_to plan (grant_of plan w.faces) (complete
 
 abbrev pub beside_of : Plan → Whole → Beside
 beside_of plan w = record {
-  t = λ port head stream trusted. t_by plan w.faces port port.side head stream trusted;
-  effects = effects_by plan (policy_of plan w);
+  t = t_kept plan w.faces;
+  effects = λ port. effects_by plan (policy_of plan w) (port_of plan port);
   answer = λ e. interface_answer plan (whole_streams plan w) w.faces e (memory_shown plan w.written e);
   reply = completion_in plan w;
   shows = mmio_by plan w.accesses.happened;
+  forward = λ link d. forward_of plan link (w.accesses.carried link d);
 }
 
 -- ---- one step
@@ -160,7 +184,7 @@ written_after plan w e verdict = w.written
 
 abbrev pub whole_faces_after : Plan → Whole → Event → Verdict → LinkState → Faces
 whole_faces_after plan w e verdict links =
-    faces_after plan (whole_streams plan w) (secure_in plan links) e verdict w.faces
+    faces_after plan (whole_streams plan w) (ends_in plan links) e verdict w.faces
 
 abbrev pub whole_after : Plan → Whole → Event → Verdict → LinkState → Whole
 whole_after plan w e verdict links =

@@ -5,19 +5,21 @@ use Rattle.link_events.specs.declared.event.Event.{Event}
 use Rattle.key_laws.specs.History.{History}
 use Rattle.interface_states.specs.Views.{stream_draw}
 use Rattle.interface_machine.specs.Stands.{FacesStandFor}
-use Rattle.link_history.specs.Memory.{writes, waiting}
+use Rattle.ide_types.specs.declared.direction.Direction.{Direction}
+use Rattle.link_history.specs.Memory.{writes, waiting, hop_waiting}
 use Rattle.link_history.specs.Guarded.{happened}
 use Rattle.interface_states.specs.Sites.{sites}
 use Rattle.interface_states.specs.Floors.{device_floor}
 use Rattle.whole_machine.specs.Accesses.{Accesses}
 use Rattle.link_history.specs.Due.{due}
-use Rattle.link_ports.specs.Stands.{PortsStandFor}
+use Rattle.port_operations.specs.{PortsStandFor}
 use Rattle.whole_machine.specs.Machine.{Whole, new_whole, whole_step}
 
 pub record AccessesStandFor (plan : Plan) (a : Accesses) (h : History) : Type 0 where
   pub waiting : (link : ℕ) → a.waiting link ≡ waiting plan h link
   pub floors : a.floors ≡ map (device_floor plan h) (sites plan)
   pub happened : (link : ℕ) → a.happened link ≡ happened plan h link
+  pub carried : (link : ℕ) (d : Direction) → a.carried link d ≡ hop_waiting plan h link d
 
 pub record StandsFor (plan : Plan) (w : Whole) (h : History) : Type 0 where
   pub links : PortsStandFor plan w.links h

@@ -46,7 +46,7 @@ trusted_3 : due (plan 1 false) (sealed 1 0 1 ∷ established ∷ []) (fails (Alt
 unfolding due_on_literals
 trusted_3 =
     ends (plan 1 false) (sealed 1 0 1 ∷ established ∷ []) _ trusted_write Pr 0 1 false
-    (ap (λ (p : Packet). altered 1 0x20 (packet 1 Pr 0 1 true 0, p)) write_1_is) refl
+    (ap (λ (p : Packet). altered (plan 1 false) 1 0x20 (packet 1 Pr 0 1 true 0, p)) write_1_is) refl
     (ap (bytes_eq tag_1) trusted_tag_is)
 
 pub trusted_due : AreDue (plan 1 false) [] trusted_on_the_way
@@ -58,7 +58,7 @@ rekeyed_3 : due (plan 1 false) (sealed 1 0 1 ∷ established ∷ []) (fails_key 
 unfolding due_on_literals
 rekeyed_3 =
     stops (plan 1 false) (sealed 1 0 1 ∷ established ∷ []) _ rekeyed_write _
-    (ap (λ (p : Packet). altered 1 0x40 (packet 1 Pr 0 1 true 0, p)) write_1_is) refl
+    (ap (λ (p : Packet). altered (plan 1 false) 1 0x40 (packet 1 Pr 0 1 true 0, p)) write_1_is) refl
 
 pub rekeyed_due : AreDue (plan 1 false) [] other_set_on_the_way
 unfolding due_on_literals

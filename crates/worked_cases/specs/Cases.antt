@@ -11,6 +11,7 @@ use Rattle.ide_plan.specs.declared.stream.Selector.TheVariants.{Selective}
 use Rattle.link_events.specs.declared.event.Lost.TheVariants.{Reply}
 use Rattle.link_events.specs.declared.event.Event.{Event}
 use Rattle.link_events.specs.declared.event.Event.TheVariants.{Establish, Refresh, Stop, Send, Pass, Alter}
+use Rattle.ide_types.specs.declared.line.LineKind.TheVariants as kind
 use Rattle.link_verdicts.specs.declared.verdict.Operation.TheVariants as op
 use Rattle.link_verdicts.specs.declared.verdict.Verdict.{Verdict}
 use Rattle.link_verdicts.specs.declared.verdict.Verdict.TheVariants as v
@@ -37,8 +38,10 @@ plan mode closed = record {
         nonces = [];
         streams = record { id = 5; mode = mode; closed = closed; selector = Selective None [] true } ∷ [];
         interfaces = [];
+        hop = None;
       } ∷ [];
   memory = [];
+  peers = [];
 }
 
 -- a read at 10000000h by the requester 0100h
@@ -142,7 +145,7 @@ abbrev pub reply_9_lost : Event × Verdict
 reply_9_lost = (Refresh 0 5 (Some (record { exchange = 9; lost = Reply })), v.LostReply 9)
 
 abbrev pub busy : Event × Verdict
-busy = (Establish 0 5 None, v.RefusedBusy op.Refresh)
+busy = (Establish 0 5 None, v.RefusedBusy kind.Link op.Refresh)
 
 -- NPR and CPL go first with the count of 255 posted packets, then the 256th
 abbrev pub count_reached : Event × Verdict

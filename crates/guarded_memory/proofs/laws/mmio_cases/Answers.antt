@@ -3,7 +3,7 @@ use Rattle.trusted_memory.specs.Writes.{byte_after}
 use Rattle.guarded_memory.proofs.laws.mmio_cases.Goals as goal
 
 pub returns-clause-shut : goal.returns-clause-shut
-returns-clause-shut c = (refl, refl, refl, refl, refl, refl, refl, refl, refl, refl)
+returns-clause-shut c = (refl, refl, refl, refl, refl, refl, refl, refl, refl, refl, refl, refl, refl)
 
 pub returns-clause-opened : goal.returns-clause-opened
 returns-clause-opened c = (refl, refl)

@@ -1,0 +1,53 @@
+-- What the device of a link says of streams, and an interface that is bound to none but those that are Secure there.
+use Rattle.std.specs.Prelude.{ℕ, ◌≡◌, ◌&&◌, ◌||◌, Bool, true, false, not, is_some, List, Option, IfSome}
+use Rattle.ide_plan.specs.declared.interface.InterfacePlan.{InterfacePlan}
+use Rattle.ide_plan.specs.declared.plan.Plan.{Plan}
+use Rattle.tdi_state.specs.declared.bindings.Binding.{Binding}
+use Rattle.tdi_state.specs.Machine.{Tdi, bound_stream}
+use Rattle.tdi_state.specs.Bindings.{binds}
+use Rattle.tdi_state.specs.Held.{IsBound}
+use Rattle.interface_states.specs.Peers.{live_by, any_leaves}
+use Rattle.interface_machine.specs.Machine.{EndsRead}
+use Rattle.link_ports.specs.Machine.{LinkState}
+use Rattle.whole_machine.specs.Machine.{ends_in}
+
+-- of the streams of its link which are Secure at its port; of those between it and other devices the draw that is Live
+-- where it receives posted requests, if the stream is Secure there
+pub record DeviceSays : Type 0 where
+  pub secure : ℕ → Bool
+  pub live : ℕ → Option ℕ
+
+abbrev pub says_by : Plan → EndsRead → ℕ → DeviceSays
+says_by plan read link = record { secure = read.secure link; live = live_by read.live plan.peers link }
+
+-- by the ports as they are
+abbrev pub says_in : Plan → LinkState → ℕ → DeviceSays
+says_in plan st link = says_by plan (ends_in plan st) link
+
+-- Secure, of the link or between devices
+abbrev pub is_said_secure : DeviceSays → ℕ → Bool
+is_said_secure d stream = d.secure stream || is_some (d.live stream)
+
+-- no stream of the link has the ID of one between devices
+pub record AreApart (is_peer : ℕ → Bool) (d : DeviceSays) : Type 0 where
+  pub live : (stream : ℕ) → is_some (d.live stream) ≡ true → is_peer stream ≡ true
+  pub secure : (stream : ℕ) → is_peer stream ≡ true → d.secure stream ≡ false
+
+-- An interface that is laid out so. A lock stands only on the topology's stream, and only while that is Secure; so is
+-- each stream between devices that the interface is bound to, of which there is none without a lock.
+pub record Keeps (d : DeviceSays) (x : InterfacePlan) (tdi : Tdi) : Type 0 where
+  pub layout : tdi.plan ≡ x
+  pub own : IfSome (bound_stream tdi.state) (λ stream. stream ≡ x.stream)
+  pub secure : IfSome (bound_stream tdi.state) (λ stream. d.secure stream ≡ true)
+  pub bound : (stream : ℕ) → binds stream tdi.bindings ≡ true → is_some (d.live stream) ≡ true
+  pub held : IsBound tdi.state tdi.bindings
+
+-- a stream that it is bound to was Secure, and is not any more
+abbrev pub leaves : DeviceSays → DeviceSays → InterfacePlan → List Binding → Bool
+leaves before after x bs =
+    (before.secure x.stream && not (after.secure x.stream)) || any_leaves before.live after.live bs
+
+-- what is Secure by the one is so by the other
+pub record AreSecureStill (before after : DeviceSays) : Type 0 where
+  pub secure : (stream : ℕ) → before.secure stream ≡ true → after.secure stream ≡ true
+  pub live : (stream : ℕ) → is_some (before.live stream) ≡ true → is_some (after.live stream) ≡ true

@@ -1,0 +1,166 @@
+-- Worked cases of a hop: events with the verdicts that were worked out by hand, in order.
+use Rattle.std.specs.Prelude.{◌≡◌, ℕ, Bool, false, true, Some, None, List, [], ◌∷◌, ◌++◌, replicate}
+use Rattle.ide_types.specs.Ports.{host_port, device_port}
+use Rattle.ide_types.specs.declared.port.PortName.{PortName}
+use Rattle.ide_types.specs.declared.fault_word.FaultWord.TheVariants as fault
+use Rattle.ide_types.specs.declared.sub.SubKind.TheVariants.{Npr}
+use Rattle.ide_types.specs.declared.direction.Direction.TheVariants.{Downstream, Upstream}
+use Rattle.ide_plan.specs.declared.plan.Plan.{Plan}
+use Rattle.ide_plan.specs.declared.stream.Selector.TheVariants.{Selective}
+use Rattle.ide_plan.specs.Ends.{reset_ends}
+use Rattle.link_events.specs.declared.event.Event.{Event}
+use Rattle.link_events.specs.declared.event.Event.TheVariants.{Send, Arrive, Establish, Stop, Reset, Forward}
+use Rattle.link_verdicts.specs.declared.access.AccessVerdict.TheVariants as av
+use Rattle.link_verdicts.specs.declared.verdict.Effect.TheVariants.{Waiting}
+use Rattle.link_verdicts.specs.declared.verdict.SealedPacket.{SealedPacket}
+use Rattle.link_verdicts.specs.declared.verdict.UnitName.{UnitName}
+use Rattle.link_verdicts.specs.declared.verdict.Verdict.{Verdict}
+use Rattle.link_verdicts.specs.declared.verdict.Verdict.TheVariants as v
+use Rattle.key_laws.specs.History.{History}
+use Rattle.link_history.specs.Due.{due}
+
+-- ---- what there is
+
+-- link 0 has stream 5, for the requester 0100h alone, and a hop, whose stream 7 takes traffic class 1; the pool has
+-- four draws
+abbrev pub hop_plan : Plan
+hop_plan = record {
+  version = 2;
+  portion = 16;
+  units_per_key = 4294967296;
+  pool = replicate 24 (replicate 32 0);
+  links =
+      record {
+        nonces = [];
+        streams = record {
+          id = 5;
+          mode = 1;
+          closed = false;
+          selector = Selective (Some (record { base = 0x0100; limit = 0x0100 })) [] false;
+        } ∷ [];
+        interfaces = [];
+        hop = Some (record { id = 7; classes = 1 ∷ [] });
+      } ∷ [];
+  memory = [];
+  peers = [];
+}
+
+-- a read at 10000000h by the requester 0300h, of traffic class 1
+abbrev pub read : List ℕ
+read = 0x00 ∷ 0x10 ∷ 0x00 ∷ 0x01 ∷ 0x03 ∷ 0x00 ∷ 0x01 ∷ 0x0f ∷ 0x10 ∷ 0x00 ∷ 0x00 ∷ 0x00 ∷ []
+
+-- the ends of the hop: at the host, at the switch towards the host, at the switch towards the device, at the device
+abbrev pub at_host : PortName
+at_host = host_port 8
+
+abbrev pub at_u : PortName
+at_u = device_port 8
+
+abbrev pub at_w : PortName
+at_w = host_port 16
+
+abbrev pub at_device : PortName
+at_device = device_port 16
+
+-- ---- pairs
+
+abbrev pub packet : ℕ → PortName → ℕ → SealedPacket
+packet number port draw = record {
+  number = number;
+  port = port;
+  stream = 7;
+  sub = Npr;
+  draw = draw;
+  unit = 1;
+  m = true;
+  k = false;
+  t = false;
+  posted = 0;
+  sync = false;
+}
+
+abbrev pub unit_under : ℕ → UnitName
+unit_under draw = record { stream = 7; sub = Npr; draw = draw; unit = 1 }
+
+-- the segment towards the host gets its keys, and the one towards the device
+abbrev pub near_keyed : ℕ → Event × Verdict
+near_keyed draw = (Establish 8 7 None, v.Established 8 7 draw)
+
+abbrev pub far_keyed : Event × Verdict
+far_keyed = (Establish 16 7 None, v.Established 16 7 1)
+
+-- the device sends the read, which is sealed on the hop
+abbrev pub sent_read : Event × Verdict
+sent_read = (Send (device_port 0) read false false, v.Sealed (packet 1 at_device 1 ∷ []))
+
+-- Such a read with T arrives at the switch and waits there. (That its tag, of zeros here, verifies is supposed.)
+abbrev pub arriving : List ℕ
+arriving = 0x92 ∷ 0xa1 ∷ 0x07 ∷ 0x00 ∷ read ++ replicate 12 0
+
+abbrev pub waits_there : Event × Verdict
+waits_there = (Arrive at_w arriving, v.Accepted at_w (unit_under 1) (Waiting ∷ []))
+
+-- the switch seals it towards the host, with its T
+abbrev pub forwarded_under : ℕ → Event × Verdict
+forwarded_under draw = (Forward 0 Upstream, v.Sealed (record (packet 2 at_u draw) { t = true } ∷ []))
+
+abbrev pub none_waits : Event × Verdict
+none_waits = (Forward 0 Upstream, v.Access (av.Empty 0))
+
+abbrev pub none_waits_down : Event × Verdict
+none_waits_down = (Forward 0 Downstream, v.Access (av.Empty 0))
+
+-- no other link has a hop
+abbrev pub no_hop : Event × Verdict
+no_hop = (Forward 1 Upstream, v.Nothing)
+
+-- the segment towards the host is stopped, and a forward is refused
+abbrev pub near_stopped : Event × Verdict
+near_stopped = (Stop 8 7 None, v.Stopped 8 7)
+
+abbrev pub no_key : Event × Verdict
+no_key = (Forward 0 Upstream, v.RefusedNoKey Npr)
+
+-- of stream 5 bytes go through u; two bytes are no packet
+abbrev pub goes_through_u : Event × Verdict
+goes_through_u = (Arrive at_u (0x92 ∷ 0x80 ∷ 0x05 ∷ []), v.Through at_u)
+
+abbrev pub short_at_u : Event × Verdict
+short_at_u = (Arrive at_u (0x92 ∷ 0x80 ∷ []), v.Malformed at_u fault.Short 2)
+
+abbrev pub link_reset : Event × Verdict
+link_reset = (Reset 0 (reset_ends hop_plan 0), v.Reset 0)
+
+-- ---- cases
+
+abbrev pub IsDue : History → Event × Verdict → Type 0
+IsDue h x = due hop_plan h x.0 ≡ x.1
+
+abbrev pub keyed_history : History
+keyed_history = far_keyed ∷ near_keyed 0 ∷ []
+
+abbrev pub waiting_history : History
+waiting_history = waits_there ∷ sent_read ∷ keyed_history
+
+abbrev pub stopped_history : History
+stopped_history = near_stopped ∷ waiting_history
+
+-- A read that a device sends in a class of the hop is sealed on the segment towards the device. What waits at the
+-- switch a forward seals on the segment towards the host, once. Where that has no keys it is refused, and the read
+-- stays first: with keys again it is sealed under them. A reset drops it.
+abbrev pub HopCases : Type 0
+HopCases =
+    IsDue [] (near_keyed 0) × IsDue (near_keyed 0 ∷ []) far_keyed × IsDue keyed_history sent_read
+    × IsDue keyed_history none_waits
+    × IsDue waiting_history none_waits_down
+    × IsDue waiting_history no_hop
+    × IsDue waiting_history (forwarded_under 0)
+    × IsDue (forwarded_under 0 ∷ waiting_history) none_waits
+    × IsDue waiting_history near_stopped
+    × IsDue stopped_history no_key
+    × IsDue (no_key ∷ stopped_history) (near_keyed 2)
+    × IsDue (near_keyed 2 ∷ no_key ∷ stopped_history) (forwarded_under 2)
+    × IsDue waiting_history link_reset
+    × IsDue (link_reset ∷ waiting_history) none_waits
+    × IsDue keyed_history goes_through_u
+    × IsDue keyed_history short_at_u

@@ -1,0 +1,58 @@
+-- Streams between two devices, as a device knows them: by their IDs.
+use Rattle.std.specs.Prelude.{ℕ, ◌+◌, ◌==◌, ◌&&◌, max, Bool, true, false, not, is_some, List, [], ◌∷◌, unwrap_or}
+use Rattle.std.specs.Prelude.{Option}
+use Rattle.std.specs.Prelude.{Some, None, if◌then◌else◌}
+use Rattle.ide_types.specs.Lines.{peer_line}
+use Rattle.ide_types.specs.Ports.{host_port, device_port}
+use Rattle.ide_types.specs.declared.status.StreamStatus.TheVariants as status
+use Rattle.ide_types.specs.declared.sub.SubKind.TheVariants.{Pr}
+use Rattle.ide_plan.specs.declared.plan.PeerPlan.{PeerPlan}
+use Rattle.key_laws.specs.Keys.{Keys, on_in}
+use Rattle.key_laws.specs.Places.{KeyPlace}
+use Rattle.key_laws.specs.History.{keys_there}
+use Rattle.tdi_state.specs.declared.bindings.Binding.{Binding}
+use Rattle.interface_states.specs.Terms.{list_any, option_and_then, option_map_or, PortName, StreamStatus, History}
+use Rattle.interface_states.specs.Terms.{status_of}
+
+-- the end at a link's device of the first of these streams that has the ID and ends there; they are numbered on
+unfoldable pub peer_end : List PeerPlan → ℕ → ℕ → ℕ → Option PortName
+peer_end [] n link id = None
+peer_end (p ∷ ps) n link id =
+    if (p.id == id) && (p.near == link) then Some (host_port (peer_line n))
+    else if (p.id == id) && (p.far == link) then Some (device_port (peer_line n))
+    else peer_end ps (n + 1) link id
+
+-- the link's device has the stream between devices of this line and ID
+abbrev pub has_peer : List PeerPlan → ℕ → ℕ → ℕ → Bool
+has_peer peers link line stream = option_map_or (λ e. e.link == line) (peer_end peers 0 link stream) false
+
+-- ---- the draw that is Live at an end
+
+abbrev pub is_secure : StreamStatus → Bool
+is_secure status.Secure = true
+is_secure _ = false
+
+-- the greatest draw that is On, 0 if none is
+abbrev pub greatest_on : Keys → ℕ
+greatest_on ks = max (unwrap_or (on_in ks.first) 0) (unwrap_or (on_in ks.second) 0)
+
+-- where an end receives posted requests on a stream
+abbrev pub receiver_at : PortName → ℕ → KeyPlace
+receiver_at e stream = record { side = e.side; link = e.link; stream = stream; sends = false; sub = Pr }
+
+-- the draw that is Live there, if the stream is Secure at the end
+abbrev pub live_at : History → PortName → ℕ → Option ℕ
+live_at h e stream =
+    if is_secure (status_of h e.side e.link stream) then Some (greatest_on (keys_there h (receiver_at e stream)))
+    else None
+
+-- what is read so of the end at a link's device of the stream between devices that has an ID, if there is one
+abbrev pub live_by : (PortName → ℕ → Option ℕ) → List PeerPlan → ℕ → ℕ → Option ℕ
+live_by live peers link stream = option_and_then (λ e. live e stream) (peer_end peers 0 link stream)
+
+-- one of the streams is Secure there by the one reading, and not by the other
+abbrev pub binding_leaves : (before after : ℕ → Option ℕ) → Binding → Bool
+binding_leaves before after b = is_some (before b.stream) && not (is_some (after b.stream))
+
+abbrev pub any_leaves : (before after : ℕ → Option ℕ) → List Binding → Bool
+any_leaves before after bs = list_any (binding_leaves before after) bs
