@@ -1,6 +1,6 @@
 -- Generated events are such as a script may ask for, and few.
 use Rattle.std.proofs.Common.{◌≤◌, ◌+◌, ◌*◌, ◌%◌, ◌++◌, [], ◌∷◌, ℕ, zero, suc, Bool, true, false, Option, Some}
-use Rattle.std.proofs.Common.{None, List, length, length-append, if◌then◌else◌, arith, lit≤}
+use Rattle.std.proofs.Common.{None, List, length, length-append, if◌then◌else◌, refl, arith, lit≤}
 use Rattle.std.specs.Prelude.{nat_lt, ◌==◌}
 use Rattle.std.specs.List.{AllByRecursion}
 use Rattle.link_events.specs.declared.event.Event.{Event}
@@ -23,7 +23,7 @@ arrival_allowed turn s = either (nat_lt turn 13) _ _ tt (either (turn == 14) _ _
 
 round_allowed : (turn : ℕ) (s : Numbers) → IsAllowed (round_by turn s).event
 round_allowed turn s =
-    either (nat_lt turn 8) _ _ (lit≤ tt, (λ asked. absurd cc), lit≤ tt)
+    either (nat_lt turn 8) _ _ (refl, (λ asked. absurd cc), lit≤ tt)
     (either (turn == 13) _ _ tt
     (either (nat_lt s.packets s.arriving) _ _ (lit≤ tt, lit≤ tt) (arrival_allowed turn s)))
 

@@ -8,9 +8,21 @@ use Rattle.ide_plan.specs.declared.plan.Plan.{Plan}
 use Rattle.ide_plan.specs.declared.plan.Region.{Region}
 use Rattle.ide_plan.specs.declared.stream.AddressRange.{AddressRange}
 use Rattle.std.proofs.lemmas.List.Elements.{All-nil, All-cons, All-from_recursion}
-use Rattle.ide_plan.specs.Fits.{FitsAddresses, FitsBar, FitsInterface, FitsLink, FitsPlan, FitsRegion, FitsStream}
+use Rattle.ide_plan.specs.Fits.{
+  FitsAddresses,
+  FitsBar,
+  FitsInterface,
+  FitsLink,
+  FitsPeer,
+  FitsPlan,
+  FitsRegion,
+  FitsStream,
+}
 use Rattle.generated_events.specs.Topology.{keys_below, the_interface, the_link, the_plan, the_stream}
 use Rattle.generated_events.proofs.NumberedKeys.{keys_fit, keys_differ, length_keys}
+
+no_element : (j : ℕ) → j < 0 → ⊥
+no_element j below = omega (arith, below)
 
 -- of one element there is no pair
 no_pair : (i j : ℕ) → i < j → j < 1 → ⊥
@@ -46,7 +58,6 @@ interface_fits = record {
   requester = lit≤ tt;
   stream = refl;
   flags = lit≤ tt;
-  no_peers = refl;
   offset = refl;
   offset_most = lit≤ tt;
   command = lit≤ tt;
@@ -74,6 +85,7 @@ link_fits = record {
   classes_apart = λ i j d lt below. absurd (no_pair i j lt below);
   each_interface = All-from_recursion (FitsInterface (the_stream ∷ [])) (the_interface ∷ []) (interface_fits, tt);
   requesters_differ = λ i j d lt below. absurd (no_pair i j lt below);
+  hop = tt;
 }
 
 pub the_plan_fits : FitsPlan the_plan
@@ -100,6 +112,9 @@ the_plan_fits =
           (record { base = refl; size = refl; size_least = lit≤ tt; most = lit≤ tt }, tt);
       memory_most = lit≤ tt;
       regions_apart = λ i j d lt below. absurd (no_pair i j lt below);
+      peers_most = lit≤ tt;
+      each_peer = All-nil (FitsPeer (the_link ∷ []));
+      peer_ids_differ = λ i j d lt below. absurd (no_element j below);
     }
 
 -- a plan that is given

@@ -1,5 +1,5 @@
 -- The topology of generated events.
-use Rattle.std.specs.Prelude.{ℕ, ◌/◌, ◌%◌, zero, suc, false, List, [], ◌∷◌, ◌++◌, replicate, Some}
+use Rattle.std.specs.Prelude.{ℕ, ◌/◌, ◌%◌, zero, suc, false, List, [], ◌∷◌, ◌++◌, replicate, Some, None}
 use Rattle.ide_plan.specs.declared.interface.InterfacePlan.{InterfacePlan}
 use Rattle.ide_plan.specs.declared.plan.LinkPlan.{LinkPlan}
 use Rattle.ide_plan.specs.declared.plan.Plan.{Plan}
@@ -57,6 +57,7 @@ the_link = record {
   nonces = keys_below 1024;
   streams = the_stream ∷ [];
   interfaces = the_interface ∷ [];
+  hop = None;
 }
 
 abbrev pub the_plan : Plan
@@ -67,4 +68,5 @@ the_plan = record {
   pool = keys_below 6144;
   links = the_link ∷ [];
   memory = (record { base = 268435456; size = 65536 }) ∷ [];
+  peers = [];
 }

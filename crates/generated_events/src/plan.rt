@@ -74,6 +74,7 @@ fn the_link(alloc: Global) -> Result<LinkPlan, Memory>
         nonces,
         streams,
         interfaces,
+        hop: None,
     })
 }
 
@@ -94,6 +95,7 @@ fn the_plan(alloc: Global) -> Result<Plan, Memory>
         pool,
         links,
         memory,
+        peers: Items::new(Vec::new(alloc)),
     })
 }
 

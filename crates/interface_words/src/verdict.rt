@@ -15,6 +15,10 @@ pub enum InterfaceVerdict {
     Started { interface: u8, draw: u32 },
     /// The device stopped the interface; it may be started again under this draw or a later one.
     Halted { interface: u8, needs: u32 },
+    /// The device bound the interface to the stream of this line, which is between two devices.
+    Bound { interface: u8, line: u8 },
+    /// The device ended that binding.
+    Unbound { interface: u8, line: u8 },
     /// The state that the device tells: 0 unlocked, 1 locked, 2 run, 3 error.
     State { interface: u8, state: u8 },
     /// The manager's view.

@@ -2,7 +2,7 @@
 use Rattle.std.proofs.Common.{List, [], ◌∷◌, None, Result, Ok, drop, refl, codes}
 use Rattle.std.specs.Option.{ok_or, unwrap_or, option_map}
 use Rattle.ide_types.specs.Names.{Text}
-use Rattle.link_events.specs.Terms.{Event, Access, LineFault}
+use Rattle.link_events.specs.Terms.{ScriptEvent, Access, LineFault}
 use Rattle.link_events.specs.Terms.fault
 use Rattle.link_events.specs.Terms.ae
 use Rattle.link_events.specs.Words.{number_of_word}
@@ -32,7 +32,7 @@ mmio (i ∷ b ∷ o ∷ l ∷ x ∷ ws) = miscounted (i ∷ b ∷ o ∷ l ∷ x 
 
 -- ---- the rows
 
-pub access_reads : (first : Text) (rest : List Text) (later : List Row) (z : Result Event LineFault)
+pub access_reads : (first : Text) (rest : List Text) (later : List Row) (z : Result ScriptEvent LineFault)
     → TableReads later rest first z
     → TableReads (access_rows later) rest first (unwrap_or (option_map made_access (access_event_of first rest)) z)
 access_reads first rest later z others =

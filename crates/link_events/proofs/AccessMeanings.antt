@@ -2,7 +2,7 @@
 use Rattle.std.proofs.Common.{◌≡◌, List, [], ◌∷◌, None, Some, Result, Ok, refl, subst, codes}
 use Rattle.std.specs.Option.{ok_or, unwrap_or, option_map}
 use Rattle.ide_types.specs.Names.{Text}
-use Rattle.link_events.specs.Terms.{Event, Access, AccessEvent, LineFault}
+use Rattle.link_events.specs.Terms.{ScriptEvent, Access, AccessEvent, LineFault}
 use Rattle.link_events.specs.Terms.fault
 use Rattle.link_events.specs.Terms.ae
 use Rattle.link_events.specs.Words.{number_of_word}
@@ -37,7 +37,7 @@ mmio_spelled (i ∷ b ∷ o ∷ l ∷ []) e h =
 mmio_spelled (i ∷ b ∷ o ∷ l ∷ x ∷ ws) e h = absurd (err_ok fault.Count e h)
 
 -- before what else the first word may be
-pub access_spelled : (first : Text) (rest : List Text) (z : Result Event LineFault)
+pub access_spelled : (first : Text) (rest : List Text) (z : Result ScriptEvent LineFault)
     → SpelledAs SpelledBy rest first z
     → SpelledAs SpelledBy rest first (unwrap_or (option_map made_access (access_event_of first rest)) z)
 access_spelled first rest z others =

@@ -11,24 +11,34 @@ use Rattle.ide_types.specs.declared.port.Side.{Side}
 use Rattle.ide_types.specs.declared.port.Side.TheVariants.{Host, Device}
 use Rattle.ide_types.specs.declared.port.PortName.{PortName}
 use Rattle.ide_types.specs.Names.{Text}
-use Rattle.link_events.specs.Terms.{Event, Establish, Refresh, Stop, Send, Pass, Alter, Cut, Arrive, Dump, Reset}
+use Rattle.link_events.specs.Terms.{ScriptEvent, Establish, Refresh, Stop, Send, Pass, Alter, Cut, Arrive, Dump, Reset}
 use Rattle.link_events.specs.Terms.{Status, LineFault}
 use Rattle.link_events.specs.Terms.fault
-use Rattle.link_events.specs.Words.{words_in, number_of_word, mask_in, bytes_in, port_of_word}
+use Rattle.link_events.specs.Words.{words_in, number_of_word, mask_in, bytes_in, port_of_word, any_port_of_word}
 use Rattle.ide_types.specs.Names.{is_printable}
-use Rattle.link_events.specs.Parse.{◌>>=◌, lost_exchange_in, loss_in, operation_in, marks_in, send_in, one_number_in}
-use Rattle.link_events.specs.Parse.{two_numbers_in, alter_in, arrive_in, bytes_event_in, last_event_in, event_by}
-use Rattle.link_events.specs.Parse.{event_in, is_comment}
+use Rattle.link_events.specs.Parse.{◌>>=◌, operation_in, marks_in, send_in, one_number_in}
+use Rattle.link_events.specs.Parse.{
+  two_numbers_in,
+  alter_in,
+  arrive_in,
+  bytes_event_in,
+  hop_event_in,
+  peer_event_in,
+  last_event_in,
+}
+use Rattle.link_events.specs.Parse.{event_by, event_in, is_comment}
 use Rattle.link_events.specs.Faults.{WordTest, event_table, is_at_host, is_trusted_at, number_test, mask_test}
-use Rattle.link_events.specs.Faults.{bytes_test, port_test, lost_test, word_test, trusted_test, mark_test}
+use Rattle.link_events.specs.Faults.{bytes_test, port_test, any_port_test, word_test, trusted_test, mark_test}
+use Rattle.link_events.specs.Paired.{peer_send_tests}
 use Rattle.link_events.specs.Faults.{operation_tests, send_tests, arrive_tests, number_tests, two_number_tests}
 use Rattle.link_events.specs.Faults.{alter_tests, WordsFault, FirstFault, FaultsAreFirst}
 use Rattle.link_events.proofs.Steps.{ok_err, err_err, false_true}
 use Rattle.link_events.proofs.Readings.{Reads, RowReads, TableReads, end_reads, off_reads, on_reads, step_reads}
-use Rattle.link_events.proofs.Readings.{miscounted, made_reads, one_number, two_numbers, word_reads, lost, row_reads}
+use Rattle.link_events.proofs.Readings.{miscounted, made_reads, one_number, two_numbers, operation, row_reads}
 use Rattle.link_events.proofs.Readings.{last_row, no_row}
 use Rattle.link_events.proofs.InterfaceFaults.{interface_reads}
 use Rattle.link_events.proofs.AccessFaults.{access_reads}
+use Rattle.link_events.proofs.PairedFaults.{peer_send, peer_reads, hop_reads}
 
 -- ---- events of packets and of ports
 
@@ -49,32 +59,10 @@ arrive : (ws : List Text) → RowReads (arrive_tests ws) ws (arrive_in ws)
 arrive [] = miscounted []
 arrive (p ∷ []) = miscounted (p ∷ [])
 arrive (p ∷ w ∷ []) =
-    step_reads port_test (port_of_word p) p (bytes_test ∷ []) (w ∷ [])
+    step_reads any_port_test (any_port_of_word p) p (bytes_test ∷ []) (w ∷ [])
     (λ x. ok_or (bytes_in w) fault.Hex >>= λ y. Ok (Arrive x y)) refl (λ x is.
     step_reads bytes_test (bytes_in w) w [] [] (λ y. Ok (Arrive x y)) refl (λ y too. end_reads (Arrive x y)))
 arrive (p ∷ w ∷ x ∷ ws) = miscounted (p ∷ w ∷ x ∷ ws)
-
--- ---- operations
-
-operation : (ws : List Text) → RowReads (operation_tests ws) ws (operation_in ws)
-operation [] = miscounted []
-operation (l ∷ []) = miscounted (l ∷ [])
-operation (l ∷ s ∷ []) =
-    step_reads number_test (number_of_word l) l (number_test ∷ []) (s ∷ [])
-    (λ x. ok_or (number_of_word s) fault.Number >>= λ y. Ok (x, y, None)) refl (λ x is.
-    step_reads number_test (number_of_word s) s [] [] (λ y. Ok (x, y, None)) refl (λ y too. end_reads (x, y, None)))
-operation (l ∷ s ∷ a ∷ []) = miscounted (l ∷ s ∷ a ∷ [])
-operation (l ∷ s ∷ a ∷ n ∷ []) = miscounted (l ∷ s ∷ a ∷ n ∷ [])
-operation (l ∷ s ∷ a ∷ n ∷ w ∷ []) =
-    step_reads number_test (number_of_word l) l (number_test ∷ word_test (codes "lose") ∷ number_test ∷ lost_test ∷ [])
-    (s ∷ a ∷ n ∷ w ∷ [])
-    (λ x. ok_or (number_of_word s) fault.Number >>= λ y. loss_in (a ∷ n ∷ w ∷ []) >>= λ z. Ok (x, y, z)) refl (λ x is.
-    step_reads number_test (number_of_word s) s (word_test (codes "lose") ∷ number_test ∷ lost_test ∷ [])
-    (a ∷ n ∷ w ∷ [])
-    (λ y. loss_in (a ∷ n ∷ w ∷ []) >>= λ z. Ok (x, y, z)) refl (λ y too.
-    word_reads (codes "lose") a (number_test ∷ lost_test ∷ []) (n ∷ w ∷ []) (lost_exchange_in n w) (λ z. Ok (x, y, z))
-    (lost n w (λ z. (x, y, z)))))
-operation (l ∷ s ∷ a ∷ n ∷ w ∷ v ∷ ws) = miscounted (l ∷ s ∷ a ∷ n ∷ w ∷ v ∷ ws)
 
 -- ---- marks
 
@@ -103,7 +91,7 @@ never true = refl
 never false = refl
 
 -- both marks are read as one
-marks_reads : (p m t : Text) (side : Side) (k : Bool × Bool → Event) → is_trusted_at p t
+marks_reads : (p m t : Text) (side : Side) (k : Bool × Bool → ScriptEvent) → is_trusted_at p t
     ≡ (bytes_eq t (codes "trusted") && is_at_host side)
     → Reads (word_test (codes "more") ∷ trusted_test p ∷ []) (m ∷ t ∷ [])
     (ok_or (marks_in side (m ∷ t ∷ [])) fault.Word >>= λ z. Ok (k z))
@@ -122,7 +110,7 @@ marks_reads p m t Host k trusted = by_tests (bytes_eq m (codes "more")) (bytes_e
 marks_reads p m t Device k trusted = by_test (bytes_eq m (codes "more")) (bytes_eq t (codes "trusted")) refl refl
   where
     by_test : (b c : Bool) → bytes_eq m (codes "more") ≡ b → bytes_eq t (codes "trusted") ≡ c
-        → Reads {A = Event} (word_test (codes "more") ∷ trusted_test p ∷ []) (m ∷ t ∷ []) (Err fault.Word)
+        → Reads {A = ScriptEvent} (word_test (codes "more") ∷ trusted_test p ∷ []) (m ∷ t ∷ []) (Err fault.Word)
     by_test true c x y =
         on_reads (word_test (codes "more")) m (trusted_test p ∷ []) (t ∷ []) (Err fault.Word) x
         (off_reads (trusted_test p) t [] [] (trusted ∙ (rw y (never c))))
@@ -176,14 +164,17 @@ event_reads first rest =
     (row_reads (codes "dump") number_tests (drop 9 event_table) rest first _ _ _
     (made_reads (number_tests rest) rest (one_number_in rest) Dump (one_number rest))
     (interface_reads first rest (drop 19 event_table) (last_event_in first rest)
-    (access_reads first rest (drop 21 event_table) (bytes_event_in first rest)
-    (last_row (codes "send") send_tests (drop 22 event_table) rest first _ _ (send rest)
-    (last_row (codes "arrive") arrive_tests (drop 23 event_table) rest first _ _ (arrive rest)
-    (no_row rest first)))))))))))))
+    (access_reads first rest (drop 21 event_table) (peer_event_in first rest)
+    (peer_reads first rest (drop 25 event_table) (hop_event_in first rest)
+    (hop_reads first rest (drop 28 event_table) (bytes_event_in first rest)
+    (last_row (codes "send") send_tests (drop 29 event_table) rest first _ _ (send rest)
+    (last_row (codes "psend") peer_send_tests (drop 30 event_table) rest first _ _ (peer_send rest)
+    (last_row (codes "arrive") arrive_tests (drop 31 event_table) rest first _ _ (arrive rest)
+    (no_row rest first))))))))))))))))
 
 -- ---- lines
 
-some_event : (x : Result Event LineFault) (f : LineFault) → ((x >>= λ e. Ok (Some e)) ≡ Err f) ↔ (x ≡ Err f)
+some_event : (x : Result ScriptEvent LineFault) (f : LineFault) → ((x >>= λ e. Ok (Some e)) ≡ Err f) ↔ (x ≡ Err f)
 some_event (Ok e) f = (λ h. absurd (ok_err (Some e) f h), λ h. absurd (ok_err e f h))
 some_event (Err g) f = (λ h. ap Err (err_err g f h), λ h. ap Err (err_err g f h))
 

@@ -2,33 +2,19 @@
 use Rattle.std.proofs.Common.{ℕ, List, [], ◌∷◌, Option, None, Result, Ok, drop, refl, codes}
 use Rattle.std.specs.Option.{ok_or, unwrap_or, option_map}
 use Rattle.ide_types.specs.Names.{Text}
-use Rattle.link_events.specs.Terms.{Event, Interface, InterfaceEvent, Loss, LineFault}
+use Rattle.link_events.specs.Terms.{ScriptEvent, Interface, InterfaceEvent, Loss, LineFault}
 use Rattle.link_events.specs.Terms.fault
 use Rattle.link_events.specs.Terms.ie
 use Rattle.link_events.specs.Words.{number_of_word}
-use Rattle.link_events.specs.Parts.{◌>>=◌, lost_exchange_in, loss_in, one_number_in, Row, number_test, word_test}
-use Rattle.link_events.specs.Parts.{length_in, length_test, lost_test, number_tests}
-use Rattle.link_events.specs.Interfaces.{register_in, register_value_in, interface_and_loss, write_event_in}
+use Rattle.link_events.specs.Parts.{◌>>=◌, asked_in, one_number_in, Row, number_test}
+use Rattle.link_events.specs.Parts.{length_in, length_test, asked_tests, number_tests}
+use Rattle.link_events.specs.Interfaces.{register_in, register_value_in, write_event_in}
 use Rattle.link_events.specs.Interfaces.{memory_in}
-use Rattle.link_events.specs.Interfaces.{interface_event_of, register_test, value_test, asked_tests}
+use Rattle.link_events.specs.Interfaces.{interface_event_of, register_test, value_test}
 use Rattle.link_events.specs.Interfaces.{write_tests, memory_tests, interface_rows}
 use Rattle.link_events.specs.Parse.{made_interface}
 use Rattle.link_events.proofs.Readings.{RowReads, TableReads, end_reads, step_reads, miscounted, made_reads, one_number}
-use Rattle.link_events.proofs.Readings.{word_reads, lost, family_row}
-
-asked : (ws : List Text) → RowReads (asked_tests ws) ws (interface_and_loss ws)
-asked [] = miscounted []
-asked (i ∷ []) = step_reads number_test (number_of_word i) i [] [] (λ x. Ok (x, None)) refl
-    (λ x is. end_reads (x, None))
-asked (i ∷ a ∷ []) = miscounted (i ∷ a ∷ [])
-asked (i ∷ a ∷ n ∷ []) = miscounted (i ∷ a ∷ n ∷ [])
-asked (i ∷ a ∷ n ∷ w ∷ []) =
-    step_reads number_test (number_of_word i) i (word_test (codes "lose") ∷ number_test ∷ lost_test ∷ [])
-    (a ∷ n ∷ w ∷ [])
-    (λ x. loss_in (a ∷ n ∷ w ∷ []) >>= λ z. Ok (x, z)) refl (λ x is.
-    word_reads (codes "lose") a (number_test ∷ lost_test ∷ []) (n ∷ w ∷ []) (lost_exchange_in n w) (λ z. Ok (x, z))
-    (lost n w (λ z. (x, z))))
-asked (i ∷ a ∷ n ∷ w ∷ v ∷ ws) = miscounted (i ∷ a ∷ n ∷ w ∷ v ∷ ws)
+use Rattle.link_events.proofs.Readings.{asked, family_row}
 
 write : (ws : List Text) → RowReads (write_tests ws) ws (write_event_in ws)
 write [] = miscounted []
@@ -57,16 +43,16 @@ memory (a ∷ l ∷ x ∷ ws) = miscounted (a ∷ l ∷ x ∷ ws)
 -- ---- the rows
 
 asked_row : (rest : List Text) (event : ℕ → Option Loss → InterfaceEvent)
-    → RowReads (asked_tests rest) rest (made_interface (interface_and_loss rest >>= λ a. Ok (event a.0 a.1)))
+    → RowReads (asked_tests rest) rest (made_interface (asked_in rest >>= λ a. Ok (event a.0 a.1)))
 asked_row rest event = made_reads (asked_tests rest) rest _ Interface
-    (made_reads (asked_tests rest) rest (interface_and_loss rest) (λ a. event a.0 a.1) (asked rest))
+    (made_reads (asked_tests rest) rest (asked_in rest) (λ a. event a.0 a.1) (asked rest))
 
 number_row : (rest : List Text) (event : ℕ → InterfaceEvent) → RowReads (number_tests rest) rest
     (made_interface (one_number_in rest >>= λ n. Ok (event n)))
 number_row rest event = made_reads (number_tests rest) rest _ Interface
     (made_reads (number_tests rest) rest (one_number_in rest) event (one_number rest))
 
-pub interface_reads : (first : Text) (rest : List Text) (later : List Row) (z : Result Event LineFault)
+pub interface_reads : (first : Text) (rest : List Text) (later : List Row) (z : Result ScriptEvent LineFault)
     → TableReads later rest first z
     → TableReads (interface_rows later) rest first
     (unwrap_or (option_map made_interface (interface_event_of first rest)) z)

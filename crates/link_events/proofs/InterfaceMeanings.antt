@@ -1,6 +1,6 @@
 -- A line of an interface or of memory means an event exactly if it spells it, and what it spells is allowed.
-use Rattle.std.proofs.Common.{zero, suc, true, false, not, nat_lt, nat_le, ◌&&◌, ◌==◌, ◌≡◌, ◌<◌, ◌+◌, ◌-◌, ◌^◌, ℕ}
-use Rattle.std.proofs.Common.{List, [], ◌∷◌, Bool, Option, Some, None, Result, Ok, Err, refl, sym, ap, subst, arith}
+use Rattle.std.proofs.Common.{zero, suc, true, false, nat_lt, nat_le, ◌&&◌, ◌==◌, ◌≡◌, ◌<◌, ◌+◌, ◌-◌, ◌^◌, ℕ}
+use Rattle.std.proofs.Common.{List, [], ◌∷◌, Bool, Option, Some, None, Result, Ok, refl, sym, ap, subst, arith}
 use Rattle.std.proofs.Common.{codes}
 use Rattle.std.specs.Prelude.{if◌then◌else◌}
 use Rattle.std.specs.Option.{ok_or, unwrap_or, option_map, option_and_then}
@@ -11,21 +11,20 @@ use Rattle.interface_words.specs.declared.register.Register.{Register}
 use Rattle.interface_words.specs.declared.register.Register.TheVariants.{Command, CacheLine, Msix, Lnr, Tph, Pasid, Ats}
 use Rattle.interface_words.specs.declared.register.Register.TheVariants.{Bar}
 use Rattle.interface_words.specs.RegisterNames.{width_of, IsAmongSix}
-use Rattle.link_events.specs.Terms.{Event, Interface, InterfaceEvent, Loss, LineFault}
+use Rattle.link_events.specs.Terms.{ScriptEvent, Interface, InterfaceEvent, Loss, LineFault}
 use Rattle.link_events.specs.Terms.fault
 use Rattle.link_events.specs.Terms.ie
 use Rattle.link_events.specs.Words.{number_of_word}
-use Rattle.link_events.specs.Parts.{◌>>=◌, loss_in, is_loss_long, one_number_in, length_in, LossSpelledBy}
+use Rattle.link_events.specs.Parts.{◌>>=◌, asked_in, one_number_in, length_in, LossSpelledBy, AskedSpelledBy}
 use Rattle.link_events.specs.Interfaces.{register_word, bar_number, bar_in, register_in, register_value_in}
-use Rattle.link_events.specs.Interfaces.{interface_and_loss}
-use Rattle.link_events.specs.Interfaces.{write_event_in, memory_in, interface_event_of, AskedSpelledBy}
+use Rattle.link_events.specs.Interfaces.{write_event_in, memory_in, interface_event_of}
 use Rattle.link_events.specs.Interfaces.{InterfaceSpelledBy}
 use Rattle.link_events.specs.Interfaces.{IsAllowedInterface}
 use Rattle.link_events.specs.Parse.{made_interface, event_in}
 use Rattle.link_events.specs.Spells.{SpelledBy}
-use Rattle.link_events.proofs.Steps.{err_ok, ok_ok, some_some, none_some, same_text, next_of, next_result}
+use Rattle.link_events.proofs.Steps.{err_ok, ok_ok, some_some, none_some, same_text, next_of}
 use Rattle.link_events.proofs.Steps.{tested_family}
-use Rattle.link_events.proofs.Spelled.{loss_spelled, loss_meant, one_spelled, length_bounded, length_back, SpelledAs}
+use Rattle.link_events.proofs.Spelled.{asked_spelled, loss_meant, one_spelled, length_bounded, length_back, SpelledAs}
 use Rattle.link_events.proofs.Spelled.{made}
 
 -- ---- registers
@@ -127,23 +126,6 @@ value_back r w v is room = rw is (rw (lt-ltb v (2 ^ width_of r) room) refl)
 
 -- ---- what was read is spelled
 
-asked_step : (first i : Text) (rest : List Text) (a : ℕ × Option Loss) (b : Bool)
-    → (if not b then Err fault.Count else ok_or (number_of_word i) fault.Number >>= λ x. loss_in rest >>= λ z. Ok
-    (x, z))
-    ≡ Ok a
-    → AskedSpelledBy first a.0 a.1 (first ∷ i ∷ rest)
-asked_step first i rest a false h = absurd (err_ok fault.Count a h)
-asked_step first i rest a true h =
-    let x = next_of (number_of_word i) fault.Number (λ x. loss_in rest >>= λ z. Ok (x, z)) a h in
-    let y = next_result (loss_in rest) (λ z. Ok (x.0, z)) a x.2 in
-    subst (λ (q : ℕ × Option Loss). AskedSpelledBy first q.0 q.1 (first ∷ i ∷ rest)) (ok_ok (x.0, y.0) a y.2)
-    ((i, x.1), rest, loss_spelled rest y.0 y.1, refl)
-
-asked_spelled : (first : Text) (ws : List Text) (a : ℕ × Option Loss) → interface_and_loss ws ≡ Ok a
-    → AskedSpelledBy first a.0 a.1 (first ∷ ws)
-asked_spelled first [] a h = absurd (err_ok fault.Count a h)
-asked_spelled first (i ∷ rest) a h = asked_step first i rest a (is_loss_long rest) h
-
 write_spelled : (ws : List Text) (e : InterfaceEvent) → write_event_in ws ≡ Ok e
     → InterfaceSpelledBy e (codes "write" ∷ ws)
 write_spelled [] e h = absurd (err_ok fault.Count e h)
@@ -182,14 +164,14 @@ memory_spelled (a ∷ l ∷ x ∷ ws) e h = absurd (err_ok fault.Count e h)
 asked_as : (rest : List Text) (word : Text) (event : ℕ → Option Loss → InterfaceEvent)
     → ((a : ℕ × Option Loss) → AskedSpelledBy word a.0 a.1 (word ∷ rest)
     → InterfaceSpelledBy (event a.0 a.1) (word ∷ rest))
-    → SpelledAs SpelledBy rest word (made_interface (interface_and_loss rest >>= λ a. Ok (event a.0 a.1)))
+    → SpelledAs SpelledBy rest word (made_interface (asked_in rest >>= λ a. Ok (event a.0 a.1)))
 asked_as rest word event each =
     made SpelledBy rest word _ Interface
-    (made InterfaceSpelledBy rest word (interface_and_loss rest) (λ a. event a.0 a.1)
+    (made InterfaceSpelledBy rest word (asked_in rest) (λ a. event a.0 a.1)
     (λ a h. each a (asked_spelled word rest a h)))
 
 -- before what else the first word may be
-pub interface_spelled : (first : Text) (rest : List Text) (z : Result Event LineFault)
+pub interface_spelled : (first : Text) (rest : List Text) (z : Result ScriptEvent LineFault)
     → SpelledAs SpelledBy rest first z
     → SpelledAs SpelledBy rest first (unwrap_or (option_map made_interface (interface_event_of first rest)) z)
 interface_spelled first rest z others =
@@ -222,7 +204,7 @@ interface_spelled first rest z others =
 asked_meant : (event : ℕ → Option Loss → InterfaceEvent) (interface : ℕ) (lose : Option Loss) (rest : List Text)
     (i : Text)
     → number_of_word i ≡ Some interface → LossSpelledBy lose rest
-    → (made_interface (interface_and_loss (i ∷ rest) >>= λ a. Ok (event a.0 a.1)) >>= λ e. Ok (Some e))
+    → (made_interface (asked_in (i ∷ rest) >>= λ a. Ok (event a.0 a.1)) >>= λ e. Ok (Some e))
     ≡ Ok (Some (Interface (event interface lose)))
 asked_meant event interface lose rest i a c =
     let loss = loss_meant rest lose c in
@@ -235,6 +217,8 @@ interface_meant ws (ie.Report i lose) h = rw h.3 (asked_meant ie.Report i lose h
 interface_meant ws (ie.Start i lose) h = rw h.3 (asked_meant ie.Start i lose h.1 h.0.0 h.0.1 h.2)
 interface_meant ws (ie.Halt i lose) h = rw h.3 (asked_meant ie.Halt i lose h.1 h.0.0 h.0.1 h.2)
 interface_meant ws (ie.State i lose) h = rw h.3 (asked_meant ie.State i lose h.1 h.0.0 h.0.1 h.2)
+interface_meant ws (ie.Bind i line s lose) h = absurd h
+interface_meant ws (ie.Unbind i line s lose) h = absurd h
 interface_meant ws (ie.View i) h = rw h.1 (rw h.0.1 refl)
 interface_meant ws (ie.Write i r v) h = rw h.4
     (rw h.0.1 (rw (register_back r h.2) (rw (value_back r h.1.0 v h.1.1 h.3) refl)))
@@ -250,6 +234,8 @@ interface_allowed ws (ie.Report i lose) h = tt
 interface_allowed ws (ie.Start i lose) h = tt
 interface_allowed ws (ie.Halt i lose) h = tt
 interface_allowed ws (ie.State i lose) h = tt
+interface_allowed ws (ie.Bind i line s lose) h = absurd h
+interface_allowed ws (ie.Unbind i line s lose) h = absurd h
 interface_allowed ws (ie.View i) h = tt
 interface_allowed ws (ie.Write i r v) h = (h.2, h.3)
 interface_allowed ws (ie.Flr i) h = tt

@@ -12,44 +12,31 @@ use Rattle.std.proofs.lemmas.Bool.{cases_Bool, ltb-true, ltb-false}
 use Rattle.ide_types.specs.declared.port.Side.{Side}
 use Rattle.ide_types.specs.declared.port.Side.TheVariants.{Host, Device}
 use Rattle.ide_types.specs.Names.{Text}
-use Rattle.link_events.specs.Terms.{Event, Establish, Refresh, Stop, Send, Pass, Alter, Cut, Arrive, Dump, Reset}
-use Rattle.link_events.specs.Terms.{Status, Interface, Access, Loss, LineFault}
+use Rattle.link_events.specs.Terms.{ScriptEvent, Establish, Refresh, Stop, Send, PeerSend, Pass, Alter, Cut, Arrive}
+use Rattle.link_events.specs.Terms.{Dump, Reset, Status, Interface, Access, Peer, Hop, Loss, LineFault}
 use Rattle.link_events.specs.Terms.fault
-use Rattle.link_events.specs.Words.{words_in, number_of_word, mask_in, bytes_in, port_of_word}
+use Rattle.link_events.specs.Words.{words_in, number_of_word, mask_in, bytes_in, port_of_word, any_port_of_word}
 use Rattle.ide_types.specs.Names.{is_printable}
-use Rattle.link_events.specs.Parse.{◌>>=◌, loss_in, is_loss_long, operation_in, marks_in, send_in, one_number_in}
-use Rattle.link_events.specs.Parse.{two_numbers_in, alter_in, arrive_in, bytes_event_in, last_event_in, event_by}
-use Rattle.link_events.specs.Parse.{event_in, is_comment, line_meaning}
-use Rattle.link_events.specs.Spells.{LossSpelledBy, OperationSpelledBy, mark_words, SpelledBy, SpellsEvent}
+use Rattle.link_events.specs.Parse.{◌>>=◌, operation_in, marks_in, send_in, one_number_in}
+use Rattle.link_events.specs.Parse.{
+  two_numbers_in,
+  alter_in,
+  arrive_in,
+  bytes_event_in,
+  hop_event_in,
+  peer_event_in,
+  last_event_in,
+}
+use Rattle.link_events.specs.Parse.{event_by, event_in, is_comment, line_meaning}
+use Rattle.link_events.specs.Spells.{LossSpelledBy, mark_words, SpelledBy, SpellsEvent}
 use Rattle.link_events.specs.Spells.{MeaningIsSpelling}
-use Rattle.link_events.proofs.Steps.{err_ok, ok_ok, some_some, none_some, same_text, next_of, next_result, tested}
+use Rattle.link_events.proofs.Steps.{err_ok, ok_ok, some_some, none_some, same_text, next_of, tested}
 use Rattle.link_events.proofs.Steps.{tested_last}
-use Rattle.link_events.proofs.Spelled.{loss_spelled, loss_meant, one_spelled, two_spelled, SpelledAs, made}
+use Rattle.link_events.proofs.Spelled.{operation_spelled, loss_meant, one_spelled, two_spelled, SpelledAs, made}
 use Rattle.link_events.proofs.InterfaceMeanings.{interface_spelled, interface_meant}
 use Rattle.link_events.proofs.AccessMeanings.{access_spelled, access_meant}
-
--- ---- operations
-
-operation_step : (first l s : Text) (rest : List Text) (o : ℕ × ℕ × Option Loss) (b : Bool)
-    → (if not b then Err fault.Count else ok_or (number_of_word l) fault.Number >>= λ x. ok_or (number_of_word s)
-    fault.Number >>=
-    λ y. loss_in rest >>= λ z. Ok (x, y, z)) ≡ Ok o
-    → OperationSpelledBy first o.0 o.1 o.2 (first ∷ l ∷ s ∷ rest)
-operation_step first l s rest o false h = absurd (err_ok fault.Count o h)
-operation_step first l s rest o true h =
-    let a = next_of (number_of_word l) fault.Number
-    (λ x. ok_or (number_of_word s) fault.Number >>= λ y. loss_in rest >>= λ z. Ok (x, y, z)) o h in
-    let b = next_of (number_of_word s) fault.Number (λ y. loss_in rest >>= λ z. Ok (a.0, y, z)) o a.2 in
-    let c = next_result (loss_in rest) (λ z. Ok (a.0, b.0, z)) o b.2 in
-    subst (λ (x : ℕ × ℕ × Option Loss). OperationSpelledBy first x.0 x.1 x.2 (first ∷ l ∷ s ∷ rest))
-    (ok_ok (a.0, b.0, c.0) o c.2)
-    ((l, a.1), (s, b.1), rest, loss_spelled rest c.0 c.1, refl)
-
-operation_spelled : (first : Text) (ws : List Text) (o : ℕ × ℕ × Option Loss) → operation_in ws ≡ Ok o
-    → OperationSpelledBy first o.0 o.1 o.2 (first ∷ ws)
-operation_spelled first [] o h = absurd (err_ok fault.Count o h)
-operation_spelled first (l ∷ []) o h = absurd (err_ok fault.Count o h)
-operation_spelled first (l ∷ s ∷ rest) o h = operation_step first l s rest o (is_loss_long rest) h
+use Rattle.link_events.proofs.PairedMeanings.{peer_send_spelled, peer_spelled, hop_spelled, peer_send_meant, peer_meant}
+use Rattle.link_events.proofs.PairedMeanings.{hop_meant}
 
 -- ---- marks
 
@@ -113,17 +100,17 @@ marks_meant Device true true h = absurd (let e = h refl in cc)
 
 -- ---- words that hold bytes
 
-arrive_spelled : (ws : List Text) (e : Event) → arrive_in ws ≡ Ok e → SpelledBy e (codes "arrive" ∷ ws)
+arrive_spelled : (ws : List Text) (e : ScriptEvent) → arrive_in ws ≡ Ok e → SpelledBy e (codes "arrive" ∷ ws)
 arrive_spelled [] e h = absurd (err_ok fault.Count e h)
 arrive_spelled (p ∷ []) e h = absurd (err_ok fault.Count e h)
 arrive_spelled (p ∷ w ∷ []) e h =
-    let a = next_of (port_of_word p) fault.Word (λ x. ok_or (bytes_in w) fault.Hex >>= λ y. Ok (Arrive x y)) e h in
+    let a = next_of (any_port_of_word p) fault.Word (λ x. ok_or (bytes_in w) fault.Hex >>= λ y. Ok (Arrive x y)) e h in
     let b = next_of (bytes_in w) fault.Hex (λ y. Ok (Arrive a.0 y)) e a.2 in
-    subst (λ (x : Event). SpelledBy x (codes "arrive" ∷ p ∷ w ∷ [])) (ok_ok (Arrive a.0 b.0) e b.2)
+    subst (λ (x : ScriptEvent). SpelledBy x (codes "arrive" ∷ p ∷ w ∷ [])) (ok_ok (Arrive a.0 b.0) e b.2)
     ((p, a.1), (w, b.1), refl)
 arrive_spelled (p ∷ w ∷ x ∷ ws) e h = absurd (err_ok fault.Count e h)
 
-alter_spelled : (ws : List Text) (e : Event) → alter_in ws ≡ Ok e → SpelledBy e (codes "alter" ∷ ws)
+alter_spelled : (ws : List Text) (e : ScriptEvent) → alter_in ws ≡ Ok e → SpelledBy e (codes "alter" ∷ ws)
 alter_spelled [] e h = absurd (err_ok fault.Count e h)
 alter_spelled (n ∷ []) e h = absurd (err_ok fault.Count e h)
 alter_spelled (n ∷ t ∷ []) e h = absurd (err_ok fault.Count e h)
@@ -133,11 +120,11 @@ alter_spelled (n ∷ t ∷ m ∷ []) e h =
     let b = next_of (number_of_word t) fault.Number (λ y. ok_or (mask_in m) fault.Hex >>= λ z. Ok (Alter a.0 y z)) e
     a.2 in
     let c = next_of (mask_in m) fault.Hex (λ z. Ok (Alter a.0 b.0 z)) e b.2 in
-    subst (λ (x : Event). SpelledBy x (codes "alter" ∷ n ∷ t ∷ m ∷ [])) (ok_ok (Alter a.0 b.0 c.0) e c.2)
+    subst (λ (x : ScriptEvent). SpelledBy x (codes "alter" ∷ n ∷ t ∷ m ∷ [])) (ok_ok (Alter a.0 b.0 c.0) e c.2)
     ((n, a.1), (t, b.1), (m, c.1), refl)
 alter_spelled (n ∷ t ∷ m ∷ x ∷ ws) e h = absurd (err_ok fault.Count e h)
 
-send_step : (p w : Text) (marks : List Text) (e : Event) (b : Bool)
+send_step : (p w : Text) (marks : List Text) (e : ScriptEvent) (b : Bool)
     → (if b then Err fault.Count else ok_or (port_of_word p) fault.Word >>= λ x. ok_or (bytes_in w) fault.Hex >>= λ y.
     ok_or
     (marks_in x.side marks) fault.Word >>= λ m. Ok (Send x y m.0 m.1)) ≡ Ok e
@@ -151,10 +138,10 @@ send_step p w marks e false h =
     (λ y. ok_or (marks_in a.0.side marks) fault.Word >>= λ m. Ok (Send a.0 y m.0 m.1)) e a.2 in
     let c = next_of (marks_in a.0.side marks) fault.Word (λ m. Ok (Send a.0 b.0 m.0 m.1)) e b.2 in
     let marked = marks_spelled a.0.side marks c.0 c.1 in
-    subst (λ (x : Event). SpelledBy x (codes "send" ∷ p ∷ w ∷ marks)) (ok_ok (Send a.0 b.0 c.0.0 c.0.1) e c.2)
+    subst (λ (x : ScriptEvent). SpelledBy x (codes "send" ∷ p ∷ w ∷ marks)) (ok_ok (Send a.0 b.0 c.0.0 c.0.1) e c.2)
     ((p, a.1), (w, b.1), ap (λ (ms : List Text). codes "send" ∷ p ∷ w ∷ ms) marked.0, marked.1)
 
-send_spelled : (ws : List Text) (e : Event) → send_in ws ≡ Ok e → SpelledBy e (codes "send" ∷ ws)
+send_spelled : (ws : List Text) (e : ScriptEvent) → send_in ws ≡ Ok e → SpelledBy e (codes "send" ∷ ws)
 send_spelled [] e h = absurd (err_ok fault.Count e h)
 send_spelled (p ∷ []) e h = absurd (err_ok fault.Count e h)
 send_spelled (p ∷ w ∷ marks) e h = send_step p w marks e (nat_lt 2 (length marks)) h
@@ -181,20 +168,23 @@ event_spelled first rest =
     (tested (SpelledAs SpelledBy rest) first (codes "dump") _ _ _
     (made SpelledBy rest _ (one_number_in rest) Dump (one_spelled _ rest))
     (interface_spelled first rest (last_event_in first rest)
-    (access_spelled first rest (bytes_event_in first rest)
+    (access_spelled first rest (peer_event_in first rest)
+    (peer_spelled first rest (hop_event_in first rest)
+    (hop_spelled first rest (bytes_event_in first rest)
     (tested_last (SpelledAs SpelledBy rest) first (codes "send") _ _ (send_spelled rest)
+    (tested_last (SpelledAs SpelledBy rest) first (codes "psend") _ _ (peer_send_spelled rest)
     (tested_last (SpelledAs SpelledBy rest) first (codes "arrive") _ _ (arrive_spelled rest)
-    (λ e h. absurd (err_ok fault.Word e h))))))))))))))
+    (λ e h. absurd (err_ok fault.Word e h)))))))))))))))))
 
-some_event : (x : Result Event LineFault) (e : Event) → (x >>= λ y. Ok (Some y)) ≡ Ok (Some e) → x ≡ Ok e
+some_event : (x : Result ScriptEvent LineFault) (e : ScriptEvent) → (x >>= λ y. Ok (Some y)) ≡ Ok (Some e) → x ≡ Ok e
 some_event (Ok y) e h = ap Ok (some_some y e (ok_ok (Some y) (Some e) h))
 some_event (Err f) e h = absurd (err_ok f (Some e) h)
 
-words_spelled : (ws : List Text) (e : Event) → event_in ws ≡ Ok (Some e) → SpelledBy e ws
+words_spelled : (ws : List Text) (e : ScriptEvent) → event_in ws ≡ Ok (Some e) → SpelledBy e ws
 words_spelled [] e h = absurd (none_some e (ok_ok None (Some e) h))
 words_spelled (first ∷ rest) e h = event_spelled first rest e (some_event (event_by first rest) e h)
 
-operation_meant : (event : ℕ → ℕ → Option Loss → Event) (link stream : ℕ) (lose : Option Loss) (rest : List Text)
+operation_meant : (event : ℕ → ℕ → Option Loss → ScriptEvent) (link stream : ℕ) (lose : Option Loss) (rest : List Text)
     (l s : Text)
     → number_of_word l ≡ Some link → number_of_word s ≡ Some stream → LossSpelledBy lose rest
     → ((operation_in (l ∷ s ∷ rest) >>= λ o. Ok (event o.0 o.1 o.2)) >>= λ e. Ok (Some e))
@@ -203,7 +193,7 @@ operation_meant event link stream lose rest l s a b c =
     let loss = loss_meant rest lose c in
     rw (loss.0, a, b, loss.1) refl
 
-words_meant : (ws : List Text) (e : Event) → SpelledBy e ws → event_in ws ≡ Ok (Some e)
+words_meant : (ws : List Text) (e : ScriptEvent) → SpelledBy e ws → event_in ws ≡ Ok (Some e)
 words_meant ws (Establish link stream lose) h = rw h.4
     (operation_meant Establish link stream lose h.2 h.0.0 h.1.0 h.0.1 h.1.1 h.3)
 words_meant ws (Refresh link stream lose) h = rw h.4
@@ -212,6 +202,7 @@ words_meant ws (Stop link stream lose) h = rw h.4
     (operation_meant Stop link stream lose h.2 h.0.0 h.1.0 h.0.1 h.1.1 h.3)
 words_meant ws (Send port bytes more trusted) h =
     rw h.2 (rw h.0.1 (rw h.1.1 (rw (few_marks more trusted, marks_meant port.side more trusted h.3) refl)))
+words_meant ws (PeerSend peer side bytes more) h = peer_send_meant ws peer side bytes more h
 words_meant ws (Pass n) h = rw h.1 (rw h.0.1 refl)
 words_meant ws (Alter n a m) h = rw h.3 (rw h.0.1 (rw h.1.1 (rw h.2.1 refl)))
 words_meant ws (Cut n l) h = rw h.2 (rw h.0.1 (rw h.1.1 refl))
@@ -221,10 +212,12 @@ words_meant ws (Reset l) h = rw h.1 (rw h.0.1 refl)
 words_meant ws (Status l s) h = rw h.2 (rw h.0.1 (rw h.1.1 refl))
 words_meant ws (Interface event) h = interface_meant ws event h
 words_meant ws (Access event) h = access_meant ws event h
+words_meant ws (Peer event) h = peer_meant ws event h
+words_meant ws (Hop event) h = hop_meant ws event h
 
 -- ---- lines
 
-line_step : (line : Text) (e : Event) (long comment printed : Bool)
+line_step : (line : Text) (e : ScriptEvent) (long comment printed : Bool)
     → nat_lt 20000 (length line) ≡ long → is_comment line ≡ comment → list_all is_printable line ≡ printed
     → (if long then Err fault.TooLong else if comment then Ok None else if not printed then Err fault.NotAscii else
     event_in (words_in line)) ≡ Ok (Some e)
@@ -239,7 +232,7 @@ line_step line e false false true x y z h = record {
   words = words_spelled (words_in line) e h;
 }
 
-line_spelled : (line : Text) (e : Event) → line_meaning line ≡ Ok (Some e) → SpellsEvent e line
+line_spelled : (line : Text) (e : ScriptEvent) → line_meaning line ≡ Ok (Some e) → SpellsEvent e line
 line_spelled line e h = line_step line e _ _ _ refl refl refl h
 
 pub short_line : (n : ℕ) → n ≤ 20000 → nat_lt 20000 n ≡ false
@@ -248,7 +241,7 @@ short_line n h = elim (cases_Bool (nat_lt 20000 n)) [
   | inr short ↦ short
 ]
 
-line_meant : (line : Text) (e : Event) → SpellsEvent e line → line_meaning line ≡ Ok (Some e)
+line_meant : (line : Text) (e : ScriptEvent) → SpellsEvent e line → line_meaning line ≡ Ok (Some e)
 line_meant line e h = rw
     (short_line (length line) h.short_enough, h.no_comment, h.printable, words_meant (words_in line) e h.words) refl
 

@@ -1,16 +1,17 @@
 -- Words that are read from the left, each by its test in the table: a reading that ends in a fault ends at the first
 -- word that does not meet its test.
 use Rattle.std.proofs.Common.{true, false, ◌≡◌, ◌↔◌, ℕ, List, [], ◌∷◌, Bool, Option, Some, None, Result, Ok, Err, refl}
-use Rattle.std.proofs.Common.{sym, ◌∙◌, ap, subst, inl, inr}
+use Rattle.std.proofs.Common.{sym, ◌∙◌, ap, subst, inl, inr, codes}
 use Rattle.std.specs.Prelude.{if◌then◌else◌, is_some}
 use Rattle.std.specs.Option.{ok_or, unwrap_or, option_map}
 use Rattle.std.specs.Str.{bytes_eq}
 use Rattle.ide_types.specs.Names.{Text}
-use Rattle.link_events.specs.Terms.{Event, Loss, LineFault}
+use Rattle.link_events.specs.Terms.{ScriptEvent, Loss, LineFault}
 use Rattle.link_events.specs.Terms.fault
 use Rattle.link_events.specs.Words.{number_of_word, lost_of_word}
 use Rattle.link_events.specs.Parts.{◌>>=◌, lost_exchange_in, one_number_in, two_numbers_in, WordTest, Row, number_test}
-use Rattle.link_events.specs.Parts.{lost_test, word_test, number_tests, two_number_tests}
+use Rattle.link_events.specs.Parts.{loss_in, asked_in, operation_in, lost_test, word_test, number_tests}
+use Rattle.link_events.specs.Parts.{two_number_tests, asked_tests, operation_tests}
 use Rattle.link_events.specs.Faults.{FirstOff, RowFault, TableFault}
 use Rattle.link_events.proofs.Steps.{ok_err, err_err, false_true}
 
@@ -128,13 +129,50 @@ lost n w k =
     (step_reads lost_test (lost_of_word w) w [] [] (λ o. Ok (k (Some (record { exchange = i; lost = o })))) refl
     (λ o too. end_reads (k (Some (record { exchange = i; lost = o })))))))
 
+-- ---- numbers, and what is lost
+
+pub operation : (ws : List Text) → RowReads (operation_tests ws) ws (operation_in ws)
+operation [] = miscounted []
+operation (l ∷ []) = miscounted (l ∷ [])
+operation (l ∷ s ∷ []) =
+    step_reads number_test (number_of_word l) l (number_test ∷ []) (s ∷ [])
+    (λ x. ok_or (number_of_word s) fault.Number >>= λ y. Ok (x, y, None)) refl (λ x is.
+    step_reads number_test (number_of_word s) s [] [] (λ y. Ok (x, y, None)) refl (λ y too. end_reads (x, y, None)))
+operation (l ∷ s ∷ a ∷ []) = miscounted (l ∷ s ∷ a ∷ [])
+operation (l ∷ s ∷ a ∷ n ∷ []) = miscounted (l ∷ s ∷ a ∷ n ∷ [])
+operation (l ∷ s ∷ a ∷ n ∷ w ∷ []) =
+    step_reads number_test (number_of_word l) l (number_test ∷ word_test (codes "lose") ∷ number_test ∷ lost_test ∷ [])
+    (s ∷ a ∷ n ∷ w ∷ [])
+    (λ x. ok_or (number_of_word s) fault.Number >>= λ y. loss_in (a ∷ n ∷ w ∷ []) >>= λ z. Ok (x, y, z)) refl (λ x is.
+    step_reads number_test (number_of_word s) s (word_test (codes "lose") ∷ number_test ∷ lost_test ∷ [])
+    (a ∷ n ∷ w ∷ [])
+    (λ y. loss_in (a ∷ n ∷ w ∷ []) >>= λ z. Ok (x, y, z)) refl (λ y too.
+    word_reads (codes "lose") a (number_test ∷ lost_test ∷ []) (n ∷ w ∷ []) (lost_exchange_in n w) (λ z. Ok (x, y, z))
+    (lost n w (λ z. (x, y, z)))))
+operation (l ∷ s ∷ a ∷ n ∷ w ∷ v ∷ ws) = miscounted (l ∷ s ∷ a ∷ n ∷ w ∷ v ∷ ws)
+
+pub asked : (ws : List Text) → RowReads (asked_tests ws) ws (asked_in ws)
+asked [] = miscounted []
+asked (i ∷ []) = step_reads number_test (number_of_word i) i [] [] (λ x. Ok (x, None)) refl
+    (λ x is. end_reads (x, None))
+asked (i ∷ a ∷ []) = miscounted (i ∷ a ∷ [])
+asked (i ∷ a ∷ n ∷ []) = miscounted (i ∷ a ∷ n ∷ [])
+asked (i ∷ a ∷ n ∷ w ∷ []) =
+    step_reads number_test (number_of_word i) i (word_test (codes "lose") ∷ number_test ∷ lost_test ∷ [])
+    (a ∷ n ∷ w ∷ [])
+    (λ x. loss_in (a ∷ n ∷ w ∷ []) >>= λ z. Ok (x, z)) refl (λ x is.
+    word_reads (codes "lose") a (number_test ∷ lost_test ∷ []) (n ∷ w ∷ []) (lost_exchange_in n w) (λ z. Ok (x, z))
+    (lost n w (λ z. (x, z))))
+asked (i ∷ a ∷ n ∷ w ∷ v ∷ ws) = miscounted (i ∷ a ∷ n ∷ w ∷ v ∷ ws)
+
 -- ---- the table
 
-abbrev pub TableReads : List Row → List Text → Text → Result Event LineFault → Type 0
+abbrev pub TableReads : List Row → List Text → Text → Result ScriptEvent LineFault → Type 0
 TableReads rows rest first answer = (f : LineFault) → (answer ≡ Err f) ↔ TableFault rows first rest f
 
 pub row_reads : (word : Text) (places : List Text → Option (List WordTest)) (rows : List Row) (rest : List Text)
-    (first : Text) (x : Result Event LineFault) (y : Option (Result Event LineFault)) (z : Result Event LineFault)
+    (first : Text) (x : Result ScriptEvent LineFault) (y : Option (Result ScriptEvent LineFault))
+    (z : Result ScriptEvent LineFault)
     → RowReads (places rest) rest x → TableReads rows rest first (unwrap_or y z)
     → TableReads ((word, places) ∷ rows) rest first (unwrap_or (if bytes_eq first word then Some x else y) z)
 row_reads word places rows rest first x y z this others = by_test (bytes_eq first word) refl
@@ -157,7 +195,7 @@ row_reads word places rows rest first x y z this others = by_test (bytes_eq firs
     )
 
 pub last_row : (word : Text) (places : List Text → Option (List WordTest)) (rows : List Row) (rest : List Text)
-    (first : Text) (x y : Result Event LineFault)
+    (first : Text) (x y : Result ScriptEvent LineFault)
     → RowReads (places rest) rest x → TableReads rows rest first y
     → TableReads ((word, places) ∷ rows) rest first (if bytes_eq first word then x else y)
 last_row word places rows rest first x y this others = by_test (bytes_eq first word) refl
@@ -182,9 +220,9 @@ pub no_row : (rest : List Text) (first : Text) → TableReads [] rest first (Err
 no_row rest first f = (err_err fault.Word f, ap Err)
 
 -- a row of a family of events, each of which is made an event
-pub family_row : {E : Type 0} (make : Result E LineFault → Result Event LineFault) (word : Text)
+pub family_row : {E : Type 0} (make : Result E LineFault → Result ScriptEvent LineFault) (word : Text)
     (places : List Text → Option (List WordTest)) (rows : List Row) (rest : List Text) (first : Text)
-    (x : Result E LineFault) (y : Option (Result E LineFault)) (z : Result Event LineFault)
+    (x : Result E LineFault) (y : Option (Result E LineFault)) (z : Result ScriptEvent LineFault)
     → RowReads (places rest) rest (make x) → TableReads rows rest first (unwrap_or (option_map make y) z)
     → TableReads ((word, places) ∷ rows) rest first
     (unwrap_or (option_map make (if bytes_eq first word then Some x else y)) z)

@@ -4,7 +4,7 @@ use Rattle.std.proofs.Common.{Err, length, refl, sym, arith, inl, inr}
 use Rattle.std.specs.Prelude.{filter, if◌then◌else◌}
 use Rattle.std.specs.List.{list_all, slice_split, onto_first}
 use Rattle.std.proofs.lemmas.Bool.{and_parts, cases_Bool, ltb-false, eqb-true}
-use Rattle.link_events.specs.Terms.{Event, LineFault}
+use Rattle.link_events.specs.Terms.{ScriptEvent, LineFault}
 use Rattle.link_events.specs.Terms.fault
 use Rattle.ide_types.specs.Names.{Text}
 use Rattle.link_events.specs.Words.{words_in}
@@ -49,7 +49,7 @@ blank_printable [] h = refl
 blank_printable (x ∷ xs) h = let parts = and_parts (x == 32) (list_all (λ b. b == 32) xs) h in rw
     (space_printable x parts.0, blank_printable xs parts.1) refl
 
-event_none : (x : Result Event LineFault) → (x >>= λ y. Ok (Some y)) ≡ Ok None → ⊥
+event_none : (x : Result ScriptEvent LineFault) → (x >>= λ y. Ok (Some y)) ≡ Ok None → ⊥
 event_none (Ok y) h = none_some y (sym (ok_ok (Some y) None h))
 event_none (Err f) h = err_ok f None h
 

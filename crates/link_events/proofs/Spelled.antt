@@ -1,6 +1,23 @@
 -- Parts of lines that several families of events have: what was read of words is what they spell, and the other way
 -- round.
-use Rattle.std.proofs.Common.{true, false, nat_le, ◌&&◌, ◌≤◌, arith, ◌≡◌, ℕ, List, [], ◌∷◌, Bool, Option, Some, None}
+use Rattle.std.proofs.Common.{
+  true,
+  false,
+  nat_le,
+  not,
+  ◌&&◌,
+  ◌≤◌,
+  arith,
+  ◌≡◌,
+  ℕ,
+  List,
+  [],
+  ◌∷◌,
+  Bool,
+  Option,
+  Some,
+  None,
+}
 use Rattle.std.proofs.Common.{Result, Ok, Err, refl, ◌∙◌}
 use Rattle.std.proofs.Common.{ap, subst, codes}
 use Rattle.std.specs.Prelude.{if◌then◌else◌}
@@ -12,7 +29,8 @@ use Rattle.link_events.specs.Terms.{Loss, LineFault}
 use Rattle.link_events.specs.Terms.fault
 use Rattle.link_events.specs.Words.{number_of_word, lost_of_word}
 use Rattle.link_events.specs.Parts.{◌>>=◌, lost_exchange_in, loss_in, is_loss_long, one_number_in, two_numbers_in}
-use Rattle.link_events.specs.Parts.{length_in, LossSpelledBy, OneSpelledBy, TwoSpelledBy}
+use Rattle.link_events.specs.Parts.{asked_in, operation_in, length_in, LossSpelledBy, OneSpelledBy, TwoSpelledBy}
+use Rattle.link_events.specs.Parts.{AskedSpelledBy, OperationSpelledBy}
 use Rattle.link_events.proofs.Steps.{err_ok, ok_ok, some_some, none_some, same_text, next_of, next_result}
 
 -- ---- what is lost
@@ -65,6 +83,46 @@ two_spelled first (v ∷ w ∷ []) n h =
     subst (λ (x : ℕ × ℕ). TwoSpelledBy first x.0 x.1 (first ∷ v ∷ w ∷ [])) (ok_ok (a.0, b.0) n b.2)
     ((v, a.1), (w, b.1), refl)
 two_spelled first (v ∷ w ∷ x ∷ ws) n h = absurd (err_ok fault.Count n h)
+
+-- ---- numbers, and what is lost
+
+operation_step : (first l s : Text) (rest : List Text) (o : ℕ × ℕ × Option Loss) (b : Bool)
+    → (if not b then Err fault.Count else ok_or (number_of_word l) fault.Number >>= λ x. ok_or (number_of_word s)
+    fault.Number >>=
+    λ y. loss_in rest >>= λ z. Ok (x, y, z)) ≡ Ok o
+    → OperationSpelledBy first o.0 o.1 o.2 (first ∷ l ∷ s ∷ rest)
+operation_step first l s rest o false h = absurd (err_ok fault.Count o h)
+operation_step first l s rest o true h =
+    let a = next_of (number_of_word l) fault.Number
+    (λ x. ok_or (number_of_word s) fault.Number >>= λ y. loss_in rest >>= λ z. Ok (x, y, z)) o h in
+    let b = next_of (number_of_word s) fault.Number (λ y. loss_in rest >>= λ z. Ok (a.0, y, z)) o a.2 in
+    let c = next_result (loss_in rest) (λ z. Ok (a.0, b.0, z)) o b.2 in
+    subst (λ (x : ℕ × ℕ × Option Loss). OperationSpelledBy first x.0 x.1 x.2 (first ∷ l ∷ s ∷ rest))
+    (ok_ok (a.0, b.0, c.0) o c.2)
+    ((l, a.1), (s, b.1), rest, loss_spelled rest c.0 c.1, refl)
+
+pub operation_spelled : (first : Text) (ws : List Text) (o : ℕ × ℕ × Option Loss) → operation_in ws ≡ Ok o
+    → OperationSpelledBy first o.0 o.1 o.2 (first ∷ ws)
+operation_spelled first [] o h = absurd (err_ok fault.Count o h)
+operation_spelled first (l ∷ []) o h = absurd (err_ok fault.Count o h)
+operation_spelled first (l ∷ s ∷ rest) o h = operation_step first l s rest o (is_loss_long rest) h
+
+asked_step : (first i : Text) (rest : List Text) (a : ℕ × Option Loss) (b : Bool)
+    → (if not b then Err fault.Count else ok_or (number_of_word i) fault.Number >>= λ x. loss_in rest >>= λ z. Ok
+    (x, z))
+    ≡ Ok a
+    → AskedSpelledBy first a.0 a.1 (first ∷ i ∷ rest)
+asked_step first i rest a false h = absurd (err_ok fault.Count a h)
+asked_step first i rest a true h =
+    let x = next_of (number_of_word i) fault.Number (λ x. loss_in rest >>= λ z. Ok (x, z)) a h in
+    let y = next_result (loss_in rest) (λ z. Ok (x.0, z)) a x.2 in
+    subst (λ (q : ℕ × Option Loss). AskedSpelledBy first q.0 q.1 (first ∷ i ∷ rest)) (ok_ok (x.0, y.0) a y.2)
+    ((i, x.1), rest, loss_spelled rest y.0 y.1, refl)
+
+pub asked_spelled : (first : Text) (ws : List Text) (a : ℕ × Option Loss) → asked_in ws ≡ Ok a
+    → AskedSpelledBy first a.0 a.1 (first ∷ ws)
+asked_spelled first [] a h = absurd (err_ok fault.Count a h)
+asked_spelled first (i ∷ rest) a h = asked_step first i rest a (is_loss_long rest) h
 
 -- ---- how many bytes are shown
 

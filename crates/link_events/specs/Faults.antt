@@ -9,12 +9,13 @@ use Rattle.ide_types.specs.declared.port.Side.TheVariants.{Host, Device}
 use Rattle.ide_types.specs.declared.port.PortName.{PortName}
 use Rattle.ide_types.specs.Names.{Text}
 use Rattle.link_events.specs.Terms.{LineFault, Word, Count, Hex, TooLong, NotAscii}
-use Rattle.link_events.specs.Words.{line_limit, words_in, mask_in, bytes_in, port_of_word}
+use Rattle.link_events.specs.Words.{line_limit, words_in, mask_in, port_of_word, any_port_of_word}
 use Rattle.ide_types.specs.Names.{is_printable}
 pub use Rattle.link_events.specs.Parts.{WordTest, number_test, lost_test, word_test, Row, number_tests}
-pub use Rattle.link_events.specs.Parts.{two_number_tests}
+pub use Rattle.link_events.specs.Parts.{two_number_tests, operation_tests, bytes_test}
 use Rattle.link_events.specs.Interfaces.{interface_rows}
 use Rattle.link_events.specs.Accesses.{access_rows}
+use Rattle.link_events.specs.Paired.{peer_send_tests, peer_rows, hop_rows}
 use Rattle.link_events.specs.Parse.{is_comment, line_meaning}
 
 -- ---- what a word after the first has to be
@@ -22,15 +23,15 @@ use Rattle.link_events.specs.Parse.{is_comment, line_meaning}
 abbrev pub mask_test : WordTest
 mask_test = record { is_spelled = λ w. is_some (mask_in w); fault = Hex }
 
-abbrev pub bytes_test : WordTest
-bytes_test = record { is_spelled = λ w. is_some (bytes_in w); fault = Hex }
-
 abbrev pub port_test : WordTest
 port_test = record { is_spelled = λ w. is_some (port_of_word w); fault = Word }
 
 abbrev pub is_at_host : Side → Bool
 is_at_host Host = true
 is_at_host Device = false
+
+abbrev pub any_port_test : WordTest
+any_port_test = record { is_spelled = λ w. is_some (any_port_of_word w); fault = Word }
 
 -- trusted, after a host's port
 abbrev pub is_trusted_at : Text → Text → Bool
@@ -46,12 +47,6 @@ mark_test port = record { is_spelled = λ w. bytes_eq w (codes "more") || is_tru
 
 -- ---- the table
 
-abbrev pub operation_tests : List Text → Option (List WordTest)
-operation_tests (l ∷ s ∷ []) = Some (number_test ∷ number_test ∷ [])
-operation_tests (l ∷ s ∷ a ∷ n ∷ w ∷ []) = Some (number_test ∷ number_test ∷ word_test (codes "lose") ∷ number_test
-    ∷ lost_test ∷ [])
-operation_tests _ = None
-
 abbrev pub send_tests : List Text → Option (List WordTest)
 send_tests (p ∷ w ∷ []) = Some (port_test ∷ bytes_test ∷ [])
 send_tests (p ∷ w ∷ m ∷ []) = Some (port_test ∷ bytes_test ∷ mark_test p ∷ [])
@@ -59,12 +54,15 @@ send_tests (p ∷ w ∷ m ∷ t ∷ []) = Some (port_test ∷ bytes_test ∷ wor
 send_tests _ = None
 
 abbrev pub arrive_tests : List Text → Option (List WordTest)
-arrive_tests (p ∷ w ∷ []) = Some (port_test ∷ bytes_test ∷ [])
+arrive_tests (p ∷ w ∷ []) = Some (any_port_test ∷ bytes_test ∷ [])
 arrive_tests _ = None
 
 abbrev pub alter_tests : List Text → Option (List WordTest)
 alter_tests (n ∷ a ∷ h ∷ []) = Some (number_test ∷ number_test ∷ mask_test ∷ [])
 alter_tests _ = None
+
+abbrev pub byte_rows : List Row
+byte_rows = (codes "send", send_tests) ∷ (codes "psend", peer_send_tests) ∷ (codes "arrive", arrive_tests) ∷ []
 
 -- the events by their first word
 abbrev pub event_table : List Row
@@ -75,7 +73,7 @@ event_table =
       codes "dump",
       number_tests,
     )
-    ∷ interface_rows (access_rows ((codes "send", send_tests) ∷ (codes "arrive", arrive_tests) ∷ []))
+    ∷ interface_rows (access_rows (peer_rows (hop_rows byte_rows)))
 
 -- ---- the first fault
 

@@ -1,20 +1,20 @@
 -- Lines of device interfaces and of trusted memory: as they are read, as they are spelled, and the rows of the table of
 -- faults.
-use Rattle.std.specs.Prelude.{◌≡◌, ◌<◌, ◌≤◌, ◌+◌, ◌-◌, ◌^◌, ◌==◌, ◌&&◌, ℕ, nat_le, nat_lt, not, List, [], ◌∷◌, ◌++◌}
+use Rattle.std.specs.Prelude.{◌≡◌, ◌<◌, ◌≤◌, ◌+◌, ◌-◌, ◌^◌, ◌==◌, ◌&&◌, ℕ, nat_le, nat_lt, true, List, [], ◌∷◌, ◌++◌}
 use Rattle.std.specs.Prelude.{Option, Some, None, is_some, Result, Ok, Err, if◌then◌else◌, codes}
 use Rattle.std.specs.Option.{ok_or, option_and_then, option_map}
 use Rattle.std.specs.Str.{bytes_eq}
 use Rattle.ide_types.specs.Names.{Text}
+use Rattle.ide_types.specs.Lines.{is_peer_line}
 use Rattle.interface_words.specs.declared.register.Register.{Register}
 use Rattle.interface_words.specs.declared.register.Register.TheVariants.{Command, CacheLine, Msix, Lnr, Tph, Pasid, Ats}
 use Rattle.interface_words.specs.declared.register.Register.TheVariants.{Bar}
 use Rattle.interface_words.specs.RegisterNames.{width_of, IsAmongSix}
-use Rattle.link_events.specs.Terms.{InterfaceEvent, Loss, LineFault, Word, Count, Number}
+use Rattle.link_events.specs.Terms.{InterfaceEvent, LineFault, Word, Count, Number}
 use Rattle.link_events.specs.Terms.ie
 use Rattle.link_events.specs.Words.{number_of_word}
-use Rattle.link_events.specs.Parts.{◌>>=◌, loss_in, is_loss_long, one_number_in, WordOf, LossSpelledBy, OneSpelledBy}
-use Rattle.link_events.specs.Parts.{WordTest, Row, number_test, word_test, lost_test, number_tests, length_in}
-use Rattle.link_events.specs.Parts.{length_test}
+use Rattle.link_events.specs.Parts.{◌>>=◌, asked_in, one_number_in, WordOf, AskedSpelledBy, OneSpelledBy}
+use Rattle.link_events.specs.Parts.{WordTest, Row, number_test, asked_tests, number_tests, length_in, length_test}
 
 -- ---- words
 
@@ -57,16 +57,6 @@ register_value_in register w =
 
 -- ---- as they are read
 
--- an interface, and what is lost
-abbrev pub interface_and_loss : List Text → Result (ℕ × Option Loss) LineFault
-interface_and_loss (i ∷ rest) =
-    if not (is_loss_long rest) then Err Count
-    else do
-      interface ← ok_or (number_of_word i) Number
-      lose ← loss_in rest
-      Ok (interface, lose)
-interface_and_loss _ = Err Count
-
 abbrev pub write_event_in : List Text → Result InterfaceEvent LineFault
 write_event_in (i ∷ r ∷ w ∷ []) = do
   interface ← ok_or (number_of_word i) Number
@@ -85,11 +75,11 @@ memory_in _ = Err Count
 -- what the manager does to an interface; nothing if the first word is none of these events
 abbrev pub asking_event_of : Text → List Text → Option (Result InterfaceEvent LineFault)
 asking_event_of first rest =
-    if bytes_eq first (codes "lock") then Some (interface_and_loss rest >>= λ a. Ok (ie.Lock a.0 a.1))
-    else if bytes_eq first (codes "report") then Some (interface_and_loss rest >>= λ a. Ok (ie.Report a.0 a.1))
-    else if bytes_eq first (codes "start") then Some (interface_and_loss rest >>= λ a. Ok (ie.Start a.0 a.1))
-    else if bytes_eq first (codes "halt") then Some (interface_and_loss rest >>= λ a. Ok (ie.Halt a.0 a.1))
-    else if bytes_eq first (codes "state") then Some (interface_and_loss rest >>= λ a. Ok (ie.State a.0 a.1))
+    if bytes_eq first (codes "lock") then Some (asked_in rest >>= λ a. Ok (ie.Lock a.0 a.1))
+    else if bytes_eq first (codes "report") then Some (asked_in rest >>= λ a. Ok (ie.Report a.0 a.1))
+    else if bytes_eq first (codes "start") then Some (asked_in rest >>= λ a. Ok (ie.Start a.0 a.1))
+    else if bytes_eq first (codes "halt") then Some (asked_in rest >>= λ a. Ok (ie.Halt a.0 a.1))
+    else if bytes_eq first (codes "state") then Some (asked_in rest >>= λ a. Ok (ie.State a.0 a.1))
     else None
 
 -- an event on an interface or on memory; nothing if the first word is none of these events
@@ -104,17 +94,17 @@ interface_event_of first rest =
 
 -- ---- as they are spelled
 
-abbrev pub AskedSpelledBy : Text → ℕ → Option Loss → List Text → Type 0
-AskedSpelledBy first interface lose words =
-    (i : WordOf number_of_word interface) × (rest : List Text) × LossSpelledBy lose rest × (words ≡ first ∷ i.0 ∷ rest)
-
--- the words spell the event: a value has room in its register, and 1 to 256 bytes are shown
+-- the words spell the event: a value has room in its register, and 1 to 256 bytes are shown; bindings have words of
+-- their
+-- own, which name a stream between devices by its number
 abbrev pub InterfaceSpelledBy : InterfaceEvent → List Text → Type 0
 InterfaceSpelledBy (ie.Lock interface lose) words = AskedSpelledBy (codes "lock") interface lose words
 InterfaceSpelledBy (ie.Report interface lose) words = AskedSpelledBy (codes "report") interface lose words
 InterfaceSpelledBy (ie.Start interface lose) words = AskedSpelledBy (codes "start") interface lose words
 InterfaceSpelledBy (ie.Halt interface lose) words = AskedSpelledBy (codes "halt") interface lose words
 InterfaceSpelledBy (ie.State interface lose) words = AskedSpelledBy (codes "state") interface lose words
+InterfaceSpelledBy (ie.Bind interface line stream lose) words = ⊥
+InterfaceSpelledBy (ie.Unbind interface line stream lose) words = ⊥
 InterfaceSpelledBy (ie.View interface) words = OneSpelledBy (codes "view") interface words
 InterfaceSpelledBy (ie.Write interface register value) words =
     (i : WordOf number_of_word interface) × (w : WordOf number_of_word value) × IsAmongSix register
@@ -125,9 +115,11 @@ InterfaceSpelledBy (ie.Memory address len) words =
     (a : WordOf number_of_word address) × (l : WordOf number_of_word len) × (1 ≤ len) × (len ≤ 256)
     × (words ≡ codes "memory" ∷ a.0 ∷ l.0 ∷ [])
 
--- A value that is written has room in its register, which is one that an interface may have, and 1 to 256 bytes of
--- memory are shown.
+-- A value that is written has room in its register, which is one that an interface may have, 1 to 256 bytes of memory
+-- are shown, and a binding is to a stream between devices.
 abbrev pub IsAllowedInterface : InterfaceEvent → Type 0
+IsAllowedInterface (ie.Bind interface line stream lose) = is_peer_line line ≡ true
+IsAllowedInterface (ie.Unbind interface line stream lose) = is_peer_line line ≡ true
 IsAllowedInterface (ie.Write interface register value) = IsAmongSix register × (value < 2 ^ width_of register)
 IsAllowedInterface (ie.Memory address len) = (1 ≤ len) × (len ≤ 256)
 IsAllowedInterface _ = Unit {0}
@@ -144,11 +136,6 @@ value_test register =
       is_spelled = λ w. is_some (option_and_then (λ r. register_value_in r w) (register_in register));
       fault = Number;
     }
-
-abbrev pub asked_tests : List Text → Option (List WordTest)
-asked_tests (i ∷ []) = Some (number_test ∷ [])
-asked_tests (i ∷ a ∷ n ∷ w ∷ []) = Some (number_test ∷ word_test (codes "lose") ∷ number_test ∷ lost_test ∷ [])
-asked_tests _ = None
 
 abbrev pub write_tests : List Text → Option (List WordTest)
 write_tests (i ∷ r ∷ w ∷ []) = Some (number_test ∷ register_test ∷ value_test r ∷ [])

@@ -1,5 +1,5 @@
 -- The event that a line spells, or its first fault, word by word.
-use Rattle.std.specs.Prelude.{◌≡◌, ◌==◌, ◌&&◌, ◌||◌, ℕ, nat_lt, Bool, true, false, not, List, [], ◌∷◌, length, Option}
+use Rattle.std.specs.Prelude.{◌≡◌, ◌==◌, ◌&&◌, ◌||◌, nat_lt, Bool, true, false, not, List, [], ◌∷◌, length, Option}
 use Rattle.std.specs.Prelude.{Some, None, Result, Ok, Err, if◌then◌else◌, codes}
 use Rattle.std.specs.List.{list_all}
 use Rattle.std.specs.Option.{ok_or, unwrap_or, option_map}
@@ -7,29 +7,27 @@ use Rattle.std.specs.Str.{bytes_eq}
 use Rattle.ide_types.specs.declared.port.Side.{Side}
 use Rattle.ide_types.specs.declared.port.Side.TheVariants.{Host, Device}
 use Rattle.ide_types.specs.Names.{Text}
-use Rattle.link_events.specs.Terms.{Event, Establish, Refresh, Stop, Send, Pass, Alter, Cut, Arrive, Dump, Reset}
-use Rattle.link_events.specs.Terms.{Status, Interface, InterfaceEvent, Access, AccessEvent, Loss, LineFault, Word}
-use Rattle.link_events.specs.Terms.{Count}
-use Rattle.link_events.specs.Terms.{Number, Hex, TooLong, NotAscii, LineError}
+use Rattle.link_events.specs.Terms.{ScriptEvent, Establish, Refresh, Stop, Send, Pass, Alter, Cut, Arrive, Dump, Reset}
+use Rattle.link_events.specs.Terms.{Status, Interface, InterfaceEvent, Access, AccessEvent, Peer, PeerEvent, Hop}
+use Rattle.link_events.specs.Terms.{HopEvent, LineFault, Word, Count, Number, Hex, TooLong, NotAscii, LineError}
 use Rattle.link_events.specs.Terms.error
-use Rattle.link_events.specs.Words.{line_limit, words_in, number_of_word, mask_in, bytes_in, port_of_word}
+use Rattle.link_events.specs.Words.{
+  line_limit,
+  words_in,
+  number_of_word,
+  mask_in,
+  bytes_in,
+  port_of_word,
+  any_port_of_word,
+}
 use Rattle.ide_types.specs.Names.{is_printable}
 pub use Rattle.link_events.specs.Parts.{◌>>=◌, lost_exchange_in, loss_in, is_loss_long, one_number_in, two_numbers_in}
+pub use Rattle.link_events.specs.Parts.{operation_in}
 use Rattle.link_events.specs.Interfaces.{interface_event_of}
 use Rattle.link_events.specs.Accesses.{access_event_of}
+use Rattle.link_events.specs.Paired.{peer_send_in, peer_event_of, hop_event_of}
 
 -- ---- the words after the first
-
--- a link and a stream, and what is lost
-abbrev pub operation_in : List Text → Result (ℕ × ℕ × Option Loss) LineFault
-operation_in (l ∷ s ∷ rest) =
-    if not (is_loss_long rest) then Err Count
-    else do
-      link ← ok_or (number_of_word l) Number
-      stream ← ok_or (number_of_word s) Number
-      lose ← loss_in rest
-      Ok (link, stream, lose)
-operation_in _ = Err Count
 
 -- more, and then at a host's port trusted: whether each stands there
 abbrev pub marks_in : Side → List Text → Option (Bool × Bool)
@@ -45,7 +43,7 @@ marks_in Host (a ∷ b ∷ []) = if bytes_eq a (codes "more") && bytes_eq b (cod
 ) else None
 marks_in _ _ = None
 
-abbrev pub send_in : List Text → Result Event LineFault
+abbrev pub send_in : List Text → Result ScriptEvent LineFault
 send_in (p ∷ w ∷ marks) =
     if nat_lt 2 (length marks) then Err Count
     else do
@@ -55,7 +53,7 @@ send_in (p ∷ w ∷ marks) =
       Ok (Send port bytes m.0 m.1)
 send_in _ = Err Count
 
-abbrev pub alter_in : List Text → Result Event LineFault
+abbrev pub alter_in : List Text → Result ScriptEvent LineFault
 alter_in (n ∷ a ∷ h ∷ []) = do
   packet ← ok_or (number_of_word n) Number
   at ← ok_or (number_of_word a) Number
@@ -63,9 +61,9 @@ alter_in (n ∷ a ∷ h ∷ []) = do
   Ok (Alter packet at mask)
 alter_in _ = Err Count
 
-abbrev pub arrive_in : List Text → Result Event LineFault
+abbrev pub arrive_in : List Text → Result ScriptEvent LineFault
 arrive_in (p ∷ w ∷ []) = do
-  port ← ok_or (port_of_word p) Word
+  port ← ok_or (any_port_of_word p) Word
   bytes ← ok_or (bytes_in w) Hex
   Ok (Arrive port bytes)
 arrive_in _ = Err Count
@@ -73,7 +71,7 @@ arrive_in _ = Err Count
 -- ---- lines
 
 -- an event that names packets; nothing if the first word is none of these events
-abbrev pub packet_event_of : Text → List Text → Option (Result Event LineFault)
+abbrev pub packet_event_of : Text → List Text → Option (Result ScriptEvent LineFault)
 packet_event_of first rest =
     if bytes_eq first (codes "pass") then Some (one_number_in rest >>= λ n. Ok (Pass n))
     else if bytes_eq first (codes "alter") then Some (alter_in rest)
@@ -82,7 +80,7 @@ packet_event_of first rest =
     else None
 
 -- an event that names links, streams and packets, and holds no bytes
-abbrev pub naming_event_of : Text → List Text → Option (Result Event LineFault)
+abbrev pub naming_event_of : Text → List Text → Option (Result ScriptEvent LineFault)
 naming_event_of first rest =
     if bytes_eq first (codes "establish") then Some (operation_in rest >>= λ o. Ok (Establish o.0 o.1 o.2))
     else if bytes_eq first (codes "refresh") then Some (operation_in rest >>= λ o. Ok (Refresh o.0 o.1 o.2))
@@ -92,33 +90,48 @@ naming_event_of first rest =
     else packet_event_of first rest
 
 -- an event that holds bytes
-abbrev pub bytes_event_in : Text → List Text → Result Event LineFault
+abbrev pub bytes_event_in : Text → List Text → Result ScriptEvent LineFault
 bytes_event_in first rest =
     if bytes_eq first (codes "send") then send_in rest
+    else if bytes_eq first (codes "psend") then peer_send_in rest
     else if bytes_eq first (codes "arrive") then arrive_in rest
     else Err Word
 
 -- an event on an interface or on memory, as an event
-abbrev pub made_interface : Result InterfaceEvent LineFault → Result Event LineFault
+abbrev pub made_interface : Result InterfaceEvent LineFault → Result ScriptEvent LineFault
 made_interface answer = answer >>= λ e. Ok (Interface e)
 
-abbrev pub made_access : Result AccessEvent LineFault → Result Event LineFault
+abbrev pub made_access : Result AccessEvent LineFault → Result ScriptEvent LineFault
 made_access answer = answer >>= λ e. Ok (Access e)
 
--- an event on a trusted read or on guarded memory, or one that holds bytes
-abbrev pub last_event_in : Text → List Text → Result Event LineFault
-last_event_in first rest = unwrap_or (option_map made_access (access_event_of first rest)) (bytes_event_in first rest)
+abbrev pub made_peer : Result PeerEvent LineFault → Result ScriptEvent LineFault
+made_peer answer = answer >>= λ e. Ok (Peer e)
+
+abbrev pub made_hop : Result HopEvent LineFault → Result ScriptEvent LineFault
+made_hop answer = answer >>= λ e. Ok (Hop e)
+
+-- an event on a hop, or one that holds bytes
+abbrev pub hop_event_in : Text → List Text → Result ScriptEvent LineFault
+hop_event_in first rest = unwrap_or (option_map made_hop (hop_event_of first rest)) (bytes_event_in first rest)
+
+-- an event on a stream between devices, or one of these
+abbrev pub peer_event_in : Text → List Text → Result ScriptEvent LineFault
+peer_event_in first rest = unwrap_or (option_map made_peer (peer_event_of first rest)) (hop_event_in first rest)
+
+-- an event on a trusted read or on guarded memory, or one of these
+abbrev pub last_event_in : Text → List Text → Result ScriptEvent LineFault
+last_event_in first rest = unwrap_or (option_map made_access (access_event_of first rest)) (peer_event_in first rest)
 
 -- an event on an interface or on memory, or one of these
-abbrev pub other_event_in : Text → List Text → Result Event LineFault
+abbrev pub other_event_in : Text → List Text → Result ScriptEvent LineFault
 other_event_in first rest =
     unwrap_or (option_map made_interface (interface_event_of first rest)) (last_event_in first rest)
 
-abbrev pub event_by : Text → List Text → Result Event LineFault
+abbrev pub event_by : Text → List Text → Result ScriptEvent LineFault
 event_by first rest = unwrap_or (naming_event_of first rest) (other_event_in first rest)
 
 -- no words are no event
-abbrev pub event_in : List Text → Result (Option Event) LineFault
+abbrev pub event_in : List Text → Result (Option ScriptEvent) LineFault
 event_in [] = Ok None
 event_in (first ∷ rest) = do
   event ← event_by first rest
@@ -129,7 +142,7 @@ is_comment [] = false
 is_comment (b ∷ bs) = b == 35
 
 -- the event, none on a comment and on a line of spaces, or the first fault
-abbrev pub line_meaning : Text → Result (Option Event) LineFault
+abbrev pub line_meaning : Text → Result (Option ScriptEvent) LineFault
 line_meaning line =
     if nat_lt line_limit (length line) then Err TooLong
     else if is_comment line then Ok None
@@ -156,4 +169,5 @@ line_answer (Err f) = Err (error.Fault f)
 -- the line begins with the word of an event that holds bytes
 abbrev pub begins_bytes : List Text → Bool
 begins_bytes [] = false
-begins_bytes (first ∷ rest) = bytes_eq first (codes "send") || bytes_eq first (codes "arrive")
+begins_bytes (first ∷ rest) =
+    bytes_eq first (codes "send") || bytes_eq first (codes "psend") || bytes_eq first (codes "arrive")

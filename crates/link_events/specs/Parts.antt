@@ -1,12 +1,12 @@
 -- Parts of lines that several families of events have: numbers and what is lost, as they are read, as they are spelled,
 -- and as the table of faults tests them.
 use Rattle.std.specs.Prelude.{◌≡◌, ℕ, Bool, true, false, List, [], ◌∷◌, Option, Some, None, is_some, Result, Ok, Err}
-use Rattle.std.specs.Prelude.{◌&&◌, nat_le, if◌then◌else◌, codes}
+use Rattle.std.specs.Prelude.{◌&&◌, nat_le, not, if◌then◌else◌, codes}
 use Rattle.std.specs.Option.{ok_or, option_and_then}
 use Rattle.std.specs.Str.{bytes_eq}
 use Rattle.ide_types.specs.Names.{Text}
-use Rattle.link_events.specs.Terms.{Loss, LineFault, Word, Count, Number}
-use Rattle.link_events.specs.Words.{number_of_word, lost_of_word}
+use Rattle.link_events.specs.Terms.{Loss, LineFault, Word, Count, Number, Hex}
+use Rattle.link_events.specs.Words.{number_of_word, bytes_in, lost_of_word}
 
 -- ---- as they are read
 
@@ -45,6 +45,27 @@ two_numbers_in (m ∷ n ∷ []) = do
   Ok (first, second)
 two_numbers_in _ = Err Count
 
+-- a number, and what is lost
+abbrev pub asked_in : List Text → Result (ℕ × Option Loss) LineFault
+asked_in (n ∷ rest) =
+    if not (is_loss_long rest) then Err Count
+    else do
+      number ← ok_or (number_of_word n) Number
+      lose ← loss_in rest
+      Ok (number, lose)
+asked_in _ = Err Count
+
+-- two numbers, and what is lost
+abbrev pub operation_in : List Text → Result (ℕ × ℕ × Option Loss) LineFault
+operation_in (m ∷ n ∷ rest) =
+    if not (is_loss_long rest) then Err Count
+    else do
+      first ← ok_or (number_of_word m) Number
+      second ← ok_or (number_of_word n) Number
+      lose ← loss_in rest
+      Ok (first, second, lose)
+operation_in _ = Err Count
+
 -- how many bytes are shown: 1 to 256
 abbrev pub length_in : Text → Option ℕ
 length_in w = option_and_then (λ n. if nat_le 1 n && nat_le n 256 then Some n else None) (number_of_word w)
@@ -69,6 +90,15 @@ abbrev pub TwoSpelledBy : Text → ℕ → ℕ → List Text → Type 0
 TwoSpelledBy first one two words = (m : WordOf number_of_word one) × (n : WordOf number_of_word two)
     × (words ≡ first ∷ m.0 ∷ n.0 ∷ [])
 
+abbrev pub AskedSpelledBy : Text → ℕ → Option Loss → List Text → Type 0
+AskedSpelledBy first number lose words =
+    (n : WordOf number_of_word number) × (rest : List Text) × LossSpelledBy lose rest × (words ≡ first ∷ n.0 ∷ rest)
+
+abbrev pub OperationSpelledBy : Text → ℕ → ℕ → Option Loss → List Text → Type 0
+OperationSpelledBy first one two lose words =
+    (m : WordOf number_of_word one) × (n : WordOf number_of_word two) × (rest : List Text) × LossSpelledBy lose rest
+    × (words ≡ first ∷ m.0 ∷ n.0 ∷ rest)
+
 -- ---- as the table tests them
 
 -- a test of a word, and the fault if the word does not meet it
@@ -78,6 +108,9 @@ pub record WordTest : Type 0 where
 
 abbrev pub number_test : WordTest
 number_test = record { is_spelled = λ w. is_some (number_of_word w); fault = Number }
+
+abbrev pub bytes_test : WordTest
+bytes_test = record { is_spelled = λ w. is_some (bytes_in w); fault = Hex }
 
 abbrev pub lost_test : WordTest
 lost_test = record { is_spelled = λ w. is_some (lost_of_word w); fault = Word }
@@ -101,3 +134,14 @@ number_tests _ = None
 abbrev pub two_number_tests : List Text → Option (List WordTest)
 two_number_tests (m ∷ n ∷ []) = Some (number_test ∷ number_test ∷ [])
 two_number_tests _ = None
+
+abbrev pub asked_tests : List Text → Option (List WordTest)
+asked_tests (n ∷ []) = Some (number_test ∷ [])
+asked_tests (n ∷ a ∷ e ∷ w ∷ []) = Some (number_test ∷ word_test (codes "lose") ∷ number_test ∷ lost_test ∷ [])
+asked_tests _ = None
+
+abbrev pub operation_tests : List Text → Option (List WordTest)
+operation_tests (m ∷ n ∷ []) = Some (number_test ∷ number_test ∷ [])
+operation_tests (m ∷ n ∷ a ∷ e ∷ w ∷ []) = Some (number_test ∷ number_test ∷ word_test (codes "lose") ∷ number_test
+    ∷ lost_test ∷ [])
+operation_tests _ = None

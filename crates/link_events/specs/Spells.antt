@@ -1,22 +1,28 @@
 -- Which lines spell an event, said by the event.
-use Rattle.std.specs.Prelude.{◌≡◌, ◌<◌, ◌≤◌, ◌^◌, ◌==◌, ◌↔◌, ◌⊎◌, ℕ, Bool, true, false, List, [], ◌∷◌, length, Option}
+use Rattle.std.specs.Prelude.{◌≡◌, ◌<◌, ◌≤◌, ◌^◌, ◌==◌, ◌↔◌, ◌⊎◌, Bool, true, false, List, [], ◌∷◌, length}
 use Rattle.std.specs.Prelude.{Some, None, Ok, codes}
 use Rattle.std.specs.List.{list_all}
 use Rattle.ide_types.specs.declared.port.Side.TheVariants.{Host}
 use Rattle.ide_types.specs.Names.{Text}
-use Rattle.link_events.specs.Terms.{Event, Establish, Refresh, Stop, Send, Pass, Alter, Cut, Arrive, Dump, Reset}
-use Rattle.link_events.specs.Terms.{Status, Interface, Access, Loss}
-use Rattle.link_events.specs.Words.{line_limit, words_in, number_of_word, mask_in, bytes_in, port_of_word}
+use Rattle.ide_types.specs.Lines.{is_port}
+use Rattle.link_events.specs.Terms.{ScriptEvent, Establish, Refresh, Stop, Send, PeerSend, Pass, Alter, Cut, Arrive}
+use Rattle.link_events.specs.Terms.{Dump, Reset, Status, Interface, Access, Peer, Hop}
+use Rattle.link_events.specs.Words.{
+  line_limit,
+  words_in,
+  number_of_word,
+  mask_in,
+  bytes_in,
+  port_of_word,
+  any_port_of_word,
+}
 use Rattle.ide_types.specs.Names.{is_printable}
-pub use Rattle.link_events.specs.Parts.{WordOf, LossSpelledBy, OneSpelledBy, TwoSpelledBy}
+pub use Rattle.link_events.specs.Parts.{WordOf, LossSpelledBy, OneSpelledBy, TwoSpelledBy, OperationSpelledBy}
 use Rattle.link_events.specs.Interfaces.{InterfaceSpelledBy, IsAllowedInterface}
 use Rattle.link_events.specs.Accesses.{AccessSpelledBy, IsAllowedAccess}
+use Rattle.link_events.specs.Paired.{PeerSendSpelledBy, PeerSpelledBy, HopSpelledBy}
+pub use Rattle.link_events.specs.Allowed.{IsAllowed}
 use Rattle.link_events.specs.Parse.{is_comment, line_meaning}
-
-abbrev pub OperationSpelledBy : Text → ℕ → ℕ → Option Loss → List Text → Type 0
-OperationSpelledBy first link stream lose words =
-    (l : WordOf number_of_word link) × (s : WordOf number_of_word stream) × (rest : List Text) × LossSpelledBy lose rest
-    × (words ≡ first ∷ l.0 ∷ s.0 ∷ rest)
 
 abbrev pub mark_words : Bool → Bool → List Text
 mark_words false false = []
@@ -25,28 +31,31 @@ mark_words false true = codes "trusted" ∷ []
 mark_words true true = codes "more" ∷ codes "trusted" ∷ []
 
 -- the words spell the event; trusted stands at a host's port alone
-abbrev pub SpelledBy : Event → List Text → Type 0
+abbrev pub SpelledBy : ScriptEvent → List Text → Type 0
 SpelledBy (Establish link stream lose) words = OperationSpelledBy (codes "establish") link stream lose words
 SpelledBy (Refresh link stream lose) words = OperationSpelledBy (codes "refresh") link stream lose words
 SpelledBy (Stop link stream lose) words = OperationSpelledBy (codes "stop") link stream lose words
 SpelledBy (Send port bytes more trusted) words =
     (p : WordOf port_of_word port) × (b : WordOf bytes_in bytes) × (words ≡ codes "send" ∷ p.0 ∷ b.0
     ∷ mark_words more trusted) × (trusted ≡ true → port.side ≡ Host)
+SpelledBy (PeerSend peer side bytes more) words = PeerSendSpelledBy peer side bytes more words
 SpelledBy (Pass packet) words = OneSpelledBy (codes "pass") packet words
 SpelledBy (Alter packet at mask) words =
     (n : WordOf number_of_word packet) × (a : WordOf number_of_word at) × (h : WordOf mask_in mask)
     × (words ≡ codes "alter" ∷ n.0 ∷ a.0 ∷ h.0 ∷ [])
 SpelledBy (Cut packet len) words = TwoSpelledBy (codes "cut") packet len words
-SpelledBy (Arrive port bytes) words = (p : WordOf port_of_word port) × (b : WordOf bytes_in bytes)
+SpelledBy (Arrive port bytes) words = (p : WordOf any_port_of_word port) × (b : WordOf bytes_in bytes)
     × (words ≡ codes "arrive" ∷ p.0 ∷ b.0 ∷ [])
 SpelledBy (Dump packet) words = OneSpelledBy (codes "dump") packet words
 SpelledBy (Reset link) words = OneSpelledBy (codes "reset") link words
 SpelledBy (Status link stream) words = TwoSpelledBy (codes "status") link stream words
 SpelledBy (Interface event) words = InterfaceSpelledBy event words
 SpelledBy (Access event) words = AccessSpelledBy event words
+SpelledBy (Peer event) words = PeerSpelledBy event words
+SpelledBy (Hop event) words = HopSpelledBy event words
 
 -- the line spells the event
-pub record SpellsEvent (event : Event) (line : Text) : Type 0 where
+pub record SpellsEvent (event : ScriptEvent) (line : Text) : Type 0 where
   pub short_enough : length line ≤ line_limit
   pub no_comment : is_comment line ≡ false
   pub printable : list_all is_printable line ≡ true
@@ -54,7 +63,7 @@ pub record SpellsEvent (event : Event) (line : Text) : Type 0 where
 
 -- a line means an event if it spells it
 abbrev pub MeaningIsSpelling : Type 0
-MeaningIsSpelling = (line : Text) (event : Event) → (line_meaning line ≡ Ok (Some event)) ↔ SpellsEvent event line
+MeaningIsSpelling = (line : Text) (event : ScriptEvent) → (line_meaning line ≡ Ok (Some event)) ↔ SpellsEvent event line
 
 -- at most 20,000 bytes, a comment or spaces alone
 abbrev pub IsSkipped : Text → Type 0
@@ -64,15 +73,18 @@ IsSkipped line = (length line ≤ line_limit) × ((is_comment line ≡ true) ⊎
 abbrev pub NothingIsSkipped : Type 0
 NothingIsSkipped = (line : Text) → (line_meaning line ≡ Ok None) ↔ IsSkipped line
 
--- The event's port is on one of eight links, trusted is asked of a host's port alone, and a place in the event's
--- bytes has at most 64 bits. A value has room in its register, and 1 to 256 bytes are shown.
-abbrev pub IsAllowed : Event → Type 0
-IsAllowed (Send port bytes more trusted) = (port.link < 8) × (trusted ≡ true → port.side ≡ Host)
+-- A host's or a device's port sends, trusted is asked of a host's port alone, bytes arrive at a port of a host, a
+-- device
+-- or a switch, and a place in the event's bytes has at most 64 bits. A value has room in its register, and 1 to 256
+-- bytes are shown.
+abbrev pub IsAllowedInScript : ScriptEvent → Type 0
+IsAllowedInScript (Send port bytes more trusted) = (port.link < 8) × (trusted ≡ true → port.side ≡ Host)
     × (length bytes < 2 ^ 64)
-IsAllowed (Arrive port bytes) = (port.link < 8) × (length bytes < 2 ^ 64)
-IsAllowed (Interface event) = IsAllowedInterface event
-IsAllowed (Access event) = IsAllowedAccess event
-IsAllowed _ = Unit {0}
+IsAllowedInScript (PeerSend peer side bytes more) = length bytes < 2 ^ 64
+IsAllowedInScript (Arrive port bytes) = (is_port port ≡ true) × (length bytes < 2 ^ 64)
+IsAllowedInScript (Interface event) = IsAllowedInterface event
+IsAllowedInScript (Access event) = IsAllowedAccess event
+IsAllowedInScript _ = Unit {0}
 
 abbrev pub SpelledAreAllowed : Type 0
-SpelledAreAllowed = (line : Text) (event : Event) → SpellsEvent event line → IsAllowed event
+SpelledAreAllowed = (line : Text) (event : ScriptEvent) → SpellsEvent event line → IsAllowedInScript event

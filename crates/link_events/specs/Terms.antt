@@ -1,7 +1,21 @@
--- The types of this crate with their variants.
+-- The types of this crate with their variants; those of events are the variants of a script's.
 pub use Rattle.link_events.specs.declared.event.Event.{Event}
-pub use Rattle.link_events.specs.declared.event.Event.TheVariants.{Establish, Refresh, Stop, Send, Pass, Alter, Cut}
-pub use Rattle.link_events.specs.declared.event.Event.TheVariants.{Arrive, Dump, Reset, Status, Interface, Access}
+pub use Rattle.link_events.specs.declared.event.Event.TheVariants as event
+pub use Rattle.link_events.specs.declared.script.ScriptEvent.{ScriptEvent}
+pub use Rattle.link_events.specs.declared.script.ScriptEvent.TheVariants.{
+  Establish,
+  Refresh,
+  Stop,
+  Send,
+  PeerSend,
+  Pass,
+}
+pub use Rattle.link_events.specs.declared.script.ScriptEvent.TheVariants.{Alter, Cut, Arrive, Dump, Reset, Status}
+pub use Rattle.link_events.specs.declared.script.ScriptEvent.TheVariants.{Interface, Access, Peer, Hop}
+pub use Rattle.link_events.specs.declared.script.PeerEvent.{PeerEvent}
+pub use Rattle.link_events.specs.declared.script.PeerEvent.TheVariants as pe
+pub use Rattle.link_events.specs.declared.script.HopEvent.{HopEvent}
+pub use Rattle.link_events.specs.declared.script.HopEvent.TheVariants as he
 pub use Rattle.link_events.specs.declared.event.InterfaceEvent.{InterfaceEvent}
 pub use Rattle.link_events.specs.declared.event.InterfaceEvent.TheVariants as ie
 pub use Rattle.link_events.specs.declared.event.AccessEvent.{AccessEvent}

@@ -12,6 +12,8 @@ use Rattle.hex.specs.Hex.{decode_of, decode_sized}
 use Rattle.ide_types.specs.declared.port.Side.TheVariants.{Host, Device}
 use Rattle.ide_types.specs.declared.port.PortName.{PortName}
 use Rattle.ide_types.specs.Names.{Text, joined}
+use Rattle.ide_types.specs.Ports.{host_port, device_port}
+use Rattle.ide_types.specs.Lines.{near_hop_line, far_hop_line}
 use Rattle.link_events.specs.Terms.{Lost, Request, Reply, LineFault, Word, Count, Number, Hex, TooLong, NotAscii}
 
 -- how many bytes a line may have, its line feed aside
@@ -67,6 +69,17 @@ port_of_word (s ∷ d ∷ []) =
     else if s == 100 then Some (record { side = Device; link = d - 48 })
     else None
 port_of_word _ = None
+
+-- one of these, or u or w: the port of the link's switch towards the host, or towards the device
+unfoldable pub any_port_of_word : Text → Option PortName
+any_port_of_word (s ∷ d ∷ []) =
+    if not (nat_le 48 d && nat_le d 55) then None
+    else if s == 104 then Some (host_port (d - 48))
+    else if s == 100 then Some (device_port (d - 48))
+    else if s == 117 then Some (device_port (near_hop_line (d - 48)))
+    else if s == 119 then Some (host_port (far_hop_line (d - 48)))
+    else None
+any_port_of_word _ = None
 
 -- ---- what is lost of an exchange
 

@@ -1,6 +1,7 @@
-//! The events of a script.
+//! The events of a history.
 
-use ide_types::{Bytes, PortName};
+use crate::Ends;
+use ide_types::{Bytes, Direction, PortName};
 use interface_words::Register;
 
 /// What is lost of an exchange: its request, or its reply (this profile).
@@ -45,6 +46,20 @@ pub enum InterfaceEvent {
         interface: u64,
         lose: Option<Loss>,
     },
+    /// The manager binds the interface to a stream between two devices, by the number of its line and its stream ID.
+    Bind {
+        interface: u64,
+        line: u64,
+        stream: u64,
+        lose: Option<Loss>,
+    },
+    /// The manager ends that binding.
+    Unbind {
+        interface: u64,
+        line: u64,
+        stream: u64,
+        lose: Option<Loss>,
+    },
     /// Shows the manager's view of the interface.
     View {
         interface: u64,
@@ -87,66 +102,69 @@ pub enum AccessEvent {
     },
 }
 
-/// What a line of a script asks for (this profile). Links, streams and packets need not exist: a packet is named by the
-/// number that it was sealed under, from 1.
+/// What happens, of what the topology has (this profile). A link is named by the number of its line, and so is a stream
+/// between two devices or of a hop; a port is the end of a line. Streams and packets need not exist: a packet is named
+/// by the number that it was sealed under, from 1.
 #[derive(Drop)]
 pub enum Event {
-    /// `establish LINK STREAM`: the manager gives the stream its first keys.
+    /// The manager gives the stream of a line its first keys.
     Establish {
         link: u64,
         stream: u64,
         lose: Option<Loss>,
     },
-    /// `refresh LINK STREAM`: the manager gives the stream the keys of the other set.
+    /// The manager gives the stream the keys of the other set.
     Refresh {
         link: u64,
         stream: u64,
         lose: Option<Loss>,
     },
-    /// `stop LINK STREAM`: the manager takes the stream's keys away.
+    /// The manager takes the stream's keys away.
     Stop {
         link: u64,
         stream: u64,
         lose: Option<Loss>,
     },
-    /// `send PORT HEX`: the port sends the TLP of these bytes; `more` lets its unit go on if it has room, `trusted`
-    /// asks a host's port to set T.
+    /// The end sends the TLP of these bytes; `more` lets its unit go on if it has room, `trusted` asks a host's port to
+    /// set T.
     Send {
         port: PortName,
         bytes: Bytes,
         more: bool,
         trusted: bool,
     },
-    /// `pass N`: the packet arrives unchanged.
+    /// The packet arrives unchanged.
     Pass {
         packet: u64,
     },
-    /// `alter N AT HH`: the packet arrives with its byte `at`, from 0, combined by exclusive or with `mask`.
+    /// The packet arrives with its byte `at`, from 0, combined by exclusive or with `mask`.
     Alter {
         packet: u64,
         at: u64,
         mask: u8,
     },
-    /// `cut N LEN`: the first `length` bytes of the packet arrive.
+    /// The first `length` bytes of the packet arrive.
     Cut {
         packet: u64,
         length: u64,
     },
-    /// `arrive PORT HEX`: bytes of anyone's making arrive at the port.
+    /// Bytes of anyone's making arrive at the port: at a host's or a device's, or at one of a switch.
     Arrive {
         port: PortName,
         bytes: Bytes,
     },
-    /// `dump N`: shows the packet's bytes.
+    /// Shows the packet's bytes.
     Dump {
         packet: u64,
     },
-    /// `reset LINK`: both ports of the link lose all keys, units, counts and failures, the manager's operations on its
-    /// streams are dropped, and its device's interfaces are unlocked.
+    /// These ends lose all keys, units, counts and failures: of the link, of its hop, and of streams between its device
+    /// and others. The manager's operations on streams of the link and its hop are dropped, those between devices are
+    /// to be stopped, and the interfaces of the link's device are unlocked.
     Reset {
         link: u64,
+        ends: Ends,
     },
-    /// `status LINK STREAM`: shows the states of the stream at both ports.
+    /// Shows the states of the stream at both ports.
     Status {
         link: u64,
         stream: u64,
@@ -159,4 +177,11 @@ pub enum Event {
     Access {
         event: AccessEvent,
     },
+    /// The switch of the link seals the first TLP that waits there in this direction on the other segment.
+    Forward {
+        link: u64,
+        direction: Direction,
+    },
+    /// What the topology does not have was asked for.
+    Absent,
 }

@@ -8,15 +8,14 @@ ghost use Rattle.link_events.specs.Interfaces.{
   bar_in,
   register_in,
   register_value_in,
-  interface_and_loss,
   write_event_in,
   memory_in,
 };
 ghost use Rattle.link_events.specs.Interfaces.{asking_event_of, interface_event_of};
 
-use crate::parts::{length_at, loss, one_number};
+use crate::parts::{asked, length_at, one_number};
 use crate::words::{number, number_at};
-use crate::{InterfaceEvent, LineFault, Loss};
+use crate::{InterfaceEvent, LineFault};
 use interface_words::Register;
 
 // A BAR: `bar`, and its number from 0 to 5.
@@ -82,21 +81,6 @@ fn value(register: Register, word: &[u8]) -> Option<u64>
         Some(number) if has_room(register, number) => Some(number),
         _ => None,
     }
-}
-
-// The interface of an operation, and what is lost.
-fn asked(words: &[&[u8]]) -> Result<(u64, Option<Loss>), LineFault>
-    ensures { result ≡ interface_and_loss (map (λ w. w.now) words.now) }
-{
-    let [interface, rest @ ..] = words else {
-        return Err(LineFault::Count);
-    };
-    if !matches!(rest, [] | [_, _, _]) {
-        return Err(LineFault::Count);
-    }
-    let interface = number_at(interface)?;
-    let lose = loss(rest)?;
-    Ok((interface, lose))
 }
 
 fn write(words: &[&[u8]]) -> Result<InterfaceEvent, LineFault>

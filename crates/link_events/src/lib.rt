@@ -2,15 +2,20 @@
 #![tactic(auto)]
 
 mod accesses;
+mod ends;
 mod event;
 mod fault;
 mod interfaces;
+mod paired;
 mod parse;
 mod parts;
+mod script;
 mod words;
 
+pub use ends::Ends;
 pub use event::{AccessEvent, Event, InterfaceEvent, Loss, Lost};
 pub use fault::{LINE_LIMIT, LineError, LineFault, fault_line};
 pub use ide_types::Memory;
 pub use parse::{faults_are_first, lines_spell, parse_line};
+pub use script::{HopEvent, PeerEvent, ScriptEvent};
 pub use words::{Words, bytes_at, is_printed, words_of};

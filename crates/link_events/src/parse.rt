@@ -4,8 +4,9 @@ ghost use Rattle.std.specs.Prelude.{◌≡◌, ◌∷◌, [], false, map};
 ghost use Rattle.std.specs.Option.{ok_or};
 ghost use Rattle.link_events.specs.declared.fault.LineFault.TheVariants as fault;
 ghost use Rattle.link_events.specs.Words.{words_in};
-ghost use Rattle.link_events.specs.Parse.{operation_in, marks_in, send_in, alter_in, arrive_in, bytes_event_in};
-ghost use Rattle.link_events.specs.Parse.{packet_event_of, naming_event_of, last_event_in, other_event_in};
+ghost use Rattle.link_events.specs.Parse.{marks_in, send_in, alter_in, arrive_in, bytes_event_in};
+ghost use Rattle.link_events.specs.Parse.{packet_event_of, naming_event_of, hop_event_in, peer_event_in, last_event_in};
+ghost use Rattle.link_events.specs.Parse.{other_event_in};
 ghost use Rattle.link_events.specs.Parse.{event_by, event_in};
 ghost use Rattle.link_events.specs.Parse.{line_meaning, begins_bytes, line_answer, IsLineAnswer};
 ghost use Rattle.link_events.specs.Spells.{MeaningIsSpelling, NothingIsSkipped, SpelledAreAllowed};
@@ -14,29 +15,14 @@ ghost use Rattle.link_events.specs.Terms.{LineFault};
 
 use crate::accesses::access_event;
 use crate::interfaces::interface_event;
-use crate::parts::{loss, one_number, two_numbers};
-use crate::words::{bytes_at, is_printed, mask_at, number_at, port_at, words_of};
-use crate::{Event, LINE_LIMIT, LineError, LineFault, Loss};
+use crate::paired::{hop_event, peer_event, peer_send};
+use crate::parts::{one_number, operation, two_numbers};
+use crate::words::{any_port_at, bytes_at, is_printed, mask_at, number_at, port_at, words_of};
+use crate::{LINE_LIMIT, LineError, LineFault, ScriptEvent};
 use ide_types::Side;
 use std::alloc::Global;
 
-// The link and the stream of an operation, and what is lost.
-fn operation(words: &[&[u8]]) -> Result<(u64, u64, Option<Loss>), LineFault>
-    ensures { result ≡ operation_in (map (λ w. w.now) words.now) }
-{
-    let [link, stream, rest @ ..] = words else {
-        return Err(LineFault::Count);
-    };
-    if !matches!(rest, [] | [_, _, _]) {
-        return Err(LineFault::Count);
-    }
-    let link = number_at(link)?;
-    let stream = number_at(stream)?;
-    let lose = loss(rest)?;
-    Ok((link, stream, lose))
-}
-
-fn alter(words: &[&[u8]]) -> Result<Event, LineFault>
+fn alter(words: &[&[u8]]) -> Result<ScriptEvent, LineFault>
     ensures { result ≡ alter_in (map (λ w. w.now) words.now) }
 {
     let [packet, at, mask] = words else {
@@ -45,7 +31,7 @@ fn alter(words: &[&[u8]]) -> Result<Event, LineFault>
     let packet = number_at(packet)?;
     let at = number_at(at)?;
     let mask = mask_at(mask)?;
-    Ok(Event::Alter { packet, at, mask })
+    Ok(ScriptEvent::Alter { packet, at, mask })
 }
 
 // Whether `more` and `trusted` stand after the bytes of a send.
@@ -63,7 +49,7 @@ fn marks_at(side: Side, marks: &[&[u8]]) -> Result<(bool, bool), LineFault>
     }
 }
 
-fn send(alloc: Global, words: &[&[u8]]) -> Result<Event, LineError>
+fn send(alloc: Global, words: &[&[u8]]) -> Result<ScriptEvent, LineError>
     ensures { IsLineAnswer (send_in (map (λ w. w.now) words.now)) result }
 {
     let [port, bytes, marks @ ..] = words else {
@@ -75,7 +61,7 @@ fn send(alloc: Global, words: &[&[u8]]) -> Result<Event, LineError>
     let port = port_at(port)?;
     let bytes = bytes_at(alloc, bytes)?;
     let (more, trusted) = marks_at(port.side, marks)?;
-    Ok(Event::Send {
+    Ok(ScriptEvent::Send {
         port,
         bytes,
         more,
@@ -83,23 +69,26 @@ fn send(alloc: Global, words: &[&[u8]]) -> Result<Event, LineError>
     })
 }
 
-fn arrive(alloc: Global, words: &[&[u8]]) -> Result<Event, LineError>
+fn arrive(alloc: Global, words: &[&[u8]]) -> Result<ScriptEvent, LineError>
     ensures { IsLineAnswer (arrive_in (map (λ w. w.now) words.now)) result }
 {
     let [port, bytes] = words else {
         return Err(LineError::Fault(LineFault::Count));
     };
-    let port = port_at(port)?;
+    let port = any_port_at(port)?;
     let bytes = bytes_at(alloc, bytes)?;
-    Ok(Event::Arrive { port, bytes })
+    Ok(ScriptEvent::Arrive { port, bytes })
 }
 
-fn bytes_event(alloc: Global, first: &[u8], rest: &[&[u8]]) -> Result<Event, LineError>
+fn bytes_event(alloc: Global, first: &[u8], rest: &[&[u8]]) -> Result<ScriptEvent, LineError>
     ensures gives { IsLineAnswer (bytes_event_in first.now (map (λ w. w.now) rest.now)) result }
     ensures none { begins_bytes (first.now ∷ []) ≡ false → result ≡ Err (LineError.Fault LineFault.Word) }
 {
     if first == b"send".as_slice() {
         return send(alloc, rest);
+    }
+    if first == b"psend".as_slice() {
+        return peer_send(alloc, rest);
     }
     if first == b"arrive".as_slice() {
         return arrive(alloc, rest);
@@ -108,81 +97,111 @@ fn bytes_event(alloc: Global, first: &[u8], rest: &[&[u8]]) -> Result<Event, Lin
 }
 
 // An event that names packets; `None` if the first word is none of these events.
-fn packet_event(first: &[u8], rest: &[&[u8]]) -> Option<Result<Event, LineFault>>
+fn packet_event(first: &[u8], rest: &[&[u8]]) -> Option<Result<ScriptEvent, LineFault>>
     ensures { result ≡ packet_event_of first.now (map (λ w. w.now) rest.now) }
 {
     if first == b"pass".as_slice() {
-        return Some(one_number(rest).map(|packet| Event::Pass { packet }));
+        return Some(one_number(rest).map(|packet| ScriptEvent::Pass { packet }));
     }
     if first == b"alter".as_slice() {
         return Some(alter(rest));
     }
     if first == b"cut".as_slice() {
-        return Some(two_numbers(rest).map(|(packet, length)| Event::Cut { packet, length }));
+        return Some(two_numbers(rest).map(|(packet, length)| ScriptEvent::Cut { packet, length }));
     }
     if first == b"dump".as_slice() {
-        return Some(one_number(rest).map(|packet| Event::Dump { packet }));
+        return Some(one_number(rest).map(|packet| ScriptEvent::Dump { packet }));
     }
     None
 }
 
 // An event that names links, streams and packets, and holds no bytes.
-fn naming_event(first: &[u8], rest: &[&[u8]]) -> Option<Result<Event, LineFault>>
+fn naming_event(first: &[u8], rest: &[&[u8]]) -> Option<Result<ScriptEvent, LineFault>>
     ensures { result ≡ naming_event_of first.now (map (λ w. w.now) rest.now) }
 {
     if first == b"establish".as_slice() {
-        return Some(operation(rest).map(|(link, stream, lose)| Event::Establish {
+        return Some(operation(rest).map(|(link, stream, lose)| ScriptEvent::Establish {
             link,
             stream,
             lose,
         }));
     }
     if first == b"refresh".as_slice() {
-        return Some(operation(rest).map(|(link, stream, lose)| Event::Refresh {
+        return Some(operation(rest).map(|(link, stream, lose)| ScriptEvent::Refresh {
             link,
             stream,
             lose,
         }));
     }
     if first == b"stop".as_slice() {
-        return Some(operation(rest).map(|(link, stream, lose)| Event::Stop { link, stream, lose }));
+        return Some(operation(rest).map(|(link, stream, lose)| ScriptEvent::Stop {
+            link,
+            stream,
+            lose,
+        }));
     }
     if first == b"reset".as_slice() {
-        return Some(one_number(rest).map(|link| Event::Reset { link }));
+        return Some(one_number(rest).map(|link| ScriptEvent::Reset { link }));
     }
     if first == b"status".as_slice() {
-        return Some(two_numbers(rest).map(|(link, stream)| Event::Status { link, stream }));
+        return Some(two_numbers(rest).map(|(link, stream)| ScriptEvent::Status { link, stream }));
     }
     packet_event(first, rest)
 }
 
-// An event on a trusted read or on guarded memory, or one that holds bytes.
-fn last_event(alloc: Global, first: &[u8], rest: &[&[u8]]) -> Result<Event, LineError>
-    ensures gives { IsLineAnswer (last_event_in first.now (map (λ w. w.now) rest.now)) result }
+// An event on a hop, or one that holds bytes.
+fn some_hop_event(alloc: Global, first: &[u8], rest: &[&[u8]]) -> Result<ScriptEvent, LineError>
+    ensures gives { IsLineAnswer (hop_event_in first.now (map (λ w. w.now) rest.now)) result }
     ensures exact { begins_bytes (first.now ∷ []) ≡ false
-        → result ≡ line_answer (last_event_in first.now (map (λ w. w.now) rest.now)) }
+        → result ≡ line_answer (hop_event_in first.now (map (λ w. w.now) rest.now)) }
 {
-    match access_event(first, rest) {
-        Some(Ok(event)) => Ok(Event::Access { event }),
+    match hop_event(first, rest) {
+        Some(Ok(event)) => Ok(ScriptEvent::Hop { event }),
         Some(Err(fault)) => Err(LineError::Fault(fault)),
         None => bytes_event(alloc, first, rest),
     }
 }
 
+// An event on a stream between devices, or one of these.
+fn some_peer_event(alloc: Global, first: &[u8], rest: &[&[u8]]) -> Result<ScriptEvent, LineError>
+    ensures gives { IsLineAnswer (peer_event_in first.now (map (λ w. w.now) rest.now)) result }
+    ensures exact { begins_bytes (first.now ∷ []) ≡ false
+        → result ≡ line_answer (peer_event_in first.now (map (λ w. w.now) rest.now)) }
+{
+    match peer_event(first, rest) {
+        Some(Ok(event)) => Ok(ScriptEvent::Peer { event }),
+        Some(Err(fault)) => Err(LineError::Fault(fault)),
+        None => some_hop_event(alloc, first, rest),
+    }
+}
+
+// An event on a trusted read or on guarded memory, or one of these.
+fn last_event(alloc: Global, first: &[u8], rest: &[&[u8]]) -> Result<ScriptEvent, LineError>
+    ensures gives { IsLineAnswer (last_event_in first.now (map (λ w. w.now) rest.now)) result }
+    ensures exact { begins_bytes (first.now ∷ []) ≡ false
+        → result ≡ line_answer (last_event_in first.now (map (λ w. w.now) rest.now)) }
+{
+    match access_event(first, rest) {
+        Some(Ok(event)) => Ok(ScriptEvent::Access { event }),
+        Some(Err(fault)) => Err(LineError::Fault(fault)),
+        None => some_peer_event(alloc, first, rest),
+    }
+}
+
 // An event on an interface or on memory, or one of these.
-fn other_event(alloc: Global, first: &[u8], rest: &[&[u8]]) -> Result<Event, LineError>
+fn other_event(alloc: Global, first: &[u8], rest: &[&[u8]]) -> Result<ScriptEvent, LineError>
     ensures gives { IsLineAnswer (other_event_in first.now (map (λ w. w.now) rest.now)) result }
     ensures exact { begins_bytes (first.now ∷ []) ≡ false
         → result ≡ line_answer (other_event_in first.now (map (λ w. w.now) rest.now)) }
 {
     match interface_event(first, rest) {
-        Some(Ok(event)) => Ok(Event::Interface { event }),
+        Some(Ok(event)) => Ok(ScriptEvent::Interface { event }),
         Some(Err(fault)) => Err(LineError::Fault(fault)),
         None => last_event(alloc, first, rest),
     }
 }
 
-fn event(alloc: Global, first: &[u8], rest: &[&[u8]]) -> Result<Event, LineError>
+fn event(alloc: Global, first: &[u8], rest: &[&[u8]]) -> Result<ScriptEvent, LineError>
     ensures gives { IsLineAnswer (event_by first.now (map (λ w. w.now) rest.now)) result }
     ensures exact { begins_bytes (first.now ∷ []) ≡ false
         → result ≡ line_answer (event_by first.now (map (λ w. w.now) rest.now)) }
@@ -194,7 +213,7 @@ fn event(alloc: Global, first: &[u8], rest: &[&[u8]]) -> Result<Event, LineError
     }
 }
 
-fn some_event(alloc: Global, first: &[u8], rest: &[&[u8]]) -> Result<Option<Event>, LineError>
+fn some_event(alloc: Global, first: &[u8], rest: &[&[u8]]) -> Result<Option<ScriptEvent>, LineError>
     ensures gives { IsLineAnswer (event_in (first.now ∷ map (λ w. w.now) rest.now)) result }
     ensures exact { begins_bytes (first.now ∷ []) ≡ false
         → result ≡ line_answer (event_in (first.now ∷ map (λ w. w.now) rest.now)) }
@@ -205,7 +224,7 @@ fn some_event(alloc: Global, first: &[u8], rest: &[&[u8]]) -> Result<Option<Even
     }
 }
 
-fn event_of(alloc: Global, words: &[&[u8]]) -> Result<Option<Event>, LineError>
+fn event_of(alloc: Global, words: &[&[u8]]) -> Result<Option<ScriptEvent>, LineError>
     ensures gives { IsLineAnswer (event_in (map (λ w. w.now) words.now)) result }
     ensures exact { begins_bytes (map (λ w. w.now) words.now) ≡ false
         → result ≡ line_answer (event_in (map (λ w. w.now) words.now)) }
@@ -217,7 +236,7 @@ fn event_of(alloc: Global, words: &[&[u8]]) -> Result<Option<Event>, LineError>
 }
 
 // The event that the words of a line spell.
-fn event_on(alloc: Global, line: &[u8]) -> Result<Option<Event>, LineError>
+fn event_on(alloc: Global, line: &[u8]) -> Result<Option<ScriptEvent>, LineError>
     ensures gives { IsLineAnswer (event_in (words_in line.now)) result }
     ensures exact { begins_bytes (words_in line.now) ≡ false → result ≡ line_answer (event_in (words_in line.now)) }
 {
@@ -226,7 +245,7 @@ fn event_on(alloc: Global, line: &[u8]) -> Result<Option<Event>, LineError>
 }
 
 // The event that a line spells, or its fault.
-fn event_in_line(alloc: Global, line: &[u8]) -> Result<Option<Event>, LineError>
+fn event_in_line(alloc: Global, line: &[u8]) -> Result<Option<ScriptEvent>, LineError>
     ensures gives { IsLineAnswer (line_meaning line.now) result }
     ensures exact { begins_bytes (words_in line.now) ≡ false → result ≡ line_answer (line_meaning line.now) }
 {
@@ -243,8 +262,8 @@ fn event_in_line(alloc: Global, line: &[u8]) -> Result<Option<Event>, LineError>
 }
 
 /// The event that a line without its line feed spells, `None` on a line of spaces and on one that begins with `#`, or
-/// the first fault of any other line (this profile). Only the events `send` and `arrive` take memory.
-pub fn parse_line(alloc: Global, line: &[u8]) -> Result<Option<Event>, LineError>
+/// the first fault of any other line (this profile). Only the events `send`, `psend` and `arrive` take memory.
+pub fn parse_line(alloc: Global, line: &[u8]) -> Result<Option<ScriptEvent>, LineError>
     ensures gives { IsLineAnswer (line_meaning line.now) result }
     ensures exact { begins_bytes (words_in line.now) ≡ false → result ≡ line_answer (line_meaning line.now) }
     ensures first { (f : LineFault) → result ≡ Err (LineError.Fault f) → FirstFault line.now f }
@@ -254,7 +273,7 @@ pub fn parse_line(alloc: Global, line: &[u8]) -> Result<Option<Event>, LineError
 }
 
 /// A line means an event exactly if it spells that event, and none exactly if it is a comment or of spaces only. A
-/// spelled event is of one of eight links, and trusted at a host's port alone (this profile).
+/// spelled event is of a port of one of eight links or its switch, and trusted at a host's port alone (this profile).
 pub fn lines_spell()
     ensures exact { MeaningIsSpelling }
     ensures none { NothingIsSkipped }

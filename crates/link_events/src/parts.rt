@@ -3,7 +3,7 @@
 ghost use Rattle.std.specs.Prelude.{◌≡◌, map};
 ghost use Rattle.std.specs.Option.{ok_or};
 ghost use Rattle.link_events.specs.declared.fault.LineFault.TheVariants as fault;
-ghost use Rattle.link_events.specs.Parts.{loss_in, one_number_in, two_numbers_in, length_in};
+ghost use Rattle.link_events.specs.Parts.{loss_in, asked_in, operation_in, one_number_in, two_numbers_in, length_in};
 
 use crate::words::{lost_at, number, number_at};
 use crate::{LineFault, Loss};
@@ -44,6 +44,37 @@ pub(crate) fn two_numbers(words: &[&[u8]]) -> Result<(u64, u64), LineFault>
     let first = number_at(first)?;
     let second = number_at(second)?;
     Ok((first, second))
+}
+
+// A number, and what is lost.
+pub(crate) fn asked(words: &[&[u8]]) -> Result<(u64, Option<Loss>), LineFault>
+    ensures { result ≡ asked_in (map (λ w. w.now) words.now) }
+{
+    let [number, rest @ ..] = words else {
+        return Err(LineFault::Count);
+    };
+    if !matches!(rest, [] | [_, _, _]) {
+        return Err(LineFault::Count);
+    }
+    let number = number_at(number)?;
+    let lose = loss(rest)?;
+    Ok((number, lose))
+}
+
+// Two numbers, and what is lost.
+pub(crate) fn operation(words: &[&[u8]]) -> Result<(u64, u64, Option<Loss>), LineFault>
+    ensures { result ≡ operation_in (map (λ w. w.now) words.now) }
+{
+    let [first, second, rest @ ..] = words else {
+        return Err(LineFault::Count);
+    };
+    if !matches!(rest, [] | [_, _, _]) {
+        return Err(LineFault::Count);
+    }
+    let first = number_at(first)?;
+    let second = number_at(second)?;
+    let lose = loss(rest)?;
+    Ok((first, second, lose))
 }
 
 // How many bytes are shown: 1 to 256.

@@ -7,7 +7,7 @@ ghost use Rattle.link_events.specs.declared.event.Lost.{Lost};
 ghost use Rattle.link_events.specs.declared.fault.LineFault.TheVariants as fault;
 ghost use Rattle.link_events.specs.Words.{words_in, some_digits_value, digits_in, number_of_word, mask_in};
 ghost use Rattle.ide_types.specs.Names.{is_printable};
-ghost use Rattle.link_events.specs.Words.{bytes_in, port_of_word, lost_of_word};
+ghost use Rattle.link_events.specs.Words.{bytes_in, port_of_word, any_port_of_word, lost_of_word};
 ghost use Rattle.link_events.specs.Parse.{IsLineAnswer};
 
 use crate::{LineError, LineFault, Lost};
@@ -147,6 +147,44 @@ pub(crate) fn port_at(word: &[u8]) -> Result<PortName, LineFault>
     ensures { result ≡ ok_or (port_of_word word.now) fault.Word }
 {
     port(word).ok_or(LineFault::Word)
+}
+
+#[tactic(auto, unfolding(crate::specs::Words::any_port_of_word))]
+fn any_port(word: &[u8]) -> Option<PortName>
+    ensures { result ≡ any_port_of_word word.now }
+{
+    let [letter, link] = word else {
+        return None;
+    };
+    let link = match *link {
+        b'0'..=b'7' => *link - b'0',
+        _ => return None,
+    };
+    match *letter {
+        b'h' => Some(PortName {
+            side: Side::Host,
+            link,
+        }),
+        b'd' => Some(PortName {
+            side: Side::Device,
+            link,
+        }),
+        b'u' => Some(PortName {
+            side: Side::Device,
+            link: 8 + link,
+        }),
+        b'w' => Some(PortName {
+            side: Side::Host,
+            link: 16 + link,
+        }),
+        _ => None,
+    }
+}
+
+pub(crate) fn any_port_at(word: &[u8]) -> Result<PortName, LineFault>
+    ensures { result ≡ ok_or (any_port_of_word word.now) fault.Word }
+{
+    any_port(word).ok_or(LineFault::Word)
 }
 
 pub(crate) fn lost_at(word: &[u8]) -> Result<Lost, LineFault>

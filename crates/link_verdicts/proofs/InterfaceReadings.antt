@@ -1,5 +1,5 @@
 -- The verdict of an event on an interface or on memory is read from its words.
-use Rattle.std.proofs.Common.{◌≡◌, List, refl, codes}
+use Rattle.std.proofs.Common.{◌≡◌, ◌+◌, List, refl, codes}
 use Rattle.std.specs.Prelude.{if◌then◌else◌}
 use Rattle.std.specs.Str.{bytes_eq}
 use Rattle.ide_types.specs.Names.{Text}
@@ -37,6 +37,8 @@ interface_by first ws =
     else if bytes_eq first (codes "reported") then iv.Reported (number (word_at ws 0)) (bytes (word_at ws 1))
     else if bytes_eq first (codes "started") then iv.Started (number (word_at ws 0)) (number (word_at ws 2))
     else if bytes_eq first (codes "halted") then iv.Halted (number (word_at ws 0)) (number (word_at ws 2))
+    else if bytes_eq first (codes "bound") then iv.Bound (number (word_at ws 0)) (24 + number (word_at ws 1))
+    else if bytes_eq first (codes "unbound") then iv.Unbound (number (word_at ws 0)) (24 + number (word_at ws 1))
     else if bytes_eq first (codes "state") then iv.State (number (word_at ws 0)) (number (word_at ws 1))
     else if bytes_eq first (codes "view") then iv.View (number (word_at ws 0)) (view_named (word_at ws 1))
     else if bytes_eq first (codes "written") then iv.Written (number (word_at ws 0)) (number (word_at ws 1))

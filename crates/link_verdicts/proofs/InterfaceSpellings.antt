@@ -1,5 +1,5 @@
 -- No word of the line of an interface or of memory has a space in it.
-use Rattle.std.proofs.Common.{rules}
+use Rattle.std.proofs.Common.{rules, ◌-◌}
 use Rattle.interface_words.specs.ViewNames.{view_word}
 use Rattle.interface_words.specs.declared.view.View.{View}
 use Rattle.interface_words.specs.declared.view.View.TheVariants as view
@@ -7,6 +7,7 @@ use Rattle.interface_words.specs.declared.verdict.InterfaceVerdict.{InterfaceVer
 use Rattle.interface_words.specs.declared.verdict.InterfaceVerdict.TheVariants as iv
 use Rattle.link_verdicts.specs.InterfaceLines.{interface_words, FitsInterfaceVerdict}
 use Rattle.link_verdicts.proofs.Joins.{IsWord, AreWords}
+use Rattle.link_verdicts.proofs.Readings.{few_peers}
 use Rattle.link_verdicts.proofs.WordSpellings.{decimal_word, hex_word, bytes_are_word}
 
 view_is_word : (v : View) → IsWord (view_word v)
@@ -22,6 +23,10 @@ interface_is_words (iv.Reported i report) h = let a = decimal_word i h.0 in let 
     rules
 interface_is_words (iv.Started i j) h = let a = decimal_word i h.0 in let b = decimal_word j h.1 in search rules
 interface_is_words (iv.Halted i n) h = let a = decimal_word i h.0 in let b = decimal_word n h.1 in search rules
+interface_is_words (iv.Bound i l) h = let a = decimal_word i h.0 in let b = decimal_word (l - 24) (few_peers l h.1) in
+    search rules
+interface_is_words (iv.Unbound i l) h = let a = decimal_word i h.0 in let b = decimal_word (l - 24) (few_peers l h.1) in
+    search rules
 interface_is_words (iv.State i s) h = let a = decimal_word i h.0 in let b = decimal_word s h.1 in search rules
 interface_is_words (iv.View i v) h = let a = decimal_word i h in let b = view_is_word v in search rules
 interface_is_words (iv.Written i s) h = let a = decimal_word i h.0 in let b = decimal_word s h.1 in search rules

@@ -1,68 +1,81 @@
 -- Verdicts by their lines.
-use Rattle.std.specs.Prelude.{ℕ, ◌≡◌, ◌<◌, ◌^◌, List, [], ◌∷◌, ◌++◌}
+use Rattle.std.specs.Prelude.{ℕ, ◌≡◌, ◌<◌, ◌^◌, true, List, [], ◌∷◌, ◌++◌}
 use Rattle.hex.specs.Hex.{IsBytes}
+use Rattle.ide_types.specs.declared.port.PortName.{PortName}
+use Rattle.ide_types.specs.Lines.{is_port}
+use Rattle.ide_plan.specs.declared.plan.Plan.{Plan}
+use Rattle.ide_plan.specs.Fits.{FitsPlan}
+use Rattle.ide_plan.specs.Ends.{line_has}
 use Rattle.link_verdicts.specs.Terms.{SealedPacket, UnitName, Verdict, Nothing, Malformed, Plain, RefusedInsecure}
 use Rattle.link_verdicts.specs.Terms.{RefusedNoKey, RefusedUnfinished, RefusedWorn, Sealed, Unknown, Insecure, NotKeyed}
 use Rattle.link_verdicts.specs.Terms.{Fail, Held, Accepted, Established, Refreshed, Stopped, LostRequest, LostReply}
 use Rattle.link_verdicts.specs.Terms.{RefusedNotIdle, RefusedNotSecure, RefusedPoolEmpty, RefusedDevice, RefusedBusy}
-use Rattle.link_verdicts.specs.Terms.{RefusedUnitOpen, Packet, Reset, Status, Interface, Access}
+use Rattle.link_verdicts.specs.Terms.{RefusedUnitOpen, Packet, Reset, Status, Interface, Access, Through}
 use Rattle.link_verdicts.specs.InterfaceLines.{FitsInterfaceVerdict}
 use Rattle.link_verdicts.specs.AccessLines.{FitsAccessVerdict}
 use Rattle.link_verdicts.specs.Lines.{line_of}
+use Rattle.link_verdicts.specs.Shown.{shown}
 
--- ---- each number has at most 64 bits, as those of every type here have, and each byte 8
+-- ---- Each number has at most 64 bits, as those of every type here have, and each byte 8. A line of the topology has
+-- the
+-- stream, and where none is looked up a port is named.
 
-abbrev pub FitsUnit : UnitName → Type 0
-FitsUnit u = (u.stream < 2 ^ 64) × (u.draw < 2 ^ 64) × (u.unit < 2 ^ 64)
+abbrev pub FitsStream : Plan → ℕ → ℕ → Type 0
+FitsStream plan line stream = (line_has plan line stream ≡ true) × (stream < 2 ^ 64)
 
-abbrev pub FitsSealed : SealedPacket → Type 0
-FitsSealed p =
-    (p.number < 2 ^ 64) × (p.port.link < 2 ^ 64) × (p.stream < 2 ^ 64) × (p.draw < 2 ^ 64) × (p.unit < 2 ^ 64)
+abbrev pub FitsUnit : Plan → PortName → UnitName → Type 0
+FitsUnit plan port u = FitsStream plan port.link u.stream × (u.draw < 2 ^ 64) × (u.unit < 2 ^ 64)
+
+abbrev pub FitsSealed : Plan → SealedPacket → Type 0
+FitsSealed plan p =
+    (p.number < 2 ^ 64) × FitsStream plan p.port.link p.stream × (p.draw < 2 ^ 64) × (p.unit < 2 ^ 64)
     × (p.posted < 2 ^ 64)
 
-abbrev pub FitPackets : List SealedPacket → Type 0
-FitPackets [] = Unit {0}
-FitPackets (p ∷ ps) = FitsSealed p × FitPackets ps
+abbrev pub FitPackets : Plan → List SealedPacket → Type 0
+FitPackets plan [] = Unit {0}
+FitPackets plan (p ∷ ps) = FitsSealed plan p × FitPackets plan ps
 
 abbrev pub FitsKeyed : ℕ → ℕ → ℕ → Type 0
 FitsKeyed link stream draw = (link < 2 ^ 64) × (stream < 2 ^ 64) × (draw < 2 ^ 64)
 
-abbrev pub Fits : Verdict → Type 0
-Fits Nothing = Unit {0}
-Fits (Malformed port word place) = (port.link < 2 ^ 64) × (place < 2 ^ 64)
-Fits (Plain port) = port.link < 2 ^ 64
-Fits RefusedInsecure = Unit {0}
-Fits (RefusedNoKey sub) = Unit {0}
-Fits RefusedUnfinished = Unit {0}
-Fits (RefusedWorn sub units) = units < 2 ^ 64
-Fits (Sealed packets) = FitPackets packets
-Fits (Unknown port stream) = (port.link < 2 ^ 64) × (stream < 2 ^ 64)
-Fits (Insecure port stream) = (port.link < 2 ^ 64) × (stream < 2 ^ 64)
-Fits (NotKeyed port stream sub) = (port.link < 2 ^ 64) × (stream < 2 ^ 64)
-Fits (Fail port stream sub cause) = (port.link < 2 ^ 64) × (stream < 2 ^ 64)
-Fits (Held port unit) = (port.link < 2 ^ 64) × FitsUnit unit
-Fits (Accepted port unit effects) = (port.link < 2 ^ 64) × FitsUnit unit
-Fits (Established link stream draw) = FitsKeyed link stream draw
-Fits (Refreshed link stream draw) = FitsKeyed link stream draw
-Fits (Stopped link stream) = (link < 2 ^ 64) × (stream < 2 ^ 64)
-Fits (LostRequest exchange) = exchange < 2 ^ 64
-Fits (LostReply exchange) = exchange < 2 ^ 64
-Fits RefusedNotIdle = Unit {0}
-Fits (RefusedNotSecure status) = Unit {0}
-Fits (RefusedPoolEmpty draws) = draws < 2 ^ 64
-Fits (RefusedDevice exchange code) = (exchange < 2 ^ 64) × (code < 2 ^ 64)
-Fits (RefusedBusy operation) = Unit {0}
-Fits (RefusedUnitOpen sub) = Unit {0}
-Fits (Packet packet bytes) = (packet < 2 ^ 64) × IsBytes bytes
-Fits (Reset link) = link < 2 ^ 64
-Fits (Status link stream host device) = (link < 2 ^ 64) × (stream < 2 ^ 64)
-Fits (Interface verdict) = FitsInterfaceVerdict verdict
-Fits (Access verdict) = FitsAccessVerdict verdict
+abbrev pub Fits : Plan → Verdict → Type 0
+Fits plan Nothing = Unit {0}
+Fits plan (Malformed port word place) = (is_port port ≡ true) × (place < 2 ^ 64)
+Fits plan (Plain port) = is_port port ≡ true
+Fits plan RefusedInsecure = Unit {0}
+Fits plan (RefusedNoKey sub) = Unit {0}
+Fits plan RefusedUnfinished = Unit {0}
+Fits plan (RefusedWorn sub units) = units < 2 ^ 64
+Fits plan (Sealed packets) = FitPackets plan packets
+Fits plan (Unknown port stream) = (is_port port ≡ true) × (stream < 2 ^ 64)
+Fits plan (Insecure port stream) = FitsStream plan port.link stream
+Fits plan (NotKeyed port stream sub) = FitsStream plan port.link stream
+Fits plan (Fail port stream sub cause) = FitsStream plan port.link stream
+Fits plan (Held port unit) = FitsUnit plan port unit
+Fits plan (Accepted port unit effects) = FitsUnit plan port unit
+Fits plan (Established line stream draw) = FitsStream plan line stream × (draw < 2 ^ 64)
+Fits plan (Refreshed link stream draw) = FitsKeyed link stream draw
+Fits plan (Stopped line stream) = FitsStream plan line stream
+Fits plan (LostRequest exchange) = exchange < 2 ^ 64
+Fits plan (LostReply exchange) = exchange < 2 ^ 64
+Fits plan RefusedNotIdle = Unit {0}
+Fits plan (RefusedNotSecure status) = Unit {0}
+Fits plan (RefusedPoolEmpty draws) = draws < 2 ^ 64
+Fits plan (RefusedDevice exchange code) = (exchange < 2 ^ 64) × (code < 2 ^ 64)
+Fits plan (RefusedBusy kind operation) = Unit {0}
+Fits plan (RefusedUnitOpen sub) = Unit {0}
+Fits plan (Packet packet bytes) = (packet < 2 ^ 64) × IsBytes bytes
+Fits plan (Reset link) = link < 2 ^ 64
+Fits plan (Status link stream host device) = (link < 2 ^ 64) × (stream < 2 ^ 64)
+Fits plan (Interface verdict) = FitsInterfaceVerdict verdict
+Fits plan (Access verdict) = FitsAccessVerdict verdict
+Fits plan (Through port) = is_port port ≡ true
 
--- Texts that are equal, and begin with the lines of two verdicts, begin with one verdict of one number, and go on
--- alike.
+-- Texts that are equal, and begin with the lines of two verdicts of one topology as they are shown, begin with one
+-- verdict
+-- of one number, and go on alike.
 abbrev pub LinesApart : Type 0
 LinesApart =
-    (m n : ℕ) (v w : Verdict) (xs ys : List ℕ) → m < 2 ^ 64 → n < 2 ^ 64 → Fits v → Fits w → line_of m v ++ xs
-    ≡ line_of n w ++ ys
+    (plan : Plan) → FitsPlan plan → (m n : ℕ) (v w : Verdict) (xs ys : List ℕ) → m < 2 ^ 64 → n < 2 ^ 64 → Fits plan v
+    → Fits plan w → line_of m (shown plan.peers v) ++ xs ≡ line_of n (shown plan.peers w) ++ ys
     → (m ≡ n) × (v ≡ w) × (xs ≡ ys)

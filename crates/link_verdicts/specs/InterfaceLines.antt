@@ -1,8 +1,9 @@
 -- The words of the verdicts of events on device interfaces and on trusted memory.
-use Rattle.std.specs.Prelude.{◌<◌, ◌^◌, List, [], ◌∷◌, codes}
+use Rattle.std.specs.Prelude.{◌≡◌, ◌<◌, ◌-◌, ◌^◌, true, List, [], ◌∷◌, codes}
 use Rattle.std.specs.Fmt.{decimal}
 use Rattle.hex.specs.Hex.{encode_lower, IsBytes}
 use Rattle.ide_types.specs.Names.{Text}
+use Rattle.ide_types.specs.Lines.{is_peer_line}
 use Rattle.interface_words.specs.ViewNames.{view_word}
 use Rattle.interface_words.specs.declared.verdict.InterfaceVerdict.{InterfaceVerdict}
 use Rattle.interface_words.specs.declared.verdict.InterfaceVerdict.TheVariants as iv
@@ -13,6 +14,8 @@ interface_words (iv.Locked interface nonce) = codes "locked" ∷ decimal interfa
 interface_words (iv.Reported interface report) = codes "reported" ∷ decimal interface ∷ bytes_word report ∷ []
 interface_words (iv.Started interface draw) = codes "started" ∷ decimal interface ∷ codes "draw" ∷ decimal draw ∷ []
 interface_words (iv.Halted interface needs) = codes "halted" ∷ decimal interface ∷ codes "needs" ∷ decimal needs ∷ []
+interface_words (iv.Bound interface line) = codes "bound" ∷ decimal interface ∷ decimal (line - 24) ∷ []
+interface_words (iv.Unbound interface line) = codes "unbound" ∷ decimal interface ∷ decimal (line - 24) ∷ []
 interface_words (iv.State interface state) = codes "state" ∷ decimal interface ∷ decimal state ∷ []
 interface_words (iv.View interface view) = codes "view" ∷ decimal interface ∷ view_word view ∷ []
 interface_words (iv.Written interface state) = codes "written" ∷ decimal interface ∷ decimal state ∷ []
@@ -38,12 +41,14 @@ ShowsBytes (iv.Reported interface report) = Unit {0}
 ShowsBytes (iv.Memory bytes) = Unit {0}
 ShowsBytes _ = ⊥
 
--- each number has at most 64 bits, and each byte 8
+-- each number has at most 64 bits, and each byte 8; what an interface is bound to is a stream between devices
 abbrev pub FitsInterfaceVerdict : InterfaceVerdict → Type 0
 FitsInterfaceVerdict (iv.Locked interface nonce) = (interface < 2 ^ 64) × IsBytes nonce
 FitsInterfaceVerdict (iv.Reported interface report) = (interface < 2 ^ 64) × IsBytes report
 FitsInterfaceVerdict (iv.Started interface draw) = (interface < 2 ^ 64) × (draw < 2 ^ 64)
 FitsInterfaceVerdict (iv.Halted interface needs) = (interface < 2 ^ 64) × (needs < 2 ^ 64)
+FitsInterfaceVerdict (iv.Bound interface line) = (interface < 2 ^ 64) × (is_peer_line line ≡ true)
+FitsInterfaceVerdict (iv.Unbound interface line) = (interface < 2 ^ 64) × (is_peer_line line ≡ true)
 FitsInterfaceVerdict (iv.State interface state) = (interface < 2 ^ 64) × (state < 2 ^ 64)
 FitsInterfaceVerdict (iv.View interface view) = interface < 2 ^ 64
 FitsInterfaceVerdict (iv.Written interface state) = (interface < 2 ^ 64) × (state < 2 ^ 64)

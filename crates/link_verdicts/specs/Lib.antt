@@ -3,6 +3,7 @@ pub mod Words
 pub mod InterfaceLines
 pub mod AccessLines
 pub mod Lines
+pub mod Shown
 pub mod Apart
 -- what clauses and crates above cite
 pub use Rattle.ide_types.specs.Names.{Text, joined}
@@ -13,4 +14,5 @@ pub use Rattle.link_verdicts.specs.Lines.{IsOperationRefusal, IsOutcome}
 pub use Rattle.link_verdicts.specs.InterfaceLines.{interface_words, FitsInterfaceVerdict, IsInterfaceRefusal}
 pub use Rattle.link_verdicts.specs.InterfaceLines.{ShowsBytes}
 pub use Rattle.link_verdicts.specs.AccessLines.{access_words, FitsAccessVerdict}
+pub use Rattle.link_verdicts.specs.Shown.{shown}
 pub use Rattle.link_verdicts.specs.Apart.{Fits, LinesApart}

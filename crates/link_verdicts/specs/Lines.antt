@@ -1,13 +1,14 @@
 -- The line of each verdict.
-use Rattle.std.specs.Prelude.{ℕ, Bool, true, false, List, [], ◌∷◌, ◌++◌, codes}
+use Rattle.std.specs.Prelude.{ℕ, ◌-◌, nat_lt, Bool, true, false, List, [], ◌∷◌, ◌++◌, if◌then◌else◌, codes}
 use Rattle.std.specs.Fmt.{decimal}
 use Rattle.ide_types.specs.Names.{Text, joined, port_word, substream_word, fail_word, fault_word, status_word}
+use Rattle.ide_types.specs.Names.{kind_word}
 use Rattle.link_verdicts.specs.Terms.{Effect, SealedPacket, UnitName, Totals, Verdict, Nothing, Malformed, Plain}
 use Rattle.link_verdicts.specs.Terms.{RefusedInsecure, RefusedNoKey, RefusedUnfinished, RefusedWorn, Sealed, Unknown}
 use Rattle.link_verdicts.specs.Terms.{Insecure, NotKeyed, Fail, Held, Accepted, Established, Refreshed, Stopped}
 use Rattle.link_verdicts.specs.Terms.{LostRequest, LostReply, RefusedNotIdle, RefusedNotSecure, RefusedPoolEmpty}
 use Rattle.link_verdicts.specs.Terms.{RefusedDevice, RefusedBusy, RefusedUnitOpen, Packet, Reset, Status, Interface}
-use Rattle.link_verdicts.specs.Terms.{Access}
+use Rattle.link_verdicts.specs.Terms.{Access, Through}
 pub use Rattle.link_verdicts.specs.Words.{block_word, effect_word, operation_word, bytes_word, bit_of}
 use Rattle.link_verdicts.specs.InterfaceLines.{interface_words}
 use Rattle.link_verdicts.specs.AccessLines.{access_words}
@@ -44,6 +45,15 @@ effects_words (e ∷ es) = effect_word e ∷ effects_words es
 
 -- ---- lines
 
+-- the end of an operation on the stream of a line: its word, the line, and what follows. A hop's stream is named by its
+-- link and the segment, a stream between devices by its number.
+abbrev pub ended_words : Text → ℕ → ℕ → List Text → List Text
+ended_words word line stream after =
+    if nat_lt line 8 then word ∷ decimal line ∷ decimal stream ∷ after
+    else if nat_lt line 16 then (codes "h" ++ word) ∷ decimal (line - 8) ∷ codes "0" ∷ after
+    else if nat_lt line 24 then (codes "h" ++ word) ∷ decimal (line - 16) ∷ codes "1" ∷ after
+    else (codes "p" ++ word) ∷ decimal (line - 24) ∷ after
+
 abbrev pub keyed_words : Text → ℕ → ℕ → ℕ → List Text
 keyed_words word link stream draw = word ∷ decimal link ∷ decimal stream ∷ codes "draw" ∷ decimal draw ∷ []
 
@@ -63,9 +73,10 @@ verdict_words (Fail port stream sub cause) = codes "fail" ∷ port_word port ∷
     ∷ fail_word cause ∷ []
 verdict_words (Held port unit) = codes "held" ∷ port_word port ∷ unit_words unit []
 verdict_words (Accepted port unit effects) = codes "accepted" ∷ port_word port ∷ unit_words unit (effects_words effects)
-verdict_words (Established link stream draw) = keyed_words (codes "established") link stream draw
+verdict_words (Established line stream draw) =
+    ended_words (codes "established") line stream (codes "draw" ∷ decimal draw ∷ [])
 verdict_words (Refreshed link stream draw) = keyed_words (codes "refreshed") link stream draw
-verdict_words (Stopped link stream) = codes "stopped" ∷ decimal link ∷ decimal stream ∷ []
+verdict_words (Stopped line stream) = ended_words (codes "stopped") line stream []
 verdict_words (LostRequest exchange) = codes "lost" ∷ codes "request" ∷ decimal exchange ∷ []
 verdict_words (LostReply exchange) = codes "lost" ∷ codes "reply" ∷ decimal exchange ∷ []
 verdict_words RefusedNotIdle = codes "refused" ∷ codes "notidle" ∷ []
@@ -73,7 +84,8 @@ verdict_words (RefusedNotSecure status) = codes "refused" ∷ codes "notsecure" 
 verdict_words (RefusedPoolEmpty draws) = codes "refused" ∷ codes "poolempty" ∷ decimal draws ∷ []
 verdict_words (RefusedDevice exchange code) = codes "refused" ∷ codes "devicerefused" ∷ decimal exchange
     ∷ decimal code ∷ []
-verdict_words (RefusedBusy operation) = codes "refused" ∷ codes "busy" ∷ operation_word operation ∷ []
+verdict_words (RefusedBusy kind operation) = codes "refused" ∷ codes "busy"
+    ∷ (kind_word kind ++ operation_word operation) ∷ []
 verdict_words (RefusedUnitOpen sub) = codes "refused" ∷ codes "unitopen" ∷ substream_word sub ∷ []
 verdict_words (Packet packet bytes) = codes "packet" ∷ decimal packet ∷ bytes_word bytes ∷ []
 verdict_words (Reset link) = codes "reset" ∷ decimal link ∷ []
@@ -81,6 +93,7 @@ verdict_words (Status link stream host device) =
     codes "status" ∷ decimal link ∷ decimal stream ∷ status_word host ∷ status_word device ∷ []
 verdict_words (Interface verdict) = interface_words verdict
 verdict_words (Access verdict) = access_words verdict
+verdict_words (Through port) = codes "through" ∷ port_word port ∷ []
 
 -- of a send that was refused
 abbrev pub IsSendRefusal : Verdict → Type 0
@@ -98,6 +111,7 @@ IsArrival (NotKeyed port stream sub) = Unit {0}
 IsArrival (Fail port stream sub cause) = Unit {0}
 IsArrival (Held port unit) = Unit {0}
 IsArrival (Accepted port unit effects) = Unit {0}
+IsArrival (Through port) = Unit {0}
 IsArrival _ = ⊥
 
 -- of an operation on a stream that was refused at its beginning or by the device
@@ -106,7 +120,7 @@ IsOperationRefusal RefusedNotIdle = Unit {0}
 IsOperationRefusal (RefusedNotSecure status) = Unit {0}
 IsOperationRefusal (RefusedPoolEmpty draws) = Unit {0}
 IsOperationRefusal (RefusedDevice exchange code) = Unit {0}
-IsOperationRefusal (RefusedBusy operation) = Unit {0}
+IsOperationRefusal (RefusedBusy kind operation) = Unit {0}
 IsOperationRefusal (RefusedUnitOpen sub) = Unit {0}
 IsOperationRefusal _ = ⊥
 

@@ -4,7 +4,7 @@ pub use Rattle.link_verdicts.specs.declared.verdict.BlockCause.TheVariants.{NotT
 pub use Rattle.link_verdicts.specs.declared.verdict.BlockCause.TheVariants.{Outside, Crosses, Full}
 pub use Rattle.link_verdicts.specs.declared.verdict.Effect.{Effect}
 pub use Rattle.link_verdicts.specs.declared.verdict.Effect.TheVariants.{Sync, Delivered, Applied, Queued, Stored}
-pub use Rattle.link_verdicts.specs.declared.verdict.Effect.TheVariants.{Blocked}
+pub use Rattle.link_verdicts.specs.declared.verdict.Effect.TheVariants.{Waiting, Blocked}
 pub use Rattle.link_verdicts.specs.declared.verdict.Operation.{Operation}
 pub use Rattle.link_verdicts.specs.declared.verdict.Operation.TheVariants as operation
 pub use Rattle.link_verdicts.specs.declared.verdict.SealedPacket.{SealedPacket}
@@ -19,6 +19,6 @@ pub use Rattle.link_verdicts.specs.declared.verdict.Verdict.TheVariants.{Stopped
 pub use Rattle.link_verdicts.specs.declared.verdict.Verdict.TheVariants.{RefusedNotIdle, RefusedNotSecure}
 pub use Rattle.link_verdicts.specs.declared.verdict.Verdict.TheVariants.{RefusedPoolEmpty, RefusedDevice, RefusedBusy}
 pub use Rattle.link_verdicts.specs.declared.verdict.Verdict.TheVariants.{RefusedUnitOpen, Packet, Reset, Status}
-pub use Rattle.link_verdicts.specs.declared.verdict.Verdict.TheVariants.{Interface, Access}
+pub use Rattle.link_verdicts.specs.declared.verdict.Verdict.TheVariants.{Interface, Access, Through}
 pub use Rattle.link_verdicts.specs.declared.access.AccessVerdict.{AccessVerdict}
 pub use Rattle.link_verdicts.specs.declared.access.AccessVerdict.TheVariants as av

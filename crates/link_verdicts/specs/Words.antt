@@ -3,7 +3,7 @@ use Rattle.std.specs.Prelude.{ℕ, Bool, true, false, List, [], ◌∷◌, ◌++
 use Rattle.hex.specs.Hex.{encode_lower}
 use Rattle.ide_types.specs.Names.{Text}
 use Rattle.link_verdicts.specs.Terms.{BlockCause, NotTrusted, NotRunning, WrongStream, Stale, Outside, Crosses, Full}
-use Rattle.link_verdicts.specs.Terms.{Effect, Sync, Delivered, Applied, Queued, Stored, Blocked, Operation}
+use Rattle.link_verdicts.specs.Terms.{Effect, Sync, Delivered, Applied, Queued, Stored, Waiting, Blocked, Operation}
 use Rattle.link_verdicts.specs.Terms.operation
 
 abbrev pub block_word : BlockCause → Text
@@ -21,6 +21,7 @@ effect_word Delivered = codes "delivered"
 effect_word Applied = codes "applied"
 effect_word Queued = codes "queued"
 effect_word Stored = codes "stored"
+effect_word Waiting = codes "waiting"
 effect_word (Blocked cause) = codes "blocked:" ++ block_word cause
 
 abbrev pub operation_word : Operation → Text

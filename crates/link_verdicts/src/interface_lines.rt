@@ -77,6 +77,14 @@ pub(crate) fn interface_text(
         InterfaceVerdict::Halted { interface, needs } => format!(in alloc;
             "{number} halted {interface} needs {needs}\n"
         ),
+        InterfaceVerdict::Bound { interface, line } => {
+            let peer = line.saturating_sub(24);
+            format!(in alloc; "{number} bound {interface} {peer}\n")
+        }
+        InterfaceVerdict::Unbound { interface, line } => {
+            let peer = line.saturating_sub(24);
+            format!(in alloc; "{number} unbound {interface} {peer}\n")
+        }
         InterfaceVerdict::State { interface, state } => format!(in alloc;
             "{number} state {interface} {state}\n"
         ),

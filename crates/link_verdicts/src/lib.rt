@@ -8,10 +8,12 @@ mod interface_lines;
 mod lines;
 mod lists;
 mod names;
+mod showing;
 mod verdict;
 
 pub use access::AccessVerdict;
 pub use ide_types::Memory;
 pub use lines::{line, lines_apart, totals_line};
 pub use lists::{Effects, SealedPackets};
+pub use showing::shown;
 pub use verdict::{BlockCause, Effect, Operation, SealedPacket, Totals, UnitName, Verdict};

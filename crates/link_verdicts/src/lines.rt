@@ -161,11 +161,59 @@ fn operation_refused_text(
         Verdict::RefusedDevice { exchange, code } => format!(in alloc;
             "{number} refused devicerefused {exchange} {code}\n"
         ),
-        Verdict::RefusedBusy { operation } => format!(in alloc;
-            "{number} refused busy {operation}\n"
+        Verdict::RefusedBusy { kind, operation } => format!(in alloc;
+            "{number} refused busy {kind}{operation}\n"
         ),
         Verdict::RefusedUnitOpen { sub } => format!(in alloc; "{number} refused unitopen {sub}\n"),
         _ => unreachable!(),
+    }
+}
+
+// The end of an operation that gave the stream of a line its keys.
+fn established_text(
+    alloc: Global,
+    number: u64,
+    line: u8,
+    stream: u8,
+    draw: u32,
+) -> Result<String, AllocError>
+    ensures { IfOk result (λ s. string_bytes s ≡ line_of number (Verdict.Established line stream draw)) }
+{
+    match line {
+        0..=7 => format!(in alloc; "{number} established {line} {stream} draw {draw}\n"),
+        8..=15 => {
+            let link = line - 8;
+            format!(in alloc; "{number} hestablished {link} 0 draw {draw}\n")
+        }
+        16..=23 => {
+            let link = line - 16;
+            format!(in alloc; "{number} hestablished {link} 1 draw {draw}\n")
+        }
+        _ => {
+            let peer = line - 24;
+            format!(in alloc; "{number} pestablished {peer} draw {draw}\n")
+        }
+    }
+}
+
+// The end of an operation that took the keys of a line's stream away.
+fn stopped_text(alloc: Global, number: u64, line: u8, stream: u8) -> Result<String, AllocError>
+    ensures { IfOk result (λ s. string_bytes s ≡ line_of number (Verdict.Stopped line stream)) }
+{
+    match line {
+        0..=7 => format!(in alloc; "{number} stopped {line} {stream}\n"),
+        8..=15 => {
+            let link = line - 8;
+            format!(in alloc; "{number} hstopped {link} 0\n")
+        }
+        16..=23 => {
+            let link = line - 16;
+            format!(in alloc; "{number} hstopped {link} 1\n")
+        }
+        _ => {
+            let peer = line - 24;
+            format!(in alloc; "{number} pstopped {peer}\n")
+        }
     }
 }
 
@@ -174,15 +222,13 @@ fn outcome_text(alloc: Global, number: u64, verdict: &Verdict) -> Result<String,
     ensures { IfOk result (λ s. string_bytes s ≡ line_of number verdict.now) }
 {
     match verdict {
-        Verdict::Established { link, stream, draw } => format!(in alloc;
-            "{number} established {link} {stream} draw {draw}\n"
-        ),
+        Verdict::Established { link, stream, draw } => {
+            established_text(alloc, number, *link, *stream, *draw)
+        }
         Verdict::Refreshed { link, stream, draw } => format!(in alloc;
             "{number} refreshed {link} {stream} draw {draw}\n"
         ),
-        Verdict::Stopped { link, stream } => format!(in alloc;
-            "{number} stopped {link} {stream}\n"
-        ),
+        Verdict::Stopped { link, stream } => stopped_text(alloc, number, *link, *stream),
         Verdict::LostRequest { exchange } => format!(in alloc;
             "{number} lost request {exchange}\n"
         ),
@@ -269,11 +315,12 @@ fn arrival_text(alloc: Global, number: u64, verdict: &Verdict) -> Result<String,
             unit,
             effects,
         } => accepted_text(alloc, number, *port, *unit, effects.as_slice()),
+        Verdict::Through { port } => format!(in alloc; "{number} through {port}\n"),
         _ => unreachable!(),
     }
 }
 
-/// The line of a verdict after its event's number, from 1, with its line feed (this profile).
+/// The line of a verdict, as it is shown, after its event's number, from 1, with its line feed (this profile).
 pub fn line(alloc: Global, number: u64, verdict: &Verdict) -> Result<Vec<u8>, Memory>
     ensures { IfOk result (λ text. text.items ≡ line_of number verdict.now) }
 {
@@ -297,8 +344,8 @@ pub fn totals_line(alloc: Global, totals: &Totals) -> Result<Vec<u8>, Memory>
     Ok(text.into_bytes())
 }
 
-/// Two texts that are equal, and begin with the lines of two verdicts, begin with one verdict of one event, and go
-/// on alike.
+/// Two texts that are equal, and begin with the lines of two verdicts of one topology, begin with one verdict of one
+/// event, and go on alike.
 pub fn lines_apart()
     ensures { LinesApart }
 {}

@@ -32,6 +32,7 @@ impl fmt::Display for Effect {
             Effect::Applied => f.write_str("applied"),
             Effect::Queued => f.write_str("queued"),
             Effect::Stored => f.write_str("stored"),
+            Effect::Waiting => f.write_str("waiting"),
             Effect::Blocked(cause) => write!(f, "blocked:{cause}"),
         }
     }

@@ -1,10 +1,10 @@
 //! The verdict of each event of a script.
 
 use crate::{AccessVerdict, Effects, SealedPackets};
-use ide_types::{Bytes, FailCause, FaultWord, PortName, StreamStatus, SubKind};
+use ide_types::{Bytes, FailCause, FaultWord, LineKind, PortName, StreamStatus, SubKind};
 use interface_words::InterfaceVerdict;
 
-/// A sealed packet: its number over the run, from 1, the port that sealed it, and what its prefix says: `posted` is the
+/// A sealed packet: its number over the run, from 1, the end that sealed it, and what its prefix says: `posted` is the
 /// posted count, `sync` marks a sync packet (PCI Express Base 6.0 section 6.33).
 #[derive(Clone, Copy, Default, PartialEq, Eq)]
 pub struct SealedPacket {
@@ -53,7 +53,7 @@ pub enum BlockCause {
 
 /// The effect of a packet of an accepted unit: `Sync` of a sync packet, `Applied` or `Blocked` of a memory write at a
 /// host's port, `Queued` or `Blocked` of a trusted read there, `Stored` or `Blocked` of a memory write to a BAR at a
-/// device's port, `Delivered` of any other TLP (this profile).
+/// device's port, `Waiting` of any TLP at a switch, `Delivered` of any other TLP (this profile).
 #[derive(Clone, Copy, Default, PartialEq, Eq)]
 pub enum Effect {
     #[default]
@@ -62,6 +62,7 @@ pub enum Effect {
     Applied,
     Queued,
     Stored,
+    Waiting,
     Blocked(BlockCause),
 }
 
@@ -73,7 +74,9 @@ pub enum Operation {
     Stop,
 }
 
-/// The verdict of an event (this profile). `place` is the first byte, from 0, at which no spelling goes on.
+/// The verdict of an event (this profile). `place` is the first byte, from 0, at which no spelling goes on. A link is
+/// named by the number of its line, and so is a stream between two devices or of a hop; `port` is the end of a line,
+/// and of `Malformed`, `Plain`, `Unknown` and `Through` a port's name.
 #[derive(Drop)]
 pub enum Verdict {
     /// The event names what does not exist.
@@ -181,8 +184,9 @@ pub enum Verdict {
         exchange: u32,
         code: u32,
     },
-    /// Another operation on the stream is unfinished.
+    /// Another operation on the stream is unfinished, whose line is of this kind.
     RefusedBusy {
+        kind: LineKind,
         operation: Operation,
     },
     /// Of a refresh: the key set that is to be given still seals an unfinished unit of the sub-stream at the host's
@@ -213,6 +217,10 @@ pub enum Verdict {
     /// The verdict of an event on a trusted read or on a device's guarded memory.
     Access {
         verdict: AccessVerdict,
+    },
+    /// Bytes of another stream than the hop's arrived at a port of a switch, and are left unread.
+    Through {
+        port: PortName,
     },
 }
 

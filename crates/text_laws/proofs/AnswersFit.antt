@@ -27,7 +27,7 @@ use Rattle.link_history.specs.Memory.{waiting}
 use Rattle.link_history.specs.Cause.{CauseLaw}
 use Rattle.link_history.specs.Due.{send_due, is_stream, is_before, draw_of, answer_first, answer_from, answer_by}
 use Rattle.link_history.specs.Due.{answer_out, answer_due, no_key}
-use Rattle.text_laws.proofs.SendsFit.{on_stream_fits, live_few, port_fits}
+use Rattle.text_laws.proofs.SendsFit.{on_stream_fits, live_few, link_fits}
 use Rattle.text_laws.proofs.SitesFit.{SiteFits, found_site_fits}
 use Rattle.text_laws.proofs.InterfacesFit.{floor_fits}
 use Rattle.text_laws.proofs.MemoryFits.{memory_fits}
@@ -36,9 +36,10 @@ draw_is : (o : Option KeyName) → draw_of o ≡ (unwrap_or o no_key).draw
 draw_is None = refl
 draw_is (Some key) = refl
 
-if_fits : (b : Bool) (x y : Verdict) → Fits x → (b ≡ false → Fits y) → Fits (if b then x else y)
-if_fits true x y one two = one
-if_fits false x y one two = two refl
+if_fits : (plan : Plan) (b : Bool) (x y : Verdict) → Fits plan x → (b ≡ false → Fits plan y)
+    → Fits plan (if b then x else y)
+if_fits plan true x y one two = one
+if_fits plan false x y one two = two refl
 
 not_none : (b : Bool) → not b ≡ false → b ≡ true
 not_none true is = refl
@@ -48,7 +49,7 @@ not_none false is = absurd cc
 sent_fits : (plan : Plan) → FitsPlan plan → (h : History) → CauseLaw plan h → length h < 2 ^ 28
     → (port : PortName) (bytes : List ℕ) (stream : ℕ) (out : Outgoing)
     → outgoing_of (streams_of plan port.link) port.side bytes ≡ out → is_stream stream (stream_taken out) ≡ true
-    → Fits (send_due plan h port out false true)
+    → Fits plan (send_due plan h port out false true)
 sent_fits plan fits h cause few port bytes stream (NoTlp f) comes is = absurd cc
 sent_fits plan fits h cause few port bytes stream OnNone comes is = absurd cc
 sent_fits plan fits h cause few port bytes stream (OnStream t s) comes is =
@@ -61,46 +62,47 @@ bound_floor o stream floor b is = grind arith
 by_fits : (plan : Plan) → FitsPlan plan → (h : History) → CauseLaw plan h → length h < 2 ^ 28
     → (port : PortName) (bytes : List ℕ) (x : Site) → SiteFits x → (draw : ℕ) (o : Option (ℕ × ℕ))
     → granted_to h (Some x) ≡ o → (out : Outgoing) → outgoing_of (streams_of plan port.link) port.side bytes ≡ out
-    → Fits (answer_by plan h port x.number draw o out)
+    → Fits plan (answer_by plan h port x.number draw o out)
 by_fits plan fits h cause few port bytes x site draw None is out comes = site.number
 by_fits plan fits h cause few port bytes x site draw (Some b) is out comes =
     let floor = bound_floor (view_at h x) x.plan.stream (floor_at h x) b is in
     let least = floor_fits plan fits (memory_fits plan) h cause few x in
     let key = live_key h port (lane_out port b.0 Cpl) in
     let drawn = live_few h port (lane_out port b.0 Cpl) key refl in
-    if_fits (not (is_stream b.0 (stream_taken out))) (v.Access (av.Dropped x.number blocks.WrongStream)) _ site.number
+    if_fits plan (not (is_stream b.0 (stream_taken out))) (v.Access (av.Dropped x.number blocks.WrongStream)) _
+    site.number
     (λ taken.
-    if_fits (nat_lt draw b.1) (v.Access (av.Dropped x.number blocks.Stale)) _ site.number (λ fresh.
-    if_fits (is_before key b.1) (v.Interface (iv.RefusedRefreshFirst (draw_of key) b.1)) _
+    if_fits plan (nat_lt draw b.1) (v.Access (av.Dropped x.number blocks.Stale)) _ site.number (λ fresh.
+    if_fits plan (is_before key b.1) (v.Interface (iv.RefusedRefreshFirst (draw_of key) b.1)) _
     (omega (arith, few, drawn, draw_is key), omega (arith, floor, least))
     (λ after. sent_fits plan fits h cause few port bytes b.0 out comes (not_none _ taken))))
 
 of_fits : (plan : Plan) → FitsPlan plan → (h : History) → CauseLaw plan h → length h < 2 ^ 28
     → (port : PortName) (bytes : List ℕ) (draw : ℕ) (o : Option Site) → ((x : Site) → o ≡ Some x → SiteFits x)
     → (out : Outgoing) → outgoing_of (streams_of plan port.link) port.side bytes ≡ out
-    → Fits (answer_from plan h port draw o out)
+    → Fits plan (answer_from plan h port draw o out)
 of_fits plan fits h cause few port bytes draw None site out comes = tt
 of_fits plan fits h cause few port bytes draw (Some x) site out comes =
     by_fits plan fits h cause few port bytes x (site x refl) draw (granted_to h (Some x)) refl out comes
 
 first_fits : (plan : Plan) → FitsPlan plan → (h : History) → CauseLaw plan h → length h < 2 ^ 28
     → (port : PortName) → port.link < 2 ^ 64 → (bytes : List ℕ) (rs : List WaitingRead) (out : Outgoing)
-    → outgoing_of (streams_of plan port.link) port.side bytes ≡ out → Fits (answer_first plan h port rs out)
+    → outgoing_of (streams_of plan port.link) port.side bytes ≡ out → Fits plan (answer_first plan h port rs out)
 first_fits plan fits h cause few port small bytes [] out comes = small
 first_fits plan fits h cause few port small bytes (r ∷ rs) out comes =
     of_fits plan fits h cause few port bytes r.draw (site_with plan port.link r.read.requester)
     (found_site_fits plan fits (λ x. (x.link == port.link) && (x.plan.requester == r.read.requester))) out comes
 
 pub answer_due_fits : (plan : Plan) → FitsPlan plan → (h : History) → CauseLaw plan h → length h < 2 ^ 28 → (link : ℕ)
-    → Fits (answer_due plan h link)
+    → Fits plan (answer_due plan h link)
 answer_due_fits plan fits h cause few link = by_link (has_link plan link) refl
   where
-    by_link : (b : Bool) → has_link plan link ≡ b → Fits
-        (if b then answer_first plan h (sending_port (Access (ae.Answer link))) (waiting plan h link)
+    by_link : (b : Bool) → has_link plan link ≡ b → Fits plan
+        (if b then answer_first plan h (sending_port plan (Access (ae.Answer link))) (waiting plan h link)
         (answer_out plan h link) else v.Nothing)
     by_link true here =
-        let port = sending_port (Access (ae.Answer link)) in
-        first_fits plan fits h cause few port (port_fits plan fits port here)
+        let port = sending_port plan (Access (ae.Answer link)) in
+        first_fits plan fits h cause few port (link_fits plan fits link here)
         (sent_bytes plan h (Access (ae.Answer link)))
         (waiting plan h link) (answer_out plan h link) refl
     by_link false here = tt

@@ -4,7 +4,7 @@
 -- one byte, and the place of a fault lies within the bytes.
 use Rattle.std.proofs.Common.{◌≡◌, ℕ, zero, suc, ◌+◌, ◌-◌, ◌*◌, ◌<◌, ◌≤◌, ◌==◌, ◌^◌, Bool, true, false, List, [], ◌∷◌}
 use Rattle.std.proofs.Common.{◌++◌, length, take, Some, None, Option, Ok, Err, Result, slice_get, slice_index}
-use Rattle.std.proofs.Common.{slice_set, refl, subst, arith, length-append, length-set, length-take}
+use Rattle.std.proofs.Common.{slice_set, refl, sym, ◌∙◌, subst, arith, length-append, length-set, length-take}
 use Rattle.std.specs.Prelude.{if◌then◌else◌, not, ◌||◌, nat_lt, nat_le, option_map, bit_xor, is_some}
 use Rattle.std.specs.Option.{option_and_then}
 use Rattle.hex.specs.Hex.{IsBytes}
@@ -14,7 +14,7 @@ use Rattle.ide_plan.specs.declared.plan.Plan.{Plan}
 use Rattle.ide_plan.specs.Fits.{FitsPlan}
 use Rattle.link_events.specs.declared.event.Event.{Event}
 use Rattle.link_events.specs.declared.event.Event.TheVariants.{Send, Pass, Alter, Cut, Arrive, Dump, Establish, Refresh}
-use Rattle.link_events.specs.declared.event.Event.TheVariants.{Stop, Reset, Status, Interface, Access}
+use Rattle.link_events.specs.declared.event.Event.TheVariants.{Stop, Reset, Status, Interface, Access, Forward, Absent}
 use Rattle.link_events.specs.Spells.{IsAllowed}
 use Rattle.link_verdicts.specs.declared.verdict.Verdict.{Verdict}
 use Rattle.link_verdicts.specs.declared.verdict.Verdict.TheVariants as v
@@ -45,8 +45,14 @@ use Rattle.sealing_laws.proofs.OfPlans.{streams_fit}
 use Rattle.sealing_laws.proofs.Places.{placed}
 use Rattle.text_laws.proofs.Draws.{on_below}
 use Rattle.text_laws.proofs.FaultPlaces.{cut_place}
-use Rattle.text_laws.proofs.OperationsFit.{stream_fits}
-use Rattle.text_laws.proofs.SendsFit.{port_fits}
+use Rattle.text_laws.proofs.PortsFit.{with_stream, there_is, reached_is}
+use Rattle.link_history.specs.Ports.{port_of, goes_through}
+use Rattle.link_history.specs.Packets.{arrival_at}
+use Rattle.link_history.specs.Plan.{partner}
+use Rattle.link_history.specs.Due.{through_due}
+use Rattle.link_history.proofs.Ends.{stream_is_there}
+use Rattle.ide_types.specs.Lines.{is_port}
+use Rattle.ide_plan.specs.Ends.{line_has, port_at}
 use Rattle.sealing_laws.proofs.Few.{sealed_few}
 
 -- ---- what was sealed
@@ -71,12 +77,12 @@ all_known plan ((e, v.Sealed ds) ∷ h) law i x is =
     each_more (IsKnown plan) plan (ahead_of_packet plan (sealed_packets plan h) (base h)) (sent_bytes plan h e) ds
     (sealed_packets plan h)
     (live_all (IsKnown plan) plan h port stream ds (live_known plan h law.1 port stream)
-    (all_live plan h (sending_port e) (sent_bytes plan h e) ds sealing)) (all_known plan h law.1) i x is
+    (all_live plan h (sending_port plan e) (sent_bytes plan h e) ds sealing)) (all_known plan h law.1) i x is
 all_known plan ((e, w) ∷ h) law i x is = all_known plan h law.1 i x is
 
 record Known (plan : Plan) (h : History) (n : ℕ) (x : SealedPacket × Packet) : Type 0 where
   number : n ≤ 3 * length h
-  port : x.0.port.link < 2 ^ 64
+  port : is_port (port_at plan.peers (partner x.0.port)) ≡ true
   fits : FitsPacket x.1
 
 known_at : (plan : Plan) → FitsPlan plan → (h : History) → CauseLaw plan h → (n : ℕ) (x : SealedPacket × Packet)
@@ -94,7 +100,7 @@ known_at plan fits h cause n x is = by_number (n == 0) is
         let is_placed = placed plan (streams_fit plan fits) (draws_hold plan) h cause (n - 1) x at in
         record {
           number = omega (arith, within (sealed_packets plan h) (n - 1) at, sealed_few plan h cause);
-          port = (stream_fits plan fits x.0.port.link x.0.stream (all_known plan h cause (n - 1) x at)).link_fits;
+          port = with_stream plan fits (partner x.0.port) x.0.stream (all_known plan h cause (n - 1) x at);
           fits = is_placed.fits;
         }
 
@@ -116,70 +122,79 @@ bytes_of_packet p fits =
 
 -- ---- what arrives
 
-record FitsArrival (a : Arrival) : Type 0 where
-  port : a.port.link < 2 ^ 64
+record FitsArrival (plan : Plan) (a : Arrival) : Type 0 where
+  port : is_port (port_of plan a.port) ≡ true
   size : length a.bytes < 2 ^ 64
 
 same_arrival : (a b : Arrival) → Some a ≡ Some b → a ≡ b
 same_arrival a b is = cc
 
-brought_fits : (plan : Plan) (h : History) (n : ℕ) (x : SealedPacket × Packet) (bytes : List ℕ) (a : Arrival)
-    → Known plan h n x → length bytes ≤ length (packet_bytes x.1) → Some (brought x bytes) ≡ Some a → FitsArrival a
-brought_fits plan h n x bytes a known small is =
-    subst FitsArrival (same_arrival (brought x bytes) a is)
-    (record { port = known.port; size = omega (arith, small, size_of_packet x.1 known.fits) })
+brought_fits : (plan : Plan) → FitsPlan plan → (h : History) (n : ℕ) (x : SealedPacket × Packet) (bytes : List ℕ)
+    (a : Arrival)
+    → Known plan h n x → length bytes ≤ length (packet_bytes x.1) → Some (brought plan x bytes) ≡ Some a
+    → FitsArrival plan a
+brought_fits plan fits h n x bytes a known small is =
+    subst (FitsArrival plan) (same_arrival (brought plan x bytes) a is)
+    (record {
+      port = reached_is plan fits (partner x.0.port) bytes known.port;
+      size = omega
+          (arith, small, size_of_packet x.1 known.fits);
+    })
 
 -- bytes of a packet that come or do not
-if_brought : (plan : Plan) (h : History) (n : ℕ) (x : SealedPacket × Packet) (bytes : List ℕ) (a : Arrival)
+if_brought : (plan : Plan) → FitsPlan plan → (h : History) (n : ℕ) (x : SealedPacket × Packet) (bytes : List ℕ)
+    (a : Arrival)
     → Known plan h n x → length bytes ≤ length (packet_bytes x.1) → (b : Bool)
-    → (if b then Some (brought x bytes) else None) ≡ Some a
-    → FitsArrival a
-if_brought plan h n x bytes a known small true is = brought_fits plan h n x bytes a known small is
-if_brought plan h n x bytes a known small false is = absurd cc
+    → (if b then Some (brought plan x bytes) else None) ≡ Some a
+    → FitsArrival plan a
+if_brought plan fits h n x bytes a known small true is = brought_fits plan fits h n x bytes a known small is
+if_brought plan fits h n x bytes a known small false is = absurd cc
 
 arrival_fits : (plan : Plan) → FitsPlan plan → (h : History) → CauseLaw plan h → (e : Event) → IsAllowed e
-    → (a : Arrival) → arrived plan h e ≡ Some a → FitsArrival a
+    → (a : Arrival) → arrived plan h e ≡ Some a → FitsArrival plan a
 unfolding arrived
 arrival_fits plan fits h cause (Pass n) allowed a is = by_packet (packet_at (sealed_packets plan h) n) refl is
   where
     by_packet : (o : Option (SealedPacket × Packet)) → packet_at (sealed_packets plan h) n ≡ o
-        → option_map (λ (x : SealedPacket × Packet). brought x (packet_bytes x.1)) o ≡ Some a → FitsArrival a
+        → option_map (λ (x : SealedPacket × Packet). brought plan x (packet_bytes x.1)) o ≡ Some a → FitsArrival plan a
     by_packet None at is = absurd cc
-    by_packet (Some x) at is = brought_fits plan h n x (packet_bytes x.1) a (known_at plan fits h cause n x at)
+    by_packet (Some x) at is = brought_fits plan fits h n x (packet_bytes x.1) a (known_at plan fits h cause n x at)
         (omega arith) is
 arrival_fits plan fits h cause (Alter n place mask) allowed a is = by_packet (packet_at (sealed_packets plan h) n) refl
     is
   where
     by_packet : (o : Option (SealedPacket × Packet)) → packet_at (sealed_packets plan h) n ≡ o
-        → option_and_then (altered place mask) o ≡ Some a → FitsArrival a
+        → option_and_then (altered plan place mask) o ≡ Some a → FitsArrival plan a
     by_packet None at is = absurd cc
     by_packet (Some x) at is =
         let bytes = packet_bytes x.1 in
-        if_brought plan h n x (slice_set bytes place (bit_xor (slice_index bytes place) mask)) a
+        if_brought plan fits h n x (slice_set bytes place (bit_xor (slice_index bytes place) mask)) a
         (known_at plan fits h cause n x at)
         (omega (arith, length-set bytes place (bit_xor (slice_index bytes place) mask)))
         (nat_lt place (length bytes)) is
 arrival_fits plan fits h cause (Cut n size) allowed a is = by_packet (packet_at (sealed_packets plan h) n) refl is
   where
     by_packet : (o : Option (SealedPacket × Packet)) → packet_at (sealed_packets plan h) n ≡ o
-        → option_and_then (shortened size) o ≡ Some a → FitsArrival a
+        → option_and_then (shortened plan size) o ≡ Some a → FitsArrival plan a
     by_packet None at is = absurd cc
     by_packet (Some x) at is =
-        if_brought plan h n x (take size (packet_bytes x.1)) a (known_at plan fits h cause n x at)
+        if_brought plan fits h n x (take size (packet_bytes x.1)) a (known_at plan fits h cause n x at)
         (omega (arith, length-take size (packet_bytes x.1))) (nat_le size (length (packet_bytes x.1))) is
 arrival_fits plan fits h cause (Arrive port bytes) allowed a is = by_port (has_port plan port) refl is
   where
-    by_port : (b : Bool) → has_port plan port ≡ b → (if b then Some (record { port = port; bytes = bytes }) else None)
-        ≡ Some a → FitsArrival a
+    by_port : (b : Bool) → has_port plan port ≡ b → (if b then Some (arrival_at plan port bytes) else None)
+        ≡ Some a → FitsArrival plan a
     by_port false here is = absurd cc
-    by_port true here is = subst FitsArrival (same_arrival (record { port = port; bytes = bytes }) a is)
-        (record { port = port_fits plan fits port here; size = allowed.1 })
+    by_port true here is = subst (FitsArrival plan) (same_arrival (arrival_at plan port bytes) a is)
+        (record { port = reached_is plan fits port bytes (there_is plan fits port here); size = allowed.1 })
 arrival_fits plan fits h cause (Send port bytes more trusted) allowed a is = absurd cc
 arrival_fits plan fits h cause (Dump n) allowed a is = absurd cc
 arrival_fits plan fits h cause (Establish link stream lose) allowed a is = absurd cc
 arrival_fits plan fits h cause (Refresh link stream lose) allowed a is = absurd cc
 arrival_fits plan fits h cause (Stop link stream lose) allowed a is = absurd cc
-arrival_fits plan fits h cause (Reset link) allowed a is = absurd cc
+arrival_fits plan fits h cause (Reset link ends) allowed a is = absurd cc
+arrival_fits plan fits h cause (Forward link d) allowed a is = absurd cc
+arrival_fits plan fits h cause Absent allowed a is = absurd cc
 arrival_fits plan fits h cause (Status link stream) allowed a is = absurd cc
 arrival_fits plan fits h cause (Interface e) allowed a is = absurd cc
 arrival_fits plan fits h cause (Access e) allowed a is = absurd cc
@@ -203,73 +218,86 @@ on_is (Loaded i) j is = absurd cc
 on_is (On i) j is = cc
 
 -- a packet's verdict before the tag, or its unit
-abbrev FitsStep : PortName → Result Ending Verdict → Type 0
-FitsStep port (Err w) = Fits w
-FitsStep port (Ok x) = Fits (v.Held port x.unit)
+abbrev FitsStep : Plan → PortName → Result Ending Verdict → Type 0
+FitsStep plan port (Err w) = Fits plan w
+FitsStep plan port (Ok x) = Fits plan (v.Held port x.unit)
 
-under_fits : (plan : Plan) (h : History) (port : PortName) (p : Packet) → port.link < 2 ^ 64 → length h < 2 ^ 28
-    → p.prefix.stream < 2 ^ 64
+under_fits : (plan : Plan) (h : History) (port : PortName) (p : Packet)
+    → line_has plan port.link p.prefix.stream ≡ true → length h < 2 ^ 28 → p.prefix.stream < 2 ^ 64
     → (o other : Option ℕ) → on_draw h port (receiving port p) p.prefix.k ≡ o
-    → FitsStep port (under_keys plan h port p o other)
-under_fits plan h port p link few stream None None is = (link, stream)
-under_fits plan h port p link few stream None (Some i) is = (link, stream)
-under_fits plan h port p link few stream (Some j) other is =
+    → FitsStep plan port (under_keys plan h port p o other)
+under_fits plan h port p there few stream None None is = (there, stream)
+under_fits plan h port p there few stream None (Some i) is = (there, stream)
+under_fits plan h port p there few stream (Some j) other is =
     by_tests (is_mixed plan h (receiving port p) other || is_overfull plan h (receiving port p) j p.prefix.m) p.prefix.m
   where
-    unit : Fits (v.Held port (unit_under h (receiving port p) j))
+    unit : Fits plan (v.Held port (unit_under h (receiving port p) j))
     unit =
         let s = receiving port p in
         let draw = on_below h port s p.prefix.k j (on_is (key_in (keys_at h port s) p.prefix.k) j is) in
-        (link, (stream, omega (arith, few, draw), omega (arith, few, got_few h s j)))
+        ((there, stream), omega (arith, few, draw), omega (arith, few, got_few h s j))
 
-    by_tests : (bad m : Bool) → FitsStep port (if bad then Err (v.Fail port p.prefix.stream p.prefix.sub fail.Unit)
+    by_tests : (bad m : Bool) → FitsStep plan port (if bad then Err (v.Fail port p.prefix.stream p.prefix.sub fail.Unit)
         else if m then Ok (record { packet = p; unit = unit_under h (receiving port p) j }) else Err
         (v.Held port (unit_under h (receiving port p) j)))
-    by_tests true m = (link, stream)
+    by_tests true m = (there, stream)
     by_tests false true = unit
     by_tests false false = unit
 
-cut_step_fits : (plan : Plan) (h : History) (a : Arrival) → FitsArrival a → length h < 2 ^ 28
-    → (r : Result CutValue PacketFault) → cut_of a.bytes ≡ r → FitsStep a.port (before_tag_of plan h a.port r)
-cut_step_fits plan h a fits few (Err f) cut = (fits.port, omega (arith, fits.size, cut_place a.bytes f cut))
-cut_step_fits plan h a fits few (Ok PlainTlp) cut = fits.port
-cut_step_fits plan h a fits few (Ok (IdePacket p)) cut = by_tests (has_stream plan a.port p.prefix.stream)
-    (failed h a.port p.prefix.stream)
+cut_step_fits : (plan : Plan) → FitsPlan plan → (h : History) (a : Arrival) → FitsArrival plan a → length h < 2 ^ 28
+    → (r : Result CutValue PacketFault) → cut_of a.bytes ≡ r → FitsStep plan a.port (before_tag_of plan h a.port r)
+cut_step_fits plan plan_fits h a fits few (Err f) cut = (fits.port, omega (arith, fits.size, cut_place a.bytes f cut))
+cut_step_fits plan plan_fits h a fits few (Ok PlainTlp) cut = fits.port
+cut_step_fits plan plan_fits h a fits few (Ok (IdePacket p)) cut = by_tests (has_stream plan a.port p.prefix.stream)
+    (failed h a.port p.prefix.stream) refl
   where
     stream : p.prefix.stream < 2 ^ 64
     stream = omega (arith, (cut_fits a.bytes p cut).prefix.stream)
 
-    by_tests : (known bad : Bool) → FitsStep a.port
-        (if not known then Err (v.Unknown a.port p.prefix.stream) else if bad then Err
+    there : has_stream plan a.port p.prefix.stream ≡ true → line_has plan a.port.link p.prefix.stream ≡ true
+    there known = sym (stream_is_there plan a.port.link p.prefix.stream) ∙ known
+
+    by_tests : (known bad : Bool) → has_stream plan a.port p.prefix.stream ≡ known → FitsStep plan a.port
+        (if not known then Err (v.Unknown (port_of plan a.port) p.prefix.stream) else if bad then Err
         (v.Insecure a.port p.prefix.stream)
         else under_keys plan h a.port p (on_draw h a.port (receiving a.port p) p.prefix.k)
         (on_draw h a.port (receiving a.port p) (not p.prefix.k)))
-    by_tests false bad = (fits.port, stream)
-    by_tests true true = (fits.port, stream)
-    by_tests true false = under_fits plan h a.port p fits.port few stream _ _ refl
+    by_tests false bad is = (fits.port, stream)
+    by_tests true true is = (there is, stream)
+    by_tests true false is = under_fits plan h a.port p (there is) few stream _ _ refl
 
-settled_fits : (plan : Plan) (h : History) (port : PortName) (r : Result Ending Verdict) → FitsStep port r
-    → Fits (ending_due plan h port r)
+-- bytes that a switch leaves unread, or a step
+through_fits : (plan : Plan) (h : History) (a : Arrival) → FitsArrival plan a → (b : Bool) (r : Result Ending Verdict)
+    → FitsStep plan a.port r → FitsStep plan a.port (if b then Err (through_due plan a.port) else r)
+through_fits plan h a fits true r step = fits.port
+through_fits plan h a fits false r step = step
+
+settled_fits : (plan : Plan) (h : History) (port : PortName) (r : Result Ending Verdict) → FitsStep plan port r
+    → Fits plan (ending_due plan h port r)
 settled_fits plan h port (Err w) step = step
 settled_fits plan h port (Ok x) step = by_tests (is_verified plan h port x)
     (meets_counts plan h (received_in port x.unit) (ended plan h port x))
   where
-    by_tests : (verified counts : Bool) → Fits (if not verified then v.Fail port x.unit.stream x.unit.sub fail.Tag
+    by_tests : (verified counts : Bool) → Fits plan
+        (if not verified then v.Fail port x.unit.stream x.unit.sub fail.Tag
         else if not counts then v.Fail port x.unit.stream x.unit.sub fail.Order
         else v.Accepted port x.unit (effects_of plan h port x.unit (ended plan h port x)))
-    by_tests false counts = (step.0, step.1.0)
-    by_tests true false = (step.0, step.1.0)
+    by_tests false counts = step.0
+    by_tests true false = step.0
     by_tests true true = step
 
 pub arrival_due_fits : (plan : Plan) → FitsPlan plan → (h : History) → CauseLaw plan h → length h < 2 ^ 28 → (e : Event)
-    → IsAllowed e → (o : Option Arrival) → arrived plan h e ≡ o → Fits (arrival_due plan h o)
+    → IsAllowed e → (o : Option Arrival) → arrived plan h e ≡ o → Fits plan (arrival_due plan h o)
 unfolding before_tag
 arrival_due_fits plan fits h cause few e allowed None is = tt
-arrival_due_fits plan fits h cause few e allowed (Some a) is = settled_fits plan h a.port (before_tag plan h a)
-    (cut_step_fits plan h a (arrival_fits plan fits h cause e allowed a is) few (cut_of a.bytes) refl)
+arrival_due_fits plan fits h cause few e allowed (Some a) is =
+    let arrives = arrival_fits plan fits h cause e allowed a is in
+    settled_fits plan h a.port (before_tag plan h a)
+    (through_fits plan h a arrives (goes_through plan a.port a.bytes) (before_tag_of plan h a.port (cut_of a.bytes))
+    (cut_step_fits plan fits h a arrives few (cut_of a.bytes) refl))
 
 pub dump_due_fits : (plan : Plan) → FitsPlan plan → (h : History) → CauseLaw plan h → length h < 2 ^ 28
-    → (n : ℕ) (o : Option (SealedPacket × Packet)) → packet_at (sealed_packets plan h) n ≡ o → Fits (dump_due n o)
+    → (n : ℕ) (o : Option (SealedPacket × Packet)) → packet_at (sealed_packets plan h) n ≡ o → Fits plan (dump_due n o)
 dump_due_fits plan fits h cause few n None is = tt
 dump_due_fits plan fits h cause few n (Some x) is =
     let known = known_at plan fits h cause n x is in

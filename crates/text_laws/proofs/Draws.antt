@@ -42,8 +42,8 @@ one_event m (event.Refresh link stream loss) verdict n few = one_operation m op.
     (reach_of op.Refresh verdict) n few
 one_event m (event.Stop link stream loss) verdict n few = one_operation m op.Stop link stream (reach_of op.Stop verdict)
     n few
-one_event m (event.Reset link) (v.Reset l) n few = omega (arith, few)
-one_event m (event.Reset link) _ n few = omega (arith, few)
+one_event m (event.Reset link ends) (v.Reset l) n few = omega (arith, few)
+one_event m (event.Reset link ends) _ n few = omega (arith, few)
 one_event m _ verdict n few = omega (arith, few)
 
 pub few_draws : (h : History) → draws h ≤ length h

@@ -1,7 +1,7 @@
 -- What is due fits.
 use Rattle.std.proofs.Common.{refl}
 use Rattle.link_events.specs.declared.event.Event.TheVariants.{Send, Pass, Alter, Cut, Arrive, Dump, Establish, Refresh}
-use Rattle.link_events.specs.declared.event.Event.TheVariants.{Stop, Reset, Status, Interface, Access}
+use Rattle.link_events.specs.declared.event.Event.TheVariants.{Stop, Reset, Status, Interface, Access, Forward, Absent}
 use Rattle.link_events.specs.declared.event.AccessEvent.TheVariants as ae
 use Rattle.link_history.specs.History.{arrived, packet_at, sealed_packets}
 use Rattle.link_history.specs.Due.{due}
@@ -10,6 +10,7 @@ use Rattle.text_laws.specs.Statements.{DueFits}
 use Rattle.text_laws.proofs.OperationsFit.{establish_due_fits, refresh_due_fits, stop_due_fits, reset_due_fits}
 use Rattle.text_laws.proofs.OperationsFit.{status_due_fits}
 use Rattle.text_laws.proofs.SendsFit.{send_due_fits}
+use Rattle.text_laws.proofs.ForwardsFit.{forward_due_fits}
 use Rattle.text_laws.proofs.InterfacesFit.{interface_fits}
 use Rattle.text_laws.proofs.MemoryFits.{memory_fits}
 use Rattle.text_laws.proofs.AnswersFit.{answer_due_fits}
@@ -26,12 +27,14 @@ due_fits plan fits h cause few (Establish link stream lose) allowed = establish_
     lose
 due_fits plan fits h cause few (Refresh link stream lose) allowed = refresh_due_fits plan fits h few link stream lose
 due_fits plan fits h cause few (Stop link stream lose) allowed = stop_due_fits plan fits h few link stream lose
-due_fits plan fits h cause few (Reset link) allowed = reset_due_fits plan fits h link
+due_fits plan fits h cause few (Reset link ends) allowed = reset_due_fits plan fits h link ends
 due_fits plan fits h cause few (Status link stream) allowed = status_due_fits plan fits h link stream
 due_fits plan fits h cause few (Interface e) allowed = interface_fits plan fits h cause few e (memory_due plan h e)
     (memory_fits plan h cause e)
 due_fits plan fits h cause few (Access (ae.Answer link)) allowed = answer_due_fits plan fits h cause few link
 due_fits plan fits h cause few (Access (ae.Mmio i bar offset len)) allowed = mmio_fits plan h cause i bar offset len
+due_fits plan fits h cause few (Forward link d) allowed = forward_due_fits plan fits h cause few link d
+due_fits plan fits h cause few Absent allowed = tt
 due_fits plan fits h cause few (Pass n) allowed = arrival_due_fits plan fits h cause few (Pass n) allowed
     (arrived plan h (Pass n)) refl
 due_fits plan fits h cause few (Alter n place mask) allowed = arrival_due_fits plan fits h cause few

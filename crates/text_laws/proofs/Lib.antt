@@ -1,7 +1,9 @@
 mod FaultPlaces
 mod Draws
+pub mod PortsFit
 mod OperationsFit
 mod SendsFit
+mod ForwardsFit
 mod ArrivalsFit
 mod SitesFit
 mod InterfacesFit

@@ -16,6 +16,7 @@ use Rattle.link_verdicts.specs.declared.verdict.Effect.{Effect}
 use Rattle.link_verdicts.specs.declared.verdict.UnitName.{UnitName}
 use Rattle.link_verdicts.specs.declared.verdict.Verdict.TheVariants as v
 use Rattle.link_verdicts.specs.Apart.{Fits}
+use Rattle.link_history.specs.Ports.{port_of}
 use Rattle.tlp_layout.specs.declared.head.HeadView.{HeadView}
 use Rattle.tlp_layout.specs.declared.fault.TlpFault.{TlpFault}
 use Rattle.tlp_layout.specs.Reading.{read_head_of}
@@ -40,7 +41,7 @@ unfoldable use Rattle.link_history.specs.Memory.{writes}
 use Rattle.link_history.specs.Cause.{CauseLaw}
 use Rattle.link_history.specs.Due.{due}
 use Rattle.link_history.proofs.Causes.{accepted_by, packet_that_came}
-use Rattle.delivery_laws.proofs.Received.{came_fits, held_fits}
+use Rattle.hop_laws.proofs.{came_fits, held_fits}
 
 abbrev pub IsByte : ℕ → Type 0
 IsByte b = b < 256
@@ -137,7 +138,7 @@ writes_bytes plan ((e, v.Accepted port unit effects) ∷ h) cause =
     let ps = unit_ended plan h e port unit in
     let fit = unit_fits plan h cause.1 e port unit effects cause.0 in
     newest_bytes (admitted_by plan h e port unit) (writes plan h)
-    (each_bytes plan (grant_at plan h) port unit (plain_of plan port unit ps) ps
+    (each_bytes plan (grant_at plan h) (port_of plan port) unit (plain_of plan port unit ps) ps
     (plain_bytes plan port unit ps fit)) (writes_bytes plan h cause.1)
 writes_bytes plan (_ ∷ h) cause = writes_bytes plan h cause.1
 
@@ -166,11 +167,11 @@ from_bytes byte small at zero i = omega arith
 from_bytes byte small at (suc n) zero = small at
 from_bytes byte small at (suc n) (suc i) = from_bytes byte small (at + 1) n i
 
-shown_bytes : (b : Bool) (bytes : List ℕ) → IsBytes bytes → Fits (shown_if b bytes)
-shown_bytes true bytes are = are
-shown_bytes false bytes are = tt
+shown_bytes : (plan : Plan) (b : Bool) (bytes : List ℕ) → IsBytes bytes → Fits plan (shown_if b bytes)
+shown_bytes plan true bytes are = are
+shown_bytes plan false bytes are = tt
 
-pub memory_fits : (plan : Plan) (h : History) → CauseLaw plan h → (e : InterfaceEvent) → Fits (memory_due plan h e)
-memory_fits plan h cause (ie.Memory at len) = shown_bytes (in_one_region plan.memory at len) _
+pub memory_fits : (plan : Plan) (h : History) → CauseLaw plan h → (e : InterfaceEvent) → Fits plan (memory_due plan h e)
+memory_fits plan h cause (ie.Memory at len) = shown_bytes plan (in_one_region plan.memory at len) _
     (from_bytes (byte_after (writes plan h)) (byte_small (writes plan h) (writes_bytes plan h cause)) at len)
 memory_fits plan h cause _ = tt

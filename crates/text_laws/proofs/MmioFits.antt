@@ -14,6 +14,7 @@ use Rattle.link_verdicts.specs.declared.verdict.UnitName.{UnitName}
 use Rattle.link_verdicts.specs.declared.verdict.Verdict.{Verdict}
 use Rattle.link_verdicts.specs.declared.verdict.Verdict.TheVariants as v
 use Rattle.link_verdicts.specs.Apart.{Fits}
+use Rattle.link_history.specs.Ports.{port_of}
 use Rattle.tlp_layout.specs.declared.head.HeadView.{HeadView}
 use Rattle.tlp_layout.specs.declared.fault.TlpFault.{TlpFault}
 use Rattle.tlp_layout.specs.Reading.{read_head_of}
@@ -129,9 +130,10 @@ pair_bytes : (plan : Plan) (h : History) → CauseLaw plan h → (e : Event) (w 
     → AllByRecursion IfHappened (happens plan h e w link)
 pair_bytes plan h cause e (v.Accepted port unit effects) is link =
     let ps = unit_ended plan h e port unit in
-    if_list (port.link == link) (stored_in (standings_at plan h port.link) plan port unit ps)
-    (unit_bytes (standings_at plan h port.link) plan port unit ps (unit_fits plan h cause e port unit effects is))
-pair_bytes plan h cause (event.Reset l) (v.Reset k) is link = if_bytes (l == link) AllReset tt
+    let at = (port_of plan port).link in
+    if_list (at == link) (stored_in (standings_at plan h at) plan port unit ps)
+    (unit_bytes (standings_at plan h at) plan port unit ps (unit_fits plan h cause e port unit effects is))
+pair_bytes plan h cause (event.Reset l ends) (v.Reset k) is link = if_bytes (l == link) AllReset tt
 pair_bytes plan h cause e w is link = asked_bytes plan e w link
 
 newest_bytes : (os : List (Option Happened)) (older : List Happened) → AllByRecursion IfHappened os
@@ -173,20 +175,20 @@ since_bytes (h ∷ older) i b all = by (since_bytes older i b all.1) (clears h i
     by later true = tt
     by later false = more_bytes (stored_write h i b) (writes_since older i b) (stored_bytes h i b all.0) later
 
-shown_bytes : (b : Bool) (bytes : List ℕ) → IsBytes bytes → Fits (mmio_if b bytes)
-shown_bytes true bytes are = are
-shown_bytes false bytes are = tt
+shown_bytes : (plan : Plan) (b : Bool) (bytes : List ℕ) → IsBytes bytes → Fits plan (mmio_if b bytes)
+shown_bytes plan true bytes are = are
+shown_bytes plan false bytes are = tt
 
 site_bytes : (plan : Plan) (h : History) → CauseLaw plan h → (o : Option Site) (bar offset len : ℕ)
-    → Fits (mmio_shown plan (happened plan h) o bar offset len)
+    → Fits plan (mmio_shown plan (happened plan h) o bar offset len)
 site_bytes plan h cause None bar offset len = tt
 site_bytes plan h cause (Some x) bar offset len =
     let place = place_of plan x in
     let ws = writes_since (happened plan h x.link) place bar in
-    shown_bytes _ (bytes_from (byte_shown (happened plan h x.link) place bar) offset len)
+    shown_bytes plan _ (bytes_from (byte_shown (happened plan h x.link) place bar) offset len)
     (from_bytes (byte_shown (happened plan h x.link) place bar)
     (byte_small ws (since_bytes (happened plan h x.link) place bar (happened_bytes plan h cause x.link))) offset len)
 
 pub mmio_fits : (plan : Plan) (h : History) → CauseLaw plan h → (i bar offset len : ℕ)
-    → Fits (mmio_due plan h i bar offset len)
+    → Fits plan (mmio_due plan h i bar offset len)
 mmio_fits plan h cause i bar offset len = site_bytes plan h cause (site_at plan i) bar offset len

@@ -9,6 +9,7 @@ use Rattle.link_events.specs.declared.event.Event.{Event}
 use Rattle.link_events.specs.Spells.{IsAllowed}
 use Rattle.link_verdicts.specs.declared.verdict.Verdict.{Verdict}
 use Rattle.link_verdicts.specs.Lines.{line_of}
+use Rattle.link_verdicts.specs.Shown.{shown}
 use Rattle.link_verdicts.proofs.Spellings.{lines_apart}
 use Rattle.key_laws.specs.History.{History}
 use Rattle.link_history.specs.Due.{due}
@@ -42,22 +43,22 @@ one_more plan h e v later rest last same left cause = record {
 }
 
 tells : (plan : Plan) → FitsPlan plan → (h : History) (later : List Event) (rest last : List ℕ)
-    → AreAllowed (events_told h ++ later) → VerdictsFit h
-    → lines_told h ++ rest ≡ text_on plan [] (events_told h ++ later) ++ last → Tells plan h later rest last
+    → AreAllowed (events_told h ++ later) → VerdictsFit plan h
+    → lines_told plan h ++ rest ≡ text_on plan [] (events_told h ++ later) ++ last → Tells plan h later rest last
 tells plan plan_fits [] later rest last events fits same = record { cause = tt; left = same }
 tells plan plan_fits ((e, v) ∷ h) later rest last events fits same =
-    let line = line_of (length h + 1) v in
+    let line = line_of (length h + 1) (shown plan.peers v) in
     let order : (events_told h ++ e ∷ []) ++ later ≡ events_told h
     ++ (e ∷ later) = append_assoc (events_told h) (e ∷ []) later in
     let all = subst AreAllowed order events in
-    let text = sym (append_assoc (lines_told h) line rest) ∙
+    let text = sym (append_assoc (lines_told plan h) line rest) ∙
     (same ∙ ap (λ (es : List Event). text_on plan [] es ++ last) order) in
     let before = tells plan plan_fits h (e ∷ later) (line ++ rest) last all fits.1 text in
     let few : length h < 2 ^ 28 = omega (arith, all.few, length-append (events_told h) (e ∷ later), length-events h) in
-    let due_line = line_of (length h + 1) (due plan h e) in
+    let due_line = line_of (length h + 1) (shown plan.peers (due plan h e)) in
     let lines = before.left ∙ append_assoc due_line (text_on plan (history_with plan h e) later) last in
     let number : length h + 1 < 2 ^ 64 = omega (arith, few) in
-    let apart = lines_apart (length h + 1) (length h + 1) v (due plan h e) rest
+    let apart = lines_apart plan plan_fits (length h + 1) (length h + 1) v (due plan h e) rest
     (text_on plan (history_with plan h e) later ++ last) number number fits.0
     (due_fits plan plan_fits h before.cause few e (allowed_behind (events_told h) e later all.each)) lines in
     one_more plan h e v later rest last apart.1 apart.2 before.cause
@@ -72,14 +73,14 @@ due_events : (plan : Plan) (h : History) (es : List Event) → events_told (hist
 due_events plan h [] = sym (append-nil (events_told h))
 due_events plan h (e ∷ es) = due_events plan (history_with plan h e) es ∙ append_assoc (events_told h) (e ∷ []) es
 
-due_lines : (plan : Plan) (h : History) (es : List Event) → lines_told (history_on plan h es) ≡ lines_told h
+due_lines : (plan : Plan) (h : History) (es : List Event) → lines_told plan (history_on plan h es) ≡ lines_told plan h
     ++ text_on plan h es
-due_lines plan h [] = sym (append-nil (lines_told h))
-due_lines plan h (e ∷ es) = due_lines plan (history_with plan h e) es ∙ append_assoc (lines_told h)
-    (line_of (length h + 1) (due plan h e)) (text_on plan (history_with plan h e) es)
+due_lines plan h [] = sym (append-nil (lines_told plan h))
+due_lines plan h (e ∷ es) = due_lines plan (history_with plan h e) es ∙ append_assoc (lines_told plan h)
+    (line_of (length h + 1) (shown plan.peers (due plan h e))) (text_on plan (history_with plan h e) es)
 
-due_verdicts : (plan : Plan) → FitsPlan plan → (h : History) (es : List Event) → CauseLaw plan h → VerdictsFit h
-    → length h + length es < 2 ^ 28 → AllByRecursion IsAllowed es → VerdictsFit (history_on plan h es)
+due_verdicts : (plan : Plan) → FitsPlan plan → (h : History) (es : List Event) → CauseLaw plan h → VerdictsFit plan h
+    → length h + length es < 2 ^ 28 → AllByRecursion IsAllowed es → VerdictsFit plan (history_on plan h es)
 due_verdicts plan plan_fits h [] cause fits few each = fits
 due_verdicts plan plan_fits h (e ∷ es) cause fits few each =
     due_verdicts plan plan_fits (history_with plan h e) es (refl, cause)

@@ -22,14 +22,17 @@ use Rattle.association.specs.Outgoing.{Outgoing, NoTlp, OnNone, OnStream, outgoi
 use Rattle.association.proofs.Outgoing.{no_tlp_reads}
 use Rattle.ide_prefix.specs.Packet.{Packet}
 use Rattle.key_laws.specs.History.{History, base}
-use Rattle.link_history.specs.Plan.{SubStream, has_port, lane_out, streams_of}
+use Rattle.link_history.specs.Plan.{SubStream, has_link, has_port, lane_out, streams_of}
 use Rattle.link_history.specs.Units.{units, units_after}
 use Rattle.link_history.specs.History.{KeyName, SealedList, sealed_packets, sent_in, is_under, keys_at, live_key, is_in}
 use Rattle.link_history.specs.History.{posted_in, posted_of}
-use Rattle.link_history.specs.Due.{Sending, Lanes, Lane, lanes_at, sent_under, due, send_due}
+use Rattle.link_history.specs.Due.{Sending, Lanes, Lane, lanes_at, sent_under, due, send_due, bytes_due, t_sealed}
+use Rattle.link_history.specs.Ports.{port_of, at_switch, may_send, sealing_end}
+use Rattle.ide_types.specs.Lines.{is_port}
+use Rattle.std.proofs.lemmas.Bool.{and_parts}
+use Rattle.text_laws.proofs.PortsFit.{sealing_is}
 use Rattle.link_history.specs.Due.{refusals, first_that_holds, sealed_by, described, needs_sync, no_key, is_posted}
 use Rattle.link_history.specs.Due.{ends_unit, sets_trusted}
-use Rattle.interface_states.specs.Cause.{t_due, owner_at}
 use Rattle.link_history.specs.Cause.{CauseLaw}
 use Rattle.link_history.proofs.Choices.{stream_known}
 use Rattle.link_history.proofs.Senders.{listed, sealed_by_is, on_live}
@@ -98,48 +101,48 @@ posted_fits : (b : Bool) (n : ℕ) → n < 2 ^ 63 → (if b then 0 else n) < 2 ^
 posted_fits true n few = omega arith
 posted_fits false n few = omega (arith, few)
 
-described_fits : (x : Lanes) (s : Sending) (u : SubKind) (number : ℕ) (m t sync : Bool) → LaneFits (x.lane u)
-    → FitsStream s.port.link s.stream → number < 2 ^ 64 → FitsSealed (described x s u number m t sync)
-described_fits x s u number m t sync fits at small = (
+described_fits : (plan : Plan) (x : Lanes) (s : Sending) (u : SubKind) (number : ℕ) (m t sync : Bool)
+    → LaneFits (x.lane u)
+    → FitsStream plan s.port.link s.stream → number < 2 ^ 64 → FitsSealed plan (described x s u number m t sync)
+described_fits plan x s u number m t sync fits at small = (
   small,
-  at.link_fits,
-  at.stream_fits,
+  (at.there, at.stream_fits),
   omega (arith, fits.draw),
   omega (arith, fits.units),
   posted_fits (is_posted u)
       (x.lane u).posted fits.posted,
 )
 
-listed_fits : (x : Lanes) (s : Sending) (number : ℕ) (n c : Bool) → ((u : SubKind) → LaneFits (x.lane u))
-    → FitsStream s.port.link s.stream → number < 2 ^ 63 → FitPackets (listed x s number n c)
+listed_fits : (plan : Plan) (x : Lanes) (s : Sending) (number : ℕ) (n c : Bool) → ((u : SubKind) → LaneFits (x.lane u))
+    → FitsStream plan s.port.link s.stream → number < 2 ^ 63 → FitPackets plan (listed x s number n c)
 unfolding listed
-listed_fits x s number false false fits at small = (
-  described_fits x s s.class _ (ends_unit x s) (sets_trusted s.port s.trusted) false (fits s.class) at
+listed_fits plan x s number false false fits at small = (
+  described_fits plan x s s.class _ (ends_unit x s) (sets_trusted s.port s.trusted) false (fits s.class) at
       (omega (arith, small)),
   tt,
 )
-listed_fits x s number true false fits at small = (
-  described_fits x s Npr _ true false true (fits Npr) at (omega (arith, small)),
+listed_fits plan x s number true false fits at small = (
+  described_fits plan x s Npr _ true false true (fits Npr) at (omega (arith, small)),
   (
-    described_fits x s s.class _ (ends_unit x s) (sets_trusted s.port s.trusted) false (fits s.class) at
+    described_fits plan x s s.class _ (ends_unit x s) (sets_trusted s.port s.trusted) false (fits s.class) at
         (omega (arith, small)),
     tt,
   ),
 )
-listed_fits x s number false true fits at small = (
-  described_fits x s Cpl _ true false true (fits Cpl) at (omega (arith, small)),
+listed_fits plan x s number false true fits at small = (
+  described_fits plan x s Cpl _ true false true (fits Cpl) at (omega (arith, small)),
   (
-    described_fits x s s.class _ (ends_unit x s) (sets_trusted s.port s.trusted) false (fits s.class) at
+    described_fits plan x s s.class _ (ends_unit x s) (sets_trusted s.port s.trusted) false (fits s.class) at
         (omega (arith, small)),
     tt,
   ),
 )
-listed_fits x s number true true fits at small = (
-  described_fits x s Npr _ true false true (fits Npr) at (omega (arith, small)),
+listed_fits plan x s number true true fits at small = (
+  described_fits plan x s Npr _ true false true (fits Npr) at (omega (arith, small)),
   (
-    described_fits x s Cpl _ true false true (fits Cpl) at (omega (arith, small)),
+    described_fits plan x s Cpl _ true false true (fits Cpl) at (omega (arith, small)),
     (
-      described_fits x s s.class _ (ends_unit x s) (sets_trusted s.port s.trusted) false (fits s.class) at
+      described_fits plan x s s.class _ (ends_unit x s) (sets_trusted s.port s.trusted) false (fits s.class) at
           (omega (arith, small)),
       tt,
     ),
@@ -159,41 +162,41 @@ first_holds P (x ∷ xs) last all ends = by_test x.0 (first_holds P xs last all.
     by_test true rest = all.0
     by_test false rest = rest
 
-sent_fits : (plan : Plan) → FitsPlan plan → (h : History) → CauseLaw plan h → length h < 2 ^ 28 → (s : Sending)
-    → FitsStream s.port.link s.stream → (number : ℕ) → number < 2 ^ 63
+pub sent_fits : (plan : Plan) → FitsPlan plan → (h : History) → CauseLaw plan h → length h < 2 ^ 28 → (s : Sending)
+    → FitsStream plan s.port.link s.stream → (number : ℕ) → number < 2 ^ 63
     → let x = lanes_at plan h s.port s.stream in
-    Fits (unwrap_or (first_that_holds (refusals x s.class)) (v.Sealed (sealed_by x s number)))
+    Fits plan (unwrap_or (first_that_holds (refusals x s.class)) (v.Sealed (sealed_by x s number)))
 sent_fits plan fits h cause few s at number small =
     let x = lanes_at plan h s.port s.stream in
     let worn : plan.units_per_key < 2 ^ 64 = omega (arith, fits.units_most) in
-    first_holds Fits (refusals x s.class) (v.Sealed (sealed_by x s number))
+    first_holds (Fits plan) (refusals x s.class) (v.Sealed (sealed_by x s number))
     (tt, (tt, (tt, (tt, (tt, (worn, (worn, (worn, tt))))))))
-    (subst FitPackets (sym (sealed_by_is x s number))
-    (listed_fits x s number (needs_sync x s.class Npr) (needs_sync x s.class Cpl)
+    (subst (FitPackets plan) (sym (sealed_by_is x s number))
+    (listed_fits plan x s number (needs_sync x s.class Npr) (needs_sync x s.class Cpl)
     (lane_fits plan h cause few s.port s.stream) at small))
 
 -- of a TLP that takes a stream
 pub on_stream_fits : (plan : Plan) → FitsPlan plan → (h : History) → CauseLaw plan h → length h < 2 ^ 28
     → (port : PortName) (bytes : List ℕ) (more trusted : Bool) (t : Tlp) (stream : ℕ)
     → outgoing_of (streams_of plan port.link) port.side bytes ≡ OnStream t stream
-    → Fits (send_due plan h port (OnStream t stream) more trusted)
+    → Fits plan (send_due plan h port (OnStream t stream) more trusted)
 on_stream_fits plan fits h cause few port bytes more trusted t stream comes =
     let s : Sending = record {
       port = port;
       stream = stream;
       class = class_of (header t);
       more = more;
-      trusted = t_due plan h port port.side
-          (owner_at plan port.link (header t)) stream trusted;
+      trusted = t_sealed plan h port (header t) stream trusted;
     } in
     sent_fits plan fits h cause few s
     (stream_fits plan fits port.link stream (stream_known plan port bytes t stream comes))
     (length (sealed_packets plan h) + 1) (omega (arith, few, sealed_few plan h cause))
 
 outgoing_fits : (plan : Plan) → FitsPlan plan → (h : History) → CauseLaw plan h → length h < 2 ^ 28
-    → (port : PortName) (bytes : List ℕ) (more trusted : Bool) → length bytes < 2 ^ 64 → port.link < 2 ^ 64
+    → (port : PortName) (bytes : List ℕ) (more trusted : Bool) → length bytes < 2 ^ 64
+    → is_port (port_of plan port) ≡ true
     → (o : Outgoing) → outgoing_of (streams_of plan port.link) port.side bytes ≡ o
-    → Fits (send_due plan h port o more trusted)
+    → Fits plan (send_due plan h port o more trusted)
 outgoing_fits plan fits h cause few port bytes more trusted small link (NoTlp f) comes =
     let reads = no_tlp_reads (streams_of plan port.link) port.side bytes f comes in
     (link, omega (arith, small, tlp_place bytes f reads))
@@ -201,19 +204,21 @@ outgoing_fits plan fits h cause few port bytes more trusted small link OnNone co
 outgoing_fits plan fits h cause few port bytes more trusted small link (OnStream t stream) comes =
     on_stream_fits plan fits h cause few port bytes more trusted t stream comes
 
-pub port_fits : (plan : Plan) → FitsPlan plan → (port : PortName) → has_port plan port ≡ true → port.link < 2 ^ 64
-port_fits plan fits port is = let less : port.link < length plan.links = grind (arith, nat_tests) in omega
+pub link_fits : (plan : Plan) → FitsPlan plan → (link : ℕ) → has_link plan link ≡ true → link < 2 ^ 64
+link_fits plan fits link is = let less : link < length plan.links = grind (arith, nat_tests) in omega
     (arith, less, fits.links_most)
 
 pub send_due_fits : (plan : Plan) → FitsPlan plan → (h : History) → CauseLaw plan h → length h < 2 ^ 28
     → (port : PortName) (bytes : List ℕ) (more trusted : Bool) → length bytes < 2 ^ 64
-    → Fits (due plan h (Send port bytes more trusted))
+    → Fits plan (due plan h (Send port bytes more trusted))
 unfolding due
-send_due_fits plan fits h cause few port bytes more trusted small = by_port (has_port plan port) refl
+send_due_fits plan fits h cause few port bytes more trusted small = by_port (may_send plan port) refl
   where
-    by_port : (b : Bool) → has_port plan port ≡ b → Fits
-        (if b then send_due plan h port (outgoing_of (streams_of plan port.link) port.side bytes) more trusted
-        else v.Nothing)
-    by_port true is = outgoing_fits plan fits h cause few port bytes more trusted small (port_fits plan fits port is)
-        (outgoing_of (streams_of plan port.link) port.side bytes) refl
+    by_port : (b : Bool) → may_send plan port ≡ b → Fits plan
+        (if b then bytes_due plan h (sealing_end plan port bytes) bytes more trusted else v.Nothing)
+    by_port true is =
+        let end = sealing_end plan port bytes in
+        let here = (and_parts (has_port plan port) (not (at_switch plan port)) is).0 in
+        outgoing_fits plan fits h cause few end bytes more trusted small (sealing_is plan fits port bytes here)
+        (outgoing_of (streams_of plan end.link) end.side bytes) refl
     by_port false is = tt

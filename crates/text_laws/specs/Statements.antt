@@ -15,7 +15,7 @@ use Rattle.text_laws.specs.Telling.{events_told, lines_told, VerdictsFit, AreAll
 abbrev pub DueFits : Type 0
 DueFits =
     (plan : Plan) → FitsPlan plan → (h : History) → CauseLaw plan h → length h < 2 ^ 28 → (e : Event) → IsAllowed e
-    → Fits (due plan h e)
+    → Fits plan (due plan h e)
 
 -- If the text of events begins with the lines of a history of the first of them, each verdict of that history is the
 -- one that is due.
@@ -23,14 +23,15 @@ abbrev pub LinesTell : Type 0
 LinesTell =
     (plan : Plan) → FitsPlan plan → (h : History) (later : List Event) (rest last : List ℕ)
     → AreAllowed (events_told h ++ later)
-    → VerdictsFit h → lines_told h ++ rest ≡ text_on plan [] (events_told h ++ later) ++ last → CauseLaw plan h
+    → VerdictsFit plan h → lines_told plan h ++ rest ≡ text_on plan [] (events_told h ++ later) ++ last
+    → CauseLaw plan h
 
 -- The history of events, each with the verdict that is due, has these events, verdicts that fit, and the text of the
 -- events for its lines.
 pub record IsTold (plan : Plan) (events : List Event) : Type 0 where
   pub events_are : events_told (history_on plan [] events) ≡ events
-  pub verdicts_fit : VerdictsFit (history_on plan [] events)
-  pub lines_are : lines_told (history_on plan [] events) ≡ text_on plan [] events
+  pub verdicts_fit : VerdictsFit plan (history_on plan [] events)
+  pub lines_are : lines_told plan (history_on plan [] events) ≡ text_on plan [] events
 
 abbrev pub AreTold : Type 0
 AreTold = (plan : Plan) → FitsPlan plan → (events : List Event) → AreAllowed events → IsTold plan events

@@ -2,6 +2,7 @@
 use Rattle.std.proofs.Common.{◌≡◌, ◌∙◌, sym, ap, refl, ℕ, ℤ, pos, negsuc, ◌+◌, ◌*◌, ◌≤◌, ◌<◌, ◌&&◌, ◌||◌, not, nat_le}
 use Rattle.std.proofs.Common.{nat_lt, List, [], ◌∷◌, length, Bool, true, false, Option, Some, None, Result, Ok, Err}
 use Rattle.std.proofs.Common.{cond, subst, arith}
+use Rattle.std.specs.Prelude.{IfSome}
 use Rattle.std.specs.List.{All}
 use Rattle.std.specs.Result.{result_ok}
 use Rattle.std.proofs.lemmas.Bool.{leb-true, ltb-false}
@@ -17,7 +18,7 @@ use Rattle.toml_walk.specs.declared.fault.PlanFault.TheVariants.{Range, Limit}
 use Rattle.toml_walk.specs.Fault.{◌>>=◌, or_fault}
 use Rattle.toml_walk.specs.Bounds.{admits, has_form}
 use Rattle.toml_walk.specs.Walk.{Text, Reader, place, required, found_or, optional, table, values_of, is_past}
-use Rattle.toml_walk.specs.Walk.{within_span, each, list}
+use Rattle.toml_walk.specs.Walk.{within_span, each, list, given}
 use Rattle.toml_walk.specs.Values.{integer, bounded, number, text, or_length, key_bytes, hex_bytes, both, two_in, two}
 
 -- what a reading gives, if it gives a value
@@ -130,6 +131,13 @@ pub optional_holds : {A : Type 0} (P : A → Type 0) (t : Text) (ms : Members) (
     (read : Reader A) → P default → ((path : Text) (d : Data) → Holds P (read path d))
     → Holds P (optional t ms name default read)
 optional_holds P t ms name default read p h = found_holds P _ default read (get_member name ms) p h
+
+pub given_holds : {A : Type 0} (P : A → Type 0) (read : Reader A)
+    → ((path : Text) (d : Data) → Holds P (read path d)) → (path : Text) (d : Data)
+    → Holds (λ (o : Option A). IfSome o P) (given read path d)
+given_holds {A} P read h path d =
+    next P (λ (o : Option A). IfSome o P) (read path d) (λ x. Ok (Some x)) (h path d)
+    (λ x p. gives (λ (o : Option A). IfSome o P) (Some x) p)
 
 pub table_holds : {A : Type 0} (P : A → Type 0) (keys : Text → Members → Result A PlanFault)
     → ((t : Text) (ms : Members) → Holds P (keys t ms)) → (path : Text) (d : Data) → Holds P (table keys path d)

@@ -1,7 +1,7 @@
 -- Which numbers a key takes.
-use Rattle.std.specs.Prelude.{ℕ, ◌+◌, ◌/◌, ◌%◌, ◌==◌, ◌&&◌, ◌||◌, nat_le, Bool, true}
+use Rattle.std.specs.Prelude.{ℕ, ◌+◌, ◌%◌, ◌==◌, ◌&&◌, ◌||◌, nat_le, Bool, true}
 use Rattle.toml_walk.specs.declared.bounds.Form.{Form}
-use Rattle.toml_walk.specs.declared.bounds.Form.TheVariants.{Any, Pages, Mebibytes, LastOfMebibyte, UnitMode, LockFlags}
+use Rattle.toml_walk.specs.declared.bounds.Form.TheVariants.{Any, Pages, Mebibytes, LastOfMebibyte, UnitMode}
 use Rattle.toml_walk.specs.declared.bounds.Bounds.{Bounds}
 
 -- the greatest number that TOML has
@@ -22,7 +22,6 @@ has_form Pages n = n % 4096 == 0
 has_form Mebibytes n = n % 1048576 == 0
 has_form LastOfMebibyte n = (n + 1) % 1048576 == 0
 has_form UnitMode n = (n == 1 || n == 2) || (n == 4 || n == 8)
-has_form LockFlags n = n / 8 % 2 == 0
 
 -- the number is one of them
 abbrev pub admits : Bounds → ℕ → Bool

@@ -69,6 +69,12 @@ found_or path default read (Some d) = read path d
 abbrev pub optional : {A : Type 0} → Text → Members → Text → A → Reader A → Result A PlanFault
 optional table ms name default read = found_or (table ++ name) default read (get_member name ms)
 
+-- a value that is there, which may be without a default
+abbrev pub given : {A : Type 0} → Reader A → Reader (Option A)
+given read path d = do
+  x ← read path d
+  Ok (Some x)
+
 -- a table, by how its keys are read
 abbrev pub table : {A : Type 0} → (Text → Members → Result A PlanFault) → Reader A
 table keys path d = do

@@ -19,8 +19,6 @@ pub enum Form {
     LastOfMebibyte,
     /// 1, 2, 4 or 8.
     UnitMode,
-    /// A number without bit 3.
-    LockFlags,
 }
 
 impl Form {
@@ -34,7 +32,6 @@ impl Form {
             Form::Mebibytes => n % 1048576 == 0,
             Form::LastOfMebibyte => (n + 1) % 1048576 == 0,
             Form::UnitMode => n == 1 || n == 2 || n == 4 || n == 8,
-            Form::LockFlags => n / 8 % 2 == 0,
         }
     }
 }

@@ -18,6 +18,6 @@ pub use laws::{shown_keys_are_apart, unknown_is_least};
 pub use list::{ListOf, Span, items_of};
 pub use numbers::{Byte, Long, Wide, Word, integer_of, two_numbers};
 pub use path::{key_path, place_path};
-pub use reader::Reader;
-pub use table::{Keys, table_of};
+pub use reader::{Given, Reader};
+pub use table::{Keys, found, table_of};
 pub use texts::{HexBytes, KeyBytes, Truth, or_length, text_of};

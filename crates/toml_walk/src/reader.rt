@@ -5,6 +5,7 @@ ghost use Rattle.toml.specs.Data.{Data};
 ghost use Rattle.toml.specs.View.{view};
 ghost use Rattle.toml_walk.specs.declared.fault.PlanFault.{PlanFault};
 ghost use Rattle.toml_walk.specs.Fault.{Gives};
+ghost use Rattle.toml_walk.specs.Walk.{given};
 
 use crate::PlanError;
 use std::alloc::Global;
@@ -20,4 +21,21 @@ pub trait Reader {
     /// What the value at the path means, or its first fault.
     fn read(&self, alloc: Global, path: &[u8], value: &Value) -> Result<Self::Out, PlanError>
         ensures { Gives (λ x. x) result (reads self.now path.now (view value.now)) };
+}
+
+/// A value that is there, for a key that may be without a default; read as by another reader.
+#[derive(Clone, Copy)]
+pub struct Given<R> {
+    pub element: R,
+}
+
+impl<R: Reader> Reader for Given<R> {
+    type Out = Option<R::Out>;
+
+    ghost reads = { λ g. given (R.reads g.element) };
+
+    fn read(&self, alloc: Global, path: &[u8], value: &Value) -> Result<Option<R::Out>, PlanError> {
+        let given = self.element.read(alloc, path, value)?;
+        Ok(Some(given))
+    }
 }

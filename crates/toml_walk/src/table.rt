@@ -49,7 +49,8 @@ pub struct Keys<'a> {
     pub table: &'a Table,
 }
 
-fn found<'a>(table: &'a Table, name: &str) -> Option<&'a Value>
+/// The value of a key, if it is there.
+pub fn found<'a>(table: &'a Table, name: &str) -> Option<&'a Value>
     ensures { option_map (λ v. view v.now) result ≡ get_member name.now (table_view table.now) }
 {
     table.get(name)

@@ -17,7 +17,7 @@ use Rattle.toml.specs.Data.{no_items, item, Members, no_members, member, get_mem
 use Rattle.toml.specs.Data.{depth, items_depth, members_depth, is_before, is_sorted}
 use Rattle.toml.specs.Data.{items_are_sorted, members_are_sorted}
 use Rattle.toml_walk.specs.declared.bounds.Bounds.{Bounds}
-use Rattle.toml_walk.specs.declared.bounds.Form.TheVariants.{Pages, Mebibytes, LastOfMebibyte, UnitMode, LockFlags}
+use Rattle.toml_walk.specs.declared.bounds.Form.TheVariants.{Pages, Mebibytes, LastOfMebibyte, UnitMode}
 use Rattle.toml_walk.specs.declared.fault.PlanFault.{PlanFault}
 use Rattle.toml_walk.specs.declared.list.Span.{Span}
 use Rattle.toml_walk.specs.Fault.{◌>>=◌, or_fault}
@@ -25,12 +25,19 @@ use Rattle.toml_walk.specs.Bounds.{greatest, within, formed}
 use Rattle.toml_walk.specs.Values.{integer as any_integer, number, truth, text, key_bytes, hex_bytes, two, two_in}
 use Rattle.toml_walk.specs.Walk.{Text, Reader, place, is_known, key_names, unknown_in, only_known, required, optional}
 use Rattle.toml_walk.specs.Walk.{table, list_of, values_of, is_past, within_span, each, list, between}
-use Rattle.toml_walk.specs.Walk.{any_number}
+use Rattle.toml_walk.specs.Walk.{any_number, given as walk_given}
+use Rattle.toml_walk.specs.Bounds.{admits}
+use Rattle.toml_walk.specs.Values.{bounded}
+use Rattle.toml_walk.specs.declared.fault.PlanFault.TheVariants.{Missing, Kind, Range}
+use Rattle.std.specs.Option.{option_and_then}
+use Rattle.std.specs.Prelude.{if◌then◌else◌, pos, negsuc}
 use Rattle.topology.specs.Tables.{stream_kind, is_selective_kind, only_if, id_range, address_range, truth_if}
 use Rattle.topology.specs.Tables.{stream_names, stream_keys, bar_names, bar_keys, interface_names, interface_keys}
-use Rattle.topology.specs.Tables.{link_names, link_keys, region_names, region_keys, top_names, top_keys}
+use Rattle.topology.specs.Tables.{link_names, link_keys, region_names, region_keys, peer_names, peer_keys, is_two}
+use Rattle.topology.specs.Tables.{is_newer, top_names, top_keys}
 use Rattle.topology.specs.Rules.{rules}
 use Rattle.ide_plan.specs.declared.interface.BarPlan.{BarPlan}
+use Rattle.ide_plan.specs.declared.plan.PeerPlan.{PeerPlan}
 use Rattle.ide_plan.specs.declared.plan.Region.{Region}
 use Rattle.ide_plan.specs.declared.stream.StreamPlan.{StreamPlan}
 use Rattle.topology.specs.declared.draft.InterfaceDraft.{InterfaceDraft}
@@ -302,6 +309,11 @@ of_optional : {A : Type 0} (n : ℕ) (t : Text) (ms : Members) (name : Text) (de
     → Deep n read → optional t ms name default read ≡ Ok x → Found n ms name
 of_optional n t ms name default read x h e d sorted at = h (t ++ name) d x sorted (rw at at e)
 
+given_deep : {A : Type 0} (n : ℕ) (read : Reader A) → Deep n read → Deep n (walk_given read)
+given_deep n read h path d x s e =
+    let a = first (read path d) (λ y. Ok (Some y)) x e in
+    h path d a.0 s a.1
+
 -- ---- tables, key by key
 
 bar_deep : (t : Text) (ms : Members) (x : BarPlan) → members_are_sorted ms ≡ true → bar_keys t ms ≡ Ok x
@@ -402,7 +414,7 @@ interface_deep t ms x s e =
     step (members_depth ms ≤ 2) (only_known t (interface_names 2) ms) _ x (λ k k_is more0.
     step (members_depth ms ≤ 2) (required t ms (codes "rid") (number (within 0 65535))) _ x (λ rid rid_is more1.
     step (members_depth ms ≤ 2) (required t ms (codes "stream") any_integer) _ x (λ bound bound_is more2.
-    step (members_depth ms ≤ 2) (optional t ms (codes "flags") 0 (number (formed 0 23 LockFlags))) _ x
+    step (members_depth ms ≤ 2) (optional t ms (codes "flags") 0 (number (within 0 31))) _ x
     (λ flags flags_is more3.
     step (members_depth ms ≤ 2) (optional t ms (codes "offset") 0 (number (formed 0 greatest Pages))) _ x
     (λ offset offset_is more4.
@@ -428,8 +440,8 @@ interface_deep t ms x s e =
           (
             of_required 2 t ms (codes "stream") any_integer bound (integer_deep 2) bound_is,
             (
-              of_optional 2 t ms (codes "flags") 0 (number (formed 0 23 LockFlags)) flags
-                  (number_deep 2 (formed 0 23 LockFlags)) flags_is,
+              of_optional 2 t ms (codes "flags") 0 (number (within 0 31)) flags
+                  (number_deep 2 (within 0 31)) flags_is,
               (
                 of_optional 2 t ms (codes "offset") 0 (number (formed 0 greatest Pages)) offset
                     (number_deep 2 (formed 0 greatest Pages)) offset_is,
@@ -473,26 +485,86 @@ link_deep : (t : Text) (ms : Members) (x : LinkDraft) → members_are_sorted ms 
     → members_depth ms ≤ 4
 unfolding link_keys
 link_deep t ms x s e =
-    let k = first (only_known t link_names ms) _ x e in
+    let k = first (only_known t (link_names 2) ms) _ x e in
     let nonces = first (optional t ms (codes "nonces") [] (list (between 0 1024) key_bytes)) _ x k.2 in
     let streams = first (required t ms (codes "stream") (list (between 1 16) (table stream_keys))) _ x nonces.2 in
     let interfaces = first (optional t ms (codes "interface") [] (list any_number (table (interface_keys 2)))) _ x
     streams.2 in
-    known_deep 4 link_names ms s (none_refused t (unknown_in link_names (key_names ms)) k.1)
-    (each_name 4 ms link_names (
-      of_optional 4 t ms (codes "nonces") [] (list (between 0 1024) key_bytes) nonces.0
-          (list_deep 3 (between 0 1024) key_bytes (key_deep 3)) nonces.1,
+    let hop = first (optional t ms (codes "hop") None (walk_given (number (within 0 255)))) _ x interfaces.2 in
+    let classes = first (optional t ms (codes "hop_tcs") None (walk_given (list any_number (number (within 0 7))))) _ x
+    hop.2 in
+    known_deep 4 (link_names 2) ms s (none_refused t (unknown_in (link_names 2) (key_names ms)) k.1)
+    (each_name 4 ms (link_names 2) (
+      of_optional 4 t ms (codes "hop") None (walk_given (number (within 0 255))) hop.0
+          (given_deep 4 (number (within 0 255)) (number_deep 4 (within 0 255))) hop.1,
       (
-        of_required 4 t ms (codes "stream") (list (between 1 16) (table stream_keys)) streams.0
-            (list_deep 3 (between 1 16) (table stream_keys) (table_deep 2 stream_keys stream_deep)) streams.1,
+        of_optional 4 t ms (codes "hop_tcs") None (walk_given (list any_number (number (within 0 7)))) classes.0
+            (given_deep 4 (list any_number (number (within 0 7)))
+            (list_deep 3 any_number (number (within 0 7)) (number_deep 3 (within 0 7)))) classes.1,
         (
-          of_optional 4 t ms (codes "interface") [] (list any_number (table (interface_keys 2))) interfaces.0
-              (list_deep 3 any_number (table (interface_keys 2)) (table_deep 2 (interface_keys 2) interface_deep))
-              interfaces.1,
-          tt,
+          of_optional 4 t ms (codes "nonces") [] (list (between 0 1024) key_bytes) nonces.0
+              (list_deep 3 (between 0 1024) key_bytes (key_deep 3)) nonces.1,
+          (
+            of_required 4 t ms (codes "stream") (list (between 1 16) (table stream_keys)) streams.0
+                (list_deep 3 (between 1 16) (table stream_keys) (table_deep 2 stream_keys stream_deep)) streams.1,
+            (
+              of_optional 4 t ms (codes "interface") [] (list any_number (table (interface_keys 2))) interfaces.0
+                  (list_deep 3 any_number (table (interface_keys 2)) (table_deep 2 (interface_keys 2) interface_deep))
+                  interfaces.1,
+              tt,
+            ),
+          ),
         ),
       ),
     ))
+
+peer_deep : (t : Text) (ms : Members) (x : PeerPlan) → members_are_sorted ms ≡ true → peer_keys t ms ≡ Ok x
+    → members_depth ms ≤ 0
+unfolding peer_keys
+peer_deep t ms x s e =
+    let k = first (only_known t peer_names ms) _ x e in
+    let id = first (required t ms (codes "id") (number (within 0 255))) _ x k.2 in
+    let near = first (required t ms (codes "a") (number (within 0 7))) _ x id.2 in
+    let far = first (required t ms (codes "b") (number (within 0 7))) _ x near.2 in
+    let mode = first (optional t ms (codes "mode") 1 (number (formed 1 8 UnitMode))) _ x far.2 in
+    known_deep 0 peer_names ms s (none_refused t (unknown_in peer_names (key_names ms)) k.1)
+    (each_name 0 ms peer_names (
+      of_required 0 t ms (codes "id") (number (within 0 255)) id.0 (number_deep 0 (within 0 255)) id.1,
+      (
+        of_required 0 t ms (codes "a") (number (within 0 7)) near.0 (number_deep 0 (within 0 7)) near.1,
+        (
+          of_required 0 t ms (codes "b") (number (within 0 7)) far.0 (number_deep 0 (within 0 7)) far.1,
+          (
+            of_optional 0 t ms (codes "mode") 1 (number (formed 1 8 UnitMode)) mode.0
+                (number_deep 0 (formed 1 8 UnitMode))
+                mode.1,
+            tt,
+          ),
+        ),
+      ),
+    ))
+
+-- whose version is read as 2
+two_read : (t : Text) (o : Option Data) → (or_fault o (Missing (t ++ codes "version"))
+    >>= λ d. number (within 1 2) (t ++ codes "version") d) ≡ Ok 2 → is_two (option_and_then as_integer o) ≡ true
+two_read t None e = absurd cc
+two_read t (Some d) e = by (as_integer d) e
+  where
+    by : (z : Option ℤ) → (or_fault z (Kind (t ++ codes "version")) >>= bounded (within 1 2) (t ++ codes "version"))
+        ≡ Ok 2
+        → is_two z ≡ true
+    by None e = absurd cc
+    by (Some (pos n)) e = two n (admits (within 1 2) n) e
+      where
+        two : (n : ℕ) (b : Bool) → (if b then Ok n else Err (Range (t ++ codes "version") (pos n))) ≡ Ok 2
+            → is_two (Some (pos n)) ≡ true
+        two n true e = let same : n ≡ 2 = cc in rw same refl
+        two n false e = absurd cc
+    by (Some (negsuc n)) e = absurd cc
+
+newer_read : (t : Text) (ms : Members) → required t ms (codes "version") (number (within 1 2)) ≡ Ok 2
+    → is_newer ms ≡ true
+newer_read t ms e = two_read t (get_member (codes "version") ms) e
 
 same_version : (v : ℕ) (r : Result ℕ PlanFault) → r ≡ Ok v → r ≡ Ok 2 → v ≡ 2
 same_version v r a b = cc
@@ -502,7 +574,9 @@ top_deep : (t : Text) (ms : Members) (x : PlanDraft) → members_are_sorted ms �
     → required t ms (codes "version") (number (within 1 2)) ≡ Ok 2 → top_keys t ms ≡ Ok x → members_depth ms ≤ 6
 unfolding top_keys
 top_deep t ms x s two e =
-    let k = first (only_known t top_names ms) _ x e in
+    let k = first (only_known t (top_names (is_newer ms)) ms) _ x e in
+    let known : only_known t (top_names true) ms ≡ Ok k.0 = subst (λ (b : Bool). only_known t (top_names b) ms ≡ Ok k.0)
+    (newer_read t ms two) k.1 in
     let version = first (required t ms (codes "version") (number (within 1 2))) _ x k.2 in
     let is : version.0 ≡ 2 = same_version version.0 _ version.1 two in
     let portion = first (optional t ms (codes "portion") 64 (number (within 16 65535))) _ x version.2 in
@@ -513,25 +587,32 @@ top_deep t ms x s two e =
     ≡ Ok links.0 = subst (λ (v : ℕ). required t ms (codes "link") (list (between 1 8) (table (link_keys v)))
     ≡ Ok links.0) is links.1 in
     let memory = first (optional t ms (codes "memory") [] (list (between 0 16) (table region_keys))) _ x links.2 in
-    known_deep 6 top_names ms s (none_refused t (unknown_in top_names (key_names ms)) k.1) (each_name 6 ms top_names (
-      of_required 6 t ms (codes "version") (number (within 1 2)) version.0 (number_deep 6 (within 1 2)) version.1,
+    let peers = first (optional t ms (codes "p2p") [] (list (between 0 8) (table peer_keys))) _ x memory.2 in
+    known_deep 6 (top_names true) ms s (none_refused t (unknown_in (top_names true) (key_names ms)) known)
+    (each_name 6 ms (top_names true) (
+      of_optional 6 t ms (codes "p2p") [] (list (between 0 8) (table peer_keys)) peers.0
+          (list_deep 5 (between 0 8) (table peer_keys)
+          (deeper 1 5 (table peer_keys) (lit≤ tt) (table_deep 0 peer_keys peer_deep))) peers.1,
       (
-        of_optional 6 t ms (codes "portion") 64 (number (within 16 65535)) portion.0 (number_deep 6 (within 16 65535))
-            portion.1,
+        of_required 6 t ms (codes "version") (number (within 1 2)) version.0 (number_deep 6 (within 1 2)) version.1,
         (
-          of_optional 6 t ms (codes "units_per_key") 4294967296 (number (within 1 4294967296)) units.0
-              (number_deep 6 (within 1 4294967296)) units.1,
+          of_optional 6 t ms (codes "portion") 64 (number (within 16 65535)) portion.0 (number_deep 6 (within 16 65535))
+              portion.1,
           (
-            of_required 6 t ms (codes "pool") (list (between 6 6144) key_bytes) pool.0
-                (list_deep 5 (between 6 6144) key_bytes (key_deep 5)) pool.1,
+            of_optional 6 t ms (codes "units_per_key") 4294967296 (number (within 1 4294967296)) units.0
+                (number_deep 6 (within 1 4294967296)) units.1,
             (
-              of_required 6 t ms (codes "link") (list (between 1 8) (table (link_keys 2))) links.0
-                  (list_deep 5 (between 1 8) (table (link_keys 2)) (table_deep 4 (link_keys 2) link_deep)) read,
+              of_required 6 t ms (codes "pool") (list (between 6 6144) key_bytes) pool.0
+                  (list_deep 5 (between 6 6144) key_bytes (key_deep 5)) pool.1,
               (
-                of_optional 6 t ms (codes "memory") [] (list (between 0 16) (table region_keys)) memory.0
-                    (list_deep 5 (between 0 16) (table region_keys)
-                    (deeper 1 5 (table region_keys) (lit≤ tt) (table_deep 0 region_keys region_deep))) memory.1,
-                tt,
+                of_required 6 t ms (codes "link") (list (between 1 8) (table (link_keys 2))) links.0
+                    (list_deep 5 (between 1 8) (table (link_keys 2)) (table_deep 4 (link_keys 2) link_deep)) read,
+                (
+                  of_optional 6 t ms (codes "memory") [] (list (between 0 16) (table region_keys)) memory.0
+                      (list_deep 5 (between 0 16) (table region_keys)
+                      (deeper 1 5 (table region_keys) (lit≤ tt) (table_deep 0 region_keys region_deep))) memory.1,
+                  tt,
+                ),
               ),
             ),
           ),

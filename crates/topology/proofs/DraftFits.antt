@@ -1,6 +1,7 @@
 -- What the keys of a topology say, before the rules over several values, meets every bound of the keys.
 use Rattle.std.proofs.Common.{◌≡◌, sym, refl, ℕ, ℤ, pos, negsuc, ◌≤◌, ◌<◌, ◌==◌, ◌&&◌, ◌||◌, nat_le, List, [], ◌∷◌}
 use Rattle.std.proofs.Common.{length, Bool, true, false, arith, codes, lit≤, inl, inr}
+use Rattle.std.specs.Prelude.{Option, None, IfSome}
 use Rattle.std.specs.List.{All}
 use Rattle.std.proofs.lemmas.Bool.{ltb-false, eqb-true, eq-eqb, le-leb, and_parts, and_from, or_cases}
 use Rattle.std.proofs.lemmas.List.Elements.{All-nil, All-head, All-tail}
@@ -8,19 +9,19 @@ use Rattle.toml.specs.Data.{Data, Members}
 use Rattle.ide_plan.specs.declared.stream.StreamPlan.{StreamPlan}
 use Rattle.ide_plan.specs.Plans.{has_selective, is_selective}
 use Rattle.ide_plan.specs.Fits.{AreBytes, IsKey, FitsStream, FitsBar, FitsInterface, FitsRegion}
-use Rattle.toml_walk.specs.declared.bounds.Form.TheVariants.{Pages, LockFlags}
+use Rattle.toml_walk.specs.declared.bounds.Form.TheVariants.{Pages}
 use Rattle.toml_walk.specs.Bounds.{greatest, within, formed}
-use Rattle.toml_walk.specs.Walk.{Text, only_known, required, optional, table, list, between, any_number}
+use Rattle.toml_walk.specs.Walk.{Text, only_known, required, optional, table, list, between, any_number, given}
 use Rattle.toml_walk.specs.Values.{integer, number, key_bytes, hex_bytes}
 use Rattle.toml_walk.proofs.Holds.{Holds, gives, anything, next, weaker, Admitted, Listed, number_holds, key_holds}
-use Rattle.toml_walk.proofs.Holds.{hex_holds, required_holds, optional_holds, table_holds, list_holds}
+use Rattle.toml_walk.proofs.Holds.{hex_holds, required_holds, optional_holds, given_holds, table_holds, list_holds}
 use Rattle.topology.specs.declared.draft.InterfaceDraft.{InterfaceDraft}
 use Rattle.topology.specs.declared.draft.LinkDraft.{LinkDraft}
 use Rattle.topology.specs.declared.draft.PlanDraft.{PlanDraft}
 use Rattle.topology.specs.Tables.{stream_keys, bar_keys, stream_id_of, interface_names, interface_keys, link_names}
-use Rattle.topology.specs.Tables.{link_keys, region_keys, top_names, top_keys}
+use Rattle.topology.specs.Tables.{link_keys, region_keys, peer_keys, is_newer, top_names, top_keys}
 use Rattle.topology.specs.Rules.{is_id, is_bound}
-use Rattle.topology.proofs.TableFits.{Upto, upto, stream_holds, bar_holds, region_holds}
+use Rattle.topology.proofs.TableFits.{Upto, upto, stream_holds, bar_holds, region_holds, PeerHolds, peer_holds}
 
 id_is : (z : ℤ) (id : ℕ) → id ≤ 255 → is_id z id ≡ true → (id == stream_id_of z) ≡ true
 id_is (pos n) id small h =
@@ -68,10 +69,8 @@ interface_holds version t ms =
     next (Upto 65535) DraftFits (required t ms (codes "rid") (number (within 0 65535))) _
     (required_holds _ t ms (codes "rid") _ (upto 65535)) (λ rid rid_fits.
     next (λ _. Unit {0}) DraftFits (required t ms (codes "stream") integer) _ (anything _) (λ z _.
-    next (Admitted (formed 0 23 LockFlags)) DraftFits (optional t ms (codes "flags") 0 (number (formed 0 23 LockFlags)))
-    _
-    (optional_holds _ t ms (codes "flags") 0 _ (record { least = lit≤ tt; most = lit≤ tt; form = refl })
-    (number_holds _)) (λ flags flags_fit.
+    next (Upto 31) DraftFits (optional t ms (codes "flags") 0 (number (within 0 31))) _
+    (optional_holds _ t ms (codes "flags") 0 _ (lit≤ tt) (upto 31)) (λ flags flags_fit.
     next (Admitted (formed 0 greatest Pages)) DraftFits
     (optional t ms (codes "offset") 0 (number (formed 0 greatest Pages))) _
     (optional_holds _ t ms (codes "offset") 0 _ (record { least = lit≤ tt; most = lit≤ tt; form = refl })
@@ -99,8 +98,7 @@ interface_holds version t ms =
     gives DraftFits _ (λ streams streams_fit bound. record {
       requester = rid_fits;
       stream = bound_selective z streams streams_fit bound;
-      flags = flags_fit.most;
-      no_peers = eqb-true _ _ flags_fit.form;
+      flags = flags_fit;
       offset = eqb-true _ _ offset_fits.form;
       offset_most = omega (arith, offset_fits.most);
       command = command_fits;
@@ -123,6 +121,13 @@ pub record LinkHolds (l : LinkDraft) : Type 0 where
   pub streams_most : length l.streams ≤ 16
   pub each_stream : All FitsStream l.streams
   pub each_interface : All DraftFits l.interfaces
+  pub hop : IfSome l.hop (Upto 255)
+  pub hop_classes : IfSome l.hop_classes (All (λ c. c ≤ 7))
+
+classes_hold : (path : Text) (d : Data) → Holds (All (λ c. c ≤ 7)) (list any_number (number (within 0 7)) path d)
+classes_hold path d =
+    weaker (Listed any_number (Upto 7)) _ _ (list_holds _ (Upto 7) (number (within 0 7)) (upto 7) path d)
+    (λ xs l. l.each)
 
 nonces_hold : (path : Text) (d : Data) → Holds (λ xs. (length xs ≤ 1024) × All IsKey xs)
     (list (between 0 1024) key_bytes path d)
@@ -140,7 +145,7 @@ interfaces_hold version path d = weaker (Listed any_number DraftFits) _ _
 pub link_holds : (version : ℕ) (t : Text) (ms : Members) → Holds LinkHolds (link_keys version t ms)
 unfolding link_keys
 link_holds version t ms =
-    next (λ _. Unit {0}) LinkHolds (only_known t link_names ms) _ (anything _) (λ _ _.
+    next (λ _. Unit {0}) LinkHolds (only_known t (link_names version) ms) _ (anything _) (λ _ _.
     next (λ xs. (length xs ≤ 1024) × All IsKey xs) LinkHolds
     (optional t ms (codes "nonces") [] (list (between 0 1024) key_bytes)) _
     (optional_holds _ t ms (codes "nonces") [] _ (lit≤ tt, All-nil IsKey) nonces_hold) (λ nonces nonces_fit.
@@ -153,6 +158,13 @@ link_holds version t ms =
     (optional t ms (codes "interface") [] (list any_number (table (interface_keys version)))) _
     (optional_holds _ t ms (codes "interface") [] _ (All-nil DraftFits) (interfaces_hold version))
     (λ interfaces interfaces_fit.
+    next (λ (o : Option ℕ). IfSome o (Upto 255)) LinkHolds
+    (optional t ms (codes "hop") None (given (number (within 0 255)))) _
+    (optional_holds _ t ms (codes "hop") None _ tt (given_holds (Upto 255) _ (upto 255))) (λ hop hop_fits.
+    next (λ (o : Option (List ℕ)). IfSome o (All (λ c. c ≤ 7))) LinkHolds
+    (optional t ms (codes "hop_tcs") None (given (list any_number (number (within 0 7))))) _
+    (optional_holds _ t ms (codes "hop_tcs") None _ tt (given_holds (All (λ c. c ≤ 7)) _ classes_hold))
+    (λ hop_classes hop_classes_fit.
     gives LinkHolds _ (record {
       nonces = nonces_fit.0;
       each_nonce = nonces_fit.1;
@@ -160,7 +172,9 @@ link_holds version t ms =
       streams_most = ltb-false 16 (length streams) streams_fit.most;
       each_stream = streams_fit.each;
       each_interface = interfaces_fit;
-    })))))
+      hop = hop_fits;
+      hop_classes = hop_classes_fit;
+    })))))))
 
 pub record TopHolds (d : PlanDraft) : Type 0 where
   pub version : Admitted (within 1 2) d.version
@@ -169,12 +183,13 @@ pub record TopHolds (d : PlanDraft) : Type 0 where
   pub pool : Listed (between 6 6144) IsKey d.pool
   pub links : Listed (between 1 8) LinkHolds d.links
   pub regions : Listed (between 0 16) FitsRegion d.memory
+  pub peers : Listed (between 0 8) PeerHolds d.peers
 
 -- key by key, as the keys are read
 pub top_holds : (t : Text) (ms : Members) → Holds TopHolds (top_keys t ms)
 unfolding top_keys
 top_holds t ms =
-    next (λ _. Unit {0}) TopHolds (only_known t top_names ms) _ (anything _) (λ _ _.
+    next (λ _. Unit {0}) TopHolds (only_known t (top_names (is_newer ms)) ms) _ (anything _) (λ _ _.
     next (Admitted (within 1 2)) TopHolds (required t ms (codes "version") (number (within 1 2))) _
     (required_holds _ t ms (codes "version") _ (number_holds _)) (λ version version_fits.
     next (Admitted (within 16 65535)) TopHolds (optional t ms (codes "portion") 64 (number (within 16 65535))) _
@@ -196,6 +211,11 @@ top_holds t ms =
     (optional_holds _ t ms (codes "memory") [] _ (record { least = lit≤ tt; most = refl; each = All-nil FitsRegion })
     (list_holds _ FitsRegion (table region_keys) (table_holds FitsRegion region_keys region_holds)))
     (λ memory memory_fits.
+    next (Listed (between 0 8) PeerHolds) TopHolds
+    (optional t ms (codes "p2p") [] (list (between 0 8) (table peer_keys))) _
+    (optional_holds _ t ms (codes "p2p") [] _ (record { least = lit≤ tt; most = refl; each = All-nil PeerHolds })
+    (list_holds _ PeerHolds (table peer_keys) (table_holds PeerHolds peer_keys peer_holds)))
+    (λ peers peers_fit.
     gives TopHolds _ (record {
       version = version_fits;
       portion = portion_fits;
@@ -203,4 +223,5 @@ top_holds t ms =
       pool = pool_fits;
       links = links_fit;
       regions = memory_fits;
-    }))))))))
+      peers = peers_fit;
+    })))))))))

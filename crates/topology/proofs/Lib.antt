@@ -3,6 +3,7 @@ pub mod Document
 pub mod TableFits
 pub mod DraftFits
 pub mod RuleFits
+pub mod HopFits
 pub mod PlanFits
 pub mod Carries
 pub mod Versions

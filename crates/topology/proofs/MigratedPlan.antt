@@ -1,5 +1,5 @@
 -- The plan of the table with `version` 2.
-use Rattle.std.proofs.Common.{◌≡◌, refl, sym, ◌∙◌, ℕ, ◌==◌, ◌≤◌, nat_le, pos, Bool, true, false, []}
+use Rattle.std.proofs.Common.{◌≡◌, refl, sym, ◌∙◌, ℕ, ◌==◌, ◌||◌, ◌≤◌, nat_le, pos, Bool, true, false, []}
 use Rattle.std.proofs.Common.{Option, Some, None, Ok, codes, arith}
 use Rattle.std.specs.Ordering.{nat_cmp}
 use Rattle.std.specs.Cmp.Lexicographic.{slice_cmp}
@@ -16,15 +16,15 @@ use Rattle.toml_walk.specs.declared.fault.PlanFault.TheVariants.{Missing}
 use Rattle.toml_walk.specs.Fault.{◌>>=◌, or_fault}
 use Rattle.toml_walk.specs.Bounds.{within}
 use Rattle.toml_walk.specs.Values.{number, key_bytes}
-use Rattle.toml_walk.specs.Walk.{Text, Reader, only_known, required, optional, table, list}
+use Rattle.toml_walk.specs.Walk.{Text, Reader, is_known, only_known, required, optional, table, list}
 use Rattle.toml_walk.specs.Walk.{between}
 use Rattle.topology.specs.declared.draft.PlanDraft.{PlanDraft}
-use Rattle.topology.specs.Tables.{top_names, link_keys, region_keys, top_keys}
+use Rattle.topology.specs.Tables.{is_newer, top_names, link_keys, region_keys, peer_keys, top_keys}
 use Rattle.topology.specs.Rules.{in_sixes, no_clash, each_link, at_most, interface_count, rules}
 use Rattle.topology.specs.Meaning.{plan_from, plan_in}
 use Rattle.topology.specs.Migration.{migrated, in_version_2}
 use Rattle.topology.proofs.Carries.{Carries, Same, Extends, gives, next, then, itself}
-use Rattle.topology.proofs.Versions.{links_extend}
+use Rattle.topology.proofs.Versions.{more_known, links_extend}
 use Rattle.topology.proofs.Migrated.{Apart, other_value, own_value, same_unknown}
 
 pub equal_texts : (a b : Text) → slice_cmp nat_cmp a b ≡ Equal → a ≡ b
@@ -58,8 +58,22 @@ required_is : {A : Type 0} (name : Text) (read again : Reader A) (ms : Members) 
     ≡ false → Extends read again → Carries Same (required [] ms name read) (required [] (migrated ms) name again)
 required_is name read again ms other h = rw (value_is name ms other) (from_value _ read again (get_member name ms) h)
 
-known_is : (ms : Members) → Carries Same (only_known [] top_names ms) (only_known [] top_names (migrated ms))
-known_is ms = rw (same_unknown top_names (codes "version") (integer (pos 2)) ms refl) (itself _)
+newer_is : (ms : Members) → is_newer (migrated ms) ≡ true
+newer_is ms = rw (own_value (codes "version") (integer (pos 2)) ms refl) refl
+
+top_known : (b : Bool) (k : Text) → is_known (top_names b) k ≡ true → is_known (top_names true) k ≡ true
+top_known true k h = h
+top_known false k h = or_right _ _ h
+  where
+    or_right : (a b : Bool) → b ≡ true → (a || b) ≡ true
+    or_right true b h = refl
+    or_right false b h = h
+
+known_is : (ms : Members) → Carries Same (only_known [] (top_names (is_newer ms)) ms)
+    (only_known [] (top_names (is_newer (migrated ms))) (migrated ms))
+known_is ms =
+    rw (newer_is ms, same_unknown (top_names true) (codes "version") (integer (pos 2)) ms refl)
+    (more_known (top_names (is_newer ms)) (top_names true) [] ms (top_known (is_newer ms)))
 
 version_is : (ms : Members) → Carries (λ (v w : ℕ). w ≡ 2) (required [] ms (codes "version") (number (within 1 2)))
     (required [] (migrated ms) (codes "version") (number (within 1 2)))
@@ -71,7 +85,8 @@ InVersion2 d e = e ≡ record d { version = 2 }
 top_is : (ms : Members) → Carries InVersion2 (top_keys [] ms) (top_keys [] (migrated ms))
 unfolding top_keys
 top_is ms =
-    next Same InVersion2 (only_known [] top_names ms) (only_known [] top_names (migrated ms)) _ _ (known_is ms)
+    next Same InVersion2 (only_known [] (top_names (is_newer ms)) ms)
+    (only_known [] (top_names (is_newer (migrated ms))) (migrated ms)) _ _ (known_is ms)
     (λ _ _ _.
     next (λ (v w : ℕ). w ≡ 2) InVersion2 (required [] ms (codes "version") (number (within 1 2)))
     (required [] (migrated ms) (codes "version") (number (within 1 2))) _ _ (version_is ms) (λ v w two.
@@ -92,7 +107,10 @@ top_is ms =
     next Same InVersion2 (optional [] ms (codes "memory") [] (list (between 0 16) (table region_keys)))
     (optional [] (migrated ms) (codes "memory") [] (list (between 0 16) (table region_keys))) _ _
     (optional_is (codes "memory") [] (list (between 0 16) (table region_keys)) ms refl) (λ r s memory.
-    gives InVersion2 _ _ (rw (two, portion, units, pool, links, memory) refl))))))))
+    next Same InVersion2 (optional [] ms (codes "p2p") [] (list (between 0 8) (table peer_keys)))
+    (optional [] (migrated ms) (codes "p2p") [] (list (between 0 8) (table peer_keys))) _ _
+    (optional_is (codes "p2p") [] (list (between 0 8) (table peer_keys)) ms refl) (λ x2 y2 peers.
+    gives InVersion2 _ _ (rw (two, portion, units, pool, links, memory, peers) refl)))))))))
 
 -- what meets a limit meets a greater one
 limit_is : (least most : ℕ) (path : Text) (n : ℕ) → least ≤ most

@@ -1,14 +1,17 @@
 -- What the rules over several values say of a topology that meets them.
-use Rattle.std.proofs.Common.{◌≡◌, ap, refl, ℕ, ◌+◌, ◌%◌, ◌≤◌, ◌==◌, nat_le, List, [], ◌∷◌, ◌++◌, map, length, Bool}
-use Rattle.std.proofs.Common.{true, false, Option, Some, None, Result, Ok, Err, cond, arith, codes}
-use Rattle.std.specs.Prelude.{sum_by}
-use Rattle.std.specs.List.{All, AllPairs, position_from}
+use Rattle.std.proofs.Common.{◌≡◌, ap, refl, subst, ℕ, zero, suc, ◌+◌, ◌%◌, ◌<◌, ◌≤◌, ◌==◌, ◌&&◌, ◌||◌, nat_le, nat_lt}
+use Rattle.std.proofs.Common.{not, List, [], ◌∷◌, ◌++◌, map, length, take, Bool, true, false, Option, Some, None}
+use Rattle.std.proofs.Common.{Result, Ok, Err, cond, arith, codes}
+use Rattle.std.specs.Prelude.{sum_by, slice_get}
+use Rattle.std.specs.List.{All, AllPairs, list_any, position_from}
 use Rattle.std.specs.Str.{bytes_eq}
-use Rattle.std.proofs.lemmas.Bool.{leb-true, eqb-true}
+use Rattle.std.proofs.lemmas.Bool.{leb-true, ltb-true, eqb-true, and_parts}
 use Rattle.std.proofs.lemmas.List.Elements.{All-nil, All-cons}
 use Rattle.std.proofs.lemmas.List.Kept.{AllPairs-cons}
 use Rattle.ide_plan.specs.declared.stream.StreamPlan.{StreamPlan}
 use Rattle.ide_plan.specs.Plans.{interface_limit, same_id, both_default, share_class, overlap}
+use Rattle.ide_plan.specs.Plans.{has_stream_id}
+use Rattle.ide_plan.specs.declared.plan.PeerPlan.{PeerPlan}
 use Rattle.toml_walk.specs.declared.fault.PlanFault.{PlanFault}
 use Rattle.toml_walk.specs.Fault.{◌>>=◌}
 use Rattle.toml_walk.specs.Walk.{Text, place}
@@ -16,7 +19,9 @@ use Rattle.topology.specs.declared.draft.InterfaceDraft.{InterfaceDraft}
 use Rattle.topology.specs.declared.draft.LinkDraft.{LinkDraft}
 use Rattle.topology.specs.declared.draft.PlanDraft.{PlanDraft}
 use Rattle.topology.specs.Rules.{pair_or, pair_from, refused_pair, no_clash, at_most, in_sixes, same_requester}
-use Rattle.topology.specs.Rules.{is_bound, each_bound, link_rules, each_link, interface_count, rules}
+use Rattle.topology.specs.Rules.{is_bound, each_bound, link_rules, each_link, interface_count, allowed, link_has}
+use Rattle.topology.specs.Rules.{peer_rules, each_peer, ends_with, is_hop_taken, classes_apart, hop_rules_of}
+use Rattle.topology.specs.Rules.{hop_rules, each_hop, rules}
 
 -- both steps gave a value
 pub steps : {B : Type 0} (r : Result (Unit {0}) PlanFault) (f : Unit {0} → Result B PlanFault) (y : B) → (r >>= f)
@@ -117,6 +122,102 @@ links_ruled i (l ∷ ls) e =
     let s = steps (link_rules (place (codes "link") i) l) (λ _. each_link (i + 1) ls) tt e in
     All-cons LinkRuled l ls (link_ruled (place (codes "link") i) l s.0) (links_ruled (i + 1) ls s.1)
 
+-- ---- streams between devices, and hops
+
+pub allowed_is : (path : Text) (n : ℕ) (b : Bool) → allowed path n b ≡ Ok tt → b ≡ true
+allowed_is path n true e = refl
+allowed_is path n false e = cc
+
+not_true : (b : Bool) → not b ≡ true → b ≡ false
+not_true false e = refl
+not_true true e = cc
+
+pub or_parts : (a b : Bool) → (a || b) ≡ false → (a ≡ false) × (b ≡ false)
+or_parts true b e = cc
+or_parts false b e = (refl, e)
+
+-- a stream between devices that meets its rules, behind these
+pub record PeerRuled (links : List LinkDraft) (earlier : List PeerPlan) (p : PeerPlan) : Type 0 where
+  pub near : p.near < length links
+  pub far : p.far < length links
+  pub apart : (p.far == p.near) ≡ false
+  pub near_new : link_has links p.near p.id ≡ false
+  pub far_new : link_has links p.far p.id ≡ false
+  pub id_new : list_any (λ q. q.id == p.id) earlier ≡ false
+
+peer_ruled : (path : Text) (links : List LinkDraft) (earlier : List PeerPlan) (p : PeerPlan)
+    → peer_rules path links earlier p ≡ Ok tt → PeerRuled links earlier p
+unfolding peer_rules
+peer_ruled path links earlier p e =
+    let a = steps (allowed (path ++ codes ".a") p.near (nat_lt p.near (length links))) _ tt e in
+    let b = steps (allowed (path ++ codes ".b") p.far (nat_lt p.far (length links) && not (p.far == p.near))) _ tt a.1
+    in
+    let near = allowed_is (path ++ codes ".a") p.near _ a.0 in
+    let far = and_parts _ _ (allowed_is (path ++ codes ".b") p.far _ b.0) in
+    let taken = or_parts _ _ (not_true _ (allowed_is (path ++ codes ".id") p.id _ b.1)) in
+    let links_new = or_parts _ _ taken.0 in
+    record {
+      near = ltb-true p.near (length links) near;
+      far = ltb-true p.far (length links) far.0;
+      apart = not_true _ far.1;
+      near_new = links_new.0;
+      far_new = links_new.1;
+      id_new = taken.1;
+    }
+
+-- each at its place
+pub peers_ruled : (links : List LinkDraft) (all : List PeerPlan) (i : ℕ) (ps : List PeerPlan)
+    → each_peer links all i ps ≡ Ok tt → (k m : ℕ) (p : PeerPlan) → m ≡ i + k → slice_get ps k ≡ Some p
+    → PeerRuled links (take m all) p
+peers_ruled links all i [] e zero m p at is = absurd cc
+peers_ruled links all i [] e (suc k) m p at is = absurd cc
+peers_ruled links all i (q ∷ ps) e zero m p at is =
+    let s = steps (peer_rules (place (codes "p2p") i) links (take i all) q) (λ _. each_peer links all (i + 1) ps) tt e
+    in
+    let same : q ≡ p = cc in
+    let number : i ≡ m = omega (arith, at) in
+    subst (λ n. PeerRuled links (take n all) p) number
+    (subst (PeerRuled links (take i all)) same (peer_ruled (place (codes "p2p") i) links (take i all) q s.0))
+peers_ruled links all i (q ∷ ps) e (suc k) m p at is =
+    let s = steps (peer_rules (place (codes "p2p") i) links (take i all) q) (λ _. each_peer links all (i + 1) ps) tt e
+    in
+    peers_ruled links all (i + 1) ps s.1 k m p (omega (arith, at)) is
+
+-- a hop that meets its rules, on this link
+pub record HopRuled (peers : List PeerPlan) (link : ℕ) (streams : List StreamPlan) (id : ℕ)
+    (classes : Option (List ℕ)) : Type 0 where
+  pub path : Text
+  pub id_new : has_stream_id streams id ≡ false
+  pub peers_new : list_any (ends_with link id) peers ≡ false
+  pub apart : classes_apart path streams classes ≡ Ok tt
+
+abbrev pub HopIsRuled : List PeerPlan → ℕ → LinkDraft → Type 0
+HopIsRuled peers link l = (id : ℕ) → l.hop ≡ Some id → HopRuled peers link l.streams id l.hop_classes
+
+hop_ruled : (path : Text) (peers : List PeerPlan) (link : ℕ) (l : LinkDraft) → hop_rules path peers link l ≡ Ok tt
+    → HopIsRuled peers link l
+unfolding hop_rules
+hop_ruled path peers link l e id is =
+    let ruled : hop_rules_of path peers link l.streams (Some id) l.hop_classes
+    ≡ Ok tt = subst (λ o. hop_rules_of path peers link l.streams o l.hop_classes ≡ Ok tt) is e in
+    let a = steps (allowed (path ++ codes ".hop") id (not (is_hop_taken peers link l.streams id))) _ tt ruled in
+    let new = or_parts _ _ (not_true _ (allowed_is (path ++ codes ".hop") id _ a.0)) in
+    record { path = path ++ codes ".hop_tcs"; id_new = new.0; peers_new = new.1; apart = a.1 }
+
+pub hops_ruled : (peers : List PeerPlan) (i : ℕ) (ls : List LinkDraft) → each_hop peers i ls ≡ Ok tt → (k m : ℕ)
+    (l : LinkDraft) → m ≡ i + k → slice_get ls k ≡ Some l → HopIsRuled peers m l
+hops_ruled peers i [] e zero m l at is = absurd cc
+hops_ruled peers i [] e (suc k) m l at is = absurd cc
+hops_ruled peers i (x ∷ ls) e zero m l at is =
+    let s = steps (hop_rules (place (codes "link") i) peers i x) (λ _. each_hop peers (i + 1) ls) tt e in
+    let same : x ≡ l = cc in
+    let number : i ≡ m = omega (arith, at) in
+    subst (λ n. HopIsRuled peers n l) number
+    (subst (HopIsRuled peers i) same (hop_ruled (place (codes "link") i) peers i x s.0))
+hops_ruled peers i (x ∷ ls) e (suc k) m l at is =
+    let s = steps (hop_rules (place (codes "link") i) peers i x) (λ _. each_hop peers (i + 1) ls) tt e in
+    hops_ruled peers (i + 1) ls s.1 k m l (omega (arith, at)) is
+
 pub record Ruled (d : PlanDraft) : Type 0 where
   pub pool_sixes : length d.pool % 6 ≡ 0
   pub pool : no_clash (codes "pool") bytes_eq d.pool ≡ Ok tt
@@ -124,6 +225,8 @@ pub record Ruled (d : PlanDraft) : Type 0 where
   pub interfaces : interface_count d.links ≤ interface_limit d.version
   pub memory : sum_by (λ r. r.size) d.memory ≤ 16777216
   pub regions : no_clash (codes "memory") overlap d.memory ≡ Ok tt
+  pub peers : each_peer d.links d.peers 0 d.peers ≡ Ok tt
+  pub hops : each_hop d.peers 0 d.links ≡ Ok tt
 
 -- the rules gave no fault, so each of them, in its turn, gave none
 pub ruled : (d : PlanDraft) → rules d ≡ Ok tt → Ruled d
@@ -134,11 +237,15 @@ ruled d e =
     let c = steps (each_link 0 d.links) _ tt b.1 in
     let f = steps (at_most (interface_limit d.version) (codes "interface") (interface_count d.links)) _ tt c.1 in
     let g = steps (at_most 16777216 (codes "memory") (sum_by (λ r. r.size) d.memory)) _ tt f.1 in
+    let h = steps (no_clash (codes "memory") overlap d.memory) _ tt g.1 in
+    let i = steps (each_peer d.links d.peers 0 d.peers) _ tt h.1 in
     record {
       pool_sixes = sixes d.pool a.0;
       pool = b.0;
       each_link = links_ruled 0 d.links c.0;
       interfaces = at_most_is (interface_limit d.version) (codes "interface") _ f.0;
       memory = at_most_is 16777216 (codes "memory") _ g.0;
-      regions = g.1;
+      regions = h.0;
+      peers = i.0;
+      hops = i.1;
     }

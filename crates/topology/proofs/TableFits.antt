@@ -1,5 +1,22 @@
 -- What the tables of a topology give meets every bound of its keys.
-use Rattle.std.proofs.Common.{refl, ℕ, ◌+◌, ◌≤◌, nat_le, nat_lt, List, [], length, Bool, true, false, not, Option, Some}
+use Rattle.std.proofs.Common.{
+  ◌≡◌,
+  refl,
+  ℕ,
+  ◌+◌,
+  ◌≤◌,
+  nat_le,
+  nat_lt,
+  List,
+  [],
+  length,
+  Bool,
+  true,
+  false,
+  not,
+  Option,
+  Some,
+}
 use Rattle.std.proofs.Common.{None, arith, codes, lit≤}
 use Rattle.std.specs.List.{All}
 use Rattle.std.proofs.lemmas.Bool.{leb-true, ltb-true, ltb-false, eqb-true}
@@ -7,7 +24,7 @@ use Rattle.std.proofs.lemmas.List.Elements.{All-nil}
 use Rattle.toml.specs.Data.{Data, Members}
 use Rattle.ide_plan.specs.declared.stream.IdRange.{IdRange}
 use Rattle.ide_plan.specs.declared.stream.AddressRange.{AddressRange}
-use Rattle.ide_plan.specs.Fits.{FitsIds, FitsAddresses, FitsSelector, FitsStream, FitsBar, FitsRegion}
+use Rattle.ide_plan.specs.Fits.{is_mode, FitsIds, FitsAddresses, FitsSelector, FitsStream, FitsBar, FitsRegion}
 use Rattle.toml_walk.specs.declared.bounds.Form.TheVariants.{Pages, Mebibytes, LastOfMebibyte, UnitMode}
 use Rattle.toml_walk.specs.Bounds.{greatest, within, formed}
 use Rattle.toml_walk.specs.Walk.{Text, only_known, required, optional, list, between, any_number}
@@ -18,7 +35,8 @@ use Rattle.topology.specs.declared.draft.StreamKind.{StreamKind}
 use Rattle.topology.specs.declared.draft.StreamKind.TheVariants as kind
 use Rattle.topology.specs.Tables.{stream_kind, is_selective_kind, only_if, id_range, ids_in_order, address_range}
 use Rattle.topology.specs.Tables.{addresses_in_order, truth_if, selector_for, stream_names, stream_keys, bar_names}
-use Rattle.topology.specs.Tables.{bar_keys, region_names, region_keys}
+use Rattle.topology.specs.Tables.{bar_keys, region_names, region_keys, peer_names, peer_keys}
+use Rattle.ide_plan.specs.declared.plan.PeerPlan.{PeerPlan}
 
 -- a number from 0 to the most
 abbrev pub Upto : ℕ → ℕ → Type 0
@@ -126,3 +144,22 @@ region_holds t ms =
       size_least = size_fits.least;
       most = leb-true (base + size) 9223372036854775808 h;
     }))))
+
+-- ---- streams between devices
+
+pub record PeerHolds (p : PeerPlan) : Type 0 where
+  pub id : p.id ≤ 255
+  pub mode : is_mode p.mode ≡ true
+
+pub peer_holds : (t : Text) (ms : Members) → Holds PeerHolds (peer_keys t ms)
+unfolding peer_keys
+peer_holds t ms =
+    next (λ _. Unit {0}) PeerHolds (only_known t peer_names ms) _ (anything _) (λ _ _.
+    next (Upto 255) PeerHolds (required t ms (codes "id") (number (within 0 255))) _
+    (required_holds _ t ms (codes "id") _ (upto 255)) (λ id id_fits.
+    next (λ _. Unit {0}) PeerHolds (required t ms (codes "a") (number (within 0 7))) _ (anything _) (λ near _.
+    next (λ _. Unit {0}) PeerHolds (required t ms (codes "b") (number (within 0 7))) _ (anything _) (λ far _.
+    next (Admitted (formed 1 8 UnitMode)) PeerHolds (optional t ms (codes "mode") 1 (number (formed 1 8 UnitMode))) _
+    (optional_holds _ t ms (codes "mode") 1 _ (record { least = lit≤ tt; most = lit≤ tt; form = refl })
+    (number_holds _)) (λ mode mode_fits.
+    gives PeerHolds _ (record { id = id_fits; mode = mode_fits.form }))))))

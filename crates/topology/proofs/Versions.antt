@@ -1,14 +1,13 @@
 -- What is read of a table in its version is read of it in version 2.
-use Rattle.std.proofs.Common.{◌≡◌, refl, ap, ◌∙◌, ℕ, ◌==◌, ◌||◌, Bool, true, false, List, []}
+use Rattle.std.proofs.Common.{◌≡◌, refl, ◌∙◌, ℕ, ◌==◌, ◌||◌, Bool, true, false, List, []}
 use Rattle.std.proofs.Common.{◌∷◌, Option, Some, None, Ok, codes}
 use Rattle.toml.specs.Data.{Members, get_member}
 use Rattle.ide_plan.specs.declared.stream.StreamPlan.{StreamPlan}
 use Rattle.toml_walk.specs.Values.{key_bytes}
 use Rattle.toml_walk.specs.Walk.{Text, is_known, key_names, unknown_in, refused_key, only_known, required, optional}
 use Rattle.toml_walk.specs.Walk.{table, list, between, any_number}
-use Rattle.topology.specs.declared.draft.InterfaceDraft.{InterfaceDraft}
 use Rattle.topology.specs.Tables.{link_names, interface_names, interface_keys, link_keys, stream_keys}
-use Rattle.topology.proofs.Carries.{Carries, Same, Extends, gives, next, then, itself, list_extends, table_extends}
+use Rattle.topology.proofs.Carries.{Carries, Same, Extends, next, then, itself, list_extends, table_extends}
 use Rattle.topology.proofs.Carries.{found_extends}
 
 one_known : (b : Bool) (known more : List Text) (k : Text) (ks : List Text) → is_known known k ≡ b
@@ -61,10 +60,17 @@ interface_extends version t ms =
     (λ u v e.
     itself _)
 
+both_link_known : (b : Bool) (version : ℕ) (k : Text) → (version == 2) ≡ b → is_known (link_names version) k ≡ true
+    → is_known (link_names 2) k ≡ true
+both_link_known true version k is h = rw is at h
+both_link_known false version k is h = or_right _ _ (or_right _ _ (rw is at h))
+
 pub link_extends : (version : ℕ) (t : Text) (ms : Members) → Carries Same (link_keys version t ms) (link_keys 2 t ms)
 unfolding link_keys
 link_extends version t ms =
-    then {A = Unit {0}} Same (only_known t link_names ms) _ _ (λ _.
+    next Same Same (only_known t (link_names version) ms) (only_known t (link_names 2) ms) _ _
+    (more_known (link_names version) (link_names 2) t ms (λ k. both_link_known (version == 2) version k refl))
+    (λ u v e.
     then {A = List (List ℕ)} Same (optional t ms (codes "nonces") [] (list (between 0 1024) key_bytes)) _ _ (λ nonces.
     then {A = List StreamPlan} Same (required t ms (codes "stream") (list (between 1 16) (table stream_keys))) _ _
     (λ streams.
@@ -72,8 +78,7 @@ link_extends version t ms =
     (optional t ms (codes "interface") [] (list any_number (table (interface_keys 2)))) _ _
     (found_extends _ [] _ _ (get_member (codes "interface") ms)
     (list_extends any_number _ _ (table_extends _ _ (interface_extends version)))) (λ xs ys e.
-    gives Same _ _ (ap (λ (is : List InterfaceDraft). record { nonces = nonces; streams = streams; interfaces = is })
-    e)))))
+    rw e (itself _)))))
 
 pub links_extend : (version : ℕ) → Extends (list (between 1 8) (table (link_keys version)))
     (list (between 1 8) (table (link_keys 2)))

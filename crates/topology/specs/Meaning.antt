@@ -1,8 +1,10 @@
 -- The plan that a topology's text means, or its first fault.
 use Rattle.std.specs.Prelude.{ℕ, List, [], map, Option, Some, None, Result, Ok, Err, if◌then◌else◌}
+use Rattle.std.specs.Option.{unwrap_or}
 use Rattle.std.specs.Str.{is_utf8}
 use Rattle.toml.specs.Data.{Members}
 use Rattle.toml.specs.Parse.{parse_document}
+use Rattle.ide_plan.specs.declared.plan.HopPlan.{HopPlan}
 use Rattle.ide_plan.specs.declared.plan.LinkPlan.{LinkPlan}
 use Rattle.ide_plan.specs.declared.plan.Plan.{Plan}
 use Rattle.toml_walk.specs.declared.fault.PlanFault.{PlanFault}
@@ -13,8 +15,18 @@ use Rattle.topology.specs.declared.draft.PlanDraft.{PlanDraft}
 use Rattle.topology.specs.Tables.{top_keys}
 use Rattle.topology.specs.Rules.{rules}
 
+-- a hop that lists no classes takes none
+abbrev pub hop_of : Option ℕ → Option (List ℕ) → Option HopPlan
+hop_of None classes = None
+hop_of (Some id) classes = Some (record { id = id; classes = unwrap_or classes [] })
+
 abbrev pub link_of : LinkDraft → LinkPlan
-link_of l = record { nonces = l.nonces; streams = l.streams; interfaces = map (λ i. i.interface) l.interfaces }
+link_of l = record {
+  nonces = l.nonces;
+  streams = l.streams;
+  interfaces = map (λ i. i.interface) l.interfaces;
+  hop = hop_of l.hop l.hop_classes;
+}
 
 abbrev pub plan_from : PlanDraft → Plan
 plan_from d = record {
@@ -24,6 +36,7 @@ plan_from d = record {
   pool = d.pool;
   links = map link_of d.links;
   memory = d.memory;
+  peers = d.peers;
 }
 
 -- the plan of a table: first each key, and then the rules over several values

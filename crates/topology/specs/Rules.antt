@@ -1,12 +1,32 @@
 -- The rules over several values of a topology, in their order.
-use Rattle.std.specs.Prelude.{◌+◌, ◌%◌, ◌==◌, ◌&&◌, ℕ, ℤ, pos, negsuc, nat_le, Bool, false, List, [], ◌∷◌, ◌++◌, length}
+use Rattle.std.specs.Prelude.{
+  ◌+◌,
+  ◌%◌,
+  ◌==◌,
+  ◌&&◌,
+  ◌||◌,
+  ℕ,
+  ℤ,
+  pos,
+  negsuc,
+  nat_le,
+  nat_lt,
+  Bool,
+  true,
+  false,
+  not,
+  List,
+}
+use Rattle.std.specs.Prelude.{[], ◌∷◌, ◌++◌, length, take, find, slice_get}
 use Rattle.std.specs.Prelude.{Option, Some, None, Result, Ok, Err, if◌then◌else◌, codes, sum_by}
 use Rattle.std.specs.List.{list_any, position_from}
 use Rattle.std.specs.Str.{bytes_eq}
 use Rattle.ide_plan.specs.declared.stream.StreamPlan.{StreamPlan}
 use Rattle.ide_plan.specs.Plans.{interface_limit, same_id, both_default, share_class, is_selective, overlap}
+use Rattle.ide_plan.specs.Plans.{has_stream_id, lists_class}
+use Rattle.ide_plan.specs.declared.plan.PeerPlan.{PeerPlan}
 use Rattle.toml_walk.specs.declared.fault.PlanFault.{PlanFault}
-use Rattle.toml_walk.specs.declared.fault.PlanFault.TheVariants.{Range, Repeated, Limit}
+use Rattle.toml_walk.specs.declared.fault.PlanFault.TheVariants.{Missing, Range, Repeated, Limit}
 use Rattle.toml_walk.specs.Fault.{◌>>=◌}
 use Rattle.toml_walk.specs.Walk.{Text, place}
 use Rattle.topology.specs.declared.draft.InterfaceDraft.{InterfaceDraft}
@@ -75,6 +95,76 @@ each_link i (l ∷ ls) = do
 abbrev pub interface_count : List LinkDraft → ℕ
 interface_count links = sum_by (λ l. length l.interfaces) links
 
+-- ---- streams between devices, and hops
+
+-- the number at the path may be there
+abbrev pub allowed : Text → ℕ → Bool → Result (Unit {0}) PlanFault
+allowed path n true = Ok tt
+allowed path n false = Err (Range path (pos n))
+
+abbrev pub streams_of : Option LinkDraft → List StreamPlan
+streams_of None = []
+streams_of (Some l) = l.streams
+
+-- a stream of the link has the ID
+abbrev pub link_has : List LinkDraft → ℕ → ℕ → Bool
+link_has links link id = has_stream_id (streams_of (slice_get links link)) id
+
+-- a stream of either link, or an earlier stream between devices, has its ID
+abbrev pub is_taken : List LinkDraft → List PeerPlan → PeerPlan → Bool
+is_taken links earlier p =
+    (link_has links p.near p.id || link_has links p.far p.id) || list_any (λ q. q.id == p.id) earlier
+
+-- both links are there, and are two, and the ID is new
+unfoldable pub peer_rules : Text → List LinkDraft → List PeerPlan → PeerPlan → Result (Unit {0}) PlanFault
+peer_rules path links earlier p = do
+  _ ← allowed (path ++ codes ".a") p.near (nat_lt p.near (length links))
+  _ ← allowed (path ++ codes ".b") p.far (nat_lt p.far (length links) && not (p.far == p.near))
+  allowed (path ++ codes ".id") p.id (not (is_taken links earlier p))
+
+-- the rules of each of all from place i on
+abbrev pub each_peer : List LinkDraft → List PeerPlan → ℕ → List PeerPlan → Result (Unit {0}) PlanFault
+each_peer links all i [] = Ok tt
+each_peer links all i (p ∷ ps) = do
+  _ ← peer_rules (place (codes "p2p") i) links (take i all) p
+  each_peer links all (i + 1) ps
+
+-- the stream has the ID, and ends at the device of the link
+abbrev pub ends_with : ℕ → ℕ → PeerPlan → Bool
+ends_with link id p = p.id == id && (p.near == link || p.far == link)
+
+-- a stream of the link, or one between devices that ends there, has the ID
+abbrev pub is_hop_taken : List PeerPlan → ℕ → List StreamPlan → ℕ → Bool
+is_hop_taken peers link streams id = has_stream_id streams id || list_any (ends_with link id) peers
+
+abbrev pub refused_class : Text → Option ℕ → Result (Unit {0}) PlanFault
+refused_class path None = Ok tt
+refused_class path (Some c) = Err (Range path (pos c))
+
+-- no class is one that a stream of the link lists: the first of them is refused
+abbrev pub classes_apart : Text → List StreamPlan → Option (List ℕ) → Result (Unit {0}) PlanFault
+classes_apart path streams None = Ok tt
+classes_apart path streams (Some classes) = refused_class path (find (lists_class streams) classes)
+
+abbrev pub hop_rules_of : Text → List PeerPlan → ℕ → List StreamPlan → Option ℕ → Option (List ℕ)
+    → Result (Unit {0}) PlanFault
+hop_rules_of path peers link streams None None = Ok tt
+hop_rules_of path peers link streams None (Some classes) = Err (Missing (path ++ codes ".hop"))
+hop_rules_of path peers link streams (Some id) classes = do
+  _ ← allowed (path ++ codes ".hop") id (not (is_hop_taken peers link streams id))
+  classes_apart (path ++ codes ".hop_tcs") streams classes
+
+-- the hop of a link: classes do not stand alone, the ID is new, and no class is one of a stream's
+unfoldable pub hop_rules : Text → List PeerPlan → ℕ → LinkDraft → Result (Unit {0}) PlanFault
+hop_rules path peers link l = hop_rules_of path peers link l.streams l.hop l.hop_classes
+
+-- the hops of each link from place i on
+abbrev pub each_hop : List PeerPlan → ℕ → List LinkDraft → Result (Unit {0}) PlanFault
+each_hop peers i [] = Ok tt
+each_hop peers i (l ∷ ls) = do
+  _ ← hop_rules (place (codes "link") i) peers i l
+  each_hop peers (i + 1) ls
+
 unfoldable pub rules : PlanDraft → Result (Unit {0}) PlanFault
 rules d = do
   _ ← in_sixes d.pool
@@ -82,4 +172,6 @@ rules d = do
   _ ← each_link 0 d.links
   _ ← at_most (interface_limit d.version) (codes "interface") (interface_count d.links)
   _ ← at_most 16777216 (codes "memory") (sum_by (λ r. r.size) d.memory)
-  no_clash (codes "memory") overlap d.memory
+  _ ← no_clash (codes "memory") overlap d.memory
+  _ ← each_peer d.links d.peers 0 d.peers
+  each_hop d.peers 0 d.links

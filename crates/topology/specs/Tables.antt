@@ -3,21 +3,24 @@ use Rattle.std.specs.Prelude.{◌+◌, ℕ, ℤ, pos, negsuc, nat_le, nat_lt, Bo
 use Rattle.std.specs.Prelude.{◌++◌}
 use Rattle.std.specs.Prelude.{Option, Some, None, Result, Ok, Err, if◌then◌else◌, codes}
 use Rattle.std.specs.Str.{bytes_eq}
-use Rattle.toml.specs.Data.{Members}
+use Rattle.std.specs.Option.{option_and_then}
+use Rattle.toml.specs.Data.{Members, get_member, as_integer}
 use Rattle.ide_plan.specs.declared.stream.IdRange.{IdRange}
 use Rattle.ide_plan.specs.declared.stream.AddressRange.{AddressRange}
 use Rattle.ide_plan.specs.declared.stream.Selector.{Selector}
 use Rattle.ide_plan.specs.declared.stream.Selector.TheVariants as selector
 use Rattle.ide_plan.specs.declared.stream.StreamPlan.{StreamPlan}
 use Rattle.ide_plan.specs.declared.interface.BarPlan.{BarPlan}
+use Rattle.ide_plan.specs.declared.plan.PeerPlan.{PeerPlan}
 use Rattle.ide_plan.specs.declared.plan.Region.{Region}
-use Rattle.toml_walk.specs.declared.bounds.Form.TheVariants.{Pages, Mebibytes, LastOfMebibyte, UnitMode, LockFlags}
+use Rattle.toml_walk.specs.declared.bounds.Form.TheVariants.{Pages, Mebibytes, LastOfMebibyte, UnitMode}
 use Rattle.toml_walk.specs.declared.list.Span.{Span}
 use Rattle.toml_walk.specs.declared.fault.PlanFault.{PlanFault}
 use Rattle.toml_walk.specs.declared.fault.PlanFault.TheVariants.{Range}
 use Rattle.toml_walk.specs.Fault.{◌>>=◌}
 use Rattle.toml_walk.specs.Bounds.{greatest, within, formed}
 use Rattle.toml_walk.specs.Walk.{Text, Reader, place, only_known, required, optional, table, list, between, any_number}
+use Rattle.toml_walk.specs.Walk.{given}
 use Rattle.toml_walk.specs.Values.{integer, number, truth, text, or_length, key_bytes, hex_bytes, two}
 use Rattle.topology.specs.declared.draft.StreamKind.{StreamKind}
 use Rattle.topology.specs.declared.draft.StreamKind.TheVariants as kind
@@ -133,7 +136,7 @@ interface_keys version t ms = do
   _ ← only_known t (interface_names version) ms
   rid ← required t ms (codes "rid") (number (within 0 65535))
   stream ← required t ms (codes "stream") integer
-  flags ← optional t ms (codes "flags") 0 (number (formed 0 23 LockFlags))
+  flags ← optional t ms (codes "flags") 0 (number (within 0 31))
   offset ← optional t ms (codes "offset") 0 (number (formed 0 greatest Pages))
   command ← optional t ms (codes "command") 0 (number (within 0 65535))
   msix ← optional t ms (codes "msix") 0 (number (within 0 65535))
@@ -163,17 +166,23 @@ interface_keys version t ms = do
     };
   })
 
-abbrev pub link_names : List Text
-link_names = codes "nonces" ∷ codes "stream" ∷ codes "interface" ∷ []
+abbrev pub common_link_names : List Text
+common_link_names = codes "nonces" ∷ codes "stream" ∷ codes "interface" ∷ []
+
+-- version 2 has two more
+abbrev pub link_names : ℕ → List Text
+link_names version = if version == 2 then codes "hop" ∷ codes "hop_tcs" ∷ common_link_names else common_link_names
 
 -- a link of a topology of a version
 unfoldable pub link_keys : ℕ → Text → Members → Result LinkDraft PlanFault
 link_keys version t ms = do
-  _ ← only_known t link_names ms
+  _ ← only_known t (link_names version) ms
   nonces ← optional t ms (codes "nonces") [] (list (between 0 1024) key_bytes)
   streams ← required t ms (codes "stream") (list (between 1 16) (table stream_keys))
   interfaces ← optional t ms (codes "interface") [] (list any_number (table (interface_keys version)))
-  Ok (record { nonces = nonces; streams = streams; interfaces = interfaces })
+  hop ← optional t ms (codes "hop") None (given (number (within 0 255)))
+  classes ← optional t ms (codes "hop_tcs") None (given (list any_number (number (within 0 7))))
+  Ok (record { nonces = nonces; streams = streams; interfaces = interfaces; hop = hop; hop_classes = classes })
 
 abbrev pub region_names : List Text
 region_names = codes "base" ∷ codes "size" ∷ []
@@ -192,20 +201,46 @@ region_keys t ms = do
   size ← required t ms (codes "size") (number (formed 4096 greatest Pages))
   region_within t base size
 
-abbrev pub top_names : List Text
-top_names = codes "version" ∷ codes "portion" ∷ codes "units_per_key" ∷ codes "pool" ∷ codes "link"
+abbrev pub peer_names : List Text
+peer_names = codes "id" ∷ codes "a" ∷ codes "b" ∷ codes "mode" ∷ []
+
+-- a stream between the devices of two links
+unfoldable pub peer_keys : Text → Members → Result PeerPlan PlanFault
+peer_keys t ms = do
+  _ ← only_known t peer_names ms
+  id ← required t ms (codes "id") (number (within 0 255))
+  near ← required t ms (codes "a") (number (within 0 7))
+  far ← required t ms (codes "b") (number (within 0 7))
+  mode ← optional t ms (codes "mode") 1 (number (formed 1 8 UnitMode))
+  Ok (record { id = id; near = near; far = far; mode = mode })
+
+abbrev pub common_top_names : List Text
+common_top_names = codes "version" ∷ codes "portion" ∷ codes "units_per_key" ∷ codes "pool" ∷ codes "link"
     ∷ codes "memory" ∷ []
+
+-- the number 2 at `version`, which is not read yet
+abbrev pub is_two : Option ℤ → Bool
+is_two (Some (pos n)) = n == 2
+is_two _ = false
+
+abbrev pub is_newer : Members → Bool
+is_newer ms = is_two (option_and_then as_integer (get_member (codes "version") ms))
+
+-- version 2 has one more
+abbrev pub top_names : Bool → List Text
+top_names newer = if newer then codes "p2p" ∷ common_top_names else common_top_names
 
 -- the table at the top
 unfoldable pub top_keys : Text → Members → Result PlanDraft PlanFault
 top_keys t ms = do
-  _ ← only_known t top_names ms
+  _ ← only_known t (top_names (is_newer ms)) ms
   version ← required t ms (codes "version") (number (within 1 2))
   portion ← optional t ms (codes "portion") 64 (number (within 16 65535))
   units ← optional t ms (codes "units_per_key") 4294967296 (number (within 1 4294967296))
   pool ← required t ms (codes "pool") (list (between 6 6144) key_bytes)
   links ← required t ms (codes "link") (list (between 1 8) (table (link_keys version)))
   memory ← optional t ms (codes "memory") [] (list (between 0 16) (table region_keys))
+  peers ← optional t ms (codes "p2p") [] (list (between 0 8) (table peer_keys))
   Ok (record {
     version = version;
     portion = portion;
@@ -213,4 +248,5 @@ top_keys t ms = do
     pool = pool;
     links = links;
     memory = memory;
+    peers = peers;
   })

@@ -1,6 +1,6 @@
 //! What the keys of a topology say, before the rules over several values.
 
-use ide_plan::{InterfacePlan, Region, StreamPlan};
+use ide_plan::{InterfacePlan, PeerPlan, Region, StreamPlan};
 use ide_types::Items;
 
 /// What a stream is chosen by.
@@ -24,6 +24,10 @@ pub struct LinkDraft {
     pub nonces: Items<[u8; 32]>,
     pub streams: Items<StreamPlan>,
     pub interfaces: Items<InterfaceDraft>,
+    /// The stream ID of its hop, if it is there.
+    pub hop: Option<u8>,
+    /// The traffic classes that the hop takes, if they are there.
+    pub hop_classes: Option<Items<u8>>,
 }
 
 /// A topology.
@@ -35,4 +39,5 @@ pub struct PlanDraft {
     pub pool: Items<[u8; 32]>,
     pub links: Items<LinkDraft>,
     pub memory: Items<Region>,
+    pub peers: Items<PeerPlan>,
 }

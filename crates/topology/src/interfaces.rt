@@ -120,7 +120,7 @@ fn interface_of(version: u8, keys: &Keys) -> Result<InterfaceDraft, PlanError>
     keys.only(names_of(version))?;
     let requester = keys.required("rid", &Word::within(0, 65535))?;
     let stream = keys.required("stream", &Integer)?;
-    let flags = keys.optional("flags", 0, &Word::formed(0, 23, Form::LockFlags))?;
+    let flags = keys.optional("flags", 0, &Word::within(0, 31))?;
     let offset = keys.optional("offset", 0, &Wide::formed(0, Form::Pages))?;
     let command = keys.optional("command", 0, &Word::within(0, 65535))?;
     let msix = keys.optional("msix", 0, &Word::within(0, 65535))?;

@@ -105,7 +105,7 @@ impl Clash for BothDefault {
     }
 }
 
-fn classes(selector: &Selector) -> &[u8]
+pub(crate) fn classes(selector: &Selector) -> &[u8]
     ensures { result.now ≡ classes_of selector.now }
 {
     match selector {
@@ -114,7 +114,7 @@ fn classes(selector: &Selector) -> &[u8]
     }
 }
 
-fn contains(classes: &[u8], class: u8) -> bool
+pub(crate) fn contains(classes: &[u8], class: u8) -> bool
     ensures { result ≡ is_among class classes.now }
 {
     classes.iter().any(|other| class == *other)

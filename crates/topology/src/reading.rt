@@ -4,16 +4,30 @@ ghost use Rattle.std.specs.Prelude.{◌≡◌, IfOk, map};
 ghost use Rattle.toml.specs.View.{table_view};
 ghost use Rattle.ide_plan.specs.Fits.{FitsPlan};
 ghost use Rattle.toml_walk.specs.Fault.{Gives};
-ghost use Rattle.topology.specs.Meaning.{link_of, plan_from, plan_in, plan_of};
+ghost use Rattle.topology.specs.Meaning.{hop_of, link_of, plan_from, plan_in, plan_of};
 
 use crate::draft::{LinkDraft, PlanDraft};
 use crate::links::top_of;
 use crate::rules::check;
-use ide_plan::{LinkPlan, Plan};
+use ide_plan::{HopPlan, LinkPlan, Plan};
 use ide_types::{Bytes, Items};
 use std::alloc::{AllocError, Global};
 use toml::Table;
 use toml_walk::{Keys, PlanError, PlanFault};
+
+// The hop that its keys say: without classes it takes none.
+fn hop_from(alloc: Global, hop: Option<u8>, classes: Option<Items<u8>>) -> Option<HopPlan>
+    ensures { result ≡ hop_of hop classes }
+{
+    match (hop, classes) {
+        (None, _) => None,
+        (Some(id), Some(classes)) => Some(HopPlan { id, classes }),
+        (Some(id), None) => Some(HopPlan {
+            id,
+            classes: Items::new(Vec::new(alloc)),
+        }),
+    }
+}
 
 // The link that its keys say.
 fn link_from(alloc: Global, draft: LinkDraft) -> Result<LinkPlan, AllocError>
@@ -23,16 +37,20 @@ fn link_from(alloc: Global, draft: LinkDraft) -> Result<LinkPlan, AllocError>
         nonces,
         streams,
         interfaces,
+        hop,
+        hop_classes,
     } = draft;
     let plans = interfaces
         .into_vec()
         .into_iter()
         .map(|draft| draft.interface);
     let interfaces = Items::new(plans.collect(alloc)?);
+    let hop = hop_from(alloc, hop, hop_classes);
     Ok(LinkPlan {
         nonces,
         streams,
         interfaces,
+        hop,
     })
 }
 
@@ -47,6 +65,7 @@ fn plan_of_draft(alloc: Global, draft: PlanDraft) -> Result<Plan, AllocError>
         pool,
         links,
         memory,
+        peers,
     } = draft;
     let mut all = Vec::new(alloc);
     for draft in links.into_vec() {
@@ -59,6 +78,7 @@ fn plan_of_draft(alloc: Global, draft: PlanDraft) -> Result<Plan, AllocError>
         pool,
         links: Items::new(all),
         memory,
+        peers,
     })
 }
 

@@ -1,19 +1,23 @@
 //! The rules over several values.
 
-ghost use Rattle.std.specs.Prelude.{◌≡◌, ◌++◌, ◌&&◌, Ok, Err, if◌then◌else◌, nat_le, codes, sum_by};
+ghost use Rattle.std.specs.Prelude.{◌≡◌, ◌++◌, ◌&&◌, ◌==◌, Ok, Err, Some, if◌then◌else◌, nat_le, codes, find, sum_by};
+ghost use Rattle.std.specs.List.{list_any};
 ghost use Rattle.std.specs.Str.{bytes_eq};
 ghost use Rattle.toml_walk.specs.Fault.{Gives};
 ghost use Rattle.toml_walk.specs.declared.fault.PlanFault.TheVariants.{Limit};
-ghost use Rattle.ide_plan.specs.Plans.{interface_limit, is_selective};
+ghost use Rattle.ide_plan.specs.Plans.{interface_limit, is_selective, has_stream_id, lists_class};
 ghost use Rattle.topology.specs.Rules.{refused_pair, no_clash, in_sixes, is_id, is_bound, each_bound, link_rules};
-ghost use Rattle.topology.specs.Rules.{each_link, interface_count, rules};
+ghost use Rattle.topology.specs.Rules.{each_link, interface_count, allowed, link_has, is_taken, peer_rules, each_peer};
+ghost use Rattle.topology.specs.Rules.{ends_with, refused_class, classes_apart, hop_rules_of, hop_rules, each_hop};
+ghost use Rattle.topology.specs.Rules.{rules};
 
 use crate::draft::{InterfaceDraft, LinkDraft, PlanDraft};
 use crate::pairs::{
-    BothDefault, Clash, Overlap, SameId, SameRequester, ShareClass, equal_keys, first_pair,
+    BothDefault, Clash, Overlap, SameId, SameRequester, ShareClass, classes, contains, equal_keys,
+    first_pair,
 };
-use ide_plan::{Region, Selector, StreamPlan};
-use ide_types::Bytes;
+use ide_plan::{PeerPlan, Region, Selector, StreamPlan};
+use ide_types::{Bytes, Items};
 use std::alloc::Global;
 use toml_walk::{PlanError, PlanFault, key_path, place_path};
 
@@ -165,6 +169,192 @@ fn refuse_past(alloc: Global, path: &[u8], within: bool) -> Result<(), PlanError
     }
 }
 
+// A number at a key of a table may be there.
+fn refuse_number(
+    alloc: Global,
+    table: &[u8],
+    name: &str,
+    number: u8,
+    may: bool,
+) -> Result<(), PlanError>
+    ensures { Gives (λ u. u) result (allowed (table.now ++ name.now) number may) }
+{
+    if may {
+        Ok(())
+    } else {
+        let path = key_path(alloc, table, name)?;
+        Err(PlanError::Fault(PlanFault::Range(path, i64::from(number))))
+    }
+}
+
+fn has_id(streams: &[StreamPlan], id: u8) -> bool
+    ensures { result ≡ has_stream_id streams.now id }
+{
+    streams.iter().any(|stream| stream.id == id)
+}
+
+fn link_has_id(links: &[LinkDraft], link: u8, id: u8) -> bool
+    ensures { result ≡ link_has links.now link id }
+{
+    match links.get(link as usize) {
+        None => false,
+        Some(link) => has_id(link.streams.as_slice(), id),
+    }
+}
+
+fn any_has_id(peers: &[PeerPlan], id: u8) -> bool
+    ensures { result ≡ list_any (λ q. q.id == id) peers.now }
+{
+    peers.iter().any(|peer| peer.id == id)
+}
+
+fn has_taken_id(links: &[LinkDraft], earlier: &[PeerPlan], peer: &PeerPlan) -> bool
+    ensures { result ≡ is_taken links.now earlier.now peer.now }
+{
+    link_has_id(links, peer.near, peer.id)
+        || link_has_id(links, peer.far, peer.id)
+        || any_has_id(earlier, peer.id)
+}
+
+// The rules of one stream between devices.
+#[tactic(auto, unfolding(crate::specs::Rules::peer_rules))]
+fn check_peer(
+    alloc: Global,
+    path: &[u8],
+    links: &[LinkDraft],
+    earlier: &[PeerPlan],
+    peer: &PeerPlan,
+) -> Result<(), PlanError>
+    ensures { Gives (λ u. u) result (peer_rules path.now links.now earlier.now peer.now) }
+{
+    let count = links.len();
+    let near = (peer.near as usize) < count;
+    refuse_number(alloc, path, ".a", peer.near, near)?;
+    let far = (peer.far as usize) < count && peer.far != peer.near;
+    refuse_number(alloc, path, ".b", peer.far, far)?;
+    let taken = has_taken_id(links, earlier, peer);
+    refuse_number(alloc, path, ".id", peer.id, !taken)
+}
+
+// The rules of each stream between devices.
+fn check_peers(alloc: Global, links: &[LinkDraft], peers: &[PeerPlan]) -> Result<(), PlanError>
+    ensures { Gives (λ u. u) result (each_peer links.now peers.now 0 peers.now) }
+{
+    for (i, peer) in peers.iter().enumerate() {
+        let path = place_path(alloc, b"p2p", i)?;
+        check_peer(alloc, path.as_slice(), links, &peers[..i], peer)?;
+    }
+    Ok(())
+}
+
+fn does_end_with(peer: &PeerPlan, link: usize, id: u8) -> bool
+    ensures { result ≡ ends_with link id peer.now }
+{
+    peer.id == id && (peer.near as usize == link || peer.far as usize == link)
+}
+
+fn any_ends_with(peers: &[PeerPlan], link: usize, id: u8) -> bool
+    ensures { result ≡ list_any (ends_with link id) peers.now }
+{
+    peers.iter().any(|peer| does_end_with(peer, link, id))
+}
+
+fn takes_class(streams: &[StreamPlan], class: u8) -> bool
+    ensures { result ≡ lists_class streams.now class }
+{
+    streams
+        .iter()
+        .any(|stream| contains(classes(&stream.selector), class))
+}
+
+// The first of these classes that a stream of the link lists.
+fn first_taken(streams: &[StreamPlan], classes: &[u8]) -> Option<u8>
+    ensures { result ≡ find (lists_class streams.now) classes.now }
+{
+    for class in classes {
+        if takes_class(streams, *class) {
+            return Some(*class);
+        }
+    }
+    None
+}
+
+fn refuse_class(alloc: Global, table: &[u8], class: Option<u8>) -> Result<(), PlanError>
+    ensures { Gives (λ u. u) result (refused_class (table.now ++ codes ".hop_tcs") class) }
+{
+    match class {
+        None => Ok(()),
+        Some(class) => {
+            let path = key_path(alloc, table, ".hop_tcs")?;
+            Err(PlanError::Fault(PlanFault::Range(path, i64::from(class))))
+        }
+    }
+}
+
+fn check_classes(
+    alloc: Global,
+    path: &[u8],
+    streams: &[StreamPlan],
+    classes: &Option<Items<u8>>,
+) -> Result<(), PlanError>
+    ensures { Gives (λ u. u) result (classes_apart (path.now ++ codes ".hop_tcs") streams.now classes.now) }
+{
+    match classes {
+        None => Ok(()),
+        Some(classes) => refuse_class(alloc, path, first_taken(streams, classes.as_slice())),
+    }
+}
+
+// The rules of a hop that has an ID.
+fn check_some_hop(
+    alloc: Global,
+    path: &[u8],
+    peers: &[PeerPlan],
+    link: usize,
+    draft: &LinkDraft,
+    id: u8,
+) -> Result<(), PlanError>
+    ensures { Gives (λ u. u) result
+        (hop_rules_of path.now peers.now link draft.now.streams (Some id) draft.now.hop_classes) }
+{
+    let streams = draft.streams.as_slice();
+    let taken = has_id(streams, id) || any_ends_with(peers, link, id);
+    refuse_number(alloc, path, ".hop", id, !taken)?;
+    check_classes(alloc, path, streams, &draft.hop_classes)
+}
+
+// The rules of the hop of one link.
+#[tactic(auto, unfolding(crate::specs::Rules::hop_rules))]
+fn check_hop(
+    alloc: Global,
+    path: &[u8],
+    peers: &[PeerPlan],
+    link: usize,
+    draft: &LinkDraft,
+) -> Result<(), PlanError>
+    ensures { Gives (λ u. u) result (hop_rules path.now peers.now link draft.now) }
+{
+    match (draft.hop, &draft.hop_classes) {
+        (None, None) => Ok(()),
+        (None, Some(_)) => {
+            let path = key_path(alloc, path, ".hop")?;
+            Err(PlanError::Fault(PlanFault::Missing(path)))
+        }
+        (Some(id), _) => check_some_hop(alloc, path, peers, link, draft, id),
+    }
+}
+
+// The rules of the hop of each link.
+fn check_hops(alloc: Global, peers: &[PeerPlan], links: &[LinkDraft]) -> Result<(), PlanError>
+    ensures { Gives (λ u. u) result (each_hop peers.now 0 links.now) }
+{
+    for (i, link) in links.iter().enumerate() {
+        let path = place_path(alloc, b"link", i)?;
+        check_hop(alloc, path.as_slice(), peers, i, link)?;
+    }
+    Ok(())
+}
+
 /// The rules over several values of a topology.
 #[tactic(auto, unfolding(crate::specs::Rules::rules))]
 pub(crate) fn check(alloc: Global, draft: &PlanDraft) -> Result<(), PlanError>
@@ -179,5 +369,8 @@ pub(crate) fn check(alloc: Global, draft: &PlanDraft) -> Result<(), PlanError>
     let few = are_few(links, limit_of(draft.version));
     refuse_past(alloc, b"interface", few)?;
     refuse_past(alloc, b"memory", are_small(memory))?;
-    refuse_clash(alloc, b"", "memory", &Overlap, memory)
+    refuse_clash(alloc, b"", "memory", &Overlap, memory)?;
+    let peers = draft.peers.as_slice();
+    check_peers(alloc, links, peers)?;
+    check_hops(alloc, peers, links)
 }

@@ -1,0 +1,233 @@
+//! The event of a script's event.
+
+ghost use Rattle.std.specs.Prelude.{◌≡◌, ◌<◌, IfSome};
+ghost use Rattle.ide_plan.specs.Fits.{FitsPlan};
+ghost use Rattle.script_events.specs.Events.{event_of as event_in, established, refreshed, stopped, shown, sent, bound};
+ghost use Rattle.script_events.specs.Events.{unbound, forwarded, arrived, reset as reset_of, peer_event_in};
+ghost use Rattle.script_events.specs.Events.{hop_event_in};
+ghost use Rattle.script_events.specs.Laws.{EventsAreAllowed};
+
+use crate::resets::reset_ends;
+use crate::streams::{bound_stream, has_port, hop, hop_stream, own_stream, peer_stream};
+use ide_plan::Plan;
+use ide_types::{Bytes, Direction, PortName, Side};
+use link_events::{Event, HopEvent, InterfaceEvent, Loss, PeerEvent, ScriptEvent};
+
+fn establish(stream: Option<(u64, u64)>, lose: Option<Loss>) -> Event
+    ensures { result ≡ established lose stream }
+{
+    match stream {
+        None => Event::Absent,
+        Some((link, stream)) => Event::Establish { link, stream, lose },
+    }
+}
+
+fn refresh(stream: Option<(u64, u64)>, lose: Option<Loss>) -> Event
+    ensures { result ≡ refreshed lose stream }
+{
+    match stream {
+        None => Event::Absent,
+        Some((link, stream)) => Event::Refresh { link, stream, lose },
+    }
+}
+
+fn stop(stream: Option<(u64, u64)>, lose: Option<Loss>) -> Event
+    ensures { result ≡ stopped lose stream }
+{
+    match stream {
+        None => Event::Absent,
+        Some((link, stream)) => Event::Stop { link, stream, lose },
+    }
+}
+
+fn status(stream: Option<(u64, u64)>) -> Event
+    ensures { result ≡ shown stream }
+{
+    match stream {
+        None => Event::Absent,
+        Some((link, stream)) => Event::Status { link, stream },
+    }
+}
+
+fn send(side: Side, bytes: Bytes, more: bool, stream: Option<(u64, u64)>) -> Event
+    requires { IfSome stream (λ s. s.0 < 32) }
+    ensures { result ≡ sent side bytes more stream }
+{
+    match stream {
+        None => Event::Absent,
+        Some((line, _)) => {
+            let port = PortName {
+                side,
+                link: line as u8,
+            };
+            Event::Send {
+                port,
+                bytes,
+                more,
+                trusted: false,
+            }
+        }
+    }
+}
+
+fn bind(interface: u64, stream: Option<(u64, u64)>, lose: Option<Loss>) -> Event
+    ensures { result ≡ bound interface lose stream }
+{
+    match stream {
+        None => Event::Absent,
+        Some((line, stream)) => Event::Interface {
+            event: InterfaceEvent::Bind {
+                interface,
+                line,
+                stream,
+                lose,
+            },
+        },
+    }
+}
+
+fn unbind(interface: u64, stream: Option<(u64, u64)>, lose: Option<Loss>) -> Event
+    ensures { result ≡ unbound interface lose stream }
+{
+    match stream {
+        None => Event::Absent,
+        Some((line, stream)) => Event::Interface {
+            event: InterfaceEvent::Unbind {
+                interface,
+                line,
+                stream,
+                lose,
+            },
+        },
+    }
+}
+
+fn forward(plan: &Plan, link: u64, direction: u64) -> Event
+    ensures { result ≡ forwarded plan.now link direction }
+{
+    if hop(plan, link).is_none() {
+        return Event::Absent;
+    }
+    match direction {
+        0 => Event::Forward {
+            link,
+            direction: Direction::Downstream,
+        },
+        1 => Event::Forward {
+            link,
+            direction: Direction::Upstream,
+        },
+        _ => Event::Absent,
+    }
+}
+
+fn arrive(plan: &Plan, port: PortName, bytes: Bytes) -> Event
+    ensures { result ≡ arrived plan.now port bytes }
+{
+    if has_port(plan, port) {
+        Event::Arrive { port, bytes }
+    } else {
+        Event::Absent
+    }
+}
+
+fn reset(plan: &Plan, link: u64) -> Event
+    requires { FitsPlan plan.now }
+    ensures { result ≡ reset_of plan.now link }
+{
+    if link as usize >= plan.links.as_slice().len() {
+        return Event::Absent;
+    }
+    let ends = reset_ends(plan, link as u8);
+    Event::Reset { link, ends }
+}
+
+fn of_peer(plan: &Plan, event: PeerEvent) -> Event
+    requires { FitsPlan plan.now }
+    ensures { result ≡ peer_event_in plan.now event }
+{
+    match event {
+        PeerEvent::Establish { peer, lose } => establish(peer_stream(plan, peer), lose),
+        PeerEvent::Stop { peer, lose } => stop(peer_stream(plan, peer), lose),
+        PeerEvent::Bind {
+            interface,
+            peer,
+            lose,
+        } => bind(interface, bound_stream(plan, interface, peer), lose),
+        PeerEvent::Unbind {
+            interface,
+            peer,
+            lose,
+        } => unbind(interface, bound_stream(plan, interface, peer), lose),
+    }
+}
+
+fn of_hop(plan: &Plan, event: HopEvent) -> Event
+    requires { FitsPlan plan.now }
+    ensures { result ≡ hop_event_in plan.now event }
+{
+    match event {
+        HopEvent::Establish {
+            link,
+            segment,
+            lose,
+        } => establish(hop_stream(plan, link, segment), lose),
+        HopEvent::Stop {
+            link,
+            segment,
+            lose,
+        } => stop(hop_stream(plan, link, segment), lose),
+        HopEvent::Forward { link, direction } => forward(plan, link, direction),
+    }
+}
+
+/// The event of a history that an event of a script is in a topology: lines and ends in place of links, of hops and of
+/// streams between devices. What the topology does not have comes to `Absent`. It takes no memory (this profile).
+#[tactic(auto, unfolding(crate::specs::Events::event_of))]
+pub fn event_of(plan: &Plan, event: ScriptEvent) -> Event
+    requires { FitsPlan plan.now }
+    ensures { result ≡ event_in plan.now event }
+{
+    match event {
+        ScriptEvent::Establish { link, stream, lose } => {
+            establish(own_stream(plan, link, stream), lose)
+        }
+        ScriptEvent::Refresh { link, stream, lose } => {
+            refresh(own_stream(plan, link, stream), lose)
+        }
+        ScriptEvent::Stop { link, stream, lose } => stop(own_stream(plan, link, stream), lose),
+        ScriptEvent::Send {
+            port,
+            bytes,
+            more,
+            trusted,
+        } => Event::Send {
+            port,
+            bytes,
+            more,
+            trusted,
+        },
+        ScriptEvent::PeerSend {
+            peer,
+            side,
+            bytes,
+            more,
+        } => send(side, bytes, more, peer_stream(plan, peer)),
+        ScriptEvent::Pass { packet } => Event::Pass { packet },
+        ScriptEvent::Alter { packet, at, mask } => Event::Alter { packet, at, mask },
+        ScriptEvent::Cut { packet, length } => Event::Cut { packet, length },
+        ScriptEvent::Arrive { port, bytes } => arrive(plan, port, bytes),
+        ScriptEvent::Dump { packet } => Event::Dump { packet },
+        ScriptEvent::Reset { link } => reset(plan, link),
+        ScriptEvent::Status { link, stream } => status(own_stream(plan, link, stream)),
+        ScriptEvent::Interface { event } => Event::Interface { event },
+        ScriptEvent::Access { event } => Event::Access { event },
+        ScriptEvent::Peer { event } => of_peer(plan, event),
+        ScriptEvent::Hop { event } => of_hop(plan, event),
+    }
+}
+
+/// What a spelled event comes to is one that a history may have.
+pub fn events_are_allowed()
+    ensures { EventsAreAllowed }
+{}

@@ -1,0 +1,136 @@
+//! Streams that a script names, by their lines and their IDs.
+
+ghost use Rattle.std.specs.Prelude.{◌≡◌, ◌≤◌, ◌<◌, Some, length, option_map, slice_get, IfSome};
+ghost use Rattle.ide_plan.specs.Plans.{has_stream_id};
+ghost use Rattle.ide_plan.specs.Ends.{own_has_id, link_hop, has_port as has_port_in};
+ghost use Rattle.ide_plan.specs.Ends.{interface_link as link_of_interface};
+ghost use Rattle.script_events.specs.Events.{own_stream as own_stream_of, peer_stream as peer_stream_of};
+ghost use Rattle.script_events.specs.Events.{segment_stream};
+ghost use Rattle.script_events.specs.Events.{hop_stream as hop_stream_of, ends_at as ends_at_link};
+ghost use Rattle.script_events.specs.Events.{bound_stream as bound_stream_of};
+
+use ide_plan::{HopPlan, LinkPlan, PeerPlan, Plan, StreamPlan};
+use ide_types::PortName;
+
+fn has_stream(streams: &[StreamPlan], id: u64) -> bool
+    ensures { result ≡ has_stream_id streams.now id }
+{
+    streams.iter().any(|stream| u64::from(stream.id) == id)
+}
+
+fn has_own(plan: &Plan, link: u64, id: u64) -> bool
+    ensures { result ≡ own_has_id (slice_get plan.now.links link) id }
+{
+    match plan.links.as_slice().get(link as usize) {
+        None => false,
+        Some(link) => has_stream(link.streams.as_slice(), id),
+    }
+}
+
+// The hop of a link, if there is one.
+pub(crate) fn hop(plan: &Plan, link: u64) -> Option<&HopPlan>
+    ensures { option_map (λ o. o.now) result ≡ link_hop (slice_get plan.now.links link) }
+{
+    match plan.links.as_slice().get(link as usize) {
+        None => None,
+        Some(link) => link.hop.as_ref(),
+    }
+}
+
+// A stream of a link.
+pub(crate) fn own_stream(plan: &Plan, link: u64, stream: u64) -> Option<(u64, u64)>
+    ensures { result ≡ own_stream_of plan.now link stream }
+{
+    if has_own(plan, link, stream) {
+        Some((link, stream))
+    } else {
+        None
+    }
+}
+
+// A stream between devices, by its number.
+pub(crate) fn peer_stream(plan: &Plan, peer: u64) -> Option<(u64, u64)>
+    requires { length plan.now.peers ≤ 8 }
+    ensures value { result ≡ peer_stream_of plan.now peer }
+    ensures small { IfSome result (λ s. s.0 < 32) }
+{
+    match plan.peers.as_slice().get(peer as usize) {
+        None => None,
+        Some(plan) => Some((24 + peer, u64::from(plan.id))),
+    }
+}
+
+fn on_segment(hop: &HopPlan, link: u64, segment: u64) -> Option<(u64, u64)>
+    requires { link < 8 }
+    ensures { result ≡ segment_stream (Some hop.now) link segment }
+{
+    let id = u64::from(hop.id);
+    match segment {
+        0 => Some((8 + link, id)),
+        1 => Some((16 + link, id)),
+        _ => None,
+    }
+}
+
+// The stream of a hop on a segment of its link.
+pub(crate) fn hop_stream(plan: &Plan, link: u64, segment: u64) -> Option<(u64, u64)>
+    requires { length plan.now.links ≤ 8 }
+    ensures { result ≡ hop_stream_of plan.now link segment }
+{
+    if link >= 8 {
+        return None;
+    }
+    match hop(plan, link) {
+        None => None,
+        Some(hop) => on_segment(hop, link, segment),
+    }
+}
+
+// The link of an interface, by its number over all links.
+#[tactic(auto, unfolding(ide_plan::specs::Ends::interface_link))]
+fn interface_link(links: &[LinkPlan], interface: u64) -> Option<usize>
+    ensures { result ≡ link_of_interface links.now 0 interface }
+{
+    let mut left = interface;
+    for (i, link) in links.iter().enumerate() {
+        let count = link.interfaces.as_slice().len() as u64;
+        if left < count {
+            return Some(i);
+        }
+        left -= count;
+    }
+    None
+}
+
+fn ends_at(peer: Option<PeerPlan>, link: Option<usize>) -> bool
+    ensures { result ≡ ends_at_link peer link }
+{
+    match (peer, link) {
+        (Some(peer), Some(link)) => peer.near as usize == link || peer.far as usize == link,
+        _ => false,
+    }
+}
+
+// A stream between devices that ends at the device of the interface.
+pub(crate) fn bound_stream(plan: &Plan, interface: u64, peer: u64) -> Option<(u64, u64)>
+    requires { length plan.now.peers ≤ 8 }
+    ensures { result ≡ bound_stream_of plan.now interface peer }
+{
+    let link = interface_link(plan.links.as_slice(), interface);
+    if ends_at(plan.peers.as_slice().get(peer as usize).copied(), link) {
+        peer_stream(plan, peer)
+    } else {
+        None
+    }
+}
+
+// Whether the topology has a port of a switch; one of a link is there or not, as its link is.
+pub(crate) fn has_port(plan: &Plan, port: PortName) -> bool
+    ensures { result ≡ has_port_in plan.now port }
+{
+    match port.link {
+        0..=7 => true,
+        8..=15 => hop(plan, u64::from(port.link - 8)).is_some(),
+        _ => hop(plan, u64::from(port.link) - 16).is_some(),
+    }
+}
