@@ -35,14 +35,14 @@ use Rattle.interface_machine.specs.Machine.{Face, grant_of}
 use Rattle.link_history.specs.Due.{is_stream}
 use Rattle.link_history.specs.Guarded.{mmio_if, mmio_shown, mmio_by}
 use Rattle.link_ports.specs.Replies.{completion_by, completion_of, completion_first}
-use Rattle.world_states.specs.{AreLinks, host_stream, interface_named, InterfacesView, judged_bound, KeeperView}
-use Rattle.world_states.specs.{LinkEnds, mmio_at, policy_in, reader_of, reads_at, replied, reply_at_ends}
+use Rattle.world_states.specs.{host_stream, interface_named, InterfacesView, IsLink, judged_bound}
+use Rattle.world_states.specs.{LinkEnds, mmio_at, reader_of, reads_at, replied, reply_at_ends}
 use Rattle.world_states.specs.{reply_numbered, reply_oldest, sizes_at, small_number, standings_of_ends}
 use Rattle.accesses.specs.declared.link.LinkAccesses.{LinkAccesses}
 use Rattle.accesses.specs.{standings_by}
 use Rattle.accesses.specs.Accesses.{standings_from}
 use Rattle.whole_machine.specs.Accesses.{standings_on}
-use Rattle.whole_machine.specs.Machine.{Whole, policy_of, completed, completion_in}
+use Rattle.whole_machine.specs.Machine.{Whole, completed, completion_in}
 use Rattle.interface_states.proofs.Floors.{planned_on}
 use Rattle.world_states.specs.Accesses.{AreAccesses, seen_at, on_link}
 use Rattle.world_states.specs.Whole.{IsPlaced, IsBeside}
@@ -282,13 +282,6 @@ module _ (plan : Plan) (ends : List LinkEnds) (m : InterfacesView) (memory : Mem
         ∙ standings_nowhere link le)
         (cases_lt link (length ends))
 
-    pub policy_is : policy_in m ends xs ≡ policy_of plan w
-    policy_is = λ i. record {
-      grants = λ link requester. grant_is plan ends m memory w beside fits many link requester i;
-      waiting = λ link. length (accesses.reads link i);
-      standings = λ link. standings_are link i;
-    }
-
     -- ---- answers
 
     reader_known : (link requester place : ℕ) (x : Site) → slice_get (sites plan) place ≡ Some x
@@ -385,16 +378,16 @@ module _ (plan : Plan) (ends : List LinkEnds) (m : InterfacesView) (memory : Mem
             )))
             (λ not_so. not_so) cases
 
-    module _ (k : KeeperView) (links : AreLinks plan ends k) where
+    module _ (each_link : (link : ℕ) (l : LinkEnds) → slice_get ends link ≡ Some l → IsLink plan link l) where
       judged_is : (link : ℕ) (l : LinkEnds) (interface draw : ℕ) (bytes : List ℕ) (bound : Option (ℕ × ℕ))
           → slice_get ends link ≡ Some l
           → replied (judged_bound (host_stream l bytes) interface draw bound) bytes
           ≡ completion_by plan link interface draw bytes bound
       judged_is link l interface draw bytes None is = refl
       judged_is link l interface draw bytes (Some bound) is =
-          let e = links.each_link link l is in
+          let e = each_link link l is in
           by (not (is_stream bound.0 (host_stream l bytes))) (nat_lt draw bound.1)
-          ∙ (λ i. if not (is_stream bound.0 (stream_taken (outgoing_of (e.host_plans i) (e.host_name i).side bytes)))
+          ∙ (λ i. if not (is_stream bound.0 (stream_taken (outgoing_of (e.host.plans i) (e.host.name i).side bytes)))
           then Err (v.Access (av.Dropped interface cause.WrongStream))
           else if nat_lt draw bound.1 then Err (v.Access (av.Dropped interface cause.Stale))
           else Ok (record { stream = bound.0; floor = bound.1; bytes = bytes }))

@@ -1,10 +1,12 @@
--- Events that leave the reads that wait, the floors of devices or the memory of devices as they are.
+-- Events that leave the reads that wait, the TLPs that wait at switches, the floors of devices or the memory of devices
+-- as they are.
 use Rattle.std.proofs.Common.{◌≡◌, ℕ, ◌+◌, ◌==◌, ◌&&◌, ◌∷◌, ◌++◌, zero, suc, Bool, true, false, List, [], length}
 use Rattle.std.proofs.Common.{refl, sym, ap, ◌∙◌, arith, Some}
 use Rattle.std.proofs.lemmas.Bool.Decides.{nat_tests}
 use Rattle.std.proofs.lemmas.List.{append-nil}
 use Rattle.std.proofs.lemmas.Option.{none-some, same_Some}
 use Rattle.std.specs.Prelude.{drop, not, slice_get, slice_set, if◌then◌else◌}
+use Rattle.ide_types.specs.declared.direction.Direction.{Direction}
 use Rattle.ide_types.specs.declared.port.PortName.{PortName}
 use Rattle.ide_plan.specs.declared.plan.Plan.{Plan}
 use Rattle.link_events.specs.declared.event.Event.{Event}
@@ -21,21 +23,24 @@ use Rattle.link_verdicts.specs.declared.verdict.Verdict.TheVariants as v
 use Rattle.link_verdicts.specs.declared.access.AccessVerdict.TheVariants as av
 use Rattle.waiting_reads.specs.declared.queue.WaitingRead.{WaitingRead}
 use Rattle.guarded_memory.specs.declared.standing.Standing.{Standing}
-use Rattle.key_laws.specs.Places.{sent_direction}
 use Rattle.interface_states.specs.Devices.{is_run}
 use Rattle.interface_states.specs.Floors.{floor_after}
 use Rattle.interface_states.specs.Sites.{Site}
 use Rattle.interface_machine.specs.Machine.{Face}
+unfoldable use Rattle.link_history.specs.Ports.{port_of}
+use Rattle.link_history.specs.Ports.{is_device_port}
 use Rattle.link_history.specs.Guarded.{happens_by, stored_each}
+use Rattle.link_history.specs.Hops.{HopTlp, is_forward_on}
 use Rattle.link_history.specs.Memory.{plain_of}
 use Rattle.link_history.specs.Sent.{is_answer_on, reads_by}
-use Rattle.whole_machine.specs.Accesses.{floors_after, waiting_reads_after}
+use Rattle.read_order.specs.Waiting.{waiting_next}
+use Rattle.whole_machine.specs.Accesses.{floors_after, unit_tlps, waiting_reads_after}
 
 -- ---- reads
 
 -- it answers reads, or drops them
 abbrev pub touches_reads : Event → Bool
-touches_reads (event.Reset link) = true
+touches_reads (event.Reset link ends) = true
 touches_reads (event.Access (ae.Answer link)) = true
 touches_reads e = false
 
@@ -54,21 +59,51 @@ none_joins true draw es rs = ap (λ us. rs ++ us) (none_queued draw es) ∙ appe
 none_joins false draw es rs = refl
 
 -- it brings no bytes
-pub reads_rest : (e : Event) (w : Verdict) (link : ℕ) (rs : List WaitingRead) → touches_reads e ≡ false
-    → rs ≡ waiting_reads_after [] e w link rs
-reads_rest e (v.Accepted port unit effects) link rs is = sym (none_joins (port.link == link) unit.draw effects rs)
-reads_rest e (v.Sealed ds) link rs is =
+pub reads_rest : (plan : Plan) (e : Event) (w : Verdict) (link : ℕ) (rs : List WaitingRead) → touches_reads e ≡ false
+    → rs ≡ waiting_reads_after plan [] e w link rs
+reads_rest plan e (v.Accepted port unit effects) link rs is =
+    sym (none_joins ((port_of plan port).link == link) unit.draw effects rs)
+reads_rest plan e (v.Sealed ds) link rs is =
     sym (ap (λ (b : Bool). if b then drop 1 rs else rs) (no_answer link e is))
-reads_rest e (v.Access (av.Dropped i c)) link rs is =
+reads_rest plan e (v.Access (av.Dropped i c)) link rs is =
     sym (ap (λ (b : Bool). if b then drop 1 rs else rs) (no_answer link e is))
-reads_rest (event.Reset k) (v.Reset l) link rs is = absurd cc
-reads_rest e w link rs is = refl
+reads_rest plan (event.Reset k ends) (v.Reset l) link rs is = absurd cc
+reads_rest plan e w link rs is = refl
+
+-- ---- TLPs at switches
+
+-- it takes one that waits, or all
+abbrev pub touches_hops : Event → Bool
+touches_hops (event.Reset link ends) = true
+touches_hops (event.Forward link d) = true
+touches_hops e = false
+
+pub no_unit : (plan : Plan) (w : Verdict) → unit_tlps plan [] w ≡ []
+no_unit plan (v.Accepted port unit effects) = refl
+no_unit plan w = refl
+
+if_added : (b : Bool) (xs : List HopTlp) → (if b then xs ++ [] else xs) ≡ xs
+if_added true xs = append-nil xs
+if_added false xs = refl
+
+no_forward : (link : ℕ) (d : Direction) (e : Event) → touches_hops e ≡ false → is_forward_on link d e ≡ false
+no_forward link d (event.Forward l way) is = absurd cc
+no_forward link d e is = refl
+
+-- it brings no bytes
+pub hops_rest : (e : Event) (w : Verdict) (link : ℕ) (d : Direction) (xs : List HopTlp) → touches_hops e ≡ false
+    → xs ≡ waiting_next [] link d e w xs
+hops_rest e (v.Accepted port unit effects) link d xs is = sym (if_added _ xs)
+hops_rest e (v.Sealed ds) link d xs is =
+    sym (ap (λ (b : Bool). if b then drop 1 xs else xs) (no_forward link d e is))
+hops_rest (event.Reset k ends) (v.Reset l) link d xs is = absurd cc
+hops_rest e w link d xs is = refl
 
 -- ---- the memory of devices
 
 -- it may set ranges to 0
 abbrev pub touches_memory : Event → Bool
-touches_memory (event.Reset link) = true
+touches_memory (event.Reset link ends) = true
 touches_memory (event.Interface (ie.Halt i loss)) = true
 touches_memory (event.Interface (ie.Flr i)) = true
 touches_memory e = false
@@ -76,10 +111,11 @@ touches_memory e = false
 pub none_stored : (plan : Plan) (standings : ℕ → List Standing) (e : Event) (port : PortName) (unit : UnitName)
     (effects : List Effect) (link : ℕ)
     → [] ≡ happens_by plan standings [] e (v.Accepted port unit effects) link
-none_stored plan standings e port unit effects link = by (port.link == link) (sent_direction port.side == 1)
+none_stored plan standings e port unit effects link =
+    by ((port_of plan port).link == link) (is_device_port plan (port_of plan port))
   where
-    by : (a b : Bool) → [] ≡ (if a then (if b then stored_each (standings port.link) unit (plain_of plan port unit [])
-        [] else []) else [])
+    by : (a b : Bool) → [] ≡ (if a then (if b then stored_each (standings (port_of plan port).link) unit
+        (plain_of plan port unit []) [] else []) else [])
     by true true = refl
     by true false = refl
     by false b = refl
@@ -88,7 +124,7 @@ pub memory_rests : (plan : Plan) (standings : ℕ → List Standing) (e : Event)
     → touches_memory e ≡ false → [] ≡ happens_by plan standings [] e w link
 memory_rests plan standings e (v.Accepted port unit effects) link is =
     none_stored plan standings e port unit effects link
-memory_rests plan standings (event.Reset l) (v.Reset k) link is = absurd cc
+memory_rests plan standings (event.Reset l ends) (v.Reset k) link is = absurd cc
 memory_rests plan standings (event.Interface (ie.Halt i loss)) w link is = absurd cc
 memory_rests plan standings (event.Interface (ie.Flr i)) w link is = absurd cc
 memory_rests plan standings e w link is = refl

@@ -1,40 +1,75 @@
 -- What all links say beside their ports is what the whole machine says, and every event on an interface has the
 -- machine's answer.
-use Rattle.std.proofs.Common.{◌≡◌, Option, Some, refl, sym, subst}
-use Rattle.std.specs.Prelude.{IsSome, slice_get}
+use Rattle.std.proofs.Common.{◌≡◌, ℕ, ◌<◌, ◌≤◌, List, Option, Some, length, refl, ap, sym, ◌∙◌, subst, ⊎_elim}
+use Rattle.std.proofs.lemmas.Bool.{cases_lt, le-ltb}
+use Rattle.std.specs.Prelude.{IsSome, Err}
 use Rattle.ide_plan.specs.declared.plan.Plan.{Plan}
 use Rattle.link_events.specs.declared.event.Event.{Event}
 use Rattle.link_events.specs.declared.event.InterfaceEvent.{InterfaceEvent}
 use Rattle.link_verdicts.specs.declared.verdict.Verdict.{Verdict}
-use Rattle.interface_joins.specs.Joined.{InterfaceOperationsJoin}
+use Rattle.link_verdicts.specs.declared.verdict.Verdict.TheVariants as v
+use Rattle.world_states.specs.{InterfaceOperationsJoin}
 use Rattle.interface_machine.specs.Machine.{grant_of}
 use Rattle.link_history.specs.Memory.{effects_by}
-use Rattle.whole_machine.specs.Machine.{Whole, beside_of}
-use Rattle.world_states.specs.{answer_of_links, AreLinks, beside_whole, grants_in, IsAnswered}
+use Rattle.link_history.specs.Hops.{HopTlp}
+unfoldable use Rattle.link_history.specs.Ports.{port_of}
+use Rattle.link_ports.specs.Forwards.{forward_of}
+use Rattle.whole_machine.specs.Machine.{Whole, beside_of, policy_of}
+use Rattle.world_states.specs.{answer_of_links, AreLinks, beside_whole, carried_at, grants_in, IsAnswered, policy_in}
 use Rattle.world_states.specs.{IsWhole as EachHasAccesses, WholeLinks}
 use Rattle.world_states.specs.Worlds.{IsWhole, world_of}
-use Rattle.world_states.proofs.Besides.{t_is, grant_is, answer_is}
-use Rattle.access_states.proofs.Accessed.{policy_is, reply_is, shows_is}
+use Rattle.world_states.proofs.Asked.{answer_is}
+use Rattle.world_states.proofs.Besides.{grant_is}
+use Rattle.world_states.proofs.Owners.{t_is}
+use Rattle.access_states.proofs.Accessed.{reply_is, shows_is, standings_are}
+
+-- effects depend on the same
+policy_is : (plan : Plan) (s : WholeLinks) (w : Whole) → AreLinks plan s.links.ends s.links.keeper.keys
+    → EachHasAccesses s → IsWhole (world_of plan s) w
+    → policy_in s.links.keeper.interfaces s.links.ends s.accesses ≡ policy_of plan w
+policy_is plan s w links each whole =
+    let m = s.links.keeper.interfaces in
+    let memory = s.links.trusted.contents in
+    let ends = s.links.ends.links in
+    λ i. record {
+      grants = λ link requester.
+          grant_is plan ends m memory w whole.beside links.fits links.many link requester i;
+      waiting = λ link. length (whole.accesses.reads link i);
+      standings = λ link.
+          standings_are plan ends m memory w whole.beside links.fits links.many s.accesses each whole.accesses link i;
+    }
+
+-- only links have hops
+forward_is : (plan : Plan) (link : ℕ) (xs ys : List HopTlp) → (link < 8 → xs ≡ ys)
+    → forward_of plan link xs ≡ forward_of plan link ys
+forward_is plan link xs ys same =
+    ⊎_elim (λ lt. ap (forward_of plan link) (same lt))
+    (λ le. none xs le ∙ sym (none ys le)) (cases_lt link 8)
+  where
+    none : (zs : List HopTlp) → 8 ≤ link → forward_of plan link zs ≡ Err v.Nothing
+    none zs le = rw (le-ltb link 8 le) refl
 
 pub beside_is : (plan : Plan) (s : WholeLinks) (w : Whole) → AreLinks plan s.links.ends s.links.keeper.keys
     → EachHasAccesses s → IsWhole (world_of plan s) w → beside_whole plan s (beside_of plan w).answer ≡ beside_of plan w
 beside_is plan s w links each whole =
     let m = s.links.keeper.interfaces in
     let memory = s.links.trusted.contents in
+    let ends = s.links.ends.links in
     let b = whole.beside in
     λ i. record {
-      t = λ port head stream trusted.
-          t_is plan s.links.ends m memory w b links.fits links.many port port.side (slice_get s.links.ends port.link)
-          head stream trusted refl i;
-      effects = effects_by plan
-          (policy_is plan s.links.ends m memory w b links.fits links.many s.accesses each whole.accesses i);
+      t = λ end head stream trusted.
+          t_is plan s.links.ends s.links.keeper.keys m memory w links b end head stream trusted i;
+      effects = λ port. effects_by plan (policy_is plan s w links each whole i) (port_of plan port);
       answer = (beside_of plan w).answer;
       reply = λ link.
-          reply_is plan s.links.ends m memory w b links.fits links.many s.accesses each whole.accesses
-          s.links.keeper.keys links link i;
+          reply_is plan ends m memory w b links.fits links.many s.accesses each whole.accesses links.each_link link i;
       shows = λ number bar offset len.
-          shows_is plan s.links.ends m memory w b links.fits links.many s.accesses each whole.accesses
-          s.links.keeper.keys links number bar offset len i;
+          shows_is plan ends m memory w b links.fits links.many s.accesses each whole.accesses links.each_link number
+          bar
+          offset len i;
+      forward = λ link d.
+          forward_is plan link (carried_at s.accesses link d) (w.accesses.carried link d)
+          (whole.accesses.carried link d) i;
     }
 
 -- every event on an interface has the machine's answer
@@ -43,8 +78,8 @@ pub answers_are : (plan : Plan) (s : WholeLinks) (w : Whole) → InterfaceOperat
     → IsWhole (world_of plan s) w → (e : InterfaceEvent) → answer_of_links s.links e
     ≡ Some ((beside_of plan w).answer e)
 answers_are plan s w joins links whole =
-    answer_is plan s.links.ends s.links.keeper.interfaces s.links.trusted.contents w whole.beside links.fits links.many
-    s.links.keeper.keys s.links.packets.packets joins links whole.links
+    answer_is plan s.links.ends s.links.keeper s.links.packets.packets s.links.trusted.contents w joins links
+    whole.beside whole.drawn whole.links
 
 pub is_answered : (plan : Plan) (s : WholeLinks) (w : Whole) → InterfaceOperationsJoin
     → AreLinks plan s.links.ends s.links.keeper.keys
@@ -55,5 +90,5 @@ is_answered plan s w joins links whole event e on =
 pub grants_are : (plan : Plan) (s : WholeLinks) (w : Whole) → AreLinks plan s.links.ends s.links.keeper.keys
     → IsWhole (world_of plan s) w → grants_in s.links.keeper.interfaces ≡ grant_of plan w.faces
 grants_are plan s w links is = λ i link requester.
-    grant_is plan s.links.ends s.links.keeper.interfaces s.links.trusted.contents w is.beside links.fits links.many link
-    requester i
+    grant_is plan s.links.ends.links s.links.keeper.interfaces s.links.trusted.contents w is.beside links.fits
+    links.many link requester i

@@ -3,10 +3,12 @@
 -- sets the floor of its interface, and a halt, a level reset and a reset of the link set ranges to 0.
 use Rattle.std.proofs.Common.{◌≡◌, ℕ, ◌+◌, ◌<◌, ◌≤◌, ◌==◌, ◌&&◌, ◌∷◌, zero, suc, Bool, true, false, List, [], length}
 use Rattle.std.proofs.Common.{refl, sym, ap, subst, ◌∙◌, arith, Option, Some, None, ⊎_elim, ◌⊎◌, inl, inr}
-use Rattle.std.proofs.lemmas.Bool.{cases_lt, eqb-true, eq-eqb, ne_eqb}
+use Rattle.std.proofs.lemmas.Bool.{cases_lt, eqb-true, eq-eqb, lt-ltb, ne_eqb}
 use Rattle.std.proofs.lemmas.Option.{slice_get_within}
 use Rattle.std.specs.Option.{option_map_or, option_and_then}
 use Rattle.std.specs.Prelude.{nat_lt, not, slice_get, slice_set, unwrap_or, if◌then◌else◌}
+use Rattle.ide_types.specs.declared.direction.Direction.{Direction}
+use Rattle.ide_types.specs.declared.port.PortName.{PortName}
 use Rattle.ide_types.specs.declared.sub.SubKind.TheVariants.{Pr}
 use Rattle.ide_plan.specs.declared.interface.BarPlan.{BarPlan}
 use Rattle.ide_plan.specs.declared.plan.LinkPlan.{LinkPlan}
@@ -37,13 +39,16 @@ use Rattle.accesses.specs.declared.link.LinkAccesses.{LinkAccesses}
 use Rattle.link_ports.specs.Machine.{Beside, LinkState, Stepped, reset_state}
 unfoldable use Rattle.link_ports.specs.Machine.{step_of}
 use Rattle.link_ports.specs.Stands.{PortsStandFor}
+use Rattle.world_states.specs.{AccessesAnswer, AccessesForward, AccessesReset}
 use Rattle.world_states.specs.{AccessesAfter, AccessesArrive, AccessesInterface, AccessesTurn, AreLeftBy, arrival_at}
-use Rattle.world_states.specs.{bars_named, device_draw, floors_at, floors_set, floors_started, flr_at, halted_in}
-use Rattle.world_states.specs.{happens_at, interface_named, LinkEnds, links_state, mmio_at, nothing_happens, reads_at}
-use Rattle.world_states.specs.{reset_happens, runs_in, same_floors, same_reads, sizes_at, tdi_named, tdi_of_ends}
-use Rattle.world_states.specs.{WholeLinks}
+use Rattle.world_states.specs.{bars_named, carried_at, carried_by, device_draw, floors_at, floors_set, floors_started}
+use Rattle.world_states.specs.{flr_at, halted_in, happens_at, interface_named, LinkEnds, links_state, mmio_at}
+use Rattle.world_states.specs.{nothing_happens, reads_at, reset_happens, runs_in, same_carried, same_floors}
+use Rattle.world_states.specs.{same_reads, sizes_at, tdi_named, tdi_of_ends, WholeLinks}
+use Rattle.link_history.specs.Hops.{HopTlp}
+use Rattle.read_order.specs.Waiting.{waiting_next}
 use Rattle.whole_machine.specs.Accesses.{device_draw_at, floors_after, standings_on}
-use Rattle.whole_machine.specs.Accesses.{waiting_reads_after}
+use Rattle.whole_machine.specs.Accesses.{unit_tlps, waiting_reads_after}
 use Rattle.whole_machine.specs.Machine.{Whole, beside_of, ended_unit, arrival_of, unit_in, whole_after}
 use Rattle.whole_machine.specs.Machine.{whole_faces_after}
 use Rattle.world_states.specs.Accesses.{AreAccesses, seen_at, on_link}
@@ -57,8 +62,11 @@ use Rattle.world_states.proofs.Sites.{held_before, interface_there, interface_ab
 use Rattle.world_states.proofs.Statuses.{device_draw_is}
 use Rattle.access_states.proofs.Rested.{
   AreMany,
+  touches_hops,
   touches_reads,
   touches_memory,
+  hops_rest,
+  no_unit,
   starts,
   reads_rest,
   memory_rests,
@@ -67,13 +75,15 @@ use Rattle.access_states.proofs.Rested.{
 use Rattle.access_states.proofs.Rested.{floors_rest, floors_many, floors_started as started, floors_unnamed}
 
 -- nothing changes
-stays : (xs ys : List LinkAccesses) → ys ≡ xs → AccessesTurn same_reads same_floors nothing_happens xs ys
+stays : (xs ys : List LinkAccesses) → ys ≡ xs
+    → AccessesTurn same_reads same_floors nothing_happens same_carried xs ys
 stays xs ys same = record {
   many = ap length same;
   reads = λ link. ap (λ zs. reads_at zs link) same;
   floors = λ link. ap (λ zs. floors_at zs link) same;
   sizes = λ link. ap (λ zs. sizes_at zs link) same;
   bytes = λ link older left i b offset. ap (λ zs. mmio_at zs link i b offset) same ∙ left i b offset;
+  carried = λ link d. ap (λ zs. carried_at zs link d) same;
 }
 
 value_or : (o : Option ℕ) → option_map_or (λ (n : ℕ). n) o 0 ≡ unwrap_or o 0
@@ -106,26 +116,26 @@ happens_not : (b : Bool) (h : Happened) → happens_if (b && false) h ≡ []
 happens_not true h = refl
 happens_not false h = refl
 
-reset_says : (plan : Plan) (beside : Beside) (st : LinkState) (link : ℕ)
-    → (step_of plan beside st (event.Reset link)).0 ≡ (if nat_lt link (length plan.links) then v.Reset link
+reset_says : (plan : Plan) (beside : Beside) (st : LinkState) (link : ℕ) (ends : List PortName)
+    → (step_of plan beside st (event.Reset link ends)).0 ≡ (if nat_lt link (length plan.links) then v.Reset link
     else v.Nothing)
 unfolding step_of
-reset_says plan beside st link = by (nat_lt link (length plan.links))
+reset_says plan beside st link ends = by (nat_lt link (length plan.links))
   where
-    by : (b : Bool) → (if◌then◌else◌ {A = Stepped} b (v.Reset link, reset_state plan st link) (v.Nothing, st)).0
+    by : (b : Bool) → (if◌then◌else◌ {A = Stepped} b (v.Reset link, reset_state plan st ends) (v.Nothing, st)).0
         ≡ (if b then v.Reset link else v.Nothing)
     by true = refl
     by false = refl
 
 module _ (plan : Plan) (old new : WholeLinks) (w : Whole) (verdict : Verdict)
     (both : AreBoth plan old.links new.links w)
-    (many : length old.accesses ≡ length old.links.ends)
+    (many : length old.accesses ≡ length old.links.ends.links)
     (before : AreAccesses plan (seen_at old.accesses) w.accesses) where
   abbrev links_now : LinkState
   links_now = links_state plan new.links
 
   abbrev IsAfter : Event → Type 0
-  IsAfter e = IsBeside plan new.links.ends new.links.keeper.interfaces new.links.trusted.contents
+  IsAfter e = IsBeside plan new.links.ends.links new.links.keeper.interfaces new.links.trusted.contents
       (whole_after plan w e verdict links_now)
 
   abbrev AreAfter : Event → Type 0
@@ -141,16 +151,18 @@ module _ (plan : Plan) (old new : WholeLinks) (w : Whole) (verdict : Verdict)
   are_many e after = record { before = both.whole.beside.faced; after = after.faced; floors = before.floored }
 
   turned : (e : Event) (reads_then : ℕ → List WaitingRead → List WaitingRead) (floors_then : ℕ → List ℕ → List ℕ)
-      (happens : ℕ → List (Option Happened)) → IsAfter e
-      → AccessesTurn reads_then floors_then happens old.accesses new.accesses
+      (happens : ℕ → List (Option Happened)) (carried_then : ℕ → Direction → List HopTlp → List HopTlp) → IsAfter e
+      → AccessesTurn reads_then floors_then happens carried_then old.accesses new.accesses
       → ((link : ℕ) (rs : List WaitingRead)
-      → reads_then link rs ≡ waiting_reads_after (ended_unit plan w e) e verdict link rs)
+      → reads_then link rs ≡ waiting_reads_after plan (ended_unit plan w e) e verdict link rs)
       → ((link : ℕ) → floors_then link (on_link link (sites plan) w.accesses.floors)
       ≡ on_link link (sites plan)
       (floors_after e (device_draw_at plan w.links) (sites plan) w.faces.list (faces_now e) w.accesses.floors))
       → ((link : ℕ) → happens link ≡ happens_by plan standings (ended_unit plan w e) e verdict link)
+      → ((link : ℕ) (d : Direction) (xs : List HopTlp) → link < 8 → carried_then link d xs
+      ≡ waiting_next (unit_tlps plan (ended_unit plan w e) verdict) link d e verdict xs)
       → AreAfter e
-  turned e reads_then floors_then happens after turn reads floors same = record {
+  turned e reads_then floors_then happens carried_then after turn reads floors same carried = record {
     floored = floors_many e (device_draw_at plan w.links) (sites plan) w.faces.list (faces_now e) w.accesses.floors
         (are_many e after);
     reads = λ link. turn.reads link ∙ (ap (reads_then link) (before.reads link)
@@ -160,6 +172,8 @@ module _ (plan : Plan) (old new : WholeLinks) (w : Whole) (verdict : Verdict)
         (turn.bytes link (w.accesses.happened link) (before.bytes link));
     sizes = λ link p is. turn.sizes link ∙ before.sizes link p is;
     floors = λ link. turn.floors link ∙ (ap (floors_then link) (before.floors link) ∙ floors link);
+    carried = λ link d lt. turn.carried link d
+        ∙ (ap (carried_then link d) (before.carried link d lt) ∙ carried link d (w.accesses.carried link d) lt);
   }
 
   -- floors stay at an event that starts no interface
@@ -171,82 +185,112 @@ module _ (plan : Plan) (old new : WholeLinks) (w : Whole) (verdict : Verdict)
       (sym (floors_rest e (device_draw_at plan w.links) (sites plan) w.faces.list (faces_now e) w.accesses.floors is
       (are_many e after)))
 
+  -- TLPs stay at switches at an event that brings no bytes, sends none on and cuts no hop
+  hops_kept : (e : Event) → ended_unit plan w e ≡ [] → touches_hops e ≡ false → (link : ℕ) (d : Direction)
+      (xs : List HopTlp) → link < 8
+      → xs ≡ waiting_next (unit_tlps plan (ended_unit plan w e) verdict) link d e verdict xs
+  hops_kept e none hops link d xs lt =
+      hops_rest e verdict link d xs hops
+      ∙ ap (λ (new : List HopTlp). waiting_next new link d e verdict xs)
+      (sym (no_unit plan verdict) ∙ ap (λ (ps : List Packet). unit_tlps plan ps verdict) (sym none))
+
+  -- what becomes of them by the verdict of an event that brings no bytes
+  hops_turn : (e : Event) → ended_unit plan w e ≡ [] → (link : ℕ) (d : Direction) (xs : List HopTlp) → link < 8
+      → carried_by e verdict link d xs
+      ≡ waiting_next (unit_tlps plan (ended_unit plan w e) verdict) link d e verdict xs
+  hops_turn e none link d xs lt =
+      ap (λ (new : List HopTlp). waiting_next new link d e verdict xs)
+      (sym (no_unit plan verdict) ∙ ap (λ (ps : List Packet). unit_tlps plan ps verdict) (sym none))
+
   -- ---- what leaves all of it
 
   kept : (e : Event) → IsAfter e → ended_unit plan w e ≡ [] → touches_reads e ≡ false → touches_memory e ≡ false
-      → starts e ≡ false → new.accesses ≡ old.accesses → AreAfter e
-  kept e after none reads memory floors same =
-      turned e same_reads same_floors nothing_happens after (stays old.accesses new.accesses same)
-      (λ link rs. reads_rest e verdict link rs reads
-      ∙ ap (λ (ps : List Packet). waiting_reads_after ps e verdict link rs) (sym none))
+      → starts e ≡ false → touches_hops e ≡ false → new.accesses ≡ old.accesses → AreAfter e
+  kept e after none reads memory floors hops same =
+      turned e same_reads same_floors nothing_happens same_carried after (stays old.accesses new.accesses same)
+      (λ link rs. reads_rest plan e verdict link rs reads
+      ∙ ap (λ (ps : List Packet). waiting_reads_after plan ps e verdict link rs) (sym none))
       (floors_kept e after floors)
       (λ link. memory_rests plan standings e verdict link memory
       ∙ ap (λ (ps : List Packet). happens_by plan standings ps e verdict link) (sym none))
+      (hops_kept e none hops)
 
   -- ---- arrivals
 
   arrived : (e : Event) (h : History) → IsAfter e → starts e ≡ false → PortsStandFor plan (links_state plan old.links) h
-      → AccessesArrive (arrival_at e) e verdict old.links old.accesses new.accesses → AreAfter e
+      → AccessesArrive plan (arrival_at plan e) e verdict old.links old.accesses new.accesses → AreAfter e
   arrived e h after floors stands sides =
       let units : unit_in plan (links_state plan old.links) (arrival_of plan (links_state plan old.links) e)
       ≡ ended_unit plan w e =
       ap (λ (st : LinkState). unit_in plan st (arrival_of plan st e)) (sym both.whole.links) in
-      turned e _ same_floors _ after (sides.turn plan h both.links stands)
-      (λ link rs. ap (λ (ps : List Packet). waiting_reads_after ps e verdict link rs) units)
+      turned e _ same_floors _ _ after (sides.turn h both.links stands)
+      (λ link rs. ap (λ (ps : List Packet). waiting_reads_after plan ps e verdict link rs) units)
       (floors_kept e after floors)
       (λ link. (λ i. happens_by plan
-      (λ l. standings_are plan old.links.ends old.links.keeper.interfaces old.links.trusted.contents w
+      (λ l. standings_are plan old.links.ends.links old.links.keeper.interfaces old.links.trusted.contents w
       both.whole.beside both.links.fits both.links.many old.accesses many before l i) (units i) e verdict link))
+      (λ link d xs lt.
+      ap (λ (b : Bool). if b then waiting_next (unit_tlps plan (unit_in plan (links_state plan old.links)
+      (arrival_of plan (links_state plan old.links) e)) verdict) link d e verdict xs else xs) (lt-ltb link 8 lt)
+      ∙ ap (λ (ps : List Packet). waiting_next (unit_tlps plan ps verdict) link d e verdict xs) units)
 
   -- ---- answers
 
   answered : (link : ℕ) → IsAfter (event.Access (ae.Answer link))
-      → AccessesTurn (waiting_reads_after [] (event.Access (ae.Answer link)) verdict) same_floors nothing_happens
-      old.accesses new.accesses
+      → AccessesAnswer plan (event.Access (ae.Answer link)) verdict old new
       → AreAfter (event.Access (ae.Answer link))
   answered link after turn =
       let e = event.Access (ae.Answer link) in
-      turned e (waiting_reads_after [] e verdict) same_floors nothing_happens after turn (λ l rs. refl)
-      (floors_kept e after refl) (λ l. memory_rests plan standings e verdict l refl)
+      turned e (waiting_reads_after plan [] e verdict) same_floors nothing_happens same_carried after turn
+      (λ l rs. refl) (floors_kept e after refl) (λ l. memory_rests plan standings e verdict l refl)
+      (hops_kept e refl refl)
+
+  -- ---- a forward
+
+  forwarded : (link : ℕ) (d : Direction) → IsAfter (event.Forward link d)
+      → AccessesForward (event.Forward link d) verdict old new → AreAfter (event.Forward link d)
+  forwarded link d after turn =
+      let e = event.Forward link d in
+      turned e same_reads same_floors nothing_happens (carried_by e verdict) after turn
+      (λ l rs. reads_rest plan e verdict l rs refl) (floors_kept e after refl)
+      (λ l. memory_rests plan standings e verdict l refl) (hops_turn e refl)
 
   -- ---- a reset
 
-  reset_there : (link : ℕ) → IsAfter (event.Reset link) → verdict ≡ v.Reset link
-      → AccessesTurn (waiting_reads_after [] (event.Reset link) verdict) same_floors (reset_happens verdict)
-      old.accesses new.accesses
-      → AreAfter (event.Reset link)
-  reset_there link after says turn =
-      let e = event.Reset link in
-      turned e (waiting_reads_after [] e verdict) same_floors (reset_happens verdict) after turn (λ l rs. refl)
-      (floors_kept e after refl)
+  reset_there : (link : ℕ) (ends : List PortName) → IsAfter (event.Reset link ends) → verdict ≡ v.Reset link
+      → AccessesReset plan (event.Reset link ends) verdict old new → AreAfter (event.Reset link ends)
+  reset_there link ends after says turn =
+      let e = event.Reset link ends in
+      turned e (waiting_reads_after plan [] e verdict) same_floors (reset_happens verdict) (carried_by e verdict) after
+      turn (λ l rs. refl) (floors_kept e after refl)
       (λ l. ap (λ (u : Verdict). reset_happens u l) says ∙ (by (link == l)
       ∙ sym (ap (λ (u : Verdict). happens_by plan standings [] e u l) says)))
+      (hops_turn e refl)
     where
       by : (b : Bool) → (if b then Some AllReset ∷ [] else []) ≡ happens_if b AllReset
       by true = refl
       by false = refl
 
-  reset_nowhere : (link : ℕ) → IsAfter (event.Reset link) → verdict ≡ v.Nothing
-      → AccessesTurn (waiting_reads_after [] (event.Reset link) verdict) same_floors (reset_happens verdict)
-      old.accesses new.accesses
-      → AreAfter (event.Reset link)
-  reset_nowhere link after says turn =
-      let e = event.Reset link in
-      turned e (waiting_reads_after [] e verdict) same_floors (reset_happens verdict) after turn (λ l rs. refl)
-      (floors_kept e after refl)
+  reset_nowhere : (link : ℕ) (ends : List PortName) → IsAfter (event.Reset link ends) → verdict ≡ v.Nothing
+      → AccessesReset plan (event.Reset link ends) verdict old new → AreAfter (event.Reset link ends)
+  reset_nowhere link ends after says turn =
+      let e = event.Reset link ends in
+      turned e (waiting_reads_after plan [] e verdict) same_floors (reset_happens verdict) (carried_by e verdict) after
+      turn (λ l rs. refl) (floors_kept e after refl)
       (λ l. ap (λ (u : Verdict). reset_happens u l) says
       ∙ sym (ap (λ (u : Verdict). happens_by plan standings [] e u l) says))
+      (hops_turn e refl)
 
   -- ---- one interface
 
   named_before : (i : ℕ) (x : Site) → slice_get (sites plan) i ≡ Some x
-      → (p : IsPlaced plan old.links.ends old.links.keeper.interfaces w i x)
-      → tdi_named old.links.keeper.interfaces old.links.ends i ≡ Some p.tdi
+      → (p : IsPlaced plan old.links.ends.links old.links.keeper.interfaces w i x)
+      → tdi_named old.links.keeper.interfaces old.links.ends.links i ≡ Some p.tdi
   named_before i x at p =
-      ap (option_and_then (tdi_of_ends old.links.ends))
-      (interface_there plan old.links.ends old.links.keeper.interfaces old.links.trusted.contents w i x p
+      ap (option_and_then (tdi_of_ends old.links.ends.links))
+      (interface_there plan old.links.ends.links old.links.keeper.interfaces old.links.trusted.contents w i x p
       both.whole.beside both.links.fits at)
-      ∙ tdi_there plan old.links.ends old.links.keeper.interfaces old.links.trusted.contents w both.whole.beside
+      ∙ tdi_there plan old.links.ends.links old.links.keeper.interfaces old.links.trusted.contents w both.whole.beside
       both.links.fits both.links.many i x p
 
   module _ (e : Event) (after : IsAfter e) where
@@ -254,37 +298,39 @@ module _ (plan : Plan) (old new : WholeLinks) (w : Whole) (verdict : Verdict)
     whole_now = whole_after plan w e verdict links_now
 
     interface_now : (i : ℕ) (x : Site) → slice_get (sites plan) i ≡ Some x
-        → (p : IsPlaced plan new.links.ends new.links.keeper.interfaces whole_now i x)
-        → interface_named new.links.keeper.interfaces new.links.ends i ≡ Some (x.link, p.place)
+        → (p : IsPlaced plan new.links.ends.links new.links.keeper.interfaces whole_now i x)
+        → interface_named new.links.keeper.interfaces new.links.ends.links i ≡ Some (x.link, p.place)
     interface_now i x at p =
-        interface_there plan new.links.ends new.links.keeper.interfaces new.links.trusted.contents whole_now i x p after
+        interface_there plan new.links.ends.links new.links.keeper.interfaces new.links.trusted.contents whole_now i x p
+        after
         both.links_after.fits at
 
     named_now : (i : ℕ) (x : Site) → slice_get (sites plan) i ≡ Some x
-        → (p : IsPlaced plan new.links.ends new.links.keeper.interfaces whole_now i x)
-        → tdi_named new.links.keeper.interfaces new.links.ends i ≡ Some p.tdi
+        → (p : IsPlaced plan new.links.ends.links new.links.keeper.interfaces whole_now i x)
+        → tdi_named new.links.keeper.interfaces new.links.ends.links i ≡ Some p.tdi
     named_now i x at p =
-        ap (option_and_then (tdi_of_ends new.links.ends)) (interface_now i x at p)
-        ∙ tdi_there plan new.links.ends new.links.keeper.interfaces new.links.trusted.contents whole_now after
+        ap (option_and_then (tdi_of_ends new.links.ends.links)) (interface_now i x at p)
+        ∙ tdi_there plan new.links.ends.links new.links.keeper.interfaces new.links.trusted.contents whole_now after
         both.links_after.fits both.links_after.many i x p
 
     place_now : (i : ℕ) (x : Site) → slice_get (sites plan) i ≡ Some x
-        → (p : IsPlaced plan new.links.ends new.links.keeper.interfaces whole_now i x) → p.place ≡ place_of plan x
+        → (p : IsPlaced plan new.links.ends.links new.links.keeper.interfaces whole_now i x) → p.place ≡ place_of plan x
     place_now i x at p =
-        place_is plan new.links.ends new.links.keeper.interfaces new.links.trusted.contents whole_now after
+        place_is plan new.links.ends.links new.links.keeper.interfaces new.links.trusted.contents whole_now after
         both.links_after.fits both.links_after.many i x p at
 
     bars_now : (i : ℕ) (x : Site) → slice_get (sites plan) i ≡ Some x
-        → (p : IsPlaced plan new.links.ends new.links.keeper.interfaces whole_now i x)
+        → (p : IsPlaced plan new.links.ends.links new.links.keeper.interfaces whole_now i x)
         → bars_named new.links i ≡ x.plan.bars
     bars_now i x at p =
         ap (λ (o : Option Tdi). option_map_or (λ (t : Tdi). t.plan.bars) o []) (named_now i x at p)
         ∙ ap (λ y. y.bars) p.keeps.layout
 
     nowhere_now : (i : ℕ) → length (sites plan) ≤ i
-        → interface_named new.links.keeper.interfaces new.links.ends i ≡ None
+        → interface_named new.links.keeper.interfaces new.links.ends.links i ≡ None
     nowhere_now i le =
-        interface_absent plan new.links.ends new.links.keeper.interfaces new.links.trusted.contents whole_now i after le
+        interface_absent plan new.links.ends.links new.links.keeper.interfaces new.links.trusted.contents whole_now i
+        after le
 
   -- ---- the memory of one interface
 
@@ -293,7 +339,7 @@ module _ (plan : Plan) (old new : WholeLinks) (w : Whole) (verdict : Verdict)
       (by_site : Option Site → List (Option Happened))
       → by_site None ≡ [] → ((x : Site) → by_site (Some x) ≡ happens_if ((x.link == link) && b)
       (which (place_of plan x) x.plan.bars))
-      → happens_at b (interface_named new.links.keeper.interfaces new.links.ends i)
+      → happens_at b (interface_named new.links.keeper.interfaces new.links.ends.links i)
       (λ place. which place (bars_named new.links i)) link
       ≡ by_site (site_at plan i)
   happens_there e after i link b which by_site absent there = ⊎_elim
@@ -304,8 +350,9 @@ module _ (plan : Plan) (old new : WholeLinks) (w : Whole) (verdict : Verdict)
       (cases_lt i (length (sites plan)))
     where
       at : (x : Site) → slice_get (sites plan) i ≡ Some x
-          → (p : IsPlaced plan new.links.ends new.links.keeper.interfaces (whole_after plan w e verdict links_now) i x)
-          → happens_at b (interface_named new.links.keeper.interfaces new.links.ends i)
+          → (p : IsPlaced plan new.links.ends.links new.links.keeper.interfaces (whole_after plan w e verdict links_now)
+          i x)
+          → happens_at b (interface_named new.links.keeper.interfaces new.links.ends.links i)
           (λ place. which place (bars_named new.links i)) link ≡ by_site (site_at plan i)
       at x is p =
           ap (λ (o : Option (ℕ × ℕ)). happens_at b o (λ place. which place (bars_named new.links i)) link)
@@ -337,25 +384,25 @@ module _ (plan : Plan) (old new : WholeLinks) (w : Whole) (verdict : Verdict)
   flr_happens i w' link = refl
 
   halted : (i : ℕ) (loss : Option Loss) → IsAfter (event.Interface (ie.Halt i loss))
-      → AccessesTurn same_reads same_floors (halted_in new.links i verdict) old.accesses new.accesses
+      → AccessesTurn same_reads same_floors (halted_in new.links i verdict) same_carried old.accesses new.accesses
       → AreAfter (event.Interface (ie.Halt i loss))
   halted i loss after turn =
       let e = event.Interface (ie.Halt i loss) in
-      turned e same_reads same_floors (halted_in new.links i verdict) after turn
-      (λ l rs. reads_rest e verdict l rs refl) (floors_kept e after refl)
+      turned e same_reads same_floors (halted_in new.links i verdict) same_carried after turn
+      (λ l rs. reads_rest plan e verdict l rs refl) (floors_kept e after refl)
       (λ l. happens_there e after i l (carries verdict 1) InterfaceStopped (halted_at plan verdict l) refl (λ x. refl)
-      ∙ halt_happens i loss verdict l)
+      ∙ halt_happens i loss verdict l) (hops_kept e refl refl)
 
   reset_interface : (i : ℕ) → IsAfter (event.Interface (ie.Flr i))
-      → AccessesTurn same_reads same_floors (flr_at new.links i verdict) old.accesses new.accesses
+      → AccessesTurn same_reads same_floors (flr_at new.links i verdict) same_carried old.accesses new.accesses
       → AreAfter (event.Interface (ie.Flr i))
   reset_interface i after turn =
       let e = event.Interface (ie.Flr i) in
-      turned e same_reads same_floors (flr_at new.links i verdict) after turn
-      (λ l rs. reads_rest e verdict l rs refl) (floors_kept e after refl)
+      turned e same_reads same_floors (flr_at new.links i verdict) same_carried after turn
+      (λ l rs. reads_rest plan e verdict l rs refl) (floors_kept e after refl)
       (λ l. happens_there e after i l (changes_device verdict) (λ place bars. InterfaceReset place)
       (reset_at plan verdict l) refl (λ x. refl)
-      ∙ flr_happens i verdict l)
+      ∙ flr_happens i verdict l) (hops_kept e refl refl)
 
   -- ---- a start
 
@@ -369,8 +416,9 @@ module _ (plan : Plan) (old new : WholeLinks) (w : Whole) (verdict : Verdict)
         w.accesses.floors
 
     module _ (x : Site) (at : slice_get (sites plan) i ≡ Some x)
-        (p : IsPlaced plan old.links.ends old.links.keeper.interfaces w i x)
-        (q : IsPlaced plan new.links.ends new.links.keeper.interfaces (whole_after plan w e_start verdict links_now) i
+        (p : IsPlaced plan old.links.ends.links old.links.keeper.interfaces w i x)
+        (q : IsPlaced plan new.links.ends.links new.links.keeper.interfaces
+        (whole_after plan w e_start verdict links_now) i
         x)
       where
         abbrev came_in : Bool
@@ -400,8 +448,9 @@ module _ (plan : Plan) (old new : WholeLinks) (w : Whole) (verdict : Verdict)
             (λ j. option_map_or (λ (n : ℕ). n) (option_and_then
             (λ (l : LinkEnds). receiving_draw_in l.device.port (stream j) Pr) (q.ends_are j)) 0)
             ∙ (value_or (receiving_draw_in q.link_ends.device.port x.plan.stream Pr)
-            ∙ (device_draw_is plan new.links.ends new.links.keeper.keys new.links.packets.packets x.link x.plan.stream
-            q.link_ends Pr both.links_after q.ends_are
+            ∙ (device_draw_is plan new.links.ends new.links.keeper.keys new.links.packets.packets both.links_after
+            x.link
+            x.plan.stream q.link_ends Pr q.ends_are
             ∙ ap (λ (st : LinkState). device_draw_at plan st x) ports))
 
         within : place_of plan x < length (planned_on plan.links x.link)
@@ -409,17 +458,17 @@ module _ (plan : Plan) (old new : WholeLinks) (w : Whole) (verdict : Verdict)
           arith,
           place_now e_start after i x at q,
           slice_get_within q.link_ends.device.interfaces.interfaces q.place q.tdi q.tdi_is,
-          laid_many plan new.links.ends new.links.keeper.interfaces new.links.trusted.contents
+          laid_many plan new.links.ends.links new.links.keeper.interfaces new.links.trusted.contents
               (whole_after plan w e_start verdict links_now) after both.links_after.fits both.links_after.many x.link
               q.link_ends q.ends_are,
         )
 
         number_is : i ≡ interfaces_before plan.links x.link + q.place
         number_is =
-            let l = located_read 0 i new.links.ends (x.link, q.place) q.located_is in
+            let l = located_read 0 i new.links.ends.links (x.link, q.place) q.located_is in
             l.number_is ∙ ap (λ (n : ℕ). n + q.place)
-            (ap (λ (k : ℕ). held_before new.links.ends k) (omega (arith, l.link_is))
-            ∙ before_is plan new.links.ends new.links.keeper.interfaces new.links.trusted.contents
+            (ap (λ (k : ℕ). held_before new.links.ends.links k) (omega (arith, l.link_is))
+            ∙ before_is plan new.links.ends.links new.links.keeper.interfaces new.links.trusted.contents
             (whole_after plan w e_start verdict links_now) after both.links_after.fits both.links_after.many x.link)
 
         in_place : q.place < length (planned_on plan.links x.link)
@@ -497,17 +546,17 @@ module _ (plan : Plan) (old new : WholeLinks) (w : Whole) (verdict : Verdict)
         same true = refl
         same false = refl
 
-    started_all : AccessesTurn same_reads (floors_started old.links new.links i) nothing_happens old.accesses
-        new.accesses → AreAfter e_start
+    started_all : AccessesTurn same_reads (floors_started old.links new.links i) nothing_happens same_carried
+        old.accesses new.accesses → AreAfter e_start
     started_all turn =
-        turned e_start same_reads (floors_started old.links new.links i) nothing_happens after turn
-        (λ l rs. reads_rest e_start verdict l rs refl)
+        turned e_start same_reads (floors_started old.links new.links i) nothing_happens same_carried after turn
+        (λ l rs. reads_rest plan e_start verdict l rs refl)
         (λ link. ⊎_elim
         (λ lt.
         let x = get_there (sites plan) i lt in
         floors_there x.0 x.1 (both.whole.beside.placed i x.0 x.1) (after.placed i x.0 x.1) link)
         (λ le. floors_nowhere le link) (cases_lt i (length (sites plan))))
-        (λ l. memory_rests plan standings e_start verdict l refl)
+        (λ l. memory_rests plan standings e_start verdict l refl) (hops_kept e_start refl refl)
 
   -- ---- all events
 
@@ -519,33 +568,35 @@ module _ (plan : Plan) (old new : WholeLinks) (w : Whole) (verdict : Verdict)
   interface_accesses (ie.Halt i loss) after step sides = halted i loss after sides
   interface_accesses (ie.Flr i) after step sides = reset_interface i after sides
   interface_accesses (ie.Lock i loss) after step sides =
-      kept (event.Interface (ie.Lock i loss)) after refl refl refl refl sides
+      kept (event.Interface (ie.Lock i loss)) after refl refl refl refl refl sides
   interface_accesses (ie.Report i loss) after step sides =
-      kept (event.Interface (ie.Report i loss)) after refl refl refl refl sides
+      kept (event.Interface (ie.Report i loss)) after refl refl refl refl refl sides
   interface_accesses (ie.State i loss) after step sides =
-      kept (event.Interface (ie.State i loss)) after refl refl refl refl sides
+      kept (event.Interface (ie.State i loss)) after refl refl refl refl refl sides
+  interface_accesses (ie.Bind i line stream loss) after step sides =
+      kept (event.Interface (ie.Bind i line stream loss)) after refl refl refl refl refl sides
+  interface_accesses (ie.Unbind i line stream loss) after step sides =
+      kept (event.Interface (ie.Unbind i line stream loss)) after refl refl refl refl refl sides
   interface_accesses (ie.View i) after step sides =
-      kept (event.Interface (ie.View i)) after refl refl refl refl sides
+      kept (event.Interface (ie.View i)) after refl refl refl refl refl sides
   interface_accesses (ie.Write i register value) after step sides =
-      kept (event.Interface (ie.Write i register value)) after refl refl refl refl sides
+      kept (event.Interface (ie.Write i register value)) after refl refl refl refl refl sides
   interface_accesses (ie.Firmware i) after step sides =
-      kept (event.Interface (ie.Firmware i)) after refl refl refl refl sides
+      kept (event.Interface (ie.Firmware i)) after refl refl refl refl refl sides
   interface_accesses (ie.Memory at len) after step sides =
-      kept (event.Interface (ie.Memory at len)) after refl refl refl refl sides
+      kept (event.Interface (ie.Memory at len)) after refl refl refl refl refl sides
 
-  reset_accesses : (link : ℕ) (b : Bool) → IsAfter (event.Reset link)
+  reset_accesses : (link : ℕ) (ends : List PortName) (b : Bool) → IsAfter (event.Reset link ends)
       → verdict ≡ (if b then v.Reset link else v.Nothing)
-      → AccessesTurn (waiting_reads_after [] (event.Reset link) verdict) same_floors (reset_happens verdict)
-      old.accesses new.accesses
-      → AreAfter (event.Reset link)
-  reset_accesses link true after says sides = reset_there link after says sides
-  reset_accesses link false after says sides = reset_nowhere link after says sides
+      → AccessesReset plan (event.Reset link ends) verdict old new → AreAfter (event.Reset link ends)
+  reset_accesses link ends true after says sides = reset_there link ends after says sides
+  reset_accesses link ends false after says sides = reset_nowhere link ends after says sides
 
   pub accesses_are : (e : Event) (h : History) → PortsStandFor plan (links_state plan old.links) h → IsAfter e
       → ◌≡◌ {A = Stepped} (verdict, links_now) (step_of plan (beside_of plan w) w.links e)
-      → AccessesAfter e verdict old new → AreAfter e
+      → AccessesAfter plan e verdict old new → AreAfter e
   accesses_are (event.Send port bytes more trusted) h stands after step sides =
-      kept (event.Send port bytes more trusted) after refl refl refl refl sides
+      kept (event.Send port bytes more trusted) after refl refl refl refl refl sides
   accesses_are (event.Pass n) h stands after step sides = arrived (event.Pass n) h after refl stands sides
   accesses_are (event.Alter n at mask) h stands after step sides =
       arrived (event.Alter n at mask) h after refl stands sides
@@ -553,19 +604,21 @@ module _ (plan : Plan) (old new : WholeLinks) (w : Whole) (verdict : Verdict)
   accesses_are (event.Arrive port bytes) h stands after step sides =
       arrived (event.Arrive port bytes) h after refl stands sides
   accesses_are (event.Dump n) h stands after step sides =
-      kept (event.Dump n) after refl refl refl refl sides
+      kept (event.Dump n) after refl refl refl refl refl sides
   accesses_are (event.Establish link stream loss) h stands after step sides =
-      kept (event.Establish link stream loss) after refl refl refl refl sides
+      kept (event.Establish link stream loss) after refl refl refl refl refl sides
   accesses_are (event.Refresh link stream loss) h stands after step sides =
-      kept (event.Refresh link stream loss) after refl refl refl refl sides
+      kept (event.Refresh link stream loss) after refl refl refl refl refl sides
   accesses_are (event.Stop link stream loss) h stands after step sides =
-      kept (event.Stop link stream loss) after refl refl refl refl sides
+      kept (event.Stop link stream loss) after refl refl refl refl refl sides
   accesses_are (event.Status link stream) h stands after step sides =
-      kept (event.Status link stream) after refl refl refl refl sides
-  accesses_are (event.Reset link) h stands after step sides =
-      reset_accesses link (nat_lt link (length plan.links)) after
-      (ap (λ (s : Stepped). s.0) step ∙ reset_says plan (beside_of plan w) w.links link) sides
+      kept (event.Status link stream) after refl refl refl refl refl sides
+  accesses_are (event.Reset link ends) h stands after step sides =
+      reset_accesses link ends (nat_lt link (length plan.links)) after
+      (ap (λ (s : Stepped). s.0) step ∙ reset_says plan (beside_of plan w) w.links link ends) sides
   accesses_are (event.Interface e) h stands after step sides = interface_accesses e after step sides
   accesses_are (event.Access (ae.Answer link)) h stands after step sides = answered link after sides
   accesses_are (event.Access (ae.Mmio i bar offset len)) h stands after step sides =
-      kept (event.Access (ae.Mmio i bar offset len)) after refl refl refl refl sides
+      kept (event.Access (ae.Mmio i bar offset len)) after refl refl refl refl refl sides
+  accesses_are (event.Forward link d) h stands after step sides = forwarded link d after sides
+  accesses_are event.Absent h stands after step sides = kept event.Absent after refl refl refl refl refl sides

@@ -1,5 +1,19 @@
 -- What stands at each link beside its ports and its device's interfaces, and how these stand by it (this profile).
-use Rattle.std.specs.Prelude.{ℕ, ◌+◌, Bool, if◌then◌else◌, List, [], ◌∷◌, length, map, replicate, slice_index, Option}
+use Rattle.std.specs.Prelude.{
+  ℕ,
+  ◌+◌,
+  Bool,
+  false,
+  if◌then◌else◌,
+  List,
+  [],
+  ◌∷◌,
+  length,
+  map,
+  replicate,
+  slice_index,
+  Option,
+}
 use Rattle.std.specs.Prelude.{Some, None}
 use Rattle.ide_plan.specs.declared.interface.InterfacePlan.{InterfacePlan}
 use Rattle.ide_plan.specs.declared.plan.LinkPlan.{LinkPlan}
@@ -12,14 +26,27 @@ use Rattle.waiting_reads.specs.declared.queue.WaitingRead.{WaitingRead}
 use Rattle.waiting_reads.specs.{memory_read, waiting_after}
 use Rattle.guarded_memory.specs.declared.standing.Standing.{Standing}
 use Rattle.guarded_memory.specs.{standing_of, new_guarded}
+use Rattle.hop_queues.specs.declared.queues.HopQueues.{HopQueues}
+use Rattle.hop_queues.specs.{WaitingTlps}
 use Rattle.accesses.specs.declared.link.LinkAccesses.{LinkAccesses}
 
 -- ---- at first
 
--- no read waits, and all memory and all floors are 0
+-- nothing waits at a switch, and there is no room yet
+abbrev pub new_queue : WaitingTlps
+new_queue = record { tlps = []; has_room = false }
+
+abbrev pub new_queues : HopQueues
+new_queues = record { downstream = new_queue; upstream = new_queue }
+
+-- nothing waits, and all memory and all floors are 0
 abbrev pub new_link_accesses : List InterfacePlan → LinkAccesses
-new_link_accesses interfaces =
-    record { reads = []; guarded = new_guarded interfaces; floors = replicate (length interfaces) 0 }
+new_link_accesses interfaces = record {
+  reads = [];
+  guarded = new_guarded interfaces;
+  floors = replicate (length interfaces) 0;
+  carried = new_queues;
+}
 
 abbrev pub new_at_link : LinkPlan → LinkAccesses
 new_at_link l = new_link_accesses l.interfaces
@@ -37,6 +64,15 @@ standings_from floors n (t ∷ ts) = standing_of t (slice_index floors n) ∷ st
 -- those of a device
 abbrev pub standings_by : List ℕ → DeviceTdis → List Standing
 standings_by floors d = standings_from floors 0 d.interfaces
+
+-- ---- TLPs at a switch
+
+-- without those that wait
+abbrev pub without_tlps : HopQueues → HopQueues
+without_tlps q = record {
+  downstream = record q.downstream { tlps = [] };
+  upstream = record q.upstream { tlps = [] };
+}
 
 -- ---- reads
 

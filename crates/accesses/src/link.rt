@@ -6,10 +6,12 @@ ghost use Rattle.tlp_layout.specs.Tlp.{viewed_tlp};
 ghost use Rattle.trusted_memory.specs.{Leads, admitted_write, write_in, write_span};
 ghost use Rattle.waiting_reads.specs.{request_effect};
 ghost use Rattle.guarded_memory.specs.{mmio_effect, stored_by, AllReset, MmioLeads};
-ghost use Rattle.accesses.specs.Accesses.{new_link_accesses, reads_after, trusted_read, standings_by};
+ghost use Rattle.hop_queues.specs.{all_roomy};
+ghost use Rattle.accesses.specs.Accesses.{new_link_accesses, reads_after, trusted_read, standings_by, without_tlps};
 
 use crate::floors::Floors;
 use guarded_memory::{Guarded, Standing, Standings};
+use hop_queues::HopQueues;
 use ide_plan::InterfacePlan;
 use ide_types::Memory;
 use link_verdicts::{Effect, UnitName};
@@ -32,6 +34,8 @@ pub struct LinkAccesses {
     pub guarded: Guarded,
     /// The floors of the device's interfaces, by their place.
     pub floors: Floors,
+    /// The TLPs that wait at the switch of the link's hop; none on a link without one.
+    pub carried: HopQueues,
 }
 
 /// The interfaces of a device with their floors.
@@ -61,7 +65,8 @@ fn trusted_read(head: &HeadView, trusted: bool) -> Option<MemReadView>
 }
 
 impl LinkAccesses {
-    /// No reads; the memory of a device's interfaces, all 0, and their floors, all 0.
+    /// No reads; the memory of a device's interfaces, all 0, and their floors, all 0; no TLPs at a switch, and no room
+    /// for one.
     pub fn make(alloc: Global, interfaces: &[InterfacePlan]) -> Result<LinkAccesses, Memory>
         ensures { IfOk result (λ a. a ≡ new_link_accesses interfaces.now) }
     {
@@ -72,6 +77,7 @@ impl LinkAccesses {
             reads,
             guarded,
             floors,
+            carried: HopQueues::new(alloc),
         })
     }
 
@@ -84,6 +90,17 @@ impl LinkAccesses {
         ensures ok { OnOk result (16 ≤ self.new.guarded.spare) }
     {
         self.guarded.spare(UNIT_PAGES)
+    }
+
+    /// Takes memory for one more TLP in each direction at the switch of the link's hop. For want of memory those that
+    /// wait stay.
+    pub fn room(&mut self, alloc: Global) -> Result<(), Memory>
+        ensures kept { self.new ≡ record self.old { carried = self.new.carried } }
+        ensures room { OnOk result (self.new.carried ≡ all_roomy self.old.carried) }
+        ensures downstream { self.new.carried.downstream.tlps ≡ self.old.carried.downstream.tlps }
+        ensures upstream { self.new.carried.upstream.tlps ≡ self.old.carried.upstream.tlps }
+    {
+        self.carried.room(alloc)
     }
 
     /// Gives a TLP of a unit that was accepted at the host's port its effect: a memory read with T waits for its answer
@@ -150,5 +167,12 @@ impl LinkAccesses {
     {
         self.reads.clear();
         self.guarded.reset_all();
+    }
+
+    /// Notes a reset of the link's hop: no TLP waits at its switch.
+    pub fn clear_hop(&mut self)
+        ensures { self.new ≡ record self.old { carried = without_tlps self.old.carried } }
+    {
+        self.carried.clear();
     }
 }

@@ -1,52 +1,43 @@
--- The states of the ports of all links, as the machine has them, and one port changed. The machine has one list, of
--- each link the host's port and then the device's: by induction on the links a port is read and set at twice its link
--- and its side (`states_at`, `states_set`). What always holds stays, as a changed link keeps its names, plans and limit
--- with one call more at the most, and each other link is as before (`each_set`).
-use Rattle.all_ends.proofs.Terms.{◌≡◌, ℕ, suc, zero, ◌+◌, ◌*◌, ◌<◌, ◌≤◌, false, List, [], ◌∷◌, length, refl, ap, sym}
-use Rattle.all_ends.proofs.Terms.{◌∙◌, subst, arith, Option, Some, option_map, map, slice_get, slice_set}
-use Rattle.all_ends.proofs.Terms.{slice_index_or, option_map_or, same_Some, none-some, slice_get_within, length-set}
-use Rattle.all_ends.proofs.Terms.{set-get_or, Side, Host, Device, PortName, Plan, StreamPlan, sent_direction}
-use Rattle.all_ends.proofs.Terms.{StreamState, streams_of, stream_plan, with_id, mode_of, is_closed, LinkPacket}
-use Rattle.all_ends.proofs.Terms.{port_at, port_place, find, put, PortEnd, Found, found, changed, LinkEnds, port_in}
-use Rattle.all_ends.proofs.Terms.{with_port, KeeperView, ports_in, state_of, name_of, IsBounded, IsLink, AreLinks}
-use Rattle.all_ends.proofs.Terms.{StreamView, KeysKept, machine_found, machine_changed, found_plan}
-use Rattle.link_ports.specs.Machine as machine
-use Rattle.link_ends.proofs.Lists.{read_set, set_again}
+-- The states of the ports of all lines, as the machine has them, and one end changed. The machine has one list, of each
+-- line its near end and then its far end: an end is read and set at twice its line and its side (`row_at`, `rows_set`).
+use Rattle.all_ends.proofs.Terms.{◌≡◌, ℕ, suc, zero, ◌+◌, ◌-◌, ◌*◌, ◌<◌, ◌≤◌, List, [], ◌∷◌, ◌++◌, length, refl, ap}
+use Rattle.all_ends.proofs.Terms.{sym, ◌∙◌, subst, arith, Option, Some, None, option_map, slice_get, slice_set}
+use Rattle.all_ends.proofs.Terms.{slice_index_or, option_map_or, same_Some, none-some, slice_get_within, set-get_or}
+use Rattle.all_ends.proofs.Terms.{length-append, replicate, Side, Host, Device, PortName, Plan, StreamPlan}
+use Rattle.all_ends.proofs.Terms.{sent_direction, StreamState, streams_of, stream_plan, with_id, mode_of}
+use Rattle.all_ends.proofs.Terms.{is_closed, LinkPacket, port_at, port_place, find, put, PortEnd, Found, found, changed}
+use Rattle.all_ends.proofs.Terms.{LinkEnds, PairEnds, EndsView, port_in, with_port, pair_port, with_pair_port}
+use Rattle.all_ends.proofs.Terms.{
+  KeeperView,
+  ports_in,
+  pair_ports,
+  in_sixteen,
+  rows_of,
+  state_of,
+  IsPort,
+  IsLink,
+  IsPair,
+}
+use Rattle.all_ends.proofs.Terms.{AreLinks, machine_found, machine_changed, found_plan, LinePlace, Link, Near, Pair}
+use Rattle.all_ends.proofs.Terms.{port_at_place, port_on, with_port_at, with_port_on, changed_at}
+use Rattle.all_ends.proofs.Terms.{false}
+use Rattle.sealed_packets.specs.{changed_by_id as id_changed, found_by_id as id_found}
+use Rattle.std.proofs.lemmas.List.{get_or_append_left, get_or-append_right, set-append_left, set-append_right}
+use Rattle.all_ends.proofs.ByPlace.{by_place, filled_get, filled_set, filled_length}
 
--- ---- lists
-
-pub there : {A : Type 0} (xs : List A) (i : ℕ) → i < length xs → (x : A) × (slice_get xs i ≡ Some x)
-there [] i lt = absurd (omega (arith, lt))
-there (x ∷ xs) zero lt = (x, refl)
-there (x ∷ xs) (suc i) lt = there xs i (omega (arith, lt))
-
-pub set_there : {A : Type 0} (xs : List A) (i : ℕ) (x y : A) → slice_get xs i ≡ Some x → slice_get (slice_set xs i y) i
-    ≡ Some y
-set_there xs i x y is = read_set xs i y (slice_get_within xs i x is)
-
--- what holds of the new item and of all old ones
-pub each_set : {A : Type 0} (P : ℕ → A → Type 0) (xs : List A) (i : ℕ) (y : A) → P i y
-    → ((j : ℕ) (x : A) → slice_get xs j ≡ Some x → P j x)
-    → (j : ℕ) (z : A) → slice_get (slice_set xs i y) j ≡ Some z → P j z
-each_set P [] i y new old j z is = old j z is
-each_set P (x ∷ xs) zero y new old zero z is = subst (P 0) (same_Some y z is) new
-each_set P (x ∷ xs) zero y new old (suc j) z is = old (suc j) z is
-each_set P (x ∷ xs) (suc i) y new old zero z is = old 0 z is
-each_set P (x ∷ xs) (suc i) y new old (suc j) z is = each_set (λ k. P (suc k)) xs i y new (λ k. old (suc k)) j z is
-
--- what holds of the item that changes, and of each with itself, holds of all
-pub each_both : {A : Type 0} (R : A → A → Type 0) (xs : List A) (i : ℕ) (x y : A) → slice_get xs i ≡ Some x → R x y
-    → ((z : A) → R z z) → (j : ℕ) (z z' : A) → slice_get xs j ≡ Some z → slice_get (slice_set xs i y) j ≡ Some z'
-    → R z z'
-each_both {A} R xs i x y is changed same j z z' at at' =
-    each_set (λ n w. (u : A) → slice_get xs n ≡ Some u → R u w) xs i y
-    (λ u at_u. subst (λ (w : A). R w y) (same_Some x u (sym is ∙ at_u)) changed)
-    (λ n w at_w u at_u. subst (λ (t : A). R t w) (same_Some w u (sym at_w ∙ at_u)) (same w)) j z' at' z at
-
--- ---- the states of one port
+-- ---- the states of one end, in lists of ends
 
 twice : (i d : ℕ) → 2 * suc i + d ≡ suc (suc (2 * i + d))
 twice i d = omega arith
+
+one_most : (s : Side) → sent_direction s ≤ 1
+one_most Host = omega arith
+one_most Device = omega arith
+
+pub mapped : {A B : Type 0} (g : A → B) (o : Option A) (y : B) → option_map g o ≡ Some y
+    → (x : A) × (o ≡ Some x) × (g x ≡ y)
+mapped g None y is = absurd (none-some y is)
+mapped g (Some x) y is = (x, refl, same_Some (g x) y is)
 
 states_at : (ls : List LinkEnds) (s : Side) (i : ℕ) (l : LinkEnds) → slice_get ls i ≡ Some l
     → slice_index_or (ports_in ls) (2 * i + sent_direction s) [] ≡ (port_in s l).states
@@ -56,195 +47,288 @@ states_at (x ∷ ls) Device zero l is = ap (λ (y : LinkEnds). y.device.port.sta
 states_at (x ∷ ls) s (suc i) l is = ap (λ (n : ℕ). slice_index_or (ports_in (x ∷ ls)) n []) (twice i (sent_direction s))
     ∙ states_at ls s i l is
 
+pair_states_at : (ls : List PairEnds) (s : Side) (i : ℕ) (l : PairEnds) → slice_get ls i ≡ Some l
+    → slice_index_or (pair_ports ls) (2 * i + sent_direction s) [] ≡ (pair_port s l).states
+pair_states_at [] s i l is = absurd (none-some l is)
+pair_states_at (x ∷ ls) Host zero l is = ap (λ (y : PairEnds). y.near.port.states) (same_Some x l is)
+pair_states_at (x ∷ ls) Device zero l is = ap (λ (y : PairEnds). y.far.port.states) (same_Some x l is)
+pair_states_at (x ∷ ls) s (suc i) l is =
+    ap (λ (n : ℕ). slice_index_or (pair_ports (x ∷ ls)) n []) (twice i (sent_direction s))
+    ∙ pair_states_at ls s i l is
+
 states_set : (ls : List LinkEnds) (s : Side) (i : ℕ) (l : LinkEnds) (e : PortEnd) → slice_get ls i ≡ Some l
-    → ports_in (slice_set ls i (with_port s e l)) ≡ slice_set (ports_in ls) (2 * i + sent_direction s) e.states
+    → ports_in (changed_at ls i (with_port s e)) ≡ slice_set (ports_in ls) (2 * i + sent_direction s) e.states
 states_set [] s i l e is = absurd (none-some l is)
-states_set (x ∷ ls) Host zero l e is = ap (λ (y : LinkEnds). e.states ∷ y.device.port.states ∷ ports_in ls)
-    (sym (same_Some x l is))
-states_set (x ∷ ls) Device zero l e is = ap (λ (y : LinkEnds). y.host.states ∷ e.states ∷ ports_in ls)
-    (sym (same_Some x l is))
+states_set (x ∷ ls) Host zero l e is = refl
+states_set (x ∷ ls) Device zero l e is = refl
 states_set (x ∷ ls) s (suc i) l e is =
     ap (λ (zs : List (List StreamState)). x.host.states ∷ x.device.port.states ∷ zs) (states_set ls s i l e is)
     ∙ ap (λ (n : ℕ). slice_set (ports_in (x ∷ ls)) n e.states) (sym (twice i (sent_direction s)))
 
--- the machine sees of a link the states of its ports alone
-pub ports_same : (ends : List LinkEnds) (link : ℕ) (l l' : LinkEnds) → l.host.states ≡ l'.host.states
-    → l.device.port.states ≡ l'.device.port.states
-    → ports_in (slice_set ends link l) ≡ ports_in (slice_set ends link l')
-ports_same [] link l l' host device = refl
-ports_same (x ∷ ls) zero l l' host device = (λ i. host i ∷ device i ∷ ports_in ls)
-ports_same (x ∷ ls) (suc i) l l' host device = ap
-    (λ (ps : List (List StreamState)). x.host.states ∷ x.device.port.states ∷ ps) (ports_same ls i l l' host device)
+pair_states_set : (ls : List PairEnds) (s : Side) (i : ℕ) (l : PairEnds) (e : PortEnd) → slice_get ls i ≡ Some l
+    → pair_ports (changed_at ls i (with_pair_port s e)) ≡ slice_set (pair_ports ls) (2 * i + sent_direction s) e.states
+pair_states_set [] s i l e is = absurd (none-some l is)
+pair_states_set (x ∷ ls) Host zero l e is = refl
+pair_states_set (x ∷ ls) Device zero l e is = refl
+pair_states_set (x ∷ ls) s (suc i) l e is =
+    ap (λ (zs : List (List StreamState)). x.near.port.states ∷ x.far.port.states ∷ zs) (pair_states_set ls s i l e is)
+    ∙ ap (λ (n : ℕ). slice_set (pair_ports (x ∷ ls)) n e.states) (sym (twice i (sent_direction s)))
 
--- one port after the other
-pub ends_both : (ends : List LinkEnds) (link : ℕ) (l l' : LinkEnds)
-    → ports_in (slice_set (slice_set ends link (with_port Host l'.host l)) link
-    (with_port Device l'.device.port (with_port Host l'.host l)))
-    ≡ ports_in (slice_set ends link l')
-ends_both ends link l l' = ap ports_in (set_again ends link _ _) ∙ ports_same ends link _ l' refl refl
+pub ports_length : (ls : List LinkEnds) → length (ports_in ls) ≡ 2 * length ls
+ports_length [] = refl
+ports_length (l ∷ ls) = omega (arith, ports_length ls)
 
-pub both_set : (ends : List LinkEnds) (link : ℕ) (l l' : LinkEnds) → slice_get ends link ≡ Some l
-    → ports_in (slice_set ends link l') ≡ slice_set
-    (slice_set (ports_in ends) (port_place (port_at Host link)) l'.host.states)
-    (port_place (port_at Device link)) l'.device.port.states
-both_set ends link l l' is =
-    let l1 : LinkEnds = with_port Host l'.host l in
-    sym (ends_both ends link l l')
-    ∙ states_set (slice_set ends link l1) Device link l1 l'.device.port (set_there ends link l l1 is)
-    ∙ ap (λ (ps : List (List StreamState)). slice_set ps (port_place (port_at Device link)) l'.device.port.states)
-    (states_set ends Host link l l'.host is)
+pub pairs_length : (ls : List PairEnds) → length (pair_ports ls) ≡ 2 * length ls
+pairs_length [] = refl
+pairs_length (l ∷ ls) = omega (arith, pairs_length ls)
+
+-- ---- all lines
+
+-- as many as the rows have place for
+pub record IsWired (v : EndsView) : Type 0 where
+  pub few : length v.links ≤ 8
+  pub near_many : length v.near ≡ 8
+
+pub wired : (plan : Plan) (v : EndsView) (k : KeeperView) → AreLinks plan v k → IsWired v
+wired plan v k links = record {
+  few = (let many = links.many in let most = links.fits.links_most in omega (arith, many, most));
+  near_many = links.near_many;
+}
+
+abbrev Row : Type 0
+Row = List StreamState
+
+abbrev no_row : Row
+no_row = []
+
+module _ (v : EndsView) (w : IsWired v) where
+  abbrev first_rows : List Row
+  first_rows = in_sixteen (ports_in v.links)
+
+  abbrev near_rows : List Row
+  near_rows = ports_in v.near
+
+  abbrev pair_rows : List Row
+  pair_rows = pair_ports v.pairs
+
+  sixteen : length first_rows ≡ 16
+  sixteen = filled_length 16 16 (ports_in v.links) no_row (omega arith)
+
+  near_sixteen : length near_rows ≡ 16
+  near_sixteen = (let all = ports_length v.near in let many = w.near_many in omega (arith, all, many))
+
+  both_rows : length (first_rows ++ near_rows) ≡ 32
+  both_rows = (let all = length-append first_rows near_rows in omega (arith, all, sixteen, near_sixteen))
+
+  -- where rows are found
+  pub first_at : (n : ℕ) → n < 16 → slice_index_or (rows_of v) n [] ≡ slice_index_or first_rows n []
+  first_at n lt =
+      get_or_append_left (first_rows ++ near_rows) pair_rows [] n (omega (arith, both_rows, lt))
+      ∙ get_or_append_left first_rows near_rows [] n (omega (arith, sixteen, lt))
+
+  near_at : (n : ℕ) → n < 16 → slice_index_or (rows_of v) (16 + n) [] ≡ slice_index_or near_rows n []
+  near_at n lt =
+      let back : (16 + n) - 16 ≡ n = omega arith in
+      get_or_append_left (first_rows ++ near_rows) pair_rows [] (16 + n) (omega (arith, both_rows, lt))
+      ∙ (get_or-append_right first_rows near_rows 16 (16 + n) [] sixteen (omega arith)
+      ∙ ap (λ (m : ℕ). slice_index_or near_rows m []) back)
+
+  pub pair_at : (n : ℕ) → slice_index_or (rows_of v) (32 + n) [] ≡ slice_index_or pair_rows n []
+  pair_at n =
+      let back : (32 + n) - 32 ≡ n = omega arith in
+      get_or-append_right (first_rows ++ near_rows) pair_rows 32 (32 + n) [] both_rows (omega arith)
+      ∙ ap (λ (m : ℕ). slice_index_or pair_rows m []) back
+
+  -- and set
+  first_set : (n : ℕ) (y : Row) → n < 16 → slice_set (rows_of v) n y ≡ slice_set first_rows n y ++ near_rows
+      ++ pair_rows
+  first_set n y lt =
+      set-append_left (first_rows ++ near_rows) pair_rows n y (omega (arith, both_rows, lt))
+      ∙ ap (λ (rows : List Row). rows ++ pair_rows)
+      (set-append_left first_rows near_rows n y (omega (arith, sixteen, lt)))
+
+  near_set : (n : ℕ) (y : Row) → n < 16
+      → slice_set (rows_of v) (16 + n) y ≡ first_rows ++ slice_set near_rows n y ++ pair_rows
+  near_set n y lt =
+      let back : (16 + n) - 16 ≡ n = omega arith in
+      set-append_left (first_rows ++ near_rows) pair_rows (16 + n) y (omega (arith, both_rows, lt))
+      ∙ ap (λ (rows : List Row). rows ++ pair_rows)
+      (set-append_right first_rows near_rows 16 (16 + n) y sixteen (omega arith)
+      ∙ ap (λ (m : ℕ). first_rows ++ slice_set near_rows m y) back)
+
+  pair_set : (n : ℕ) (y : Row)
+      → slice_set (rows_of v) (32 + n) y ≡ first_rows ++ near_rows ++ slice_set pair_rows n y
+  pair_set n y =
+      let back : (32 + n) - 32 ≡ n = omega arith in
+      set-append_right (first_rows ++ near_rows) pair_rows 32 (32 + n) y both_rows (omega arith)
+      ∙ ap (λ (m : ℕ). first_rows ++ near_rows ++ slice_set pair_rows m y) back
+
+  -- at twice the line and the side
+  module _ (s : Side) where
+    abbrev at_row : ℕ → ℕ
+    at_row line = 2 * line + sent_direction s
+
+    near_row : (i : ℕ) → at_row (8 + i) ≡ 16 + at_row i
+    near_row i = omega arith
+
+    pair_row : (i : ℕ) → at_row (16 + i) ≡ 32 + at_row i
+    pair_row i = omega arith
+
+    abbrev ReadsAt : ℕ → LinePlace → Type 0
+    ReadsAt line place = (e : PortEnd) → port_at_place v s place ≡ Some e
+        → slice_index_or (rows_of v) (at_row line) [] ≡ e.states
+
+    read_link : (i : ℕ) → i < 8 → ReadsAt i (Link i)
+    read_link i lt e is =
+        let x = mapped (λ (l : LinkEnds). port_in s l) (slice_get v.links i) e is in
+        let one = one_most s in
+        let within = slice_get_within v.links i x.0 x.1 in
+        let all = ports_length v.links in
+        first_at (at_row i) (omega (arith, lt, one))
+        ∙ (filled_get 16 (at_row i) (ports_in v.links) (replicate 16 no_row) no_row (omega (arith, within, all, one))
+        (omega (arith, lt, one))
+        ∙ (states_at v.links s i x.0 x.1 ∙ ap (λ (p : PortEnd). p.states) x.2))
+
+    read_near : (i : ℕ) → i < 8 → ReadsAt (8 + i) (Near i)
+    read_near i lt e is =
+        let x = mapped (λ (l : LinkEnds). port_in s l) (slice_get v.near i) e is in
+        let one = one_most s in
+        ap (λ (n : ℕ). slice_index_or (rows_of v) n []) (near_row i)
+        ∙ (near_at (at_row i) (omega (arith, lt, one))
+        ∙ (states_at v.near s i x.0 x.1 ∙ ap (λ (p : PortEnd). p.states) x.2))
+
+    read_pair : (i : ℕ) → ReadsAt (16 + i) (Pair i)
+    read_pair i e is =
+        let x = mapped (λ (l : PairEnds). pair_port s l) (slice_get v.pairs i) e is in
+        ap (λ (n : ℕ). slice_index_or (rows_of v) n []) (pair_row i)
+        ∙ (pair_at (at_row i) ∙ (pair_states_at v.pairs s i x.0 x.1 ∙ ap (λ (p : PortEnd). p.states) x.2))
+
+    abbrev SetsAt : ℕ → LinePlace → Type 0
+    SetsAt line place = (e e' : PortEnd) → port_at_place v s place ≡ Some e
+        → rows_of (with_port_at v s place e') ≡ slice_set (rows_of v) (at_row line) e'.states
+
+    set_link : (i : ℕ) → i < 8 → SetsAt i (Link i)
+    set_link i lt e e' is =
+        let x = mapped (λ (l : LinkEnds). port_in s l) (slice_get v.links i) e is in
+        let one = one_most s in
+        let within = slice_get_within v.links i x.0 x.1 in
+        let all = ports_length v.links in
+        ap (λ (rows : List Row). rows ++ near_rows ++ pair_rows)
+        (ap (λ (rows : List Row). in_sixteen rows) (states_set v.links s i x.0 e' x.1)
+        ∙ filled_set 16 (at_row i) (ports_in v.links) (replicate 16 no_row) e'.states
+        (omega (arith, within, all, one)) (omega (arith, lt, one)))
+        ∙ sym (first_set (at_row i) e'.states (omega (arith, lt, one)))
+
+    set_near : (i : ℕ) → i < 8 → SetsAt (8 + i) (Near i)
+    set_near i lt e e' is =
+        let x = mapped (λ (l : LinkEnds). port_in s l) (slice_get v.near i) e is in
+        let one = one_most s in
+        ap (λ (rows : List Row). first_rows ++ rows ++ pair_rows) (states_set v.near s i x.0 e' x.1)
+        ∙ (sym (near_set (at_row i) e'.states (omega (arith, lt, one)))
+        ∙ ap (λ (n : ℕ). slice_set (rows_of v) n e'.states) (sym (near_row i)))
+
+    set_pair : (i : ℕ) → SetsAt (16 + i) (Pair i)
+    set_pair i e e' is =
+        let x = mapped (λ (l : PairEnds). pair_port s l) (slice_get v.pairs i) e is in
+        ap (λ (rows : List Row). first_rows ++ near_rows ++ rows) (pair_states_set v.pairs s i x.0 e' x.1)
+        ∙ (sym (pair_set (at_row i) e'.states)
+        ∙ ap (λ (n : ℕ). slice_set (rows_of v) n e'.states) (sym (pair_row i)))
+
+  pub row_at : (end : PortName) (e : PortEnd) → port_on v end ≡ Some e
+      → slice_index_or (rows_of v) (port_place end) [] ≡ e.states
+  row_at end e is = by_place (ReadsAt end.side) (read_link end.side) (read_near end.side) (read_pair end.side) end.link
+      e is
+
+  pub rows_set : (end : PortName) (e e' : PortEnd) → port_on v end ≡ Some e
+      → rows_of (with_port_on v end e') ≡ slice_set (rows_of v) (port_place end) e'.states
+  rows_set end e e' is = by_place (SetsAt end.side) (set_link end.side) (set_near end.side) (set_pair end.side) end.link
+      e e' is
 
 -- ---- the port of a plan
 
-pub record IsPort (plan : Plan) (port : PortName) (e : PortEnd) : Type 0 where
-  pub name : e.name ≡ port
-  pub plans : e.plans ≡ streams_of plan port.link
-  pub limit : e.limit ≡ plan.units_per_key
+of_link : (plan : Plan) (line : ℕ) (l : LinkEnds) (s : Side) → IsLink plan line l
+    → IsPort plan (port_at s line) (port_in s l)
+of_link plan line l Host is = is.host
+of_link plan line l Device is = is.device
 
-port_of : (plan : Plan) (i : ℕ) (l : LinkEnds) (s : Side) → IsLink plan i l → IsPort plan (port_at s i) (port_in s l)
-port_of plan i l Host x = record { name = x.host_name; plans = x.host_plans; limit = x.host_limit }
-port_of plan i l Device x = record { name = x.device_name; plans = x.device_plans; limit = x.device_limit }
+of_pair : (plan : Plan) (line : ℕ) (l : PairEnds) (s : Side) → IsPair plan line l
+    → IsPort plan (port_at s line) (pair_port s l)
+of_pair plan line l Host is = is.near
+of_pair plan line l Device is = is.far
 
-pub port_is : (plan : Plan) (ends : List LinkEnds) (k : KeeperView) (port : PortName) (l : LinkEnds)
-    → AreLinks plan ends k → slice_get ends port.link ≡ Some l → IsPort plan port (port_in port.side l)
-port_is plan ends k port l links is = port_of plan port.link l port.side (links.each_link port.link l is)
+module _ (plan : Plan) (v : EndsView) (k : KeeperView) (links : AreLinks plan v k) where
+  abbrev PortAt : Side → ℕ → LinePlace → Type 0
+  PortAt s line place = (e : PortEnd) → port_at_place v s place ≡ Some e → IsPort plan (port_at s line) e
 
--- ---- one link changed
+  at_link : (s : Side) (i : ℕ) → i < 8 → PortAt s i (Link i)
+  at_link s i lt e is =
+      let x = mapped (λ (l : LinkEnds). port_in s l) (slice_get v.links i) e is in
+      subst (λ (p : PortEnd). IsPort plan (port_at s i) p) x.2 (of_link plan i x.0 s (links.each_link i x.0 x.1))
 
--- the same streams, and at the most one more call
-pub record Keeps (e e' : PortEnd) : Type 0 where
-  pub name : e'.name ≡ e.name
-  pub plans : e'.plans ≡ e.plans
-  pub limit : e'.limit ≡ e.limit
-  pub calls : e'.calls ≤ e.calls + 1
+  at_near : (s : Side) (i : ℕ) → i < 8 → PortAt s (8 + i) (Near i)
+  at_near s i lt e is =
+      let x = mapped (λ (l : LinkEnds). port_in s l) (slice_get v.near i) e is in
+      subst (λ (p : PortEnd). IsPort plan (port_at s (8 + i)) p) x.2
+      (of_link plan (8 + i) x.0 s (links.each_near i x.0 x.1))
 
-pub record KeepsEnds (l l' : LinkEnds) : Type 0 where
-  pub host : Keeps l.host l'.host
-  pub device : Keeps l.device.port l'.device.port
-  pub requester : l'.device.requester ≡ l.device.requester
+  at_pair : (s : Side) (i : ℕ) → PortAt s (16 + i) (Pair i)
+  at_pair s i e is =
+      let x = mapped (λ (l : PairEnds). pair_port s l) (slice_get v.pairs i) e is in
+      subst (λ (p : PortEnd). IsPort plan (port_at s (16 + i)) p) x.2
+      (of_pair plan (16 + i) x.0 s (links.each_pair i x.0 x.1))
 
-pub as_before : (e : PortEnd) → Keeps e e
-as_before e = record { name = refl; plans = refl; limit = refl; calls = omega arith }
+  pub port_is : (end : PortName) (e : PortEnd) → port_on v end ≡ Some e → IsPort plan end e
+  port_is end e is = by_place (PortAt end.side) (at_link end.side) (at_near end.side) (at_pair end.side) end.link e is
 
-pub keeps_port : (s : Side) (l : LinkEnds) (e : PortEnd) → Keeps (port_in s l) e → KeepsEnds l (with_port s e l)
-keeps_port Host l e keeps = record { host = keeps; device = as_before l.device.port; requester = refl }
-keeps_port Device l e keeps = record { host = as_before l.host; device = keeps; requester = refl }
+-- ---- the machine's streams at an end
 
-link_kept : (plan : Plan) (i : ℕ) (l l' : LinkEnds) → IsLink plan i l → KeepsEnds l l' → IsLink plan i l'
-link_kept plan i l l' is keeps = record {
-  host_name = keeps.host.name ∙ is.host_name;
-  host_plans = keeps.host.plans ∙ is.host_plans;
-  host_limit = keeps.host.limit ∙ is.host_limit;
-  device_name = keeps.device.name ∙ is.device_name;
-  device_plans = keeps.device.plans ∙ is.device_plans;
-  device_limit = keeps.device.limit ∙ is.device_limit;
-  requester = subst (λ (n : ℕ). n ≤ 65535) (sym keeps.requester) is.requester;
-}
+module _ (plan : Plan) (v : EndsView) (k : KeeperView) (packets : List LinkPacket) (w : IsWired v) (end : PortName)
+    (e : PortEnd) (is : port_on v end ≡ Some e) where
+  pub find_at : (id : ℕ) → IsPort plan end e
+      → find plan (state_of plan v k packets) end id
+      ≡ option_map (λ (f : Found). f.state) (found e.plans e.states id)
+  unfolding find
+  find_at id at_port =
+      ap (λ (xs : List StreamState). id_found (streams_of plan end.link) xs id) (row_at v w end e is)
+      ∙ (ap (λ (ss : List StreamPlan). id_found ss e.states id) (sym at_port.plans)
+      ∙ machine_found e.plans e.states id)
 
-pub links_kept : (plan : Plan) (ends : List LinkEnds) (k k' : KeeperView) (link : ℕ) (l l' : LinkEnds)
-    → AreLinks plan ends k → slice_get ends link ≡ Some l
-    → KeepsEnds l l'
-    → map name_of k'.manager.streams ≡ map name_of k.manager.streams
-    → ((i : ℕ) (v : StreamView) → slice_get k'.manager.streams i ≡ Some v → KeysKept plan v)
-    → k'.pool.keys ≡ k.pool.keys
-    → AreLinks plan (slice_set ends link l') k'
-links_kept plan ends k k' link l l' links is keeps names kept keys = record {
-  fits = links.fits;
-  many = length-set ends link l' ∙ links.many;
-  each_link = each_set (IsLink plan) ends link l' (link_kept plan link l l' (links.each_link link l is) keeps)
-      links.each_link;
-  names = names ∙ links.names;
-  kept = kept;
-  keys = keys ∙ links.keys;
-}
+  pub put_at : (id : ℕ) (x : StreamState) (e' : PortEnd) → IsPort plan end e → e'.states ≡ changed e.plans e.states id x
+      → put plan (state_of plan v k packets) end id x ≡ state_of plan (with_port_on v end e') k packets
+  unfolding put
+  put_at id x e' at_port states =
+      let here : id_changed (streams_of plan end.link) (slice_index_or (rows_of v) (port_place end) []) id x
+      ≡ e'.states =
+      ap (λ (xs : List StreamState). id_changed (streams_of plan end.link) xs id x) (row_at v w end e is)
+      ∙ (ap (λ (ss : List StreamPlan). id_changed ss e.states id x) (sym at_port.plans)
+      ∙ (machine_changed e.plans e.states id x ∙ sym states)) in
+      let all = ap (λ (xs : List StreamState). slice_set (rows_of v) (port_place end) xs) here
+      ∙ sym (rows_set v w end e e' is) in
+      ap (λ (ps : List (List StreamState)). record (state_of plan v k packets) { ports = ps }) all
 
-pub bounded_kept : (ends : List LinkEnds) (packets more : List LinkPacket) (steps link : ℕ) (l l' : LinkEnds)
-    → IsBounded ends packets steps
-    → slice_get ends link ≡ Some l → l'.host.calls ≤ l.host.calls + 1
-    → l'.device.port.calls ≤ l.device.port.calls + 1 →
-    ((i : ℕ) (p : LinkPacket) → slice_get more i ≡ Some p → p.port.link < length ends)
-    → IsBounded (slice_set ends link l') more (steps + 1)
-bounded_kept ends packets more steps link l l' bounded is host_calls device_calls sealed =
-    let host = bounded.host_calls link l is in
-    let device = bounded.device_calls link l is in
-    record {
-      few = omega (arith, bounded.few, length-set ends link l');
-      host_calls = each_set (λ i x. x.host.calls ≤ steps + 1) ends link l' (omega (arith, host, host_calls))
-          (λ i x at. omega (arith, bounded.host_calls i x at));
-      device_calls = each_set (λ i x. x.device.port.calls ≤ steps + 1) ends link l'
-          (omega (arith, device, device_calls))
-          (λ i x at. omega (arith, bounded.device_calls i x at));
-      sealed_here = λ i p at. omega (arith, sealed i p at, length-set ends link l');
-    }
+  pub state_kept : (e' : PortEnd) → e'.states ≡ e.states
+      → state_of plan v k packets ≡ state_of plan (with_port_on v end e') k packets
+  state_kept e' same =
+      let kept : rows_of (with_port_on v end e') ≡ rows_of v =
+      rows_set v w end e e' is
+      ∙ (ap (λ (xs : List StreamState). slice_set (rows_of v) (port_place end) xs)
+      (same ∙ sym (row_at v w end e is))
+      ∙ set-get_or (rows_of v) (port_place end) []) in
+      ap (λ (ps : List (List StreamState)). record (state_of plan v k packets) { ports = ps }) (sym kept)
 
--- ---- the same links
-
-pub bounded_same : (xs ys : List LinkEnds) (ps qs : List LinkPacket) (m n : ℕ) → xs ≡ ys → ps ≡ qs → m ≡ n
-    → IsBounded xs ps m → IsBounded ys qs n
-bounded_same xs ys ps qs m n ends packets steps is =
-    subst (λ (x : List LinkEnds). IsBounded x qs n) ends
-    (subst (λ (x : List LinkPacket). IsBounded xs x n) packets (subst (λ (x : ℕ). IsBounded xs ps x) steps is))
-
-pub links_same : (plan : Plan) (xs ys : List LinkEnds) (k j : KeeperView) → xs ≡ ys → k ≡ j → AreLinks plan xs k
-    → AreLinks plan ys j
-links_same plan xs ys k j ends keeper is = subst (λ (x : List LinkEnds). AreLinks plan x j) ends
-    (subst (λ (x : KeeperView). AreLinks plan xs x) keeper is)
-
--- ---- the machine's streams of a port
-
-pub find_at : (plan : Plan) (ends : List LinkEnds) (k : KeeperView) (packets : List LinkPacket) (port : PortName)
-    (l : LinkEnds) (id : ℕ) → slice_get ends port.link ≡ Some l → IsPort plan port (port_in port.side l)
-    → find plan (state_of plan ends k packets) port id ≡ option_map (λ (f : Found). f.state)
-    (found (port_in port.side l).plans (port_in port.side l).states id)
-unfolding find
-find_at plan ends k packets port l id is at_port =
-    ap (λ (xs : List StreamState). machine.found_by_id (streams_of plan port.link) xs id)
-    (states_at ends port.side port.link l is)
-    ∙ ap (λ (ss : List StreamPlan). machine.found_by_id ss (port_in port.side l).states id) (sym at_port.plans)
-    ∙ machine_found (port_in port.side l).plans (port_in port.side l).states id
-
-pub put_at : (plan : Plan) (ends : List LinkEnds) (k : KeeperView) (packets : List LinkPacket) (port : PortName)
-    (l : LinkEnds) (id : ℕ) (x : StreamState) (e : PortEnd) → slice_get ends port.link ≡ Some l
-    → IsPort plan port (port_in port.side l)
-    → e.states ≡ changed (port_in port.side l).plans (port_in port.side l).states id x
-    → put plan (state_of plan ends k packets) port id x ≡ state_of plan
-    (slice_set ends port.link (with_port port.side e l)) k packets
-unfolding put
-put_at plan ends k packets port l id x e is at_port states =
-    let here : machine.changed_by_id (streams_of plan port.link) (slice_index_or (ports_in ends) (port_place port) [])
-    id x
-    ≡ e.states =
-    ap (λ (xs : List StreamState). machine.changed_by_id (streams_of plan port.link) xs id x)
-    (states_at ends port.side port.link l is)
-    ∙ ap (λ (ss : List StreamPlan). machine.changed_by_id ss (port_in port.side l).states id x) (sym at_port.plans)
-    ∙ machine_changed (port_in port.side l).plans (port_in port.side l).states id x ∙ sym states in
-    let all = ap (λ (xs : List StreamState). slice_set (ports_in ends) (port_place port) xs) here ∙ sym
-    (states_set ends port.side port.link l e is) in
-    ap (λ (ps : List (List StreamState)). record (state_of plan ends k packets) { ports = ps }) all
-
-pub state_kept : (plan : Plan) (ends : List LinkEnds) (k : KeeperView) (packets : List LinkPacket) (port : PortName)
-    (l : LinkEnds) (e : PortEnd) → slice_get ends port.link ≡ Some l → e.states ≡ (port_in port.side l).states
-    → state_of plan ends k packets ≡ state_of plan (slice_set ends port.link (with_port port.side e l)) k packets
-state_kept plan ends k packets port l e is same =
-    let kept : ports_in (slice_set ends port.link (with_port port.side e l)) ≡ ports_in ends =
-    states_set ends port.side port.link l e is
-    ∙ ap (λ (xs : List StreamState). slice_set (ports_in ends) (port_place port) xs)
-    (same ∙ sym (states_at ends port.side port.link l is))
-    ∙ set-get_or (ports_in ends) (port_place port) [] in
-    ap (λ (ps : List (List StreamState)). record (state_of plan ends k packets) { ports = ps }) (sym kept)
-
-plan_at : (plan : Plan) (port : PortName) (e : PortEnd) (id : ℕ) (f : Found) → IsPort plan port e
-    → found e.plans e.states id ≡ Some f → stream_plan plan port.link id ≡ Some f.plan
+plan_at : (plan : Plan) (end : PortName) (e : PortEnd) (id : ℕ) (f : Found) → IsPort plan end e
+    → found e.plans e.states id ≡ Some f → stream_plan plan end.link id ≡ Some f.plan
 unfolding stream_plan
-plan_at plan port e id f is at = ap (λ (ss : List StreamPlan). with_id ss id) (sym is.plans) ∙ found_plan e.plans
-    e.states id f at
+plan_at plan end e id f is at =
+    ap (λ (ss : List StreamPlan). with_id ss id) (sym is.plans) ∙ found_plan e.plans e.states id f at
 
-pub mode_at : (plan : Plan) (port : PortName) (e : PortEnd) (id : ℕ) (f : Found) → IsPort plan port e
-    → found e.plans e.states id ≡ Some f → mode_of plan port.link id ≡ f.plan.mode
-mode_at plan port e id f is at = ap (λ (o : Option StreamPlan). option_map_or (λ (s : StreamPlan). s.mode) o 1)
-    (plan_at plan port e id f is at)
+pub mode_at : (plan : Plan) (end : PortName) (e : PortEnd) (id : ℕ) (f : Found) → IsPort plan end e
+    → found e.plans e.states id ≡ Some f → mode_of plan end.link id ≡ f.plan.mode
+mode_at plan end e id f is at = ap (λ (o : Option StreamPlan). option_map_or (λ (s : StreamPlan). s.mode) o 1)
+    (plan_at plan end e id f is at)
 
-pub closed_at : (plan : Plan) (port : PortName) (e : PortEnd) (id : ℕ) (f : Found) → IsPort plan port e
-    → found e.plans e.states id ≡ Some f → is_closed plan port.link id ≡ f.plan.closed
-closed_at plan port e id f is at = ap (λ (o : Option StreamPlan). option_map_or (λ (s : StreamPlan). s.closed) o false)
-    (plan_at plan port e id f is at)
+pub closed_at : (plan : Plan) (end : PortName) (e : PortEnd) (id : ℕ) (f : Found) → IsPort plan end e
+    → found e.plans e.states id ≡ Some f → is_closed plan end.link id ≡ f.plan.closed
+closed_at plan end e id f is at =
+    ap (λ (o : Option StreamPlan). option_map_or (λ (s : StreamPlan). s.closed) o false)
+    (plan_at plan end e id f is at)

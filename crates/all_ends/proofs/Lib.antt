@@ -1,14 +1,13 @@
 pub mod Terms
-mod Effects
-mod Marks
-pub mod Managers
+pub mod ByPlace
 pub mod Finds
-pub mod Streams
-pub mod Sends
-pub mod Arrivals
-pub mod Writes
-pub mod Operated
-pub mod Located
-pub use Rattle.link_walks.proofs.Works.{is_asked}
-pub use Rattle.link_ends.proofs.Names.{IsNamed, named_stands}
-pub use Rattle.link_ends.proofs.Streams.{found_id}
+pub mod Kept
+pub use Rattle.link_ends.proofs.{is_asked}
+pub use Rattle.link_ends.proofs.Names.{IsNamed, named_stands, set_named}
+pub use Rattle.link_ends.proofs.Streams.{found_id, machine_found}
+pub mod Rows
+pub mod Lent
+pub mod Comes
+pub use Rattle.arrival_verdicts.proofs.Waits.{own_tlps, waits_open}
+pub use Rattle.arrival_verdicts.proofs.Writes.{switch_admits_none, unit_agrees, writes_agree}
+pub use Rattle.link_ends.proofs.Lists.{set_read}

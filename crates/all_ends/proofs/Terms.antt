@@ -5,7 +5,7 @@ pub use Rattle.ide_plan.specs.declared.plan.Plan.{Plan}
 pub use Rattle.ide_plan.specs.declared.stream.StreamPlan.{StreamPlan}
 pub use Rattle.ide_port.specs.{Found, PortEnd, SendStep, changed, found, reset_port, status_in, take_step}
 pub use Rattle.ide_prefix.specs.Packet.{Packet, packet_bytes}
-pub use Rattle.ide_stream.specs.{joined_packets, numbered_from, opened_after, packet_lengths, sending}
+pub use Rattle.arrival_verdicts.specs.{joined_packets, numbered_from, opened_after, packet_lengths, sending}
 pub use Rattle.ide_types.specs.declared.port.PortName.{PortName}
 pub use Rattle.ide_types.specs.declared.port.Side.{Side}
 pub use Rattle.ide_types.specs.declared.port.Side.TheVariants.{Device, Host}
@@ -14,33 +14,18 @@ pub use Rattle.key_laws.proofs.Tests.{different-false}
 pub use Rattle.key_laws.specs.History.{History}
 pub use Rattle.key_laws.specs.Operations.{Idle, Op}
 pub use Rattle.key_laws.specs.Places.{sent_direction}
-pub use Rattle.all_ends.specs.AllEnds.{ends_from}
-pub use Rattle.all_ends.specs.Cuts.{cut_packets}
-pub use Rattle.all_ends.specs.Places.{stream_named}
-pub use Rattle.all_ends.specs.Packets.{IsWithin, marks_from, marked_packet}
-pub use Rattle.all_ends.specs.States.{AreLinks, IsBounded, IsLink, views_after, name_of, names_from, names_of, ops_in}
-pub use Rattle.all_ends.specs.States.{ops_of, ports_in, state_of}
-pub use Rattle.all_ends.specs.Verdicts.{arrival_verdict, marked_effect, marked_write, packet_effect, packet_write}
-pub use Rattle.all_ends.specs.Verdicts.{unit_writes}
+pub use Rattle.sealed_packets.specs.Cuts.{cut_packets}
 pub use Rattle.link_ends.proofs.Names.{first_named, op_named_first}
 pub use Rattle.link_ends.proofs.Streams.{changed_same, found_id, found_plan, machine_changed, machine_found}
-pub use Rattle.link_ends.specs.Ends.{port_in, reset_ends, taken_ends, with_port}
-pub use Rattle.link_ends.specs.Keepers.{KeeperView, HasCalls, Operates}
-pub use Rattle.link_ends.specs.declared.ends.LinkEnds.{LinkEnds}
-pub use Rattle.link_history.specs.Memory.{Grants}
-pub use Rattle.trusted_memory.specs.{Leads, Write}
-pub use Rattle.ide_plan.specs.declared.plan.Region.{Region}
 pub use Rattle.link_verdicts.specs.declared.verdict.UnitName.{UnitName}
-pub use Rattle.link_history.specs.Plan.{has_stream, is_closed, mode_of, streams_by_link, streams_of, with_id}
-unfoldable pub use Rattle.link_history.specs.Plan.{stream_plan}
-pub use Rattle.link_ports.specs.Machine.{Beside, LinkPacket, LinkState, Stepped, stepped_answer, kept_at}
-pub use Rattle.link_ports.specs.Machine.{port_at, port_place, reset_state, status_at}
+unfoldable pub use Rattle.arrival_verdicts.specs.{stream_plan}
+pub use Rattle.sealed_packets.specs.{Beside, LinkPacket, LinkState, Stepped, stepped_answer, kept_at, port_at}
+pub use Rattle.sealed_packets.specs.{port_place, reset_state, status_at}
 pub use Rattle.stream_rules.specs.Stream.{unit_name}
-unfoldable pub use Rattle.link_ports.specs.Machine.{find, find_op, put}
-pub use Rattle.link_ports.specs.Stands.{PortsStandFor, op_at, standing}
+unfoldable pub use Rattle.sealed_packets.specs.{find, find_op, put}
+pub use Rattle.sealed_packets.specs.{PortsStandFor, op_at, standing}
 pub use Rattle.link_verdicts.specs.declared.verdict.Effect.{Effect}
 pub use Rattle.link_verdicts.specs.declared.verdict.Verdict.{Verdict}
-pub use Rattle.link_walks.specs.Joined.{KeysKept}
 pub use Rattle.std.proofs.Common.{Bool, List, [], add-one, ap, arith, drop, false, length, length-append, length-drop}
 pub use Rattle.std.proofs.Common.{refl, rules, subst, suc, sym, take, true, zero, ℕ, ⊎_elim, ◌*◌, ◌++◌, ◌+◌, ◌-◌, ◌<◌}
 pub use Rattle.std.proofs.Common.{◌==◌, ◌∙◌, ◌∷◌, ◌≡◌, ◌≤◌, ◌⊎◌}
@@ -59,7 +44,27 @@ pub use Rattle.std.specs.Prelude.{◌||◌}
 pub use Rattle.stream_rules.specs.Stream.{Failed, Held, Insecure, LiveKey, StreamState, Taken, Three, TxSub, at_sub}
 pub use Rattle.stream_rules.specs.Stream.{checked, holds_any, is_allowed, is_tagged, lanes_of, live_in, sealed_all}
 pub use Rattle.stream_rules.specs.Stream.{slot_in_set, taken_by, taken_under}
-pub use Rattle.sub_stream.specs.{lent_parts, mark_of, opened_from, opened_under}
 pub use Rattle.sub_stream.specs.declared.answer.SealedPacket.{SealedPacket}
 pub use Rattle.tsm_host.specs.Managers.{ManagerView, Named, named, op_named, reset_manager}
 pub use Rattle.tsm_host.specs.Streams.{StreamView, reset_stream}
+pub use Rattle.all_ends.specs.Places.{stream_named}
+pub use Rattle.all_ends.specs.Ends.{EndsView, changed_at, cleared_on, cleared_ends, cleared_pair, line_place, live_on}
+pub use Rattle.all_ends.specs.Ends.{pair_port, port_at_place, port_on, reset_all, settled_all, settled_below}
+pub use Rattle.all_ends.specs.Ends.{settled_ends, settled_link, unlocked_ends, unlocked_link, with_pair_port}
+pub use Rattle.all_ends.specs.Ends.{with_port_at, with_port_on}
+pub use Rattle.all_ends.specs.declared.places.LinePlace.{LinePlace}
+pub use Rattle.all_ends.specs.declared.places.LinePlace.TheVariants.{Link, Near, Pair}
+pub use Rattle.all_ends.specs.States.{AreLinks, IsBounded, IsLink, IsPair, IsPort, StreamKept, KeptBy, in_sixteen}
+pub use Rattle.all_ends.specs.States.{name_of, names_from, names_of, ops_in, ops_of, pair_ports, ports_in, rows_of}
+pub use Rattle.all_ends.specs.States.{state_of, views_after}
+pub use Rattle.line_ends.specs.declared.pair.PairEnds.{PairEnds}
+pub use Rattle.line_ends.specs.Ends.{end_in, with_end, reset_pair}
+pub use Rattle.link_ends.specs.Ends.{port_in, with_port}
+pub use Rattle.link_ends.specs.Keepers.{KeeperView, HasCalls, Operates}
+pub use Rattle.link_ends.specs.declared.ends.LinkEnds.{LinkEnds}
+pub use Rattle.arrival_verdicts.specs.{has_stream, is_closed, mode_of, streams_of, with_id}
+unfoldable pub use Rattle.arrival_verdicts.specs.{streams_by_line}
+pub use Rattle.link_ends.specs.{KeysKept}
+pub use Rattle.std.proofs.lemmas.Bool.{cases_lt}
+pub use Rattle.std.specs.Prelude.{nat_lt, replicate}
+pub use Rattle.std.specs.Option.{option_and_then}

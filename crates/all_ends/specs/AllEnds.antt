@@ -1,125 +1,222 @@
--- The ends of all links, and what each call makes of those of one link.
-use Rattle.std.specs.Prelude.{ℕ, ◌≡◌, ◌+◌, ◌++◌, ◌<◌, Bool, Option, Some, None, List, [], ◌∷◌, length, map, slice_get}
+-- What each call makes of the ends of all lines.
+use Rattle.std.specs.Prelude.{ℕ, ◌≡◌, ◌++◌, ◌<◌, Bool, Option, Some, None, List, length, map, slice_get}
 use Rattle.std.specs.Prelude.{slice_set}
+use Rattle.ide_types.specs.declared.port.Side.TheVariants.{Host, Device}
+use Rattle.ide_types.specs.declared.port.Side.{Side}
 use Rattle.ide_types.specs.declared.port.PortName.{PortName}
+use Rattle.ide_types.specs.Ports.{host_port, device_port}
 use Rattle.ide_types.specs.declared.status.StreamStatus.{StreamStatus}
-use Rattle.ide_plan.specs.declared.plan.LinkPlan.{LinkPlan}
 use Rattle.link_events.specs.declared.event.Loss.{Loss}
 use Rattle.link_verdicts.specs.declared.verdict.Verdict.{Verdict}
 use Rattle.ide_plan.specs.declared.plan.Region.{Region}
-use Rattle.link_history.specs.Admission.{Grants}
+use Rattle.arrival_verdicts.specs.{Grants, reads_by}
 use Rattle.trusted_memory.specs.{MemoryContents, Leads}
-use Rattle.tdi_host.specs.Managers.{granted}
 use Rattle.link_ends.specs.Hosts.{InterfacesView}
 use Rattle.tsm_host.specs.declared.operation.Op.{Op}
 use Rattle.tsm_host.specs.declared.operation.Outcome.{Outcome}
+use Rattle.ide_port.specs.declared.answer.Arrival.{Arrival}
 use Rattle.ide_port.specs.declared.answer.Sent.{Sent}
 use Rattle.ide_prefix.specs.Reading.{cut_of}
-use Rattle.ide_port.specs.{IsSentAtPort, take_step, status_in}
+use Rattle.ide_port.specs.{PortEnd, IsSentAtPort, take_step}
 use Rattle.link_ends.specs.declared.ends.LinkEnds.{LinkEnds}
-use Rattle.link_ends.specs.Ends.{new_ends, port_in, with_port, taken_ends, trusting_at, reset_ends}
-use Rattle.link_history.specs.Sent.{reads_by}
+use Rattle.line_ends.specs.declared.pair.PairEnds.{PairEnds}
 use Rattle.guarded_memory.specs.declared.standing.Standing.{Standing}
 use Rattle.guarded_memory.specs.{MmioLeads}
 use Rattle.accesses.specs.declared.link.LinkAccesses.{LinkAccesses}
 use Rattle.accesses.specs.{standings_by}
-use Rattle.all_ends.specs.Verdicts.{effects_from, packet_write, packet_stored, unit_writes, of_unit, arrival_verdict}
-use Rattle.link_ends.specs.Keepers.{KeeperView, Operates, HasCalls}
-use Rattle.all_ends.specs.Requester.{requester_of}
+use Rattle.arrival_verdicts.specs.Verdicts.{effects_from, packet_write, packet_stored, unit_writes, of_unit}
+use Rattle.arrival_verdicts.specs.Verdicts.{arrival_verdict}
+use Rattle.arrival_verdicts.specs.Switches.{switched_each, unit_waits, all_offered}
+use Rattle.hop_queues.specs.declared.queues.HopQueues.{HopQueues}
+use Rattle.ide_types.specs.declared.direction.Direction.{Direction}
+use Rattle.link_ends.specs.Keepers.{KeeperView, Operates, HasCalls, SameCalls}
+use Rattle.link_ends.specs.PairKeepers.{PairOperates, HasPairCalls}
+use Rattle.all_ends.specs.Ends.{EndsView, port_on, port_at_place, with_port_on, with_port_at, trust_at_place}
+use Rattle.all_ends.specs.Ends.{status_on, live_on, line_place, settled_link, settled_place, reset_all}
+use Rattle.all_ends.specs.declared.places.LinePlace.{LinePlace}
+use Rattle.all_ends.specs.declared.places.LinePlace.TheVariants.{Link, Near, Pair}
 use Rattle.all_ends.specs.Places.{code_behind}
 use Rattle.link_ends.specs.declared.host.HostKeeper.{HostKeeper}
-use Rattle.link_ends.specs.Hosts.{operated_on}
+use Rattle.link_ends.specs.Hosts.{operated_on, told, pair_told, peer_drawn}
 use Rattle.tdi_state.specs.Machine.{Tdi, Call}
 use Rattle.tdi_device.specs.Replies.{DeviceTdis, called_at, settled_tdis}
-use Rattle.device_side.specs.Ends.{secure_at}
+use Rattle.device_side.specs.Ends.{secure_with}
 use Rattle.tdi_host.specs.declared.operation.InterfaceOp.{InterfaceOp}
 use Rattle.tdi_host.specs.declared.operation.Outcome.{Outcome as Outcome'}
 use Rattle.tdi_host.specs.Views.{HostTdi}
 use Rattle.tdi_ends.specs.Keepers.{Ended}
 
--- the ends of the links from this number on
-abbrev pub ends_from : ℕ → ℕ → List LinkPlan → List LinkEnds
-ends_from limit link [] = []
-ends_from limit link (l ∷ ls) = new_ends link l.streams limit (requester_of l.interfaces) l.interfaces l.nonces
-    ∷ ends_from limit (link + 1) ls
+abbrev pub CallsBelow : ℕ → EndsView → Type 0
+CallsBelow most v = (end : PortName) (e : PortEnd) → port_on v end ≡ Some e → e.calls < most
 
-abbrev pub CallsBelow : ℕ → List LinkEnds → Type 0
-CallsBelow most ends = (i : ℕ) (l : LinkEnds) → slice_get ends i ≡ Some l → (l.host.calls < most)
-    × (l.device.port.calls < most)
+-- the ends of this link change, and nothing else
+abbrev pub Changes : EndsView → ℕ → EndsView → (LinkEnds → LinkEnds → Type 0) → Type 0
+Changes old link new P = (l : LinkEnds) → slice_get old.links link ≡ Some l → (l' : LinkEnds)
+    × (new ≡ record old { links = slice_set old.links link l' }) × P l l'
 
--- the ends of this link change, and no others
-abbrev pub Changes : List LinkEnds → ℕ → List LinkEnds → (LinkEnds → LinkEnds → Type 0) → Type 0
-Changes old link new P = (l : LinkEnds) → slice_get old link ≡ Some l → (l' : LinkEnds)
-    × (new ≡ slice_set old link l') × P l l'
+-- ---- sends
 
-pub record Sends (port : PortName) (tlp : List ℕ) (more trusted : Bool) (answer : Sent) (l l' : LinkEnds) : Type 0 where
-  pub sent : (number : ℕ) → IsSentAtPort (port_in port.side l) tlp more (trusting_at port.side l trusted) number answer
-      (port_in port.side l')
-  pub other : l' ≡ with_port port.side (port_in port.side l') l
+-- at the end of a side of a line that is kept there
+pub record Sends (old : EndsView) (side : Side) (place : LinePlace) (tlp : List ℕ) (more trusted : Bool) (answer : Sent)
+    (new : EndsView) (e : PortEnd) : Type 0 where
+  pub port : PortEnd
+  pub new_is : new ≡ with_port_at old side place port
+  pub sent : (number : ℕ) → IsSentAtPort e tlp more (trust_at_place old side place trusted) number answer port
 
-abbrev pub SendsAt : List LinkEnds → PortName → List ℕ → Bool → Bool → Sent → List LinkEnds → Type 0
-SendsAt old port tlp more trusted answer new = Changes old port.link new
-    (λ l l'. Sends port tlp more trusted answer l l')
+abbrev pub SendsIn : EndsView → Side → LinePlace → List ℕ → Bool → Bool → Sent → EndsView → Type 0
+SendsIn old side place tlp more trusted answer new =
+    (e : PortEnd) → port_at_place old side place ≡ Some e → Sends old side place tlp more trusted answer new e
 
--- what the manager says of requesters
-abbrev pub grants_in : InterfacesView → Grants
-grants_in m link requester = granted m link requester
+abbrev pub SendsAt : EndsView → PortName → List ℕ → Bool → Bool → Sent → EndsView → Type 0
+SendsAt old end tlp more trusted answer new =
+    SendsIn old end.side (line_place end.link) tlp more trusted answer new
+
+-- ---- arrivals
+
+-- bytes that an end takes
+pub record Takes (old : EndsView) (end : PortName) (bytes : List ℕ) (answer : Arrival) (new : EndsView) (e : PortEnd) :
+    Type 0 where
+  pub answer_is : answer ≡ (take_step e (cut_of bytes)).answer
+  pub new_is : new ≡ with_port_on old end (take_step e (cut_of bytes)).port
+
+abbrev pub TakesAt : EndsView → PortName → List ℕ → Arrival → EndsView → Type 0
+TakesAt old end bytes answer new = (e : PortEnd) → port_on old end ≡ Some e → Takes old end bytes answer new e
 
 -- how the interfaces of a link's device stand
 abbrev pub standings_in : LinkEnds → LinkAccesses → List Standing
 standings_in l a = standings_by a.floors l.device.interfaces
 
--- effects depend on what stands at the link before the arrival
-pub record Arrives (regions : List Region) (grants : Grants) (port : PortName) (bytes : List ℕ) (verdict : Verdict)
-    (m n : MemoryContents) (a a' : LinkAccesses) (l l' : LinkEnds) : Type 0 where
-  pub ends : l' ≡ taken_ends port.side (take_step (port_in port.side l) (cut_of bytes)).port l
-  pub verdict_is : let step = take_step (port_in port.side l) (cut_of bytes) in
-      verdict ≡ arrival_verdict port step.answer
-      (λ unit. effects_from regions grants (standings_in l a) (length a.reads) port unit step.port.delivered)
-  pub written : let step = take_step (port_in port.side l) (cut_of bytes) in
-      Leads m (unit_writes step.answer (λ unit. map (packet_write regions grants port unit) step.port.delivered)) n
-  pub reads_are : let step = take_step (port_in port.side l) (cut_of bytes) in
-      a'.reads ≡ a.reads ++ of_unit step.answer (λ unit. reads_by unit.draw
-      (effects_from regions grants (standings_in l a) (length a.reads) port unit step.port.delivered)
-      step.port.delivered)
-  pub stored : let step = take_step (port_in port.side l) (cut_of bytes) in
-      MmioLeads a.guarded
-      (of_unit step.answer (λ unit. map (packet_stored (standings_in l a) port unit) step.port.delivered)) a'.guarded
+-- at a device's port its interfaces settle
+abbrev pub settled_at : PortName → EndsView → EndsView
+settled_at port v = by_side port.side
+  where
+    by_side : Side → EndsView
+    by_side Host = v
+    by_side Device = settled_link v port.link
+
+-- What such an arrival at an end came to, at a host's or a device's port. Effects depend on what stands at that port's
+-- link.
+pub record Comes (regions : List Region) (grants : Grants) (end port : PortName) (answer : Arrival)
+    (verdict : Verdict) (m n : MemoryContents) (a a' : LinkAccesses) (e : PortEnd) (l : LinkEnds) : Type 0 where
+  pub verdict_is : verdict ≡ arrival_verdict end port answer
+      (λ unit. effects_from regions grants (standings_in l a) (length a.reads) port unit e.delivered)
+  pub written : Leads m (unit_writes answer (λ unit. map (packet_write regions grants port unit) e.delivered)) n
+  pub reads_are : a'.reads ≡ a.reads ++ of_unit answer (λ unit. reads_by unit.draw
+      (effects_from regions grants (standings_in l a) (length a.reads) port unit e.delivered) e.delivered)
+  pub stored : MmioLeads a.guarded
+      (of_unit answer (λ unit. map (packet_stored (standings_in l a) port unit) e.delivered)) a'.guarded
   pub floors_stay : a'.floors ≡ a.floors
   pub sizes_stay : a'.guarded.sizes ≡ a.guarded.sizes
+  pub carried_stay : a'.carried ≡ a.carried
 
--- what stands at this link changes with its ends, and at no other
-pub record ChangesBoth (old : List LinkEnds) (xs : List LinkAccesses) (link : ℕ) (new : List LinkEnds)
-    (ys : List LinkAccesses) (P : LinkAccesses → LinkAccesses → LinkEnds → LinkEnds → Type 0) (l : LinkEnds)
-    (a : LinkAccesses) : Type 0 where
-  pub ends : LinkEnds
+abbrev pub ComesAt : EndsView → List Region → Grants → PortName → PortName → Arrival → Verdict → MemoryContents
+    → MemoryContents → LinkAccesses → LinkAccesses → Type 0
+ComesAt v regions grants end port answer verdict m n a a' =
+    (e : PortEnd) (l : LinkEnds) → port_on v end ≡ Some e → slice_get v.links port.link ≡ Some l
+    → Comes regions grants end port answer verdict m n a a' e l
+
+-- what is taken at an end at a host's or a device's port; effects depend on what stands at that port's link before it
+pub record Arrives (old : EndsView) (xs : List LinkAccesses) (regions : List Region) (grants : Grants)
+    (end port : PortName) (bytes : List ℕ) (verdict : Verdict) (m n : MemoryContents) (new : EndsView)
+    (ys : List LinkAccesses) (e : PortEnd) (l : LinkEnds) (a : LinkAccesses) : Type 0 where
   pub access : LinkAccesses
-  pub ends_are : new ≡ slice_set old link ends
-  pub accesses_are : ys ≡ slice_set xs link access
-  pub made : P a access l ends
+  pub new_is : new ≡ settled_at port (with_port_on old end (take_step e (cut_of bytes)).port)
+  pub accesses_are : ys ≡ slice_set xs port.link access
+  pub came : let step = take_step e (cut_of bytes) in
+      Comes regions grants end port step.answer verdict m n a access step.port l
 
-abbrev pub ArrivesAt : List LinkEnds → List LinkAccesses → List Region → Grants → PortName → List ℕ → Verdict
-    → MemoryContents → MemoryContents → List LinkEnds → List LinkAccesses → Type 0
-ArrivesAt old xs regions grants port bytes verdict m n new ys =
-    (l : LinkEnds) (a : LinkAccesses) → slice_get old port.link ≡ Some l → slice_get xs port.link ≡ Some a
-    → ChangesBoth old xs port.link new ys (λ a a' l l'. Arrives regions grants port bytes verdict m n a a' l l') l a
+abbrev pub ArrivesAt : EndsView → List LinkAccesses → List Region → Grants → PortName → PortName → List ℕ → Verdict
+    → MemoryContents → MemoryContents → EndsView → List LinkAccesses → Type 0
+ArrivesAt old xs regions grants end port bytes verdict m n new ys =
+    (e : PortEnd) (l : LinkEnds) (a : LinkAccesses) → port_on old end ≡ Some e
+    → slice_get old.links port.link ≡ Some l → slice_get xs port.link ≡ Some a
+    → Arrives old xs regions grants end port bytes verdict m n new ys e l a
 
--- the device's interfaces leave their lock if their stream is no longer Secure at its port
-abbrev pub Settles : LinkEnds → LinkEnds → Type 0
-Settles l l' = l'.device.interfaces ≡ settled_tdis (secure_at l'.device.port) l.device.interfaces
+-- what is taken at an end at a switch, whose TLPs wait there in a direction
+pub record Waits (old : EndsView) (end : PortName) (bytes : List ℕ) (direction : Direction) (verdict : Verdict)
+    (q : HopQueues) (new : EndsView) (q' : HopQueues) (e : PortEnd) : Type 0 where
+  pub new_is : new ≡ with_port_on old end (take_step e (cut_of bytes)).port
+  pub verdict_is : let step = take_step e (cut_of bytes) in
+      verdict ≡ arrival_verdict end end step.answer (λ unit. switched_each step.port.delivered)
+  pub queues_are : let step = take_step e (cut_of bytes) in
+      q' ≡ all_offered direction (of_unit step.answer (unit_waits step.port.delivered)) q
 
-abbrev pub OperatesAt : List LinkEnds → ℕ → KeeperView → Op → Option Loss → Outcome → List LinkEnds
-    → KeeperView → Type 0
-OperatesAt old link k op loss outcome new k' = Changes old link new (λ l l'. Operates k l op loss outcome k' l'
-    × HasCalls l l' × Settles l l')
+abbrev pub WaitsAt : EndsView → PortName → List ℕ → Direction → Verdict → HopQueues → EndsView → HopQueues → Type 0
+WaitsAt old end bytes direction verdict q new q' =
+    (e : PortEnd) → port_on old end ≡ Some e → Waits old end bytes direction verdict q new q' e
 
--- an operation on an interface of the manager's, at this number: only it and the device's interfaces change
-pub record Asks (k : HostKeeper) (interface : ℕ) (o : InterfaceOp) (loss : Option Loss) (result : Ended → Type 0)
-    (k' : HostKeeper) (l l' : LinkEnds) : Type 0 where
+-- ---- operations on streams
+
+-- the device's interfaces leave their lock if a stream that they are bound to is not Secure there; `live` says what is
+-- Live of those between it and others
+abbrev pub Settles : (ℕ → Option ℕ) → LinkEnds → LinkEnds → Type 0
+Settles live l l' = l'.device.interfaces ≡ settled_tdis (secure_with l'.device.port live) l.device.interfaces
+
+-- on a stream of a link: the interfaces of its device settle
+pub record OperatesOnLink (old : EndsView) (i : ℕ) (k : KeeperView) (op : Op) (loss : Option Loss) (outcome : Outcome)
+    (new : EndsView) (k' : KeeperView) (l : LinkEnds) : Type 0 where
+  pub ends : LinkEnds
+  pub new_is : new ≡ record old { links = slice_set old.links i ends }
+  pub operates : Operates k l op loss outcome k' ends
+  pub calls : HasCalls l ends
+  pub settles : Settles (live_on old i) l ends
+
+-- of the segment of a hop towards the host
+pub record OperatesOnNear (old : EndsView) (i : ℕ) (k : KeeperView) (op : Op) (loss : Option Loss) (outcome : Outcome)
+    (new : EndsView) (k' : KeeperView) (l : LinkEnds) : Type 0 where
+  pub ends : LinkEnds
+  pub new_is : new ≡ record old { near = slice_set old.near i ends }
+  pub operates : Operates k l op loss outcome k' ends
+  pub calls : SameCalls l ends
+
+-- of a line that is keyed by messages at both ends: the interfaces of both devices settle, if it joins two
+pub record OperatesOnPair (old : EndsView) (i : ℕ) (k : KeeperView) (op : Op) (loss : Option Loss) (outcome : Outcome)
+    (new : EndsView) (k' : KeeperView) (l : PairEnds) : Type 0 where
+  pub ends : PairEnds
+  pub new_is : new ≡ settled_place (Pair i) (record old { pairs = slice_set old.pairs i ends })
+  pub operates : PairOperates k l op loss outcome k' ends
+  pub calls : HasPairCalls l ends
+
+abbrev pub OperatesIn : EndsView → LinePlace → KeeperView → Op → Option Loss → Outcome → EndsView → KeeperView → Type 0
+OperatesIn old (Link i) k op loss outcome new k' =
+    (l : LinkEnds) → slice_get old.links i ≡ Some l → OperatesOnLink old i k op loss outcome new k' l
+OperatesIn old (Near i) k op loss outcome new k' =
+    (l : LinkEnds) → slice_get old.near i ≡ Some l → OperatesOnNear old i k op loss outcome new k' l
+OperatesIn old (Pair i) k op loss outcome new k' =
+    (l : PairEnds) → slice_get old.pairs i ≡ Some l → OperatesOnPair old i k op loss outcome new k' l
+
+abbrev pub OperatesAt : EndsView → ℕ → KeeperView → Op → Option Loss → Outcome → EndsView → KeeperView → Type 0
+OperatesAt old line k op loss outcome new k' = OperatesIn old (line_place line) k op loss outcome new k'
+
+-- what it tells the manager of interfaces, by the line
+abbrev pub told_in : LinePlace → Op → Bool → Bool → ℕ → Outcome → InterfacesView → InterfacesView
+told_in (Link i) op begins drew draw outcome m = told op begins drew draw outcome m
+told_in (Near i) op begins drew draw outcome m = m
+told_in (Pair i) op begins drew draw outcome m = pair_told op m
+
+abbrev pub told_at : ℕ → Op → Bool → Bool → ℕ → Outcome → InterfacesView → InterfacesView
+told_at line op begins drew draw outcome m = told_in (line_place line) op begins drew draw outcome m
+
+-- the draws of the streams between devices after it
+abbrev pub drawn_in : LinePlace → Op → Bool → ℕ → List ℕ → List ℕ
+drawn_in (Link i) op drew draw draws = draws
+drawn_in (Near i) op drew draw draws = draws
+drawn_in (Pair i) op drew draw draws = peer_drawn op drew draw draws
+
+abbrev pub drawn_at : ℕ → Op → Bool → ℕ → List ℕ → List ℕ
+drawn_at line op drew draw draws = drawn_in (line_place line) op drew draw draws
+
+-- ---- operations on interfaces
+
+-- an operation on an interface of the manager's, at this number, while the device says this of its streams to others:
+-- only the interface and the device's change
+pub record Asks (k : HostKeeper) (interface : ℕ) (o : InterfaceOp) (loss : Option Loss) (live : ℕ → Option ℕ)
+    (result : Ended → Type 0) (k' : HostKeeper) (l l' : LinkEnds) : Type 0 where
   pub ends : l' ≡ record l { device = record l.device { interfaces = l'.device.interfaces } }
   pub keys : k'.keys ≡ k.keys
+  pub peer_draws : k'.peer_draws ≡ k.peer_draws
   pub ended : (x : HostTdi) → slice_get k.interfaces.interfaces interface ≡ Some x
-      → result (operated_on interface o loss k.keys.pool.draws k.interfaces l x)
+      → result (operated_on interface o loss k.keys live k.interfaces l x)
 
 -- its outcome
 pub record IsEnded (outcome : Outcome') (m : InterfacesView) (d : DeviceTdis) (e : Ended) : Type 0 where
@@ -127,15 +224,16 @@ pub record IsEnded (outcome : Outcome') (m : InterfacesView) (d : DeviceTdis) (e
   pub manager_is : m ≡ e.manager
   pub device_is : d ≡ e.device
 
-abbrev pub AsksAt : List LinkEnds → ℕ → HostKeeper → ℕ → InterfaceOp → Option Loss → Outcome' → List LinkEnds
-    → HostKeeper → Type 0
+abbrev pub AsksAt : EndsView → ℕ → HostKeeper → ℕ → InterfaceOp → Option Loss → Outcome' → EndsView → HostKeeper
+    → Type 0
 AsksAt old link k interface o loss outcome new k' =
-    Changes old link new (λ l l'. Asks k interface o loss (IsEnded outcome k'.interfaces l'.device.interfaces) k' l l')
+    Changes old link new
+    (λ l l'. Asks k interface o loss (live_on old link) (IsEnded outcome k'.interfaces l'.device.interfaces) k' l l')
 
 -- there is such a link, and its device has such an interface
-pub record IsThere (ends : List LinkEnds) (link place : ℕ) : Type 0 where
-  pub link_there : link < length ends
-  pub place_there : (l : LinkEnds) → slice_get ends link ≡ Some l → place < length l.device.interfaces.interfaces
+pub record IsThere (v : EndsView) (link place : ℕ) : Type 0 where
+  pub link_there : link < length v.links
+  pub place_there : (l : LinkEnds) → slice_get v.links link ≡ Some l → place < length l.device.interfaces.interfaces
 
 -- a call of the interface at this place of a device, after which its state has this code
 pub record Calls (place : ℕ) (call : Call) (code : ℕ) (l l' : LinkEnds) : Type 0 where
@@ -144,16 +242,20 @@ pub record Calls (place : ℕ) (call : Call) (code : ℕ) (l l' : LinkEnds) : Ty
   pub code_is : (tdi : Tdi) → slice_get l.device.interfaces.interfaces place ≡ Some tdi
       → code ≡ code_behind tdi call
 
-abbrev pub CallsAt : List LinkEnds → ℕ → ℕ → Call → ℕ → List LinkEnds → Type 0
+abbrev pub CallsAt : EndsView → ℕ → ℕ → Call → ℕ → EndsView → Type 0
 CallsAt old link place call code new = Changes old link new (λ l l'. Calls place call code l l')
 
-abbrev pub ResetsAt : List LinkEnds → ℕ → List LinkEnds → Type 0
-ResetsAt old link new = Changes old link new (λ l l'. l' ≡ reset_ends l)
+-- ---- resets
 
--- of a stream at the host's port and at the device's
+abbrev pub ResetsAt : EndsView → ℕ → List PortName → EndsView → Type 0
+ResetsAt old link ends new = new ≡ reset_all link ends old
+
+-- ---- statuses
+
 abbrev pub both_of : Option StreamStatus → Option StreamStatus → Option (StreamStatus × StreamStatus)
-both_of (Some host) (Some device) = Some (host, device)
-both_of host device = None
+both_of (Some near) (Some far) = Some (near, far)
+both_of near far = None
 
-abbrev pub statuses_of : LinkEnds → ℕ → Option (StreamStatus × StreamStatus)
-statuses_of l stream = both_of (status_in l.host stream) (status_in l.device.port stream)
+-- of a stream at both ends of a line
+abbrev pub statuses_of : EndsView → ℕ → ℕ → Option (StreamStatus × StreamStatus)
+statuses_of v line stream = both_of (status_on v (host_port line) stream) (status_on v (device_port line) stream)

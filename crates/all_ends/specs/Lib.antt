@@ -1,16 +1,22 @@
-pub mod Cuts
 pub mod Requester
+pub mod Ends
 pub mod Places
-pub mod Verdicts
 pub mod AllEnds
 pub mod States
-pub mod Packets
-pub mod Writes
-pub use Rattle.link_walks.specs.Joined.{IsJoined, KeysKept, OperationsJoin, host_of, pool_by, verdict_due}
-pub use Rattle.link_walks.specs.Walks.{StreamEnds, WalkedEnds, begun_ends, event_walk, walk_on}
-pub use Rattle.link_ends.specs.Ends.{port_in, with_port}
-pub use Rattle.link_ends.specs.Hosts.{InterfacesView}
-pub use Rattle.link_ends.specs.Keepers.{IsAtBothEnds, IsOperated, IsWalked, KeeperView, Operates, ends_found}
+pub use Rattle.link_ends.specs.{IsJoined, KeysKept, OperationsJoin, host_of, pool_by, verdict_due, StreamEnds}
+pub use Rattle.link_ends.specs.{WalkedEnds, begun_ends, event_walk, walk_on, draws_by, touched_by}
+pub use Rattle.link_ends.specs.Ends.{port_in, with_port, new_ends, reset_ends}
+pub use Rattle.link_ends.specs.Hosts.{InterfacesView, NamesPeer, operated_on, keyed_if, live_for, status_for}
+pub use Rattle.link_ends.specs.Hosts.{stopped_if, told}
+pub use Rattle.link_ends.specs.Keepers.{IsAtBothEnds, IsOperated, IsWalked, KeeperView, Operates, ends_found, HasStream}
 pub use Rattle.link_ends.specs.declared.ends.LinkEnds.{LinkEnds}
-pub use Rattle.whole_machine.specs.Accesses.{waiting_reads_after}
-pub use Rattle.whole_machine.specs.Machine.{unit_in}
+pub use Rattle.line_ends.specs.declared.pair.PairEnds.{PairEnds}
+pub use Rattle.all_ends.specs.Ends.{EndsView, port_on, with_port_on, live_on, trusting_on, new_all_ends}
+pub use Rattle.arrival_verdicts.specs.{waiting_reads_after, unit_in, arrival_verdict, grants_in, of_unit, switched_each}
+pub use Rattle.arrival_verdicts.specs.{unit_waits, writes_by, unit_tlps, live_in, arrival_of}
+pub use Rattle.arrival_verdicts.specs.Verdicts.{effects_from, end_sent_verdict, packet_write, unit_writes}
+pub use Rattle.arrival_verdicts.specs.Verdicts.{packet_effect}
+pub use Rattle.device_side.specs.Ends.{says_secure, secure_with}
+pub use Rattle.link_ends.specs.PairKeepers.{IsAtBoth, IsPairOperated, IsPairWalked, PairOperates, pair_found}
+pub use Rattle.link_ends.specs.declared.host.HostKeeper.{HostKeeper}
+pub use Rattle.sealed_packets.specs.Cuts.{cut_packets}

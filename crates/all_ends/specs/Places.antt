@@ -1,16 +1,17 @@
 -- Streams and interfaces by their numbers, and what a call of an interface gives.
 use Rattle.std.specs.Prelude.{ℕ, ◌+◌, ◌-◌, nat_lt, nat_le, if◌then◌else◌, List, [], ◌∷◌, length, Option, Some, None}
-use Rattle.std.specs.Prelude.{is_some}
+use Rattle.std.specs.Prelude.{is_some, ◌&&◌}
+use Rattle.ide_types.specs.Ports.{host_port}
 use Rattle.tsm_host.specs.Managers.{ManagerView, named}
 use Rattle.tdi_state.specs.Machine.{Tdi, Call, tdi_after, state_code}
 use Rattle.link_ends.specs.declared.ends.LinkEnds.{LinkEnds}
+use Rattle.all_ends.specs.Ends.{EndsView, port_on}
 
--- the link and the stream, if one of so many links has the stream
-abbrev pub stream_named : ManagerView → ℕ → ℕ → ℕ → Option (ℕ × ℕ)
-stream_named m links link stream =
-    if nat_lt link links
-    then (if nat_le stream 255 then (if is_some (named m link stream) then Some (link, stream) else None) else None)
-    else None
+-- the line and the stream, if the line is there and has the stream
+abbrev pub stream_named : ManagerView → EndsView → ℕ → ℕ → Option (ℕ × ℕ)
+stream_named m v line stream =
+    if nat_lt line 32 && nat_le stream 255 && is_some (port_on v (host_port line)) && is_some (named m line stream)
+    then Some (line, stream) else None
 
 -- the link and the place on it, of the links from this number on
 abbrev pub located : ℕ → ℕ → List LinkEnds → Option (ℕ × ℕ)

@@ -1,17 +1,23 @@
--- All links as they are kept, and the state of the machine that they are.
-use Rattle.std.specs.Prelude.{ℕ, ◌≡◌, ◌+◌, ◌<◌, ◌≤◌, Some, List, [], ◌∷◌, ◌++◌, length, map, slice_get}
+-- All lines as their ends are kept, and the state of the machine that they are.
+use Rattle.std.specs.Prelude.{ℕ, ◌≡◌, ◌+◌, ◌≤◌, Some, IsSome, List, [], ◌∷◌, ◌++◌, length, map, replicate, take}
+use Rattle.std.specs.Prelude.{slice_get, Bool, true, false}
+use Rattle.ide_types.specs.declared.port.PortName.{PortName}
 use Rattle.ide_types.specs.declared.port.Side.TheVariants.{Host, Device}
+use Rattle.ide_types.specs.Lines.{is_hosted}
 use Rattle.ide_plan.specs.declared.plan.Plan.{Plan}
 use Rattle.ide_plan.specs.declared.stream.StreamPlan.{StreamPlan}
 use Rattle.ide_plan.specs.Fits.{FitsPlan}
 use Rattle.stream_rules.specs.Stream.{StreamState}
 use Rattle.key_laws.specs.Operations.{Op}
-use Rattle.link_history.specs.Plan.{streams_by_link, streams_of}
-use Rattle.link_ports.specs.Machine.{LinkState, LinkPacket, port_at}
+use Rattle.arrival_verdicts.specs.{streams_by_line, streams_of}
+use Rattle.sealed_packets.specs.{LinkState, LinkPacket, port_at}
 use Rattle.tsm_host.specs.Streams.{StreamView}
-use Rattle.link_walks.specs.Joined.{KeysKept}
+use Rattle.link_ends.specs.{KeysKept, PairKeysKeptIn}
+use Rattle.ide_port.specs.{PortEnd}
+use Rattle.line_ends.specs.declared.pair.PairEnds.{PairEnds}
 use Rattle.link_ends.specs.declared.ends.LinkEnds.{LinkEnds}
 use Rattle.link_ends.specs.Keepers.{KeeperView}
+use Rattle.all_ends.specs.Ends.{EndsView, port_on}
 
 -- ---- what the machine sees
 
@@ -20,7 +26,20 @@ abbrev pub ports_in : List LinkEnds → List (List StreamState)
 ports_in [] = []
 ports_in (l ∷ ls) = l.host.states ∷ l.device.port.states ∷ ports_in ls
 
--- The manager keeps the streams of all links in one list, link by link.
+-- of each line that is keyed by messages those of its near end, and then of its far end
+abbrev pub pair_ports : List PairEnds → List (List StreamState)
+pair_ports [] = []
+pair_ports (l ∷ ls) = l.near.port.states ∷ l.far.port.states ∷ pair_ports ls
+
+-- for both ends of each of eight links
+abbrev pub in_sixteen : List (List StreamState) → List (List StreamState)
+in_sixteen rows = take 16 (rows ++ replicate 16 [])
+
+-- of each line the states of its near end, and then of its far end
+abbrev pub rows_of : EndsView → List (List StreamState)
+rows_of v = in_sixteen (ports_in v.links) ++ ports_in v.near ++ pair_ports v.pairs
+
+-- The manager keeps the streams of all lines in one list, line by line.
 abbrev pub ops_of : List StreamPlan → List StreamView → List Op
 ops_of [] vs = []
 ops_of (s ∷ ss) [] = []
@@ -31,54 +50,75 @@ views_after [] vs = vs
 views_after (s ∷ ss) [] = []
 views_after (s ∷ ss) (v ∷ vs) = views_after ss vs
 
--- of each link the operations on its streams
+-- of each line the operations on its streams
 abbrev pub ops_in : List (List StreamPlan) → List StreamView → List (List Op)
 ops_in [] vs = []
-ops_in (ss ∷ links) vs = ops_of ss vs ∷ ops_in links (views_after ss vs)
+ops_in (ss ∷ lines) vs = ops_of ss vs ∷ ops_in lines (views_after ss vs)
 
-abbrev pub state_of : Plan → List LinkEnds → KeeperView → List LinkPacket → LinkState
-state_of plan ends k packets = record {
-  ports = ports_in ends;
-  ops = ops_in (streams_by_link plan) k.manager.streams;
+abbrev pub state_of : Plan → EndsView → KeeperView → List LinkPacket → LinkState
+state_of plan v k packets = record {
+  ports = rows_of v;
+  ops = ops_in (streams_by_line plan) k.manager.streams;
   draws = k.pool.draws;
   packets = packets;
 }
 
 -- ---- what always holds
 
--- so many events came; a port was called at each of them at the most, and each packet was sealed on one of the links
-pub record IsBounded (ends : List LinkEnds) (packets : List LinkPacket) (steps : ℕ) : Type 0 where
-  pub few : length ends ≤ 8
-  pub host_calls : (i : ℕ) (l : LinkEnds) → slice_get ends i ≡ Some l → l.host.calls ≤ steps
-  pub device_calls : (i : ℕ) (l : LinkEnds) → slice_get ends i ≡ Some l → l.device.port.calls ≤ steps
-  pub sealed_here : (i : ℕ) (p : LinkPacket) → slice_get packets i ≡ Some p → p.port.link < length ends
+-- so many events came; an end was called at each of them at the most, and each packet was sealed at one of the ends
+pub record IsBounded (v : EndsView) (packets : List LinkPacket) (steps : ℕ) : Type 0 where
+  pub few : length v.links ≤ 8
+  pub calls : (end : PortName) (e : PortEnd) → port_on v end ≡ Some e → e.calls ≤ steps
+  pub sealed_here : (i : ℕ) (p : LinkPacket) → slice_get packets i ≡ Some p → IsSome (port_on v p.port)
 
--- the ends of link `i`
-pub record IsLink (plan : Plan) (i : ℕ) (l : LinkEnds) : Type 0 where
-  pub host_name : l.host.name ≡ port_at Host i
-  pub host_plans : l.host.plans ≡ streams_of plan i
-  pub host_limit : l.host.limit ≡ plan.units_per_key
-  pub device_name : l.device.port.name ≡ port_at Device i
-  pub device_plans : l.device.port.plans ≡ streams_of plan i
-  pub device_limit : l.device.port.limit ≡ plan.units_per_key
+-- what stands at an end of the plan
+pub record IsPort (plan : Plan) (end : PortName) (e : PortEnd) : Type 0 where
+  pub name : e.name ≡ end
+  pub plans : e.plans ≡ streams_of plan end.link
+  pub limit : e.limit ≡ plan.units_per_key
+
+-- the ends of a line that is keyed at a host
+pub record IsLink (plan : Plan) (line : ℕ) (l : LinkEnds) : Type 0 where
+  pub host : IsPort plan (port_at Host line) l.host
+  pub device : IsPort plan (port_at Device line) l.device.port
   pub requester : l.device.requester ≤ 65535
+
+-- of one that is keyed by messages at both
+pub record IsPair (plan : Plan) (line : ℕ) (l : PairEnds) : Type 0 where
+  pub near_side : l.near.side ≡ Host
+  pub far_side : l.far.side ≡ Device
+  pub near : IsPort plan (port_at Host line) l.near.port
+  pub far : IsPort plan (port_at Device line) l.far.port
 
 abbrev pub name_of : StreamView → ℕ × ℕ
 name_of v = (v.link, v.id)
 
 abbrev pub names_of : ℕ → List StreamPlan → List (ℕ × ℕ)
-names_of link ss = map (λ (s : StreamPlan). (link, s.id)) ss
+names_of line ss = map (λ (s : StreamPlan). (line, s.id)) ss
 
--- the streams of the links from this number on
+-- the streams of the lines from this number on
 abbrev pub names_from : ℕ → List (List StreamPlan) → List (ℕ × ℕ)
-names_from link [] = []
-names_from link (ss ∷ links) = names_of link ss ++ names_from (link + 1) links
+names_from line [] = []
+names_from line (ss ∷ lines) = names_of line ss ++ names_from (line + 1) lines
 
--- the ends of the plan's links, its streams with the keys of unfinished operations, and its pool
-pub record AreLinks (plan : Plan) (ends : List LinkEnds) (k : KeeperView) : Type 0 where
+-- an unfinished operation is at one of its exchanges, and has the keys that it has yet to give
+abbrev pub KeptBy : (hosted : Bool) → Plan → StreamView → Type 0
+KeptBy true plan v = KeysKept plan v
+KeptBy false plan v = PairKeysKeptIn plan v.op v.keys
+
+abbrev pub StreamKept : Plan → StreamView → Type 0
+StreamKept plan v = KeptBy (is_hosted v.link) plan v
+
+-- the ends of the plan's lines, its streams with the keys of unfinished operations, and its pool
+pub record AreLinks (plan : Plan) (v : EndsView) (k : KeeperView) : Type 0 where
   pub fits : FitsPlan plan
-  pub many : length ends ≡ length plan.links
-  pub each_link : (i : ℕ) (l : LinkEnds) → slice_get ends i ≡ Some l → IsLink plan i l
-  pub names : map name_of k.manager.streams ≡ names_from 0 (streams_by_link plan)
-  pub kept : (i : ℕ) (v : StreamView) → slice_get k.manager.streams i ≡ Some v → KeysKept plan v
+  pub many : length v.links ≡ length plan.links
+  pub near_many : length v.near ≡ 8
+  pub pairs_many : length v.pairs ≡ 8 + length plan.peers
+  pub peers_are : v.peers ≡ plan.peers
+  pub each_link : (i : ℕ) (l : LinkEnds) → slice_get v.links i ≡ Some l → IsLink plan i l
+  pub each_near : (i : ℕ) (l : LinkEnds) → slice_get v.near i ≡ Some l → IsLink plan (8 + i) l
+  pub each_pair : (i : ℕ) (l : PairEnds) → slice_get v.pairs i ≡ Some l → IsPair plan (16 + i) l
+  pub names : map name_of k.manager.streams ≡ names_from 0 (streams_by_line plan)
+  pub kept : (i : ℕ) (s : StreamView) → slice_get k.manager.streams i ≡ Some s → StreamKept plan s
   pub keys : k.pool.keys ≡ plan.pool

@@ -1,352 +1,379 @@
-//! The ends of all links.
+//! The ends of all lines.
 
-ghost use Rattle.std.specs.Prelude.{◌≡◌, ◌==◌, ◌+◌, ◌<◌, ◌≤◌, ◌^◌, ℕ, Some, None, true, not, [], ◌++◌, IfOk, OnOk};
-ghost use Rattle.std.specs.Prelude.{IfSome, IsSome, All, length, map, slice_get, sum_by, option_map, vec_len};
-ghost use Rattle.std.specs.Prelude.{vec_capacity};
-ghost use Rattle.ide_plan.specs.Fits.{FitsStream, FitsPlan};
+ghost use Rattle.std.specs.Prelude.{◌≡◌, ◌==◌, ◌<◌, ◌≤◌, ◌^◌, ◌-◌, ℕ, Some, true, not, IfOk, IfSome, IsSome, is_some};
+ghost use Rattle.std.specs.Prelude.{length, option_map, slice_get, slice_set};
+ghost use Rattle.std.specs.Option.{option_and_then};
+ghost use Rattle.ide_types.specs.Ports.{host_port};
+ghost use Rattle.ide_plan.specs.Fits.{FitsPlan};
 ghost use Rattle.association.specs.Outgoing.{outgoing_of, stream_taken};
-ghost use Rattle.ide_port.specs.{sealing_draw_in, receiving_draw_in};
-ghost use Rattle.trusted_memory.specs.{Leads};
-ghost use Rattle.guarded_memory.specs.{MmioLeads};
-ghost use Rattle.link_history.specs.Sent.{reads_by};
-ghost use Rattle.all_ends.specs.Verdicts.{effects_from, packet_write, packet_stored, unit_writes, of_unit};
-ghost use Rattle.all_ends.specs.Verdicts.{arrival_verdict};
-ghost use Rattle.all_ends.specs.AllEnds.{grants_in, standings_in};
+ghost use Rattle.ide_prefix.specs.Reading.{cut_of};
+ghost use Rattle.ide_port.specs.{PortEnd, sealing_draw_in, receiving_draw_in, take_step};
+ghost use Rattle.arrival_verdicts.specs.Verdicts.{grants_in};
 ghost use Rattle.tsm_host.specs.Operations.{op_name};
 ghost use Rattle.tsm_host.specs.Managers.{named};
-ghost use Rattle.link_ends.specs.declared.ends.LinkEnds.{LinkEnds};
 ghost use Rattle.key_laws.specs.Operations.{work_of};
-ghost use Rattle.link_ends.specs.Ends.{port_in};
-ghost use Rattle.link_ends.specs.Hosts.{told};
-ghost use Rattle.all_ends.specs.Requester.{requester_of};
+ghost use Rattle.link_ends.specs.Hosts.{NamesPeer};
+ghost use Rattle.interface_states.specs.Peers.{has_peer};
 ghost use Rattle.all_ends.specs.Places.{located};
+ghost use Rattle.all_ends.specs.Ends.{pair_port, with_pair_port, changed_at, cleared_ends, cleared_pair, settled_ends};
+ghost use Rattle.all_ends.specs.Ends.{unlocked_ends, line_place};
+ghost use Rattle.all_ends.specs.declared.places.LinePlace.TheVariants.{Pair};
 ghost use Rattle.interface_words.specs.RegisterNames.{has_register, width_of};
 ghost use Rattle.tdi_state.specs.Machine.{WriteRegister, LevelReset, FirmwareUpdate, state_code};
-ghost use Rattle.link_ports.specs.Machine.{LinkPacket, packet_numbered};
-ghost use Rattle.sub_stream.specs.declared.answer.SealedPacket.{SealedPacket};
-ghost use Rattle.all_ends.specs.Cuts.{cut_packets};
-ghost use Rattle.all_ends.specs.Packets.{marks_from};
 
-use crate::verdicts::{ReceivingPort, taken_verdict};
+use crate::making::{add_peer_rows, hop_rows, link_ends, near_ends, pair_ends};
+use crate::peers::{DevicePeers, has_peer};
+use crate::places::{LinePlace, line_place};
+use crate::sending::{bound_on, send_between, send_far, send_near};
 use accesses::{Accesses, LinkAccesses};
-use ide_plan::{BarPlan, LinkPlan, Plan};
-use ide_port::{Arrival, Sent};
-use ide_types::{Memory, PortName, StreamStatus, SubKind};
+use arrival_verdicts::{ReceivingPort, switch_verdict, taken_verdict};
+use device_side::PeerStreams;
+use hop_queues::HopQueues;
+use ide_plan::{BarPlan, PeerPlan, Plan};
+use ide_port::{Arrival, Port, Sent};
+use ide_types::{Direction, Memory, PortName, Side, StreamStatus, SubKind};
 use interface_words::Register;
+use line_ends::PairEnds;
 use link_ends::{HostKeeper, LinkEnds};
 use link_events::Loss;
 use link_verdicts::Verdict;
 use std::alloc::Global;
 use std::marker::Model;
-use sub_stream::SealedPacket;
 use tdi_ends::InterfaceKeeper;
 use tdi_host::InterfaceOp;
 use trusted_memory::Trusted;
 use tsm_host::{Op, Outcome};
 
-/// The most packets that one send seals.
-const MOST_PACKETS: usize = 3;
+/// How many lines of hops come before those of streams between devices, among those that are keyed by messages at both
+/// ends.
+const HOPS: usize = 8;
 
-/// The most bytes that one send seals.
-const MOST_BYTES: usize = 4184;
-
-/// Where a packet stands among the bytes of all, and the port that sealed it.
-#[derive(Clone, Copy)]
-pub struct Mark {
-    pub port: PortName,
-    pub start: usize,
-    pub end: usize,
-}
-
-/// Packets by their numbers from 1, each with the port that sealed it. A packet costs its length and a mark of 24
-/// bytes, and room for as much again.
-#[derive(Drop)]
-pub struct Packets {
-    bytes: Vec<u8>,
-    marks: Vec<Mark>,
-}
-
-impl Model for Packets {
-    ghost use Rattle.std.specs.Prelude.{◌-◌, All, map, vec_len, vec_capacity};
-    ghost use Rattle.all_ends.specs.Packets.{KeptPackets, marked_packet, IsWithin};
-
-    ghost Value = { KeptPackets };
-
-    ghost view = { λ p. record {
-      packets = map (marked_packet p.bytes.items) p.marks.items;
-      byte_room = vec_capacity p.bytes - vec_len p.bytes;
-      mark_room = vec_capacity p.marks - vec_len p.marks;
-    } };
-
-    ghost invariant = { λ p. All (IsWithin p.bytes.items) p.marks.items };
-}
-
-impl Packets {
-    /// No packets, without room.
-    pub fn new(alloc: Global) -> Packets
-        ensures { result.packets ≡ [] }
-    {
-        Packets {
-            bytes: Vec::new(alloc),
-            marks: Vec::new(alloc),
-        }
-    }
-
-    /// How many packets there are.
-    pub fn count(&self) -> usize
-        ensures value { result ≡ length self.now.packets }
-        ensures small { result < 2 ^ 63 }
-    {
-        self.marks.len()
-    }
-
-    /// Takes room for what one send seals. For want of memory no packet changes.
-    pub fn reserve(&mut self) -> Result<(), Memory>
-        ensures packets { self.new.packets ≡ self.old.packets }
-        ensures marks { OnOk result (3 ≤ self.new.mark_room) }
-        ensures bytes { OnOk result (4184 ≤ self.new.byte_room) }
-    {
-        self.marks.reserve(MOST_PACKETS)?;
-        self.bytes.reserve(MOST_BYTES)?;
-        Ok(())
-    }
-
-    /// Keeps the packets that one send sealed at a port; `bytes` are theirs, joined. There is room for them.
-    pub fn keep(&mut self, port: PortName, packets: &[SealedPacket], bytes: &[u8])
-        requires marks { length packets.now ≤ self.old.mark_room }
-        requires bytes { length bytes.now ≤ self.old.byte_room }
-        requires lengths { sum_by (λ (p : SealedPacket). p.length) packets.now ≡ length bytes.now }
-        ensures { self.new.packets ≡ self.old.packets ++ cut_packets port (map (λ (p : SealedPacket). p.length)
-            packets.now) bytes.now }
-    {
-        let start = self.bytes.len();
-        self.bytes.extend_from_slice(bytes).unwrap();
-        add_marks(&mut self.marks, port, packets, start);
-    }
-
-    /// The packet of this number, counted from 1, with the port that sealed it; `None` if there is no such packet.
-    pub fn get(&self, number: u64) -> Option<(PortName, &[u8])>
-        ensures { option_map (λ p. record { port = p.0; bytes = p.1.now }) result ≡ packet_numbered
-            self.now.packets number }
-    {
-        if number == 0 || number > self.marks.len() as u64 {
-            None
-        } else {
-            let mark = self.marks[number as usize - 1];
-            Some((mark.port, &self.bytes[mark.start..mark.end]))
-        }
-    }
-}
-
-// Marks packets, the first of which begins at byte `start`.
-fn add_marks(marks: &mut Vec<Mark>, port: PortName, packets: &[SealedPacket], start: usize)
-    requires room { vec_len marks.old + length packets.now ≤ vec_capacity marks.old }
-    requires fits { start + sum_by (λ (p : SealedPacket). p.length) packets.now < 2 ^ 63 }
-    ensures { marks.new.items ≡ marks.old.items ++ marks_from port start (map (λ (p : SealedPacket). p.length)
-        packets.now) }
-{
-    let mut start = start;
-    for packet in packets {
-        let end = start + packet.length;
-        marks.push(Mark { port, start, end }).unwrap();
-        start = end;
-    }
-}
-
-/// The ends of all links, by number (PCI Express Base 6.0 section 6.33 and chapter 11, in this profile).
+/// The ends of all lines, by number (PCI Express Base 6.0 section 6.33 and chapter 11, in this profile). A port is an
+/// end of its link, or of a hop's segment if it is a switch's.
 #[derive(Drop)]
 pub struct AllEnds {
     links: Vec<LinkEnds>,
+    near: Vec<LinkEnds>,
+    pairs: Vec<PairEnds>,
+    peers: Vec<PeerPlan>,
 }
 
 impl Model for AllEnds {
-    ghost use Rattle.std.specs.Prelude.{List};
-    ghost use Rattle.link_ends.specs.declared.ends.LinkEnds.{LinkEnds};
+    ghost use Rattle.all_ends.specs.Ends.{EndsView};
 
-    ghost Value = { List LinkEnds };
+    ghost Value = { EndsView };
 
-    ghost view = { λ a. a.links.items };
-}
-
-// The requester ID of the first interface of a link, 0 if it has none.
-fn requester(link: &LinkPlan) -> u16
-    ensures { result ≡ requester_of link.now.interfaces }
-{
-    match link.interfaces.as_slice().first() {
-        None => 0,
-        Some(interface) => interface.requester,
-    }
-}
-
-// The verdict of an arrival at a port with these ends, before the device's interfaces settle.
-fn arrived(
-    port: PortName,
-    arrival: Arrival,
-    ends: &LinkEnds,
-    keeper: &InterfaceKeeper,
-    memory: &mut Trusted,
-    access: &mut LinkAccesses,
-) -> Verdict
-    requires spare { 8 ≤ memory.old.spare }
-    requires pages { 16 ≤ access.old.guarded.spare }
-    ensures verdict { let xs = standings_in ends.now access.old in
-        result ≡ arrival_verdict port arrival (λ unit. effects_from memory.old.contents.regions
-        (grants_in keeper.now) xs (length access.old.reads) port unit (port_in port.side ends.now).delivered) }
-    ensures reads { let xs = standings_in ends.now access.old in
-        let packets = (port_in port.side ends.now).delivered in
-        access.new.reads ≡ access.old.reads ++ of_unit arrival (λ unit. reads_by unit.draw
-        (effects_from memory.old.contents.regions (grants_in keeper.now) xs (length access.old.reads) port unit packets)
-        packets) }
-    ensures leads { let regions = memory.old.contents.regions in
-        Leads memory.old.contents (unit_writes arrival (λ unit. map (packet_write regions (grants_in keeper.now) port
-        unit) (port_in port.side ends.now).delivered)) memory.new.contents }
-    ensures stored { let xs = standings_in ends.now access.old in
-        MmioLeads access.old.guarded (of_unit arrival (λ unit. map (packet_stored xs port unit)
-        (port_in port.side ends.now).delivered)) access.new.guarded }
-    ensures regions { memory.new.contents.regions ≡ memory.old.contents.regions }
-    ensures floors { access.new.floors ≡ access.old.floors }
-    ensures sizes { access.new.guarded.sizes ≡ access.old.guarded.sizes }
-{
-    let at = ReceivingPort {
-        port,
-        keeper,
-        interfaces: &ends.device.interfaces,
-    };
-    let packets = ends.port(port.side).delivered();
-    taken_verdict(&at, arrival, &packets, memory, access)
+    ghost view = { λ a. record {
+      links = a.links.items;
+      near = a.near.items;
+      pairs = a.pairs.items;
+      peers = a.peers.items;
+    } };
 }
 
 impl AllEnds {
+    ghost use Rattle.all_ends.specs.Ends.{
+      new_all_ends,
+      port_on,
+      settled_link,
+      settled_below,
+      cleared_on,
+      all_cleared,
+      unlocked_link,
+      settled_place,
+    };
     ghost use Rattle.all_ends.specs.AllEnds.{
-      ends_from,
       CallsBelow,
       SendsAt,
+      TakesAt,
+      ComesAt,
       ArrivesAt,
+      WaitsAt,
       OperatesAt,
+      told_at,
+      drawn_at,
       AsksAt,
       CallsAt,
       IsThere,
       ResetsAt,
+      settled_at,
       statuses_of,
     };
 
-    /// The ends of the plan's links, without keys. Returns `Memory` for want of memory.
+    /// The ends of the plan's lines, without keys. Returns `Memory` for want of memory.
     pub fn make(alloc: Global, plan: &Plan) -> Result<AllEnds, Memory>
         requires { FitsPlan plan.now }
-        ensures { IfOk result (λ a. a ≡ ends_from plan.now.units_per_key 0 plan.now.links) }
+        ensures { IfOk result (λ a. a ≡ new_all_ends plan.now) }
     {
-        let mut links = Vec::new(alloc);
-        let mut number = 0;
-        for link in plan.links.as_slice() {
-            let ends = LinkEnds::make(
-                alloc,
-                number,
-                link.streams.as_slice(),
-                plan.units_per_key,
-                requester(link),
-                &link.interfaces,
-                &link.nonces,
-            )?;
-            links.push(ends)?;
-            number += 1;
-        }
-        Ok(AllEnds { links })
+        let limit = plan.units_per_key;
+        let links = link_ends(alloc, plan.links.as_slice(), limit)?;
+        let mut rows = hop_rows(alloc, plan.links.as_slice())?;
+        let near = near_ends(alloc, &rows, limit)?;
+        add_peer_rows(alloc, &mut rows, plan.peers.as_slice())?;
+        let pairs = pair_ends(alloc, &rows, limit)?;
+        let mut peers = Vec::new(alloc);
+        peers.extend_from_slice(plan.peers.as_slice())?;
+        Ok(AllEnds {
+            links,
+            near,
+            pairs,
+            peers,
+        })
     }
 
     /// How many links there are.
     pub fn count(&self) -> usize
-        ensures value { result ≡ length self.now }
+        ensures value { result ≡ length self.now.links }
         ensures small { result < 2 ^ 63 }
     {
         self.links.len()
     }
 
-    /// Sends a TLP's bytes at a port. A host's port sets T as it is asked. A device's port sets T if the TLP's owner is
-    /// an interface in RUN and the TLP takes the stream that the interface is bound to.
-    pub fn send(&mut self, port: PortName, tlp: &[u8], more: bool, trusted: bool) -> Sent
-        requires here { port.link < length self.old }
-        requires few { CallsBelow (2 ^ 40) self.old }
-        ensures { SendsAt self.old port tlp.now more trusted result self.new }
+    /// What stands at an end, lent; `None` if there is no such end.
+    pub fn port(&self, end: PortName) -> Option<&Port>
+        ensures { option_map (λ e. e.now) result ≡ port_on self.now end }
     {
-        let ends = &mut self.links[port.link as usize];
-        ends.send(port.side, tlp, more, trusted)
+        match line_place(end.link) {
+            LinePlace::Link(i) => Some(self.links.get(i)?.port(end.side)),
+            LinePlace::Near(i) => Some(self.near.get(i)?.port(end.side)),
+            LinePlace::Pair(i) => Some(&self.pairs.get(i)?.end(end.side).port),
+        }
     }
 
-    /// The bytes that the last send at the port sealed, its packets joined.
-    pub fn packets(&self, port: PortName) -> &[u8]
-        requires { port.link < length self.now }
-        ensures value { (l : LinkEnds) → slice_get self.now port.link ≡ Some l
-            → result.now ≡ (port_in port.side l).sealed }
+    /// Whether there is such an end.
+    pub fn has_end(&self, end: PortName) -> bool
+        ensures { result ≡ is_some (port_on self.now end) }
+    {
+        self.port(end).is_some()
+    }
+
+    /// Whether the link's device has the stream between devices of this line and ID.
+    pub fn has_peer(&self, link: u8, line: u64, stream: u64) -> bool
+        ensures { result ≡ has_peer self.now.peers link line stream }
+    {
+        has_peer(&self.peers, link, line, stream)
+    }
+
+    // Sends at an end of a line that is keyed by messages at both and is kept at this place.
+    fn send_pair(&mut self, end: PortName, i: usize, tlp: &[u8], more: bool, trusted: bool) -> Sent
+        requires place { Pair i ≡ line_place end.link }
+        requires here { IsSome (port_on self.old end) }
+        requires few { CallsBelow (2 ^ 40) self.old }
+        ensures { SendsAt self.old end tlp.now more trusted result self.new }
+    {
+        if i < HOPS {
+            send_far(&mut self.pairs[i], end.side, tlp, more, trusted)
+        } else {
+            let interfaces = bound_on(&self.links, &self.peers, end.side, i - HOPS);
+            send_between(&mut self.pairs[i], end.side, tlp, more, interfaces)
+        }
+    }
+
+    /// Sends a TLP's bytes at an end. At a host's port and at a switch T is set as it is asked. A device's port sets T
+    /// if the TLP's owner is an interface in RUN, on its link if the TLP takes the stream that the interface's lock
+    /// names, on a stream between devices if the interface is bound to it; it sets none on a hop's segment.
+    pub fn send(&mut self, end: PortName, tlp: &[u8], more: bool, trusted: bool) -> Sent
+        requires here { IsSome (port_on self.old end) }
+        requires few { CallsBelow (2 ^ 40) self.old }
+        ensures { SendsAt self.old end tlp.now more trusted result self.new }
+    {
+        match line_place(end.link) {
+            LinePlace::Link(i) => self.links[i].send(end.side, tlp, more, trusted),
+            LinePlace::Near(i) => send_near(&mut self.near[i], end.side, tlp, more, trusted),
+            LinePlace::Pair(i) => self.send_pair(end, i, tlp, more, trusted),
+        }
+    }
+
+    /// The bytes that the last send at the end sealed, its packets joined; none if there is no such end.
+    pub fn packets(&self, end: PortName) -> &[u8]
+        ensures value { (e : PortEnd) → port_on self.now end ≡ Some e → result.now ≡ e.sealed }
         ensures short { length result.now ≤ 4184 }
     {
-        self.links[port.link as usize].port(port.side).packets()
+        match self.port(end) {
+            None => &[],
+            Some(port) => port.packets(),
+        }
     }
 
-    /// Takes bytes that arrive at a port, and answers the verdict. Of a unit that a host's port accepts, the writes
-    /// that the manager of interfaces admits go to trusted memory, and reads with T wait for their answer. Of a unit
-    /// that a device's port accepts, writes go to the memory of the device's interfaces, as these stood before it.
+    // Takes bytes that arrive at an end.
+    fn take(&mut self, end: PortName, bytes: &[u8]) -> Arrival
+        requires here { IsSome (port_on self.old end) }
+        requires few { CallsBelow (2 ^ 40) self.old }
+        ensures { TakesAt self.old end bytes.now result self.new }
+    {
+        match line_place(end.link) {
+            LinePlace::Link(i) => self.links[i].take(end.side, bytes),
+            LinePlace::Near(i) => self.near[i].take(end.side, bytes),
+            LinePlace::Pair(i) => take_pair(&mut self.pairs[i], end.side, bytes),
+        }
+    }
+
+    // The interfaces of a link's device that are bound to a stream that is not Secure there leave their lock.
+    fn settle_link(&mut self, link: usize)
+        ensures { self.new ≡ settled_link self.old link }
+    {
+        let peers = DevicePeers {
+            pairs: &self.pairs,
+            peers: &self.peers,
+            link,
+        };
+        settle_one(&mut self.links, link, &peers);
+    }
+
+    // So at a device's port.
+    fn settle_at(&mut self, port: PortName)
+        ensures { self.new ≡ settled_at port self.old }
+    {
+        match port.side {
+            Side::Host => {}
+            Side::Device => self.settle_link(port.link as usize),
+        }
+    }
+
+    // So at both devices of a stream between them, by its place among the lines that are keyed by messages at both
+    // ends.
+    fn settle_pair(&mut self, i: usize)
+        ensures { self.new ≡ settled_place (Pair i) self.old }
+    {
+        if i >= HOPS {
+            if let Some(peer) = self.peers.get(i - HOPS) {
+                let PeerPlan { near, far, .. } = *peer;
+                self.settle_link(near as usize);
+                self.settle_link(far as usize);
+            }
+        }
+    }
+
+    // So at the devices of so many links.
+    fn settle_below(&mut self, count: usize)
+        ensures { self.new ≡ settled_below count self.old }
+    {
+        if count > 0 {
+            self.settle_below(count - 1);
+            self.settle_link(count - 1);
+        }
+    }
+
+    // The verdict of an arrival at an end that is at this port of a host or a device, before the device's interfaces
+    // settle.
+    fn arrived(
+        &self,
+        end: PortName,
+        port: PortName,
+        arrival: Arrival,
+        keeper: &InterfaceKeeper,
+        memory: &mut Trusted,
+        access: &mut LinkAccesses,
+    ) -> Verdict
+        requires here { IsSome (port_on self.now end) }
+        requires link { port.link < length self.now.links }
+        requires spare { 8 ≤ memory.old.spare }
+        requires pages { 16 ≤ access.old.guarded.spare }
+        ensures comes { ComesAt self.now memory.old.contents.regions (grants_in keeper.now) end port arrival result
+            memory.old.contents memory.new.contents access.old access.new }
+        ensures regions { memory.new.contents.regions ≡ memory.old.contents.regions }
+    {
+        let at = ReceivingPort {
+            end,
+            port,
+            keeper,
+            interfaces: &self.links[port.link as usize].device.interfaces,
+        };
+        let packets = self.port(end).unwrap().delivered();
+        taken_verdict(&at, arrival, &packets, memory, access)
+    }
+
+    /// Takes bytes that arrive at an end which is at this port of a host or a device, and answers the verdict. Of a
+    /// unit that is accepted at a host's port, the writes that the manager of interfaces admits go to trusted memory,
+    /// and reads with T wait for their answer. Of a unit that is accepted at a device's port, writes go to the memory
+    /// of the device's interfaces, as these stood before it.
     pub fn arrive(
         &mut self,
+        end: PortName,
         port: PortName,
         bytes: &[u8],
         keeper: &InterfaceKeeper,
         memory: &mut Trusted,
         accesses: &mut Accesses,
     ) -> Verdict
-        requires here { port.link < length self.old }
+        requires here { IsSome (port_on self.old end) }
+        requires link { port.link < length self.old.links }
         requires few { CallsBelow (2 ^ 40) self.old }
         requires spare { 8 ≤ memory.old.spare }
         requires access { port.link < length accesses.old }
         requires pages { IfSome (slice_get accesses.old port.link) (λ a. 16 ≤ a.guarded.spare) }
-        ensures arrives { ArrivesAt self.old accesses.old memory.old.contents.regions (grants_in keeper.now) port
+        ensures arrives { ArrivesAt self.old accesses.old memory.old.contents.regions (grants_in keeper.now) end port
             bytes.now result memory.old.contents memory.new.contents self.new accesses.new }
         ensures regions { memory.new.contents.regions ≡ memory.old.contents.regions }
     {
         let access = accesses.at_mut(port.link);
-        let ends = &mut self.links[port.link as usize];
-        let arrival = ends.take(port.side, bytes);
-        let verdict = arrived(port, arrival, ends, keeper, memory, access);
-        ends.settle(port.side);
+        let arrival = self.take(end, bytes);
+        let verdict = self.arrived(end, port, arrival, keeper, memory, access);
+        self.settle_at(port);
         verdict
     }
 
-    /// The draw of the Live key of a stream's sender in a sub-stream at a port; `None` if none is Live.
-    pub fn sealing_draw(&self, port: PortName, stream: u8, sub: SubKind) -> Option<u32>
-        requires { port.link < length self.now }
-        ensures { (l : LinkEnds) → slice_get self.now port.link ≡ Some l
-            → result ≡ sealing_draw_in (port_in port.side l) stream sub }
+    /// Takes bytes that arrive at an end at a switch, and answers the verdict. Each TLP of a unit that is accepted
+    /// waits to be forwarded in this direction, if there is room for it and it is no longer than a TLP may be.
+    pub fn arrive_at_switch(
+        &mut self,
+        end: PortName,
+        bytes: &[u8],
+        queues: &mut HopQueues,
+        direction: Direction,
+    ) -> Verdict
+        requires here { IsSome (port_on self.old end) }
+        requires few { CallsBelow (2 ^ 40) self.old }
+        ensures { WaitsAt self.old end bytes.now direction result queues.old self.new queues.new }
     {
-        self.links[port.link as usize]
-            .port(port.side)
-            .sealing_draw(stream, sub)
+        let arrival = self.take(end, bytes);
+        let packets = self.port(end).unwrap().delivered();
+        switch_verdict(end, end, arrival, &packets, queues, direction)
     }
 
-    /// The greatest draw of a Live key of a stream's receiver in a sub-stream at a port; `None` if none is Live.
-    pub fn receiving_draw(&self, port: PortName, stream: u8, sub: SubKind) -> Option<u32>
-        requires { port.link < length self.now }
-        ensures { (l : LinkEnds) → slice_get self.now port.link ≡ Some l
-            → result ≡ receiving_draw_in (port_in port.side l) stream sub }
+    /// The draw of the Live key of a stream's sender in a sub-stream at an end; `None` if none is Live.
+    pub fn sealing_draw(&self, end: PortName, stream: u8, sub: SubKind) -> Option<u32>
+        ensures { result ≡ option_and_then (λ e. sealing_draw_in e stream sub) (port_on self.now end) }
     {
-        self.links[port.link as usize]
-            .port(port.side)
-            .receiving_draw(stream, sub)
+        self.port(end)?.sealing_draw(stream, sub)
     }
 
-    /// The stream that a TLP with these bytes takes at a port, if it is one and takes one.
-    pub fn outgoing_stream(&self, port: PortName, tlp: &[u8]) -> Option<u8>
-        requires { port.link < length self.now }
-        ensures { (l : LinkEnds) → slice_get self.now port.link ≡ Some l
-            → (let e = port_in port.side l in result ≡ stream_taken (outgoing_of e.plans e.name.side tlp.now)) }
+    /// The greatest draw of a Live key of a stream's receiver in a sub-stream at an end; `None` if none is Live.
+    pub fn receiving_draw(&self, end: PortName, stream: u8, sub: SubKind) -> Option<u32>
+        ensures { result ≡ option_and_then (λ e. receiving_draw_in e stream sub) (port_on self.now end) }
     {
-        self.links[port.link as usize]
-            .port(port.side)
-            .outgoing_stream(tlp)
+        self.port(end)?.receiving_draw(stream, sub)
+    }
+
+    /// The stream that a TLP with these bytes takes at an end, if it is one and takes one.
+    pub fn outgoing_stream(&self, end: PortName, tlp: &[u8]) -> Option<u8>
+        ensures { result ≡ option_and_then (λ e. stream_taken (outgoing_of e.plans e.name.side tlp.now))
+            (port_on self.now end) }
+    {
+        self.port(end)?.outgoing_stream(tlp)
+    }
+
+    /// The states of a stream at the near end of its line and at the far end; `None` if the line has no such stream.
+    pub fn status(&self, line: u8, stream: u8) -> Option<(StreamStatus, StreamStatus)>
+        ensures { result ≡ statuses_of self.now line stream }
+    {
+        let near = PortName {
+            side: Side::Host,
+            link: line,
+        };
+        let far = PortName {
+            side: Side::Device,
+            link: line,
+        };
+        let near = self.port(near)?.status(stream)?;
+        let far = self.port(far)?.status(stream)?;
+        Some((near, far))
     }
 
     /// Whether the interface at this place on the link is in RUN.
     pub fn runs(&self, link: u8, place: usize) -> bool
         requires here { IsThere self.now link place }
-        ensures { IfSome (slice_get self.now link) (λ l. IfSome (slice_get l.device.interfaces.interfaces place)
+        ensures { IfSome (slice_get self.now.links link) (λ l. IfSome (slice_get l.device.interfaces.interfaces place)
             (λ tdi. result ≡ (state_code tdi.state == 2))) }
     {
         self.links[link as usize].device.state(place) == 2
@@ -355,7 +382,7 @@ impl AllEnds {
     /// The base address registers that the topology lays out for the interface at this place on the link, by number.
     pub fn bars(&self, link: u8, place: usize) -> &[BarPlan]
         requires here { IsThere self.now link place }
-        ensures { IfSome (slice_get self.now link) (λ l. IfSome (slice_get l.device.interfaces.interfaces place)
+        ensures { IfSome (slice_get self.now.links link) (λ l. IfSome (slice_get l.device.interfaces.interfaces place)
             (λ tdi. result.now ≡ tdi.plan.bars)) }
     {
         self.links[link as usize]
@@ -365,48 +392,51 @@ impl AllEnds {
             .planned_bars()
     }
 
-    /// The states of a stream of a link at the host's port and at the device's; `None` if the link has no such stream.
-    pub fn status(&self, link: u8, stream: u8) -> Option<(StreamStatus, StreamStatus)>
-        requires { link < length self.now }
-        ensures { (l : LinkEnds) → slice_get self.now link ≡ Some l → result ≡ statuses_of l stream }
-    {
-        let ends = &self.links[link as usize];
-        match ends.host.status(stream) {
-            None => None,
-            Some(host) => match ends.device.port.status(stream) {
-                None => None,
-                Some(device) => Some((host, device)),
-            },
-        }
-    }
-
-    /// Begins an operation of the manager on a stream of this link, or goes on with it, and carries its exchanges until
-    /// it is done or refused, or `loss` loses one.
+    /// Begins an operation of the manager on a stream of this line, or goes on with it, and carries its exchanges until
+    /// it is done or refused, or `loss` loses one. Interfaces of the devices at its ends that are bound to a stream
+    /// that is then not Secure there leave their lock.
     pub fn operate(
         &mut self,
-        link: u8,
+        line: u8,
         keeper: &mut HostKeeper,
         op: Op,
         loss: Option<Loss>,
     ) -> Outcome
-        requires here { link < length self.old }
+        requires here { IsSome (port_on self.old (host_port line)) }
         requires stream { IsSome (named keeper.old.keys.manager (op_name op).link (op_name op).stream) }
-        ensures operates { OperatesAt self.old link keeper.old.keys op loss result self.new keeper.new.keys }
+        ensures operates { OperatesAt self.old line keeper.old.keys op loss result self.new keeper.new.keys }
         ensures interfaces { IfSome (named keeper.old.keys.manager (op_name op).link (op_name op).stream) (λ n.
             let begins = (work_of (op_name op).operation n.stream.op 0).begins in
             let draw = keeper.old.keys.pool.draws in
             let drew = not (keeper.new.keys.pool.draws == draw) in
-            keeper.new.interfaces ≡ told op begins drew draw result keeper.old.interfaces) }
+            keeper.new.interfaces ≡ told_at line op begins drew draw result keeper.old.interfaces) }
+        ensures peer_draws { let draw = keeper.old.keys.pool.draws in
+            let drew = not (keeper.new.keys.pool.draws == draw) in
+            keeper.new.peer_draws ≡ drawn_at line op drew draw keeper.old.peer_draws }
     {
-        let ends = &mut self.links[link as usize];
-        keeper.operate(ends, op, loss)
+        match line_place(line) {
+            LinePlace::Link(i) => {
+                let peers = DevicePeers {
+                    pairs: &self.pairs,
+                    peers: &self.peers,
+                    link: i,
+                };
+                keeper.operate(&mut self.links[i], &peers, op, loss)
+            }
+            LinePlace::Near(i) => keeper.operate_near(&mut self.near[i], op, loss),
+            LinePlace::Pair(i) => {
+                let outcome = keeper.operate_pair(&mut self.pairs[i], op, loss);
+                self.settle_pair(i);
+                outcome
+            }
+        }
     }
 
     /// The link and the place on it of the interface of this number over all links, counted from 0; `None` if there are
     /// fewer interfaces.
     pub fn interface(&self, number: u64) -> Option<(u8, usize)>
-        requires { length self.now ≤ 8 }
-        ensures { result ≡ located 0 number self.now }
+        requires { length self.now.links ≤ 8 }
+        ensures { result ≡ located 0 number self.now.links }
     {
         let mut left = number;
         let mut link = 0;
@@ -431,19 +461,25 @@ impl AllEnds {
         op: InterfaceOp,
         loss: Option<Loss>,
     ) -> tdi_host::Outcome
-        requires here { link < length self.old }
+        requires here { link < length self.old.links }
         requires interface { interface < length keeper.old.interfaces.interfaces }
+        requires peer { NamesPeer op }
         ensures { AsksAt self.old link keeper.old interface op loss result self.new keeper.new }
     {
+        let peers = DevicePeers {
+            pairs: &self.pairs,
+            peers: &self.peers,
+            link: link as usize,
+        };
         let ends = &mut self.links[link as usize];
-        keeper.operate_on(ends, interface, op, loss)
+        keeper.operate_on(ends, &peers, interface, op, loss)
     }
 
     /// Writes a register that the interface at this place on the link has, and answers the interface's state after the
     /// write.
     pub fn write_register(&mut self, link: u8, place: usize, register: Register, value: u64) -> u8
-        requires tdi { IfSome (slice_get self.old link) (λ l. IfSome (slice_get l.device.interfaces.interfaces place)
-            (λ tdi. has_register tdi.plan register ≡ true)) }
+        requires tdi { IfSome (slice_get self.old.links link) (λ l. IfSome
+            (slice_get l.device.interfaces.interfaces place) (λ tdi. has_register tdi.plan register ≡ true)) }
         requires here { IsThere self.old link place }
         requires width { value < 2 ^ width_of register }
         ensures { CallsAt self.old link place (WriteRegister register value) result self.new }
@@ -456,7 +492,7 @@ impl AllEnds {
     /// Whether the interface at this place on the link has the register.
     pub fn has_register(&self, link: u8, place: usize, register: Register) -> bool
         requires here { IsThere self.now link place }
-        ensures { IfSome (slice_get self.now link) (λ l. IfSome (slice_get l.device.interfaces.interfaces place)
+        ensures { IfSome (slice_get self.now.links link) (λ l. IfSome (slice_get l.device.interfaces.interfaces place)
             (λ tdi. result ≡ has_register tdi.plan register)) }
     {
         self.links[link as usize]
@@ -484,13 +520,122 @@ impl AllEnds {
         ends.device.state(place)
     }
 
-    /// Resets the link: both ports drop all keys, open units, held packets, counts and failures, and each interface of
-    /// its device is in CONFIG_UNLOCKED.
-    pub fn reset(&mut self, link: u8)
-        requires { link < length self.old }
-        ensures { ResetsAt self.old link self.new }
+    // Both ports of a line drop all keys, open units, held packets, counts and failures; of a stream between devices
+    // that of this end alone.
+    fn clear(&mut self, end: PortName)
+        ensures { self.new ≡ cleared_on self.old end }
     {
-        let ends = &mut self.links[link as usize];
-        ends.reset();
+        match line_place(end.link) {
+            LinePlace::Link(i) => clear_hosted(&mut self.links, i),
+            LinePlace::Near(i) => clear_hosted(&mut self.near, i),
+            LinePlace::Pair(i) => clear_paired(&mut self.pairs, end.side, i),
+        }
+    }
+
+    // So at each of these ends.
+    fn clear_all(&mut self, ends: &[PortName])
+        ensures { self.new ≡ all_cleared self.old ends.now }
+    {
+        for end in ends {
+            self.clear(*end);
+        }
+    }
+
+    // Each interface of a link's device is in CONFIG_UNLOCKED with the topology's registers. No nonce that was given is
+    // given again.
+    fn unlock(&mut self, link: u8)
+        ensures { self.new ≡ unlocked_link self.old link }
+    {
+        unlock_one(&mut self.links, link as usize);
+    }
+
+    /// Resets the link, which clears these ends: both ports of each line that is cut drop all keys, open units, held
+    /// packets, counts and failures, of a stream between devices those at the link's device alone; each interface of
+    /// the link's device is in CONFIG_UNLOCKED. Interfaces of other devices that are bound to a stream that is then not
+    /// Secure there leave their lock.
+    pub fn reset(&mut self, link: u8, ends: &[PortName])
+        ensures { ResetsAt self.old link ends.now self.new }
+    {
+        self.clear_all(ends);
+        self.unlock(link);
+        let count = self.count();
+        self.settle_below(count);
+    }
+}
+
+// Takes bytes that arrive at the end of a side of a line that is keyed by messages at both.
+fn take_pair(ends: &mut PairEnds, side: Side, bytes: &[u8]) -> Arrival
+    requires { (pair_port side ends.old).calls < 2 ^ 40 }
+    ensures answer { result ≡ (take_step (pair_port side ends.old) (cut_of bytes.now)).answer }
+    ensures ends { ends.new ≡ with_pair_port side (take_step (pair_port side ends.old) (cut_of bytes.now)).port
+        ends.old }
+{
+    match side {
+        Side::Host => ends.near.port.take(bytes),
+        Side::Device => ends.far.port.take(bytes),
+    }
+}
+
+// The interfaces of a link's device settle, if there is such a link.
+#[tactic(auto, using(crate::proofs::Lent::put_changed, crate::proofs::Lent::none_changed))]
+fn settle_one<P: PeerStreams>(links: &mut Vec<LinkEnds>, i: usize, peers: &P)
+    ensures { links.new.items ≡ changed_at links.old.items i (settled_ends (P.live peers.now)) }
+{
+    if i >= links.len() {
+        return;
+    }
+    links[i].device.settle(peers);
+}
+
+// They are as they were made, but for the nonces that were given.
+#[tactic(auto, using(crate::proofs::Lent::put_changed, crate::proofs::Lent::none_changed))]
+fn unlock_one(links: &mut Vec<LinkEnds>, i: usize)
+    ensures { links.new.items ≡ changed_at links.old.items i unlocked_ends }
+{
+    if i >= links.len() {
+        return;
+    }
+    links[i].device.interfaces.reset();
+}
+
+// The ends of a line that is keyed at a host are cleared, if there is such a line.
+#[tactic(auto, using(crate::proofs::Lent::put_changed, crate::proofs::Lent::none_changed))]
+fn clear_hosted(lines: &mut Vec<LinkEnds>, i: usize)
+    ensures { lines.new.items ≡ changed_at lines.old.items i cleared_ends }
+{
+    if i >= lines.len() {
+        return;
+    }
+    clear_ends(&mut lines[i]);
+}
+
+// So are those of one that is keyed by messages at both, by the side of the end.
+#[tactic(auto, using(crate::proofs::Lent::put_changed, crate::proofs::Lent::none_changed))]
+fn clear_paired(lines: &mut Vec<PairEnds>, side: Side, i: usize)
+    ensures { lines.new.items ≡ changed_at lines.old.items i (cleared_pair side i) }
+{
+    if i >= lines.len() {
+        return;
+    }
+    clear_pair(&mut lines[i], side, i);
+}
+
+// Both ports of a line that is keyed at a host.
+fn clear_ends(ends: &mut LinkEnds)
+    ensures { ends.new ≡ cleared_ends ends.old }
+{
+    ends.host.reset();
+    ends.device.port.reset();
+}
+
+// Both ends of a hop's segment, or that of this side of a stream between devices.
+fn clear_pair(ends: &mut PairEnds, side: Side, i: usize)
+    ensures { ends.new ≡ cleared_pair side i ends.old }
+{
+    if i < HOPS {
+        ends.reset(Side::Host);
+        ends.reset(Side::Device);
+    } else {
+        ends.reset(side);
     }
 }

@@ -6,7 +6,18 @@ use Rattle.all_links.proofs.Terms.{◌≡◌, ℕ, suc, zero, ◌+◌, ◌<◌, 
 use Rattle.all_links.proofs.Terms.{nat_tests, Option, Some, None, IsSome, slice_get, slice_set, option_map}
 use Rattle.all_links.proofs.Terms.{option_and_then, none-some, same_Some, slice_get_within, Verdict, StreamState}
 use Rattle.all_links.proofs.Terms.{LinkEnds, Links, InterfacesView, KeeperView, ports_in, IsBounded, links_state}
-use Rattle.all_links.proofs.Terms.{EndsWith, Stepped, Interface, answer_of_links}
+use Rattle.all_links.proofs.Terms.{EndsWith, Stepped, Interface, answer_of_links, EndsView, port_on, live_on, Plan}
+use Rattle.all_links.proofs.Terms.{AreLinks, PortEnd, Side, Host, Device, port_in, state_of, nat_lt, true, ◌++◌, ◌≤◌}
+use Rattle.all_links.proofs.Terms.{if◌then◌else◌}
+use Rattle.interface_answers.specs.{changed_at, in_sixteen, pair_ports, NamesPeer, operated_on, HostKeeper, IsThere}
+use Rattle.interface_answers.specs.{CallsAt, AsksAt, located, code_behind, asked_as, op_event, report_of}
+use Rattle.all_links.specs.Sides.{with_device}
+use Rattle.ide_types.specs.Ports.{device_port}
+use Rattle.ide_types.specs.Lines.{peer_line, is_peer_line}
+use Rattle.interface_states.specs.Views.{peer_of}
+use Rattle.tdi_host.specs.declared.operation.PeerStream.{PeerStream}
+use Rattle.interface_answers.specs.Shown.{NamesPeerIn}
+use Rattle.interface_answers.proofs.PeerNames.{operated_names}
 use Rattle.std.specs.Prelude.{IfSome}
 use Rattle.std.specs.Option.{option_map_or}
 use Rattle.all_links.proofs.Terms.{◌==◌, Bool, false}
@@ -27,16 +38,19 @@ use Rattle.tdi_host.specs.Views.{HostTdi}
 use Rattle.tdi_ends.specs.Keepers.{Ended}
 use Rattle.link_events.specs.declared.event.InterfaceEvent.{InterfaceEvent}
 use Rattle.link_events.specs.declared.event.Loss.{Loss}
-use Rattle.link_ends.specs.Hosts.{operated_on}
-use Rattle.link_ends.specs.declared.host.HostKeeper.{HostKeeper}
-use Rattle.all_ends.specs.AllEnds.{IsThere, CallsAt, AsksAt}
 use Rattle.all_links.specs.Interfaces.{interface_named, tdi_named, tdi_of_ends, ended_in, ended_at, ended_on}
-use Rattle.all_links.specs.Interfaces.{verdict_in, link_named}
-use Rattle.all_ends.specs.Places.{located, code_behind}
-use Rattle.interface_joins.specs.Verdicts.{asked_as, op_event, report_of}
-use Rattle.all_links.proofs.Finds.{answers, only_says}
-use Rattle.all_ends.proofs.Located.{is_located}
-use Rattle.all_ends.proofs.Finds.{there, ports_same, as_before, KeepsEnds, links_kept, bounded_kept}
+use Rattle.all_links.specs.Interfaces.{verdict_in, link_named, AsksPeer, IsPeerOf, has_peer_in, peer_stream}
+use Rattle.all_links.specs.Interfaces.{peer_verdict_in}
+use Rattle.all_links.proofs.Finds.{answers, nothing_changes, only_says}
+use Rattle.all_links.proofs.Terms.{true-lt}
+use Rattle.std.proofs.Common.{◌&&◌}
+use Rattle.std.proofs.lemmas.Bool.{and_parts}
+use Rattle.line_arrivals.proofs.{peer_line_is, is_located}
+use Rattle.ide_plan.specs.declared.plan.PeerPlan.{PeerPlan}
+use Rattle.interface_states.specs.Peers.{has_peer}
+use Rattle.all_links.specs.Interfaces.{has_peer_at}
+use Rattle.interface_answers.proofs.{changed_is, there, Grows, KeepsEnds, as_before, bounded_then, links_grow}
+use Rattle.interface_answers.proofs.{links_kept}
 
 pub if_some : {A : Type 0} (P : A → Type 0) (o : Option A) (x : A) → o ≡ Some x → IfSome o P → P x
 if_some P o x is p = subst (λ y. IfSome y P) is p
@@ -48,22 +62,23 @@ named_parts : (m : InterfacesView) (ends : List LinkEnds) (n : ℕ) (at : ℕ ×
 named_parts m ends n at is = grind (arith, nat_tests)
 
 -- the interface of this number, at its device and at the manager
-pub record IsFound (m : InterfacesView) (ends : List LinkEnds) (n : ℕ) (at : ℕ × ℕ) : Type 0 where
+pub record IsFound (m : InterfacesView) (v : EndsView) (n : ℕ) (at : ℕ × ℕ) : Type 0 where
   pub ends_at : LinkEnds
   pub tdi : Tdi
   pub kept : HostTdi
-  pub link_there : slice_get ends at.0 ≡ Some ends_at
+  pub link_there : slice_get v.links at.0 ≡ Some ends_at
   pub tdi_there : slice_get ends_at.device.interfaces.interfaces at.1 ≡ Some tdi
   pub kept_there : slice_get m.interfaces n ≡ Some kept
-  pub named_is : tdi_named m ends n ≡ Some tdi
+  pub named_is : tdi_named m v.links n ≡ Some tdi
 
-pub is_found : (m : InterfacesView) (ends : List LinkEnds) (n : ℕ) (at : ℕ × ℕ) → Some at ≡ interface_named m ends n
-    → IsFound m ends n at
-is_found m ends n at named =
-    let parts = named_parts m ends n at (sym named) in
-    let x = is_located 0 n ends at parts.0 in
+pub is_found : (m : InterfacesView) (v : EndsView) (n : ℕ) (at : ℕ × ℕ) → Some at ≡ interface_named m v.links n
+    → IsFound m v n at
+is_found m v n at named =
+    let parts = named_parts m v.links n at (sym named) in
+    let x = is_located 0 n v.links at parts.0 in
     let place : x.place ≡ at.0 = (let zeroes : x.place ≡ 0 + x.place = omega arith in zeroes) ∙ x.link_is in
-    let link_there : slice_get ends at.0 ≡ Some x.ends_at = ap (λ (i : ℕ). slice_get ends i) (sym place) ∙ x.there_is in
+    let link_there : slice_get v.links at.0 ≡ Some x.ends_at =
+    ap (λ (i : ℕ). slice_get v.links i) (sym place) ∙ x.there_is in
     let t = there x.ends_at.device.interfaces.interfaces at.1 x.within in
     let k = there m.interfaces n parts.1 in
     record {
@@ -73,20 +88,20 @@ is_found m ends n at named =
       link_there = link_there;
       tdi_there = t.1;
       kept_there = k.1;
-      named_is = ap (λ (o : Option (ℕ × ℕ)). option_and_then (tdi_of_ends ends) o) (sym named) ∙ tdi_is at x.ends_at t.0
-          link_there t.1;
+      named_is = ap (λ (o : Option (ℕ × ℕ)). option_and_then (tdi_of_ends v.links) o) (sym named)
+          ∙ tdi_is at x.ends_at t.0 link_there t.1;
     }
   where
-    tdi_is : (at : ℕ × ℕ) (l : LinkEnds) (tdi : Tdi) → slice_get ends at.0 ≡ Some l
-        → slice_get l.device.interfaces.interfaces at.1 ≡ Some tdi → tdi_of_ends ends at ≡ Some tdi
+    tdi_is : (at : ℕ × ℕ) (l : LinkEnds) (tdi : Tdi) → slice_get v.links at.0 ≡ Some l
+        → slice_get l.device.interfaces.interfaces at.1 ≡ Some tdi → tdi_of_ends v.links at ≡ Some tdi
     tdi_is at l tdi link_there tdi_there = rw link_there tdi_there
 
-pub is_there : (m : InterfacesView) (ends : List LinkEnds) (n : ℕ) (at : ℕ × ℕ) → Some at ≡ interface_named m ends n
-    → IsThere ends at.0 at.1
-is_there m ends n at named =
-    let x = is_found m ends n at named in
+pub is_there : (m : InterfacesView) (v : EndsView) (n : ℕ) (at : ℕ × ℕ) → Some at ≡ interface_named m v.links n
+    → IsThere v at.0 at.1
+is_there m v n at named =
+    let x = is_found m v n at named in
     record {
-      link_there = slice_get_within ends at.0 x.ends_at x.link_there;
+      link_there = slice_get_within v.links at.0 x.ends_at x.link_there;
       place_there = λ l is.
           subst (λ (y : LinkEnds). at.1 < length y.device.interfaces.interfaces)
           (same_Some x.ends_at l (sym x.link_there ∙ is))
@@ -95,109 +110,191 @@ is_there m ends n at named =
 
 -- ---- only interfaces change
 
-abbrev pub with_interfaces : LinkEnds → DeviceTdis → LinkEnds
-with_interfaces l d = record l { device = record l.device { interfaces = d } }
+abbrev pub with_interfaces : DeviceTdis → LinkEnds → LinkEnds
+with_interfaces d l = record l { device = record l.device { interfaces = d } }
 
-pub set_back : (ends : List LinkEnds) (link : ℕ) (l : LinkEnds) → slice_get ends link ≡ Some l → slice_set ends link l
-    ≡ ends
-set_back [] link l is = refl
-set_back (x ∷ ls) zero l is = ap (λ (y : LinkEnds). y ∷ ls) (sym (same_Some x l is))
-set_back (x ∷ ls) (suc i) l is = ap (λ (ys : List LinkEnds). x ∷ ys) (set_back ls i l is)
+pub set_back : {A : Type 0} (xs : List A) (i : ℕ) (x : A) → slice_get xs i ≡ Some x → slice_set xs i x ≡ xs
+set_back [] i x is = refl
+set_back (y ∷ xs) zero x is = ap (λ (z : _). z ∷ xs) (sym (same_Some y x is))
+set_back (y ∷ xs) (suc i) x is = ap (λ (zs : List _). y ∷ zs) (set_back xs i x is)
 
-keeps_interfaces : (l : LinkEnds) (d : DeviceTdis) → KeepsEnds l (with_interfaces l d)
-keeps_interfaces l d = record { host = as_before l.host; device = as_before l.device.port; requester = refl }
+keeps_interfaces : (d : DeviceTdis) (l : LinkEnds) → KeepsEnds l (with_interfaces d l)
+keeps_interfaces d l = record { host = as_before l.host; device = as_before l.device.port; requester = refl }
 
-pub interfaces_change : (old : Links) (link : ℕ) (l : LinkEnds) (d : DeviceTdis) (ends : List LinkEnds)
-    (m : InterfacesView) (verdict : Verdict) (e : InterfaceEvent)
-    → Some verdict ≡ answer_of_links old e → slice_get old.ends link ≡ Some l
-    → ends ≡ slice_set old.ends link (with_interfaces l d)
-    → IsBounded old.ends old.packets.packets old.steps
-    → EndsWith verdict old
-    (record old { ends = ends; keeper = record { keys = old.keeper.keys; interfaces = m }; steps = old.steps + 1 })
-    (Interface e)
-interfaces_change old link l d ends m verdict e due is ends_is bounded =
-    let k : KeeperView = old.keeper.keys in
-    let l2 : LinkEnds = with_interfaces l d in
-    subst (λ (xs : List LinkEnds). EndsWith verdict old
-    (record old { ends = xs; keeper = record { keys = k; interfaces = m }; steps = old.steps + 1 }) (Interface e))
-    (sym ends_is)
+calls_same : (d : DeviceTdis) (s : Side) (l : LinkEnds)
+    → (port_in s (with_interfaces d l)).calls ≤ (port_in s l).calls + 0
+calls_same d Host l = omega arith
+calls_same d Device l = omega arith
+
+-- the ports are seen, and not the interfaces
+ports_same : (ls : List LinkEnds) (i : ℕ) (l : LinkEnds) (d : DeviceTdis) → slice_get ls i ≡ Some l
+    → ports_in (slice_set ls i (with_interfaces d l)) ≡ ports_in ls
+ports_same [] i l d is = refl
+ports_same (x ∷ ls) zero l d is =
+    ap (λ (y : LinkEnds). y.host.states ∷ y.device.port.states ∷ ports_in ls) (sym (same_Some x l is))
+ports_same (x ∷ ls) (suc i) l d is =
+    ap (λ (rows : List (List StreamState)). x.host.states ∷ x.device.port.states ∷ rows) (ports_same ls i l d is)
+
+pub interfaces_change : (plan : Plan) (old new : Links) (link : ℕ) (l : LinkEnds) (d : DeviceTdis) (ends : EndsView)
+    (k : HostKeeper) (verdict : Verdict) (e : InterfaceEvent)
+    → Some verdict ≡ answer_of_links old e → slice_get old.ends.links link ≡ Some l
+    → ends ≡ with_device old.ends link l d → k.keys ≡ old.keeper.keys
+    → new ≡ record old { ends = ends; keeper = k; steps = old.steps + 1 }
+    → IsBounded old.ends old.packets.packets old.steps → EndsWith plan verdict old new (Interface e)
+interfaces_change plan old new link l d ends k verdict e due is ends_is keys new_is bounded =
+    subst (λ (q : Links). EndsWith plan verdict old q (Interface e)) (sym new_is)
+    (subst (λ (v : EndsView). EndsWith plan verdict old (record old { ends = v; keeper = k; steps = old.steps + 1 })
+    (Interface e)) (sym ends_is)
     (record {
       counted = refl;
-      many = length-set old.ends link l2;
+      many = length-set old.ends.links link (with_interfaces d l);
       regions = refl;
-      bounded = bounded_kept old.ends old.packets.packets old.packets.packets old.steps link l l2 bounded is
-          (omega arith) (omega arith) bounded.sealed_here;
-      ends = λ b plan by h links stands.
+      bounded = bounded_then 0 old.ends after old.packets.packets old.packets.packets old.steps (omega arith) bounded
+          (subst (λ (ls : List LinkEnds). Grows 0 old.ends (record old.ends { links = ls })) same
+          (links_grow 0 old.ends link (with_interfaces d) (λ s y at. calls_same d s y)))
+          bounded.sealed_here;
+      ends = λ b by h links stands.
           let step = sym (answers old due b plan by (links_state plan old)) in
-          let ports : ports_in (slice_set old.ends link l2) ≡ ports_in old.ends =
-          ports_same old.ends link l2 l refl refl ∙ ap ports_in (set_back old.ends link l is) in
+          let ports : ports_in after.links ≡ ports_in old.ends.links = ports_same old.ends.links link l d is in
           record {
             verdict_is = ap (λ (x : Stepped). x.0) step;
-            state_is = ap (λ (ps : List (List StreamState)). record (links_state plan old) { ports = ps }) ports
-                ∙ ap (λ (x : Stepped). x.1) step;
-            links = links_kept plan old.ends k k link l l2 links is (keeps_interfaces l d) refl links.kept refl;
+            state_is = (λ i. state_of plan after (keys i) old.packets.packets)
+                ∙ (ap (λ (ps : List (List StreamState)). record (links_state plan old) {
+                  ports = in_sixteen ps ++ ports_in old.ends.near ++ pair_ports old.ends.pairs;
+                }) ports
+                ∙ ap (λ (x : Stepped). x.1) step);
+            links = subst (λ (j : KeeperView). AreLinks plan after j) (sym keys)
+                (subst (λ (ls : List LinkEnds). AreLinks plan (record old.ends { links = ls }) old.keeper.keys) same
+                (links_kept plan old.ends old.keeper.keys links link (with_interfaces d)
+                (λ y at. keeps_interfaces d y)));
           };
-    })
+    }))
+  where
+    after : EndsView
+    after = with_device old.ends link l d
+
+    same : changed_at old.ends.links link (with_interfaces d) ≡ after.links
+    same = changed_is old.ends.links link (with_interfaces d) l is
 
 -- a call of the interface
-pub called : (old : Links) (n : ℕ) (at : ℕ × ℕ) (call : Call) (code : ℕ) (ends : List LinkEnds) (new : Links)
+pub called : (plan : Plan) (old : Links) (n : ℕ) (at : ℕ × ℕ) (call : Call) (code : ℕ) (ends : EndsView) (new : Links)
     (verdict : Verdict) (e : InterfaceEvent) (w : ℕ → Verdict)
-    → Some at ≡ interface_named old.keeper.interfaces old.ends n → CallsAt old.ends at.0 at.1 call code ends
-    → ((tdi : Tdi) → tdi_named old.keeper.interfaces old.ends n ≡ Some tdi
+    → Some at ≡ interface_named old.keeper.interfaces old.ends.links n → CallsAt old.ends at.0 at.1 call code ends
+    → ((tdi : Tdi) → tdi_named old.keeper.interfaces old.ends.links n ≡ Some tdi
     → Some (w (code_behind tdi call)) ≡ answer_of_links old e)
     → verdict ≡ w code → new ≡ record old { ends = ends; steps = old.steps + 1 }
-    → IsBounded old.ends old.packets.packets old.steps → EndsWith verdict old new (Interface e)
-called old n at call code ends new verdict e w named calls due says new_is bounded =
+    → IsBounded old.ends old.packets.packets old.steps → EndsWith plan verdict old new (Interface e)
+called plan old n at call code ends new verdict e w named calls due says new_is bounded =
     let x = is_found old.keeper.interfaces old.ends n at named in
     let a = calls x.ends_at x.link_there in
-    subst (λ (q : Links). EndsWith verdict old q (Interface e)) (sym new_is)
-    (interfaces_change old at.0 x.ends_at (called_at x.ends_at.device.interfaces at.1 x.tdi call) ends
-    old.keeper.interfaces verdict e
+    interfaces_change plan old new at.0 x.ends_at (called_at x.ends_at.device.interfaces at.1 x.tdi call) ends
+    old.keeper verdict e
     (ap (λ (y : Verdict). Some y) (says ∙ ap w (a.2.code_is x.tdi x.tdi_there)) ∙ due x.tdi x.named_is) x.link_there
-    (a.1 ∙ ap (λ (y : LinkEnds). slice_set old.ends at.0 y) (a.2.ends x.tdi x.tdi_there)) bounded)
+    (a.1 ∙ ap (λ (y : LinkEnds). record old.ends { links = slice_set old.ends.links at.0 y })
+    (a.2.ends x.tdi x.tdi_there)) refl new_is bounded
 
 -- ---- operations
 
-by_operation : (old : Links) (n : ℕ) (o : InterfaceOp) (loss : Option Loss)
-    → verdict_in n o loss (ended_in old.keeper.interfaces old.ends old.keeper.keys.pool.draws n o loss)
-    ≡ answer_of_links old (op_event o n loss)
-by_operation old n op.Lock loss = refl
-by_operation old n op.Report loss = refl
-by_operation old n op.Start loss = refl
-by_operation old n op.Halt loss = refl
-by_operation old n op.State loss = refl
+by_operation : (old : Links) (n : ℕ) (o : InterfaceOp) (loss : Option Loss) → AsksPeer old.keeper old.ends n o
+    → verdict_in n o loss (ended_in old.keeper old.ends n o loss) ≡ answer_of_links old (op_event o n loss)
+by_operation old n op.Lock loss asked = refl
+by_operation old n op.Report loss asked = refl
+by_operation old n op.Start loss asked = refl
+by_operation old n op.Halt loss asked = refl
+by_operation old n op.State loss asked = refl
+by_operation old n (op.Bind peer) loss asked =
+    let kept : PeerStream = peer_stream old.keeper (peer_line peer.number) peer.id in
+    ap (λ (q : PeerStream). verdict_in n (op.Bind q) loss (ended_in old.keeper old.ends n (op.Bind q) loss)) asked.is
+    ∙ sym (ap (λ (b : Bool). if b then verdict_in n (op.Bind kept) loss (ended_in old.keeper old.ends n (op.Bind kept)
+    loss) else Some v.Nothing) asked.has)
+by_operation old n (op.Unbind peer) loss asked =
+    let kept : PeerStream = peer_stream old.keeper (peer_line peer.number) peer.id in
+    ap (λ (q : PeerStream). verdict_in n (op.Unbind q) loss (ended_in old.keeper old.ends n (op.Unbind q) loss))
+    asked.is
+    ∙ sym (ap (λ (b : Bool). if b then verdict_in n (op.Unbind kept) loss (ended_in old.keeper old.ends n
+    (op.Unbind kept) loss) else Some v.Nothing) asked.has)
 
 -- on no interface
-pub asked_nowhere : {verdict : Verdict} {old new : Links} (n : ℕ) (o : InterfaceOp) (loss : Option Loss)
-    → None ≡ interface_named old.keeper.interfaces old.ends n → verdict ≡ v.Nothing
+pub asked_nowhere : {verdict : Verdict} {old new : Links} (plan : Plan) (n : ℕ) (o : InterfaceOp) (loss : Option Loss)
+    → AsksPeer old.keeper old.ends n o → None ≡ interface_named old.keeper.interfaces old.ends.links n
+    → verdict ≡ v.Nothing → new ≡ record old { steps = old.steps + 1 }
+    → IsBounded old.ends old.packets.packets old.steps → EndsWith plan verdict old new (Interface (op_event o n loss))
+asked_nowhere {verdict} {old} {new} plan n o loss asked nowhere says is bounded =
+    only_says plan (op_event o n loss)
+    (ap (λ (p : Option (ℕ × ℕ)). verdict_in n o loss (ended_at old.keeper old.ends n o loss p)) nowhere
+    ∙ by_operation old n o loss asked) says is bounded
+
+-- a stream between devices that the plan has has a byte for its ID
+peer_small : (plan : Plan) (v : EndsView) (k : KeeperView) (line stream : ℕ) (o : Option (ℕ × ℕ)) → AreLinks plan v k
+    → has_peer_at v line stream o ≡ true → stream < 256
+peer_small plan v k line stream None links has = absurd cc
+peer_small plan v k line stream (Some at) links has =
+    (peer_line_is plan at.0 line stream links.fits
+    (sym (ap (λ (ps : List PeerPlan). has_peer ps at.0 line stream) links.peers_are) ∙ has)).id_most
+
+no_such : (plan : Plan) (v : EndsView) (k : KeeperView) (line stream : ℕ) (o : Option (ℕ × ℕ)) → AreLinks plan v k
+    → (nat_lt stream 256 && has_peer_at v line stream o) ≡ false → has_peer_at v line stream o ≡ false
+no_such plan v k line stream o links none = by (has_peer_at v line stream o) refl
+  where
+    by : (b : Bool) → has_peer_at v line stream o ≡ b → b ≡ false
+    by false is = refl
+    by true is =
+        let small = peer_small plan v k line stream o links is in
+        let low : nat_lt stream 256 ≡ true = grind (arith, nat_tests, small) in
+        (λ i. sym low i && sym is i) ∙ none
+
+-- of a stream between devices that is not there
+pub no_peer : {verdict : Verdict} {old new : Links} (plan : Plan) (n line stream : ℕ) (o : InterfaceOp)
+    (loss : Option Loss) (e : InterfaceEvent)
+    → peer_verdict_in old.keeper old.ends n line stream o loss ≡ answer_of_links old e
+    → (nat_lt stream 256 && has_peer_in old.keeper old.ends n line stream) ≡ false → verdict ≡ v.Nothing
     → new ≡ record old { steps = old.steps + 1 } → IsBounded old.ends old.packets.packets old.steps
-    → EndsWith verdict old new (Interface (op_event o n loss))
-asked_nowhere {verdict} {old} {new} n o loss nowhere says is bounded =
-    only_says (op_event o n loss)
-    (ap (λ (p : Option (ℕ × ℕ)). verdict_in n o loss
-    (ended_at old.keeper.interfaces old.ends old.keeper.keys.pool.draws n o loss p)) nowhere
-    ∙ by_operation old n o loss) says is bounded
+    → EndsWith plan verdict old new (Interface e)
+no_peer {verdict} {old} {new} plan n line stream o loss e same none says is bounded =
+    nothing_changes plan (Interface e) says is bounded
+    (λ b by h links stands. answers old
+    (sym (ap (λ (b : Bool). if b then verdict_in n o loss (ended_in old.keeper old.ends n o loss) else Some v.Nothing)
+    (no_such plan old.ends old.keeper.keys line stream (interface_named old.keeper.interfaces old.ends.links n) links
+    none)) ∙ same) b plan by _)
 
 -- what it came to at both ends has the verdict that it is due
+record CameTo (old : Links) (n : ℕ) (o : InterfaceOp) (loss : Option Loss) (outcome : Outcome) (k : HostKeeper) :
+    Type 0 where
+  ended : Ended
+  manager_is : k.interfaces ≡ ended.manager
+  due_is : asked_as n loss (report_of o ended) outcome ≡ answer_of_links old (op_event o n loss)
+
 came_to : (old : Links) (n : ℕ) (at : ℕ × ℕ) (o : InterfaceOp) (loss : Option Loss) (outcome : Outcome)
-    (ends : List LinkEnds) (k : HostKeeper) → Some at ≡ interface_named old.keeper.interfaces old.ends n
-    → AsksAt old.ends at.0 old.keeper n o loss outcome ends k
-    → (e : Ended) × (k.interfaces ≡ e.manager)
-    × (asked_as n loss (report_of o e) outcome ≡ answer_of_links old (op_event o n loss))
-came_to old n at o loss outcome ends k named asks =
-    let m : InterfacesView = old.keeper.interfaces in
-    let draws : ℕ = old.keeper.keys.pool.draws in
-    let x = is_found m old.ends n at named in
-    let e : Ended = operated_on n o loss draws m x.ends_at x.kept in
+    (ends : EndsView) (k : HostKeeper) → AsksPeer old.keeper old.ends n o
+    → Some at ≡ interface_named old.keeper.interfaces old.ends.links n
+    → AsksAt old.ends at.0 old.keeper n o loss outcome ends k → CameTo old n o loss outcome k
+came_to old n at o loss outcome ends k asked named asks =
+    let x = is_found old.keeper.interfaces old.ends n at named in
+    let e : Ended = operated_on n o loss old.keeper.keys (live_on old.ends at.0) old.keeper.interfaces x.ends_at x.kept
+    in
     let a = asks x.ends_at x.link_there in
-    let is = a.2.ended x.kept x.kept_there in (
-      e,
-      is.manager_is,
-      ap (λ (z : Outcome). asked_as n loss (report_of o e) z) is.outcome_is
-          ∙ sym (λ i. verdict_in n o loss (ended_on m draws n o loss (x.link_there i) (x.kept_there i)))
-          ∙ ap (λ (p : Option (ℕ × ℕ)). verdict_in n o loss (ended_at m old.ends draws n o loss p)) named
-          ∙ by_operation old n o loss,
-    )
+    let is = a.2.ended x.kept x.kept_there in
+    record {
+      ended = e;
+      manager_is = is.manager_is;
+      due_is = ap (λ (z : Outcome). asked_as n loss (report_of o e) z) is.outcome_is
+          ∙ sym (λ i. verdict_in n o loss (ended_on old.keeper old.ends n o loss at.0 (x.link_there i)
+          (x.kept_there i)))
+          ∙ ap (λ (p : Option (ℕ × ℕ)). verdict_in n o loss (ended_at old.keeper old.ends n o loss p)) named
+          ∙ by_operation old n o loss asked;
+    }
+
+-- it names a stream between devices by its number
+pub names_in : (old : Links) (n : ℕ) (at : ℕ × ℕ) (o : InterfaceOp) (loss : Option Loss) (outcome : Outcome)
+    (ends : EndsView) (k : HostKeeper) → NamesPeer o
+    → Some at ≡ interface_named old.keeper.interfaces old.ends.links n
+    → AsksAt old.ends at.0 old.keeper n o loss outcome ends k → NamesPeerIn outcome
+names_in old n at o loss outcome ends k names named asks =
+    let x = is_found old.keeper.interfaces old.ends n at named in
+    let a = asks x.ends_at x.link_there in
+    let is = a.2.ended x.kept x.kept_there in
+    subst (λ (z : Outcome). NamesPeerIn z) (sym is.outcome_is)
+    (operated_names n o _ _ _ loss old.keeper.interfaces x.ends_at.device.interfaces x.kept names)
 
 -- a report does not say whether an operation has a verdict
 any_report : (n : ℕ) (loss : Option Loss) (report other : List ℕ) (outcome : Outcome)
@@ -212,35 +309,35 @@ link_of None link is = absurd (none-some link is)
 link_of (Some at) link is = (at, refl, same_Some at.0 link is)
 
 pub answered : (old : Links) (n link : ℕ) (o : InterfaceOp) (loss : Option Loss) (outcome : Outcome)
-    (ends : List LinkEnds) (k : HostKeeper) → link_named old.keeper.interfaces old.ends n ≡ Some link
+    (ends : EndsView) (k : HostKeeper) → AsksPeer old.keeper old.ends n o
+    → link_named old.keeper.interfaces old.ends.links n ≡ Some link
     → AsksAt old.ends link old.keeper n o loss outcome ends k → IsSome (answer_of_links old (op_event o n loss))
     → (report : List ℕ) → IsSome (asked_as n loss report outcome)
-answered old n link o loss outcome ends k here asks some report =
-    let at = link_of (interface_named old.keeper.interfaces old.ends n) link here in
-    let x = came_to old n at.0 o loss outcome ends k at.1
+answered old n link o loss outcome ends k asked here asks some report =
+    let at = link_of (interface_named old.keeper.interfaces old.ends.links n) link here in
+    let x = came_to old n at.0 o loss outcome ends k asked at.1
     (subst (λ (i : ℕ). AsksAt old.ends i old.keeper n o loss outcome ends k) (sym at.2) asks) in
-    any_report n loss (report_of o x.0) report outcome (subst (λ (y : Option Verdict). IsSome y) (sym x.2) some)
+    any_report n loss (report_of o x.ended) report outcome
+    (subst (λ (y : Option Verdict). IsSome y) (sym x.due_is) some)
 
-pub operated_as : (old : Links) (n : ℕ) (at : ℕ × ℕ) (o : InterfaceOp) (loss : Option Loss) (outcome : Outcome)
-    (ends : List LinkEnds) (k : HostKeeper) (new : Links) (verdict : Verdict)
-    (report : List ℕ)
-    → Some at ≡ interface_named old.keeper.interfaces old.ends n
+pub operated_as : (plan : Plan) (old : Links) (n : ℕ) (at : ℕ × ℕ) (o : InterfaceOp) (loss : Option Loss)
+    (outcome : Outcome) (ends : EndsView) (k : HostKeeper) (new : Links) (verdict : Verdict) (report : List ℕ)
+    → AsksPeer old.keeper old.ends n o → Some at ≡ interface_named old.keeper.interfaces old.ends.links n
     → AsksAt old.ends at.0 old.keeper n o loss outcome ends k
     → asked_as n loss report outcome ≡ Some verdict → ((e : Ended) → k.interfaces ≡ e.manager → report ≡ report_of o e)
     → new ≡ record old { ends = ends; keeper = k; steps = old.steps + 1 }
     → IsBounded old.ends old.packets.packets old.steps
-    → EndsWith verdict old new (Interface (op_event o n loss))
-operated_as old n at o loss outcome ends k new verdict report named asks says reads new_is bounded =
+    → EndsWith plan verdict old new (Interface (op_event o n loss))
+operated_as plan old n at o loss outcome ends k new verdict report asked named asks says reads new_is bounded =
     let x = is_found old.keeper.interfaces old.ends n at named in
     let a = asks x.ends_at x.link_there in
-    let came = came_to old n at o loss outcome ends k named asks in
+    let came = came_to old n at o loss outcome ends k asked named asks in
     let due : Some verdict ≡ answer_of_links old (op_event o n loss) =
-    sym says ∙ ap (λ (r : List ℕ). asked_as n loss r outcome) (reads came.0 came.1) ∙ came.2 in
-    subst (λ (q : Links). EndsWith verdict old q (Interface (op_event o n loss))) (sym new_is)
-    (subst (λ (q : HostKeeper). EndsWith verdict old (record old { ends = ends; keeper = q; steps = old.steps + 1 })
-    (Interface (op_event o n loss))) (λ i. record { keys = sym a.2.keys i; interfaces = k.interfaces })
-    (interfaces_change old at.0 x.ends_at a.0.device.interfaces ends k.interfaces verdict (op_event o n loss) due
-    x.link_there (a.1 ∙ ap (λ (y : LinkEnds). slice_set old.ends at.0 y) a.2.ends) bounded))
+    sym says ∙ ap (λ (r : List ℕ). asked_as n loss r outcome) (reads came.ended came.manager_is) ∙ came.due_is in
+    interfaces_change plan old new at.0 x.ends_at a.0.device.interfaces ends k verdict (op_event o n loss) due
+    x.link_there
+    (a.1 ∙ ap (λ (y : LinkEnds). record old.ends { links = slice_set old.ends.links at.0 y }) a.2.ends) a.2.keys new_is
+    bounded
 
 -- ---- whether it runs, and the draw at its device
 
@@ -250,30 +347,87 @@ run_code (ConfigLocked lock nonce) = refl
 run_code (Run lock) = refl
 run_code Error = refl
 
-pub runs_not : (s : Links) (n : ℕ) → None ≡ interface_named s.keeper.interfaces s.ends n → false ≡ runs_in s n
+pub runs_not : (s : Links) (n : ℕ) → None ≡ interface_named s.keeper.interfaces s.ends.links n → false ≡ runs_in s n
 runs_not s n nowhere =
-    ap (λ (o : Option (ℕ × ℕ)). option_map_or (λ (t : Tdi). is_run t.state) (option_and_then (tdi_of_ends s.ends) o)
+    ap (λ (o : Option (ℕ × ℕ)). option_map_or (λ (t : Tdi). is_run t.state)
+    (option_and_then (tdi_of_ends s.ends.links) o)
     false) nowhere
 
-pub runs_at : (s : Links) (n : ℕ) (at : ℕ × ℕ) (b : Bool) → Some at ≡ interface_named s.keeper.interfaces s.ends n
-    → IfSome (slice_get s.ends at.0) (λ (l : LinkEnds). IfSome (slice_get l.device.interfaces.interfaces at.1)
+pub runs_at : (s : Links) (n : ℕ) (at : ℕ × ℕ) (b : Bool) → Some at ≡ interface_named s.keeper.interfaces s.ends.links n
+    → IfSome (slice_get s.ends.links at.0) (λ (l : LinkEnds). IfSome (slice_get l.device.interfaces.interfaces at.1)
     (λ (t : Tdi). b ≡ (state_code t.state == 2))) → b ≡ runs_in s n
 runs_at s n at b named says =
     let x = is_found s.keeper.interfaces s.ends n at named in
     if_some (λ (t : Tdi). b ≡ (state_code t.state == 2)) (slice_get x.ends_at.device.interfaces.interfaces at.1) x.tdi
     x.tdi_there
     (if_some (λ (l : LinkEnds). IfSome (slice_get l.device.interfaces.interfaces at.1)
-    (λ (t : Tdi). b ≡ (state_code t.state == 2))) (slice_get s.ends at.0) x.ends_at x.link_there says)
+    (λ (t : Tdi). b ≡ (state_code t.state == 2))) (slice_get s.ends.links at.0) x.ends_at x.link_there says)
     ∙ run_code x.tdi.state
     ∙ sym (ap (λ (o : Option Tdi). option_map_or (λ (t : Tdi). is_run t.state) o false) x.named_is)
 
-pub draw_is : (s : Links) (i link stream : ℕ) (l : LinkEnds) (x : HostTdi) (o : Option ℕ) → slice_get s.ends link
-    ≡ Some l → slice_get s.keeper.interfaces.interfaces i ≡ Some x → stream ≡ x.stream
-    → o ≡ receiving_draw_in l.device.port stream Pr → option_map_or (λ (d : ℕ). d) o 0 ≡ device_draw s i link
-draw_is s i link stream l x o l_is x_is stream_is says =
+pub draw_is : (s : Links) (i link stream : ℕ) (l : LinkEnds) (x : HostTdi) (o : Option ℕ) → length s.ends.links ≤ 8
+    → slice_get s.ends.links link ≡ Some l → slice_get s.keeper.interfaces.interfaces i ≡ Some x → stream ≡ x.stream
+    → o ≡ option_and_then (λ (e : PortEnd). receiving_draw_in e stream Pr) (port_on s.ends (device_port link))
+    → option_map_or (λ (d : ℕ). d) o 0 ≡ device_draw s i link
+draw_is s i link stream l x o few l_is x_is stream_is says =
     let named : stream ≡ planned_stream s i =
     stream_is ∙ sym (ap (λ (p : Option HostTdi). option_map_or (λ (y : HostTdi). y.stream) p 0) x_is) in
+    let within = slice_get_within s.ends.links link l l_is in
+    let low : nat_lt link 8 ≡ true = grind (arith, nat_tests, within, few) in
+    let on : port_on s.ends (device_port link) ≡ Some l.device.port =
+    rw low (ap (λ (p : Option LinkEnds). option_map (λ (y : LinkEnds). port_in Device y) p) l_is) in
     ap (λ (p : Option ℕ). option_map_or (λ (d : ℕ). d) p 0)
-    (says ∙ (λ j. receiving_draw_in l.device.port (named j) Pr)
+    (says ∙ ap (λ (p : Option PortEnd). option_and_then (λ (e : PortEnd). receiving_draw_in e stream Pr) p) on
+    ∙ (λ j. receiving_draw_in l.device.port (named j) Pr)
     ∙ sym (ap (λ (p : Option LinkEnds). option_and_then (λ (y : LinkEnds).
     receiving_draw_in y.device.port (planned_stream s i) Pr) p) l_is))
+
+-- ---- streams between devices
+
+pub none_if : {A : Type 0} (b : Bool) (x : A) → None ≡ (if b then Some x else None) → b ≡ false
+none_if true x is = absurd (none-some x is)
+none_if false x is = refl
+
+pub some_if : {A : Type 0} (b : Bool) (x y : A) → Some y ≡ (if b then Some x else None) → (b ≡ true) × (y ≡ x)
+some_if true x y is = (refl, same_Some y x is)
+some_if false x y is = absurd (none-some y (sym is))
+
+line_back : (line : ℕ) → is_peer_line line ≡ true → peer_line (peer_of line) ≡ line
+line_back line is = (let least : 24 ≤ line = grind (arith, nat_tests, is) in omega (arith, least))
+
+number_few : (line : ℕ) → is_peer_line line ≡ true → peer_of line < 8
+number_few line is = (let most : line < 32 = grind (arith, nat_tests, is) in
+    let least : 24 ≤ line = grind (arith, nat_tests, is) in omega (arith, most, least))
+
+-- the stream between devices of a line and an ID, where the interface's device has it
+pub record Names (k : HostKeeper) (v : EndsView) (n line stream : ℕ) (peer : PeerStream) : Type 0 where
+  pub small : stream < 256
+  pub has : has_peer_in k v n line stream ≡ true
+  pub peer_is : peer ≡ peer_stream k line stream
+  pub line_is : peer_line peer.number ≡ line
+  pub id_is : peer.id ≡ stream
+  pub few : peer.number < 8
+  pub is_peer : IsPeerOf k v n peer
+
+pub names_peer : (k : HostKeeper) (v : EndsView) (n line stream : ℕ) (peer : PeerStream) → is_peer_line line ≡ true
+    → Some peer ≡ (if nat_lt stream 256 && has_peer_in k v n line stream then Some (peer_stream k line stream) else
+    None)
+    → Names k v n line stream peer
+names_peer k v n line stream peer late is =
+    let parts = some_if (nat_lt stream 256 && has_peer_in k v n line stream) (peer_stream k line stream) peer is in
+    let both = and_parts (nat_lt stream 256) (has_peer_in k v n line stream) parts.0 in
+    let number : peer.number ≡ peer_of line = ap (λ (p : PeerStream). p.number) parts.1 in
+    let line_is : peer_line peer.number ≡ line = ap (λ (i : ℕ). peer_line i) number ∙ line_back line late in
+    let id_is : peer.id ≡ stream = ap (λ (p : PeerStream). p.id) parts.1 in
+    record {
+      small = true-lt stream 256 both.0;
+      has = both.1;
+      peer_is = parts.1;
+      line_is = line_is;
+      id_is = id_is;
+      few = subst (λ (i : ℕ). i < 8) (sym number) (number_few line late);
+      is_peer = record {
+        has = (λ i. has_peer_in k v n (line_is i) (id_is i)) ∙ both.1;
+        is = parts.1 ∙ (λ i. peer_stream k (sym line_is i) (sym id_is i));
+      };
+    }

@@ -2,7 +2,7 @@
 -- on interfaces.
 use Rattle.all_links.proofs.Terms.{◌≡◌, ◌+◌, List, refl, ap, sym, ◌∙◌, subst, arith, Plan, LinkState, LinkPacket, Some}
 use Rattle.all_links.proofs.Terms.{Stepped, Verdict, History, PortsStandFor, Links, state_of, IsBounded, AreLinks}
-use Rattle.all_links.proofs.Terms.{links_state, EndsIf, EndsWith, beside_in, Ends, Beside}
+use Rattle.all_links.proofs.Terms.{links_state, EndsBy, EndsIf, EndsWith, beside_in, Ends, Beside}
 use Rattle.all_links.proofs.Terms.{Interface, true, false, Option, None, IfSome, IsSome, is_some, EndsAs, HasNoVerdict}
 use Rattle.all_links.proofs.Terms.{same_Some, step_of, IsAnsweredBy, answer_of_links}
 use Rattle.link_events.specs.declared.event.Event.{Event}
@@ -10,37 +10,46 @@ use Rattle.link_events.specs.declared.event.InterfaceEvent.{InterfaceEvent}
 
 -- ---- events that change nothing
 
-pub nothing_changes : {IsSo : Plan → Beside → Type 0} {verdict w : Verdict} {old new : Links} {e : Event}
+pub nothing_steps : {IsSo : Beside → Type 0} {step : Beside → LinkState → Stepped} {verdict w : Verdict}
+    {old new : Links} (plan : Plan)
     → verdict ≡ w → new ≡ record old { steps = old.steps + 1 } → IsBounded old.ends old.packets.packets old.steps
-    → ((b : Beside) (plan : Plan) → IsSo plan b → (h : History) → AreLinks plan old.ends old.keeper.keys
+    → ((b : Beside) → IsSo b → (h : History) → AreLinks plan old.ends old.keeper.keys
     → PortsStandFor plan (links_state plan old) h
-    → step_of plan (beside_in old b) (links_state plan old) e ≡ (w, links_state plan old))
-    → EndsIf IsSo verdict old new e
-nothing_changes {IsSo} {verdict} {w} {old} {new} {e} says is bounded same =
-    subst (λ (s : Links). EndsIf IsSo verdict old s e) (sym is) (record {
+    → step (beside_in old b) (links_state plan old) ≡ (w, links_state plan old))
+    → EndsBy IsSo step plan verdict old new
+nothing_steps {IsSo} {step} {verdict} {w} {old} {new} plan says is bounded same =
+    subst (λ (s : Links). EndsBy IsSo step plan verdict old s) (sym is) (record {
       counted = refl;
       many = refl;
       regions = refl;
       bounded = record {
         few = bounded.few;
-        host_calls = λ i x at. omega (arith, bounded.host_calls i x at);
-        device_calls = λ i x at. omega (arith, bounded.device_calls i x at);
+        calls = λ end e at. (let most = bounded.calls end e at in omega (arith, most));
         sealed_here = bounded.sealed_here;
       };
-      ends = λ b plan so h links stands.
-          let step = same b plan so h links stands in record {
-            verdict_is = says ∙ ap (λ (x : Stepped). x.0) (sym step);
-            state_is = ap (λ (x : Stepped). x.1) (sym step);
+      ends = λ b so h links stands.
+          let made = same b so h links stands in record {
+            verdict_is = says ∙ ap (λ (x : Stepped). x.0) (sym made);
+            state_is = ap (λ (x : Stepped). x.1) (sym made);
             links = links;
           };
     })
 
+pub nothing_changes : {IsSo : Beside → Type 0} {verdict w : Verdict} {old new : Links} (plan : Plan) (e : Event)
+    → verdict ≡ w → new ≡ record old { steps = old.steps + 1 } → IsBounded old.ends old.packets.packets old.steps
+    → ((b : Beside) → IsSo b → (h : History) → AreLinks plan old.ends old.keeper.keys
+    → PortsStandFor plan (links_state plan old) h
+    → step_of plan (beside_in old b) (links_state plan old) e ≡ (w, links_state plan old))
+    → EndsIf IsSo plan verdict old new e
+nothing_changes {IsSo} {verdict} {w} {old} {new} plan e says is bounded same =
+    nothing_steps {IsSo = IsSo} {step = λ b st. step_of plan b st e} plan says is bounded same
+
 -- ---- a verdict, or none
 
-pub ends_as : (o : Option Verdict) (old new : Links) (e : Event) → ((verdict : Verdict) → o ≡ Some verdict
-    → EndsWith verdict old new e) → (o ≡ None → HasNoVerdict old e) → EndsAs o old new e
-ends_as (Some verdict) old new e ends none = ends verdict refl
-ends_as None old new e ends none = none refl
+pub ends_as : (plan : Plan) (o : Option Verdict) (old new : Links) (e : Event) → ((verdict : Verdict) → o ≡ Some verdict
+    → EndsWith plan verdict old new e) → (o ≡ None → HasNoVerdict plan old e) → EndsAs plan o old new e
+ends_as plan (Some verdict) old new e ends none = ends verdict refl
+ends_as plan None old new e ends none = none refl
 
 pub if_some : (o : Option Verdict) (P : Verdict → Type 0) → ((verdict : Verdict) → o ≡ Some verdict → P verdict)
     → IfSome o P
@@ -52,21 +61,24 @@ some_none some none = let same : false ≡ true = subst (λ (o : Option Verdict)
 
 -- ---- room that is taken first
 
-pub reserved : {verdict : Verdict} {new : Links} (old mid : Links) (e : Event) → mid
-    ≡ record old { packets = mid.packets } → mid.packets.packets ≡ old.packets.packets
-    → EndsWith verdict mid new e → EndsWith verdict old new e
-reserved {verdict} {new} old mid e is same x = from (subst (λ (m : Links). EndsWith verdict m new e) is x)
+pub reserved : {IsSo : Beside → Type 0} {step : Beside → LinkState → Stepped} {verdict : Verdict} {new : Links}
+    (plan : Plan) (old mid : Links) → mid ≡ record old { packets = mid.packets }
+    → mid.packets.packets ≡ old.packets.packets → EndsBy IsSo step plan verdict mid new
+    → EndsBy IsSo step plan verdict old new
+reserved {IsSo} {step} {verdict} {new} plan old mid is same x =
+    from (subst (λ (m : Links). EndsBy IsSo step plan verdict m new) is x)
   where
-    from : EndsWith verdict (record old { packets = mid.packets }) new e → EndsWith verdict old new e
+    from : EndsBy IsSo step plan verdict (record old { packets = mid.packets }) new
+        → EndsBy IsSo step plan verdict old new
     from y = record {
       counted = y.counted;
       bounded = y.bounded;
       many = y.many;
       regions = y.regions;
-      ends = λ b plan by h links stands.
+      ends = λ b by h links stands.
           subst (λ (ps : List LinkPacket). Ends plan new verdict
-          (step_of plan (beside_in old b) (state_of plan old.ends old.keeper.keys ps) e))
-          same (y.ends b plan by h links
+          (step (beside_in old b) (state_of plan old.ends old.keeper.keys ps)))
+          same (y.ends b by h links
           (subst (λ (ps : List LinkPacket). PortsStandFor plan (state_of plan old.ends old.keeper.keys ps) h) (sym same)
           stands));
     }
@@ -75,15 +87,15 @@ reserved {verdict} {new} old mid e is same x = from (subst (λ (m : Links). Ends
 
 -- the step of an event that has a verdict
 pub answers : {verdict : Verdict} {e : InterfaceEvent} (old : Links) → Some verdict ≡ answer_of_links old e
-    → (b : Beside) (plan : Plan) → IsAnsweredBy old (Interface e) plan b → (st : LinkState)
+    → (b : Beside) (plan : Plan) → IsAnsweredBy old (Interface e) b → (st : LinkState)
     → step_of plan (beside_in old b) st (Interface e) ≡ (verdict, st)
 unfolding step_of
 answers {verdict} {e} old says b plan by st =
     ap (λ (w : Verdict). (w, st)) (sym (same_Some verdict (b.answer e) (says ∙ by e refl)))
 
 -- a verdict that changes nothing
-pub only_says : {verdict w : Verdict} {old new : Links} (e : InterfaceEvent) → Some w ≡ answer_of_links old e
-    → verdict ≡ w → new ≡ record old { steps = old.steps + 1 } → IsBounded old.ends old.packets.packets old.steps
-    → EndsWith verdict old new (Interface e)
-only_says {verdict} {w} {old} {new} e due says is bounded =
-    nothing_changes says is bounded (λ b plan by h links stands. answers old due b plan by _)
+pub only_says : {verdict w : Verdict} {old new : Links} (plan : Plan) (e : InterfaceEvent)
+    → Some w ≡ answer_of_links old e → verdict ≡ w → new ≡ record old { steps = old.steps + 1 }
+    → IsBounded old.ends old.packets.packets old.steps → EndsWith plan verdict old new (Interface e)
+only_says {verdict} {w} {old} {new} plan e due says is bounded =
+    nothing_changes plan (Interface e) says is bounded (λ b by h links stands. answers old due b plan by _)

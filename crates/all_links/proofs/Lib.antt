@@ -5,7 +5,7 @@ pub mod Sends
 pub mod Resets
 mod Operations
 pub mod Asked
+mod Settled
 pub mod Sides
-pub mod Accesses
-pub use Rattle.all_ends.proofs.Finds.{find_at, port_is, there}
-pub use Rattle.link_ends.proofs.Streams.{machine_found}
+pub use Rattle.interface_answers.proofs.{find_at, port_is, wired, there, set_read, machine_found}
+pub use Rattle.line_arrivals.proofs.{end_found, op_is, unnamed}

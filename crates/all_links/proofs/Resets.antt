@@ -1,105 +1,140 @@
 -- The states of streams that are read, and resets, as the machine has them.
-use Rattle.all_links.proofs.Terms.{length-set}
-use Rattle.all_links.proofs.Terms.{beside_in, InterfacesView, ◌≡◌, ℕ, ◌+◌, Bool, true, List, length, refl, ap, sym, ◌∙◌}
-use Rattle.all_links.proofs.Terms.{subst, arith, Option, Some, None, is_some, slice_get, slice_set, nat_lt}
-use Rattle.all_links.proofs.Terms.{if◌then◌else◌, true-lt, Op, History, Host, Device, StreamStatus, Plan, Reset, Status}
-use Rattle.all_links.proofs.Terms.{Stepped, status_at, status_found, step_of, reset_state, PortsStandFor, named}
-use Rattle.all_links.proofs.Terms.{LinkEnds, Links, reset_ends, stream_named, KeeperView, ResetsAt, statuses_of}
-use Rattle.all_links.proofs.Terms.{both_of, IsBounded, AreLinks, links_state, EndsWith, Beside}
+use Rattle.all_links.proofs.Terms.{
+  ◌≡◌,
+  ℕ,
+  ◌+◌,
+  Bool,
+  true,
+  List,
+  length,
+  refl,
+  ap,
+  sym,
+  ◌∙◌,
+  subst,
+  arith,
+  Option,
+  Some,
+}
+use Rattle.all_links.proofs.Terms.{None, is_some, nat_lt, if◌then◌else◌, Op, History, Host, Device, StreamStatus, Plan}
+use Rattle.all_links.proofs.Terms.{Reset, Status, Stepped, status_at, status_found, step_of, reset_state}
+use Rattle.all_links.proofs.Terms.{PortsStandFor, named, EndsView, port_on, Links, stream_named, KeeperView, ResetsAt}
+use Rattle.all_links.proofs.Terms.{statuses_of, both_of, IsBounded, AreLinks, links_state, EndsWith, Beside, beside_in}
+use Rattle.all_links.proofs.Terms.{option_and_then, PortEnd, PortName}
 use Rattle.link_verdicts.specs.declared.verdict.Verdict.TheVariants as v
-use Rattle.all_ends.proofs.Finds.{there, links_kept, bounded_kept}
-use Rattle.all_ends.proofs.Streams.{IsName, at_side, ends_reset, keeper_reset, op_is, planned, reset_kept, reset_names}
-use Rattle.all_ends.proofs.Streams.{some_op, state_reset, unnamed}
+use Rattle.ide_types.specs.Ports.{host_port, device_port}
+use Rattle.ide_port.specs.{status_in}
+use Rattle.interface_answers.specs.{HostKeeper, reset_all, port_at_place, pair_port, line_place, LinePlace, Link, Near}
+use Rattle.interface_answers.specs.{Pair, PairEnds, state_of}
+use Rattle.all_links.proofs.Terms.{LinkEnds, none-some, option_map, port_in, slice_get}
+use Rattle.interface_answers.proofs.{bounded_then}
+use Rattle.line_arrivals.proofs.{reset_grows, links_reset, state_reset, keeper_reset, IsName, at_side, op_is, planned}
+use Rattle.line_arrivals.proofs.{some_op, unnamed}
+
+some_end : (o : Option PortEnd) → is_some o ≡ true → (e : PortEnd) × (o ≡ Some e)
+some_end (Some e) is = (e, refl)
+some_end None is = absurd cc
+
+-- a line that has a near end has a far one
+far_there : (v : EndsView) (line : ℕ) (e : PortEnd) → port_on v (host_port line) ≡ Some e
+    → (far : PortEnd) × (port_on v (device_port line) ≡ Some far)
+far_there v line e is = by (line_place line) is
+  where
+    link : (o : Option LinkEnds) → option_map (λ (l : LinkEnds). port_in Host l) o ≡ Some e
+        → (far : PortEnd) × (option_map (λ (l : LinkEnds). port_in Device l) o ≡ Some far)
+    link None none = absurd (none-some e none)
+    link (Some l) there = (l.device.port, refl)
+
+    pair : (o : Option PairEnds) → option_map (λ (l : PairEnds). pair_port Host l) o ≡ Some e
+        → (far : PortEnd) × (option_map (λ (l : PairEnds). pair_port Device l) o ≡ Some far)
+    pair None none = absurd (none-some e none)
+    pair (Some l) there = (l.far.port, refl)
+
+    by : (place : LinePlace) → port_at_place v Host place ≡ Some e
+        → (far : PortEnd) × (port_at_place v Device place ≡ Some far)
+    by (Link i) there = link (slice_get v.links i) there
+    by (Near i) there = link (slice_get v.near i) there
+    by (Pair i) there = pair (slice_get v.pairs i) there
 
 -- the states that were read, under the numbers that a name gives
-pub status_read : (old : Links) (plan : Plan) (h : History) (link stream a b : ℕ)
+pub status_read : (old : Links) (plan : Plan) (h : History) (line stream a b : ℕ)
     (read : Option (StreamStatus × StreamStatus))
     → AreLinks plan old.ends old.keeper.keys → PortsStandFor plan (links_state plan old) h
-    → IsName old.keeper.keys.manager (length old.ends) link stream a b
-    → ((l : LinkEnds) → slice_get old.ends a ≡ Some l → read ≡ statuses_of l b)
+    → IsName old.keeper.keys.manager old.ends line stream a b → read ≡ statuses_of old.ends a b
     → read ≡ Some (
-      status_at plan (links_state plan old) Host link stream,
-      status_at plan (links_state plan old) Device
-          link stream,
+      status_at plan (links_state plan old) Host line stream,
+      status_at plan (links_state plan old) Device line stream,
     )
-status_read old plan h link stream a b read links stands n reads =
-    let f = there old.ends link n.within in
-    let q = some_op (named old.keeper.keys.manager link stream) n.there in
-    let known = planned plan h link stream q.0
-    (sym (stands.ops_is link stream) ∙ op_is plan old.ends old.keeper.keys old.packets.packets link stream links ∙
+status_read old plan h line stream a b read links stands n reads =
+    let q = some_op (named old.keeper.keys.manager line stream) n.there in
+    let known = planned plan h line stream q.0
+    (sym (stands.ops_is line stream) ∙ op_is plan old.ends old.keeper.keys old.packets.packets line stream links ∙
     q.1) in
-    reads f.0 (ap (λ (i : ℕ). slice_get old.ends i) n.link_is ∙ f.1) ∙ ap (λ (s : ℕ). statuses_of f.0 s) n.stream_is
-    ∙ (λ i. both_of (at_side plan old.ends old.keeper.keys old.packets.packets h link stream f.0 Host links stands known
-    f.1 i)
-    (at_side plan old.ends old.keeper.keys old.packets.packets h link stream f.0 Device links stands known f.1 i))
+    let near = some_end (port_on old.ends (host_port line)) n.end_there in
+    let far = far_there old.ends line near.0 near.1 in
+    reads ∙ (λ i. statuses_of old.ends (n.line_is i) (n.stream_is i))
+    ∙ (λ i. both_of (option_and_then (λ (e : PortEnd). status_in e stream) (near.1 i))
+    (option_and_then (λ (e : PortEnd). status_in e stream) (far.1 i)))
+    ∙ (λ i. both_of
+    (at_side plan old.ends old.keeper.keys old.packets.packets h line stream Host near.0 links stands known near.1 i)
+    (at_side plan old.ends old.keeper.keys old.packets.packets h line stream Device far.0 links stands known far.1 i))
 
-pub status_nowhere : (b : Beside) (old : Links) (plan : Plan) (link stream : ℕ)
+pub status_nowhere : (b : Beside) (old : Links) (plan : Plan) (line stream : ℕ)
     → AreLinks plan old.ends old.keeper.keys
-    → None ≡ stream_named old.keeper.keys.manager (length old.ends) link stream
-    → step_of plan b (links_state plan old) (Status link stream) ≡ (v.Nothing, links_state plan old)
+    → None ≡ stream_named old.keeper.keys.manager old.ends line stream
+    → step_of plan b (links_state plan old) (Status line stream) ≡ (v.Nothing, links_state plan old)
 unfolding step_of
-status_nowhere b old plan link stream links is = ap
-    (λ (o : Option Op). status_found plan (links_state plan old) link stream o)
-    (unnamed plan old.ends old.keeper.keys old.packets.packets link stream links is)
+status_nowhere b old plan line stream links is = ap
+    (λ (o : Option Op). status_found plan (links_state plan old) line stream o)
+    (unnamed plan old.ends old.keeper.keys old.packets.packets line stream links is)
 
-pub status_here : (b : Beside) (old : Links) (plan : Plan) (link stream : ℕ) → AreLinks plan old.ends old.keeper.keys
-    → is_some (named old.keeper.keys.manager link stream) ≡ true
-    → step_of plan b (links_state plan old) (Status link stream)
+pub status_here : (b : Beside) (old : Links) (plan : Plan) (line stream : ℕ) → AreLinks plan old.ends old.keeper.keys
+    → is_some (named old.keeper.keys.manager line stream) ≡ true
+    → step_of plan b (links_state plan old) (Status line stream)
     ≡ (
-      v.Status link stream (status_at plan (links_state plan old) Host link stream)
-          (status_at plan (links_state plan old) Device link stream),
+      v.Status line stream (status_at plan (links_state plan old) Host line stream)
+          (status_at plan (links_state plan old) Device line stream),
       links_state plan old,
     )
 unfolding step_of
-status_here b old plan link stream links there =
-    ap (λ (o : Option Op). status_found plan (links_state plan old) link stream o)
-    (op_is plan old.ends old.keeper.keys old.packets.packets link stream links ∙
-    (some_op (named old.keeper.keys.manager link stream) there).1)
+status_here b old plan line stream links there_is =
+    let q = some_op (named old.keeper.keys.manager line stream) there_is in
+    ap (λ (o : Option Op). status_found plan (links_state plan old) line stream o)
+    (op_is plan old.ends old.keeper.keys old.packets.packets line stream links ∙ q.1)
 
-pub reset_step : (b : Beside) (old : Links) (plan : Plan) (link : ℕ) (here : Bool)
-    → AreLinks plan old.ends old.keeper.keys → here ≡ nat_lt link (length old.ends)
-    → step_of plan b (links_state plan old) (Reset link)
-    ≡ (if here then (v.Reset link, reset_state plan (links_state plan old) link) else (v.Nothing, links_state plan old))
+-- ---- resets
+
+pub reset_step : (b : Beside) (old : Links) (plan : Plan) (link : ℕ) (es : List PortName) (here : Bool)
+    → AreLinks plan old.ends old.keeper.keys → here ≡ nat_lt link (length old.ends.links)
+    → step_of plan b (links_state plan old) (Reset link es)
+    ≡ (if here then (v.Reset link, reset_state plan (links_state plan old) es) else (v.Nothing, links_state plan old))
 unfolding step_of
-reset_step b old plan link here links is =
-    ap (λ (t : Bool). if t then (v.Reset link, reset_state plan (links_state plan old) link) else
+reset_step b old plan link es here links is =
+    ap (λ (t : Bool). if t then (v.Reset link, reset_state plan (links_state plan old) es) else
     (v.Nothing, links_state plan old))
     (ap (λ (n : ℕ). nat_lt link n) (sym links.many) ∙ sym is)
 
-pub resets : (old : Links) (link : ℕ) (ends : List LinkEnds) (m : InterfacesView) (k : KeeperView)
-    → IsBounded old.ends old.packets.packets old.steps → nat_lt link (length old.ends) ≡ true
-    → ResetsAt old.ends link ends → k ≡ keeper_reset link old.keeper.keys
-    → EndsWith (v.Reset link) old
-    (record old { ends = ends; keeper = record { keys = k; interfaces = m }; steps = old.steps + 1 })
-    (Reset link)
-resets old link ends m k bounded here ends_are keeper =
-    let f = there old.ends link (true-lt link (length old.ends) here) in
-    let a = ends_are f.0 f.1 in
-    let ends_is : ends ≡ slice_set old.ends link (reset_ends f.0) = a.1 ∙ ap
-    (λ (y : LinkEnds). slice_set old.ends link y) a.2 in
-    subst (λ (xs : List LinkEnds). EndsWith (v.Reset link) old
-    (record old { ends = xs; keeper = record { keys = k; interfaces = m }; steps = old.steps + 1 })
-    (Reset link)) (sym ends_is)
-    (subst (λ (j : KeeperView). EndsWith (v.Reset link) old
-    (record old {
-      ends = slice_set old.ends link (reset_ends f.0);
-      keeper = record { keys = j; interfaces = m };
-      steps = old.steps + 1;
-    }) (Reset link)) (sym keeper) (record {
+pub resets : (plan : Plan) (old : Links) (link : ℕ) (es : List PortName) (ends : EndsView) (k : HostKeeper)
+    → IsBounded old.ends old.packets.packets old.steps → nat_lt link (length old.ends.links) ≡ true
+    → ResetsAt old.ends link es ends → k.keys ≡ keeper_reset es old.keeper.keys
+    → EndsWith plan (v.Reset link) old (record old { ends = ends; keeper = k; steps = old.steps + 1 }) (Reset link es)
+resets plan old link es ends k bounded here ends_are keys =
+    let grows = reset_grows link es old.ends in
+    subst (λ (w : EndsView). EndsWith plan (v.Reset link) old
+    (record old { ends = w; keeper = k; steps = old.steps + 1 }) (Reset link es)) (sym ends_are) (record {
       counted = refl;
-      many = length-set old.ends link (reset_ends f.0);
+      many = grows.many;
       regions = refl;
-      bounded = bounded_kept old.ends old.packets.packets old.packets.packets old.steps link f.0 _ bounded f.1
-          (omega arith) (omega arith) bounded.sealed_here;
-      ends = λ b plan by h links stands.
-          let step = reset_step (beside_in old b) old plan link true links (sym here) in
+      bounded = bounded_then 0 old.ends (reset_all link es old.ends) old.packets.packets old.packets.packets old.steps
+          (omega arith) bounded grows bounded.sealed_here;
+      ends = λ b by h links stands.
+          let step = reset_step (beside_in old b) old plan link es true links (sym here) in
           record {
             verdict_is = ap (λ (x : Stepped). x.0) (sym step);
-            state_is = state_reset plan old.ends old.keeper.keys old.packets.packets link f.0 links f.1 ∙ ap
-                (λ (x : Stepped). x.1) (sym step);
-            links = links_kept plan old.ends old.keeper.keys (keeper_reset link old.keeper.keys) link f.0 _ links f.1
-                (ends_reset f.0)
-                (reset_names link old.keeper.keys.manager.streams)
-                (reset_kept plan link old.keeper.keys.manager.streams links.kept) refl;
+            state_is = (λ i. state_of plan (reset_all link es old.ends) (keys i) old.packets.packets)
+                ∙ (state_reset plan old.ends old.keeper.keys old.packets.packets link es links
+                ∙ ap (λ (x : Stepped). x.1) (sym step));
+            links = subst (λ (x : KeeperView). AreLinks plan (reset_all link es old.ends) x) (sym keys)
+                (links_reset plan link es old.ends old.keeper.keys links);
           };
-    }))
+    })

@@ -1,112 +1,168 @@
--- Sends at a port of the links, as the machine has them.
-use Rattle.all_links.proofs.Terms.{length-set}
-use Rattle.all_links.proofs.Terms.{◌≡◌, ℕ, ◌+◌, ◌<◌, Bool, true, List, [], ◌++◌, length, refl, ap, sym, ◌∙◌, arith}
-use Rattle.all_links.proofs.Terms.{Option, Some, slice_get, slice_set, map, sum_by, nat_lt, if◌then◌else◌, PortName}
-use Rattle.all_links.proofs.Terms.{Plan, Verdict, SealedPacket, LinkPacket, Stepped, kept_at, step_of, joined_packets}
-use Rattle.all_links.proofs.Terms.{Sent, PortEnd, SendStep, send_step, sent_verdict, lengths_sent, IsSentAtPort}
-use Rattle.all_links.proofs.Terms.{LinkEnds, Links, cut_packets, port_in, with_port, SendsAt, state_of, IsBounded}
-use Rattle.all_links.proofs.Terms.{AreLinks, links_state, EndsWith, lt-true, Send, Side, Host, Device}
+-- Sends at an end of a line, as the machine has them.
+use Rattle.std.specs.Prelude.{zero, suc}
+use Rattle.all_links.proofs.Terms.{◌≡◌, ℕ, ◌+◌, Bool, true, false, List, [], ◌∷◌, ◌++◌, length, refl, ap, sym, ◌∙◌}
+use Rattle.all_links.proofs.Terms.{subst, arith, Option, Some, None, IsSome, slice_get, map, sum_by, if◌then◌else◌}
+use Rattle.all_links.proofs.Terms.{option_map, is_some, Side, Host, Device, PortName, Plan, Verdict, SealedPacket}
+use Rattle.all_links.proofs.Terms.{LinkPacket, Stepped, kept_at, step_of, joined_packets, Sent, PortEnd, SendStep}
+use Rattle.all_links.proofs.Terms.{send_step, sent_verdict, lengths_sent, IsSentAtPort, LinkEnds, Links}
+use Rattle.interface_answers.specs.{cut_packets, PairEnds, end_sent_verdict, changed_at, line_place, pair_port}
+use Rattle.interface_answers.specs.{port_at_place, with_pair_port, with_port_at, LinePlace, Link, Near, Pair}
+use Rattle.all_links.proofs.Terms.{SendsAt, state_of, IsBounded, AreLinks, links_state, EndsWith, EndsSending, Send}
+use Rattle.all_links.proofs.Terms.{EndsView, port_on, trusting_on, with_port_on, beside_in, Beside, port_in, with_port}
+use Rattle.all_links.proofs.Terms.{LinkState, has_port, stepped_bytes, KeeperView}
+use Rattle.std.proofs.lemmas.Option.{none-some}
+use Rattle.std.proofs.lemmas.Bool.{and_parts}
 use Rattle.association.specs.Outgoing.{Outgoing, outgoing_of}
-use Rattle.link_history.specs.Plan.{streams_of}
+use Rattle.link_history.specs.Ports.{at_switch, may_send, port_of, sealing_end}
+use Rattle.std.specs.Prelude.{not}
 use Rattle.link_verdicts.specs.declared.verdict.Verdict.TheVariants as v
 use Rattle.ide_port.specs.declared.answer.Sent.TheVariants.{Sealed}
 use Rattle.ide_port.specs.declared.answer.Sent.TheVariants as sent
 use Rattle.stream_lanes.specs.declared.refusal.SendRefusal.TheVariants as refusal
 use Rattle.all_links.specs.Accesses.{is_sending}
-use Rattle.tlp_layout.specs.declared.head.HeadView.{HeadView}
+use Rattle.all_links.specs.Links.{Ends, EndsOr, EndsSendingOr}
+use Rattle.std.specs.Prelude.{Result, Ok, Err}
+use Rattle.ide_types.specs.declared.memory.Memory.{Memory}
+use Rattle.all_links.specs.Sides.{SidesKeep}
 use Rattle.ide_port.specs.{Trusting}
 use Rattle.trusted_memory.specs.{TrustedMemory}
-use Rattle.link_ends.specs.Ends.{trusting_at}
-use Rattle.all_links.specs.Besides.{beside_in, t_in}
-use Rattle.link_ports.specs.Machine.{Beside, stepped_send}
-use Rattle.all_ends.proofs.Finds.{there, set_there, KeepsEnds, keeps_port, port_is, bounded_kept, links_kept}
-use Rattle.all_ends.proofs.Finds.{bounded_same, links_same}
-use Rattle.all_ends.proofs.Sends.{cut_joined, lengths_join, sealed_on, send_joins, send_keeps, sends_as}
-use Rattle.all_ends.proofs.Sends.{sent as sent_at}
+use Rattle.line_arrivals.proofs.{sealing_there, at_port, cut_joined, lengths_join, sealed_on, send_joins, send_keeps}
+use Rattle.line_arrivals.proofs.{sends_as, sent_at_port, sent as sent_at}
+use Rattle.interface_answers.proofs.{port_is, wired, Grows, bounded_then, end_grows, end_kept}
+use Rattle.line_arrivals.proofs.Follows.{interfaces_put, put_seen}
+use Rattle.line_arrivals.proofs.Landing.{ends_there}
 
-pub given : (b : Beside) (old : Links) (plan : Plan) (port : PortName) (bytes : List ℕ) (more trusted here : Bool)
-    → AreLinks plan old.ends old.keeper.keys
-    → here ≡ nat_lt port.link (length old.ends)
-    → step_of plan b (links_state plan old) (Send port bytes more trusted)
-    ≡ (if here
-    then stepped_send plan b (links_state plan old) port (outgoing_of (streams_of plan port.link) port.side bytes) more
-    trusted
-    else (v.Nothing, links_state plan old))
-unfolding step_of
-given b old plan port bytes more trusted here links is =
-    ap (λ (t : Bool). if t
-    then stepped_send plan b (links_state plan old) port (outgoing_of (streams_of plan port.link) port.side bytes) more
-    trusted
-    else (v.Nothing, links_state plan old))
-    (ap (λ (n : ℕ). nat_lt port.link n) (sym links.many) ∙ sym is)
+-- ---- the port at an end after another was put there
 
-asked_at : (side : Side) (l : LinkEnds) (trusted : Bool) →
-    (λ (head : HeadView) (stream : ℕ). trusting_at side l trusted head stream) ≡ trusting_at side l trusted
-asked_at Host l trusted = refl
-asked_at Device l trusted = refl
+got : {A B : Type 0} (g : A → B) (f : A → A) (xs : List A) (i : ℕ) (y y' : B) → ((x : A) → g (f x) ≡ y')
+    → option_map g (slice_get xs i) ≡ Some y → option_map g (slice_get (changed_at xs i f) i) ≡ Some y'
+got g f [] i y y' sets is = absurd (none-some y is)
+got g f (x ∷ xs) zero y y' sets is = ap (λ z. Some z) (sets x)
+got g f (x ∷ xs) (suc i) y y' sets is = got g f xs i y y' sets is
 
--- a send at a port that exists, whose packets were cut from the port's bytes
-pub seals : (old new : Links) (port : PortName) (bytes : List ℕ) (more trusted : Bool) (answer : Sent)
-    (verdict : Verdict) → IsBounded old.ends old.packets.packets old.steps → port.link < length old.ends
-    → SendsAt old.ends port bytes more trusted answer new.ends → verdict
-    ≡ sent_verdict port (length old.packets.packets + 1) answer → new.keeper.keys ≡ old.keeper.keys → new.steps
-    ≡ old.steps + 1
-    → ((l : LinkEnds) → slice_get new.ends port.link ≡ Some l → new.packets.packets ≡ old.packets.packets
-    ++ cut_packets port (lengths_sent answer) (port_in port.side l).sealed)
-    → new.trusted ≡ old.trusted → EndsWith verdict old new (Send port bytes more trusted)
-seals old new port bytes more trusted answer verdict bounded here sends says keeper steps kept memory =
-    let found_link = there old.ends port.link here in
-    let l : LinkEnds = found_link.0 in
-    let e : PortEnd = port_in port.side l in
+at_side : (s : Side) (e : PortEnd) (l : LinkEnds) → port_in s (with_port s e l) ≡ e
+at_side Host e l = refl
+at_side Device e l = refl
+
+at_pair_side : (s : Side) (e : PortEnd) (l : PairEnds) → pair_port s (with_pair_port s e l) ≡ e
+at_pair_side Host e l = refl
+at_pair_side Device e l = refl
+
+put_there : (v : EndsView) (s : Side) (place : LinePlace) (e e' : PortEnd) → port_at_place v s place ≡ Some e
+    → port_at_place (with_port_at v s place e') s place ≡ Some e'
+put_there v s (Link i) e e' is = got (λ l. port_in s l) (with_port s e') v.links i e e' (at_side s e') is
+put_there v s (Near i) e e' is = got (λ l. port_in s l) (with_port s e') v.near i e e' (at_side s e') is
+put_there v s (Pair i) e e' is = got (λ l. pair_port s l) (with_pair_port s e') v.pairs i e e' (at_pair_side s e') is
+
+some_end : (o : Option PortEnd) → is_some o ≡ true → (e : PortEnd) × (o ≡ Some e)
+some_end (Some e) is = (e, refl)
+some_end None is = absurd cc
+
+-- ---- a send at an end that exists, whose packets were cut from the port's bytes
+
+pub record IsPut (old new : EndsView) (end : PortName) (bytes : List ℕ) (more trusted : Bool) (answer : Sent) : Type 0
+  where
+    pub port : PortEnd
+    pub at : port_on old end ≡ Some port
+    pub step : (n : ℕ) → let t = send_step port (outgoing_of port.plans port.name.side bytes) more
+        (trusting_on old end trusted) n in
+        (new ≡ with_port_on old end t.port)
+        × IsSentAtPort port bytes more (trusting_on old end trusted) n answer t.port
+        × (port_on new end ≡ Some t.port)
+
+pub is_put : (old new : EndsView) (end : PortName) (bytes : List ℕ) (more trusted : Bool) (answer : Sent)
+    → IsSome (port_on old end) → SendsAt old end bytes more trusted answer new
+    → IsPut old new end bytes more trusted answer
+is_put old new end bytes more trusted answer here sends =
+    let found = some_end (port_on old end) here in
+    let e : PortEnd = found.0 in
+    let a = sends e found.1 in
+    record {
+      port = e;
+      at = found.1;
+      step = λ n.
+          let t : SendStep = send_step e (outgoing_of e.plans e.name.side bytes) more (trusting_on old end trusted) n in
+          let is : new ≡ with_port_on old end t.port =
+          a.new_is ∙ ap (λ (p : PortEnd). with_port_on old end p) (a.sent n).port in (
+            is,
+            subst (λ (p : PortEnd). IsSentAtPort e bytes more (trusting_on old end trusted) n answer p) (a.sent n).port
+                (a.sent n),
+            ap (λ (w : EndsView). port_on w end) is
+                ∙ put_there old end.side (line_place end.link) e t.port found.1,
+          );
+    }
+
+pub seals : (plan : Plan) (old new : Links) (end : PortName) (bytes : List ℕ) (more trusted : Bool) (answer : Sent)
+    (verdict : Verdict) → IsBounded old.ends old.packets.packets old.steps → IsSome (port_on old.ends end)
+    → SendsAt old.ends end bytes more trusted answer new.ends
+    → verdict ≡ end_sent_verdict end (port_of plan end) (length old.packets.packets + 1) answer
+    → new.keeper.keys ≡ old.keeper.keys → new.steps ≡ old.steps + 1
+    → ((e : PortEnd) → port_on new.ends end ≡ Some e
+    → new.packets.packets ≡ old.packets.packets ++ cut_packets end (lengths_sent answer) e.sealed)
+    → new.trusted ≡ old.trusted → EndsSending plan verdict old new end bytes more trusted
+seals plan old new end bytes more trusted answer verdict bounded here sends says keeper steps kept memory =
+    let put = is_put old.ends new.ends end bytes more trusted answer here sends in
+    let e : PortEnd = put.port in
     let n : ℕ = length old.packets.packets + 1 in
-    let sets : Trusting = trusting_at port.side l trusted in
+    let sets : Trusting = trusting_on old.ends end trusted in
     let out : Outgoing = outgoing_of e.plans e.name.side bytes in
     let step : SendStep = send_step e out more sets n in
-    let a = sends l found_link.1 in
-    let sent_is : IsSentAtPort e bytes more sets n answer (port_in port.side a.0) = a.2.sent n in
-    let ends_is : new.ends ≡ slice_set old.ends port.link (with_port port.side step.port l) =
-    a.1 ∙ ap (λ (y : LinkEnds). slice_set old.ends port.link y)
-    (a.2.other ∙ ap (λ (x : PortEnd). with_port port.side x l) sent_is.port) in
-    let at : slice_get new.ends port.link ≡ Some a.0 = ap (λ (xs : List LinkEnds). slice_get xs port.link) a.1 ∙
-    set_there old.ends port.link l a.0 found_link.1 in
-    let joined : (port_in port.side a.0).sealed ≡ joined_packets step.packets = ap (λ (x : PortEnd). x.sealed)
-    sent_is.port ∙ send_joins e out more sets n in
-    let packets_is : new.packets.packets ≡ old.packets.packets ++ map (kept_at port) step.packets =
-    kept a.0 at ∙ (λ i. old.packets.packets ++ cut_packets port (sent_is.lengths i) (joined i)) ∙ ap
-    (λ (ps : List LinkPacket). old.packets.packets ++ ps) (cut_joined port step.packets) in
-    let both : KeepsEnds l (with_port port.side step.port l) = keeps_port port.side l step.port
-    (send_keeps e out more sets n) in
-    let after : IsBounded (slice_set old.ends port.link (with_port port.side step.port l))
-    (old.packets.packets ++ map (kept_at port) step.packets) (old.steps + 1) =
-    bounded_kept old.ends old.packets.packets _ old.steps port.link l _ bounded found_link.1 both.host.calls
-    both.device.calls
-    (sealed_on port (length old.ends) old.packets.packets step.packets here bounded.sealed_here) in
+    let now : EndsView = with_port_on old.ends end step.port in
+    let stepped = put.step n in
+    let ends_is : new.ends ≡ now = stepped.0 in
+    let sent_is : IsSentAtPort e bytes more sets n answer step.port = stepped.1 in
+    let joined : step.port.sealed ≡ joined_packets step.packets = send_joins e out more sets n in
+    let all : List LinkPacket = old.packets.packets ++ map (kept_at end) step.packets in
+    let packets_is : new.packets.packets ≡ all =
+    kept step.port stepped.2 ∙ (λ i. old.packets.packets ++ cut_packets end (sent_is.lengths i) (joined i))
+    ∙ ap (λ (ps : List LinkPacket). old.packets.packets ++ ps) (cut_joined end step.packets) in
+    let keeps = send_keeps e out more sets n in
+    let grows : Grows 1 old.ends now = end_grows old.ends end e step.port put.at keeps.calls in
+    let after : IsBounded now all (old.steps + 1) =
+    bounded_then 1 old.ends now old.packets.packets all old.steps (omega arith) bounded grows
+    (sealed_on (λ (x : PortName). IsSome (port_on old.ends x)) end old.packets.packets step.packets here
+    bounded.sealed_here) in
     record {
       counted = steps;
-      many = ap (λ (xs : List LinkEnds). length xs) a.1 ∙ length-set old.ends port.link a.0;
+      many = ap (λ (w : EndsView). length w.links) ends_is ∙ grows.many;
       regions = ap (λ (t : TrustedMemory). t.contents.regions) memory;
-      bounded = bounded_same _ new.ends _ new.packets.packets _ new.steps (sym ends_is) (sym packets_is) (sym steps)
-          after;
-      ends = λ said plan by h links stands.
+      bounded = subst (λ (w : EndsView). IsBounded w new.packets.packets new.steps) (sym ends_is)
+          (subst (λ (ps : List LinkPacket). IsBounded now ps new.steps) (sym packets_is)
+          (subst (λ (m : ℕ). IsBounded now all m) (sym steps) after));
+      ends = λ said has h links stands.
           let b : Beside = beside_in old said in
-          let at_port = port_is plan old.ends old.keeper.keys port l links found_link.1 in
-          let as_machine = given b old plan port bytes more trusted true links
-          (sym (lt-true port.link (length old.ends) here))
-          ∙ sends_as plan b old.ends old.keeper.keys old.packets.packets port l h bytes more
-          trusted found_link.1 at_port stands
-          ∙ ap (λ (o : Option LinkEnds). sent_at plan old.ends old.keeper.keys old.packets.packets port l
-          (send_step e out more (λ head stream. t_in o port.side head stream trusted) n)) found_link.1
-          ∙ ap (λ (y : Trusting). sent_at plan old.ends old.keeper.keys old.packets.packets port l
-          (send_step e out more y n)) (asked_at port.side l trusted) in
+          let at_end = port_is plan old.ends old.keeper.keys links end e put.at in
+          let as_machine : stepped_bytes plan b (links_state plan old) end bytes more trusted
+          ≡ sent_at plan old.ends old.keeper.keys old.packets.packets end step =
+          sends_as plan old.ends old.keeper.keys old.packets.packets (wired plan old.ends old.keeper.keys links) end e
+          put.at at_end b h bytes more trusted stands in
           record {
-            verdict_is = says ∙ ap (λ (p : PortName). sent_verdict p n answer) (sym at_port.name) ∙ sent_is.answered ∙
-                ap (λ (x : Stepped). x.0) (sym as_machine);
-            state_is = (λ i. state_of plan (ends_is i) (keeper i) (packets_is i)) ∙ ap (λ (x : Stepped). x.1)
-                (sym as_machine);
-            links = links_same plan _ new.ends _ new.keeper.keys (sym ends_is) (sym keeper)
-                (links_kept plan old.ends old.keeper.keys old.keeper.keys port.link l _ links found_link.1 both refl
-                links.kept refl);
+            verdict_is = says ∙ sent_at_port end (port_of plan end) n answer
+                ∙ ap (λ (p : PortName). at_port (port_of plan end) (sent_verdict p n answer)) (sym at_end.name)
+                ∙ ap (λ (w : Verdict). at_port (port_of plan end) w) sent_is.answered
+                ∙ ap (λ (x : Stepped). x.0) (sym as_machine);
+            state_is = (λ i. state_of plan (ends_is i) (keeper i) (packets_is i))
+                ∙ ap (λ (x : Stepped). x.1) (sym as_machine);
+            links = subst (λ (w : EndsView). AreLinks plan w new.keeper.keys) (sym ends_is)
+                (subst (λ (k : KeeperView). AreLinks plan now k) (sym keeper)
+                (end_kept plan old.ends old.keeper.keys links end e step.port put.at keeps));
           };
+    }
+
+pub sent_keeps : (old new : Links) (end : PortName) (bytes : List ℕ) (more trusted : Bool) (answer : Sent)
+    → IsSome (port_on old.ends end) → SendsAt old.ends end bytes more trusted answer new.ends
+    → new.keeper ≡ old.keeper → new.trusted ≡ old.trusted → SidesKeep old new
+sent_keeps old new end bytes more trusted answer here sends keeper memory =
+    let put = is_put old.ends new.ends end bytes more trusted answer here sends in
+    let stepped = put.step 0 in
+    record {
+      keeper = ap (λ k. k.interfaces) keeper;
+      peer_draws = ap (λ k. k.peer_draws) keeper;
+      devices = λ i l l' is at.
+          put_seen (λ (x : LinkEnds). x.device.interfaces) old.ends end.side (line_place end.link) _ i l l'
+          (λ j place x. interfaces_put end.side _ x) is
+          (ap (λ (w : EndsView). slice_get w.links i) (sym stepped.0) ∙ at);
+      contents = ap (λ (t : TrustedMemory). t.contents) memory;
     }
 
 -- ---- the answer
@@ -115,33 +171,81 @@ pub not_sealed : (answer : Sent) → ((ps : List SealedPacket) → answer ≡ Se
 not_sealed answer none = grind (arith, none)
 
 -- the lengths of what was sealed add up to the length of what the port lends
-pub sealed_length : (old : Links) (ends : List LinkEnds) (port : PortName) (bytes : List ℕ) (more trusted : Bool)
-    (answer : Sent) (ps : List SealedPacket) (lent : List ℕ) → port.link < length old.ends
-    → SendsAt old.ends port bytes more trusted answer ends → map (λ (p : SealedPacket). p.length) ps
-    ≡ lengths_sent answer
-    → ((l : LinkEnds) → slice_get ends port.link ≡ Some l → lent ≡ (port_in port.side l).sealed)
+pub sealed_length : (old new : EndsView) (end : PortName) (bytes : List ℕ) (more trusted : Bool)
+    (answer : Sent) (ps : List SealedPacket) (lent : List ℕ) → IsSome (port_on old end)
+    → SendsAt old end bytes more trusted answer new → map (λ (p : SealedPacket). p.length) ps ≡ lengths_sent answer
+    → ((e : PortEnd) → port_on new end ≡ Some e → lent ≡ e.sealed)
     → sum_by (λ (p : SealedPacket). p.length) ps ≡ length lent
-sealed_length old ends port bytes more trusted answer ps lent here sends said lends =
-    let found_link = there old.ends port.link here in
-    let l : LinkEnds = found_link.0 in
-    let e : PortEnd = port_in port.side l in
-    let sets : Trusting = trusting_at port.side l trusted in
+sealed_length old new end bytes more trusted answer ps lent here sends said lends =
+    let put = is_put old new end bytes more trusted answer here sends in
+    let e : PortEnd = put.port in
     let out : Outgoing = outgoing_of e.plans e.name.side bytes in
+    let sets : Trusting = trusting_on old end trusted in
     let step : SendStep = send_step e out more sets 0 in
-    let a = sends l found_link.1 in
-    let sent_is : IsSentAtPort e bytes more sets 0 answer (port_in port.side a.0) = a.2.sent 0 in
-    let at : slice_get ends port.link ≡ Some a.0 = ap (λ (xs : List LinkEnds). slice_get xs port.link) a.1 ∙ set_there
-    old.ends port.link l a.0 found_link.1 in
-    let joined : (port_in port.side a.0).sealed ≡ joined_packets step.packets = ap (λ (x : PortEnd). x.sealed)
-    sent_is.port ∙ send_joins e out more sets 0 in
-    lengths_join ps step.packets (said ∙ sent_is.lengths) ∙ ap (λ (bs : List ℕ). length bs)
-    (sym (lends a.0 at ∙ joined))
+    let stepped = put.step 0 in
+    lengths_join ps step.packets (said ∙ stepped.1.lengths)
+    ∙ ap (λ (bs : List ℕ). length bs) (sym (lends step.port stepped.2 ∙ send_joins e out more sets 0))
 
-pub sent_sends : (port : PortName) (n : ℕ) (answer : Sent) → is_sending (sent_verdict port n answer) ≡ true
-sent_sends port n (sent.Malformed fault) = refl
-sent_sends port n sent.Plain = refl
-sent_sends port n (Sealed ps) = refl
-sent_sends port n (sent.Refused (refusal.NoKey sub)) = refl
-sent_sends port n (sent.Refused (refusal.Worn sub units)) = refl
-sent_sends port n (sent.Refused refusal.Unfinished) = refl
-sent_sends port n (sent.Refused refusal.Insecure) = refl
+pub sent_sends : (end port : PortName) (n : ℕ) (answer : Sent)
+    → is_sending (end_sent_verdict end port n answer) ≡ true
+sent_sends end port n (sent.Malformed fault) = refl
+sent_sends end port n sent.Plain = refl
+sent_sends end port n (Sealed ps) = refl
+sent_sends end port n (sent.Refused (refusal.NoKey sub)) = refl
+sent_sends end port n (sent.Refused (refusal.Worn sub units)) = refl
+sent_sends end port n (sent.Refused refusal.Unfinished) = refl
+sent_sends end port n (sent.Refused refusal.Insecure) = refl
+
+-- ---- a send at a port
+
+pub nothing_sent : (plan : Plan) (b : Beside) (st : LinkState) (port : PortName) (bytes : List ℕ) (more trusted : Bool)
+    → may_send plan port ≡ false → step_of plan b st (Send port bytes more trusted) ≡ (v.Nothing, st)
+unfolding step_of
+nothing_sent plan b st port bytes more trusted is =
+    ap (λ (t : Bool). if t then stepped_bytes plan b st (sealing_end plan port bytes) bytes more trusted
+    else (v.Nothing, st)) is
+
+bytes_sent : (plan : Plan) (b : Beside) (st : LinkState) (port : PortName) (bytes : List ℕ) (more trusted : Bool)
+    → may_send plan port ≡ true → step_of plan b st (Send port bytes more trusted)
+    ≡ stepped_bytes plan b st (sealing_end plan port bytes) bytes more trusted
+unfolding step_of
+bytes_sent plan b st port bytes more trusted is =
+    ap (λ (t : Bool). if t then stepped_bytes plan b st (sealing_end plan port bytes) bytes more trusted
+    else (v.Nothing, st)) is
+
+-- at the end of the line that association gives
+pub sends_there : (plan : Plan) (verdict : Verdict) (old new : Links) (port : PortName) (bytes : List ℕ)
+    (more trusted : Bool) → may_send plan port ≡ true
+    → EndsSending plan verdict old new (sealing_end plan port bytes) bytes more trusted
+    → EndsWith plan verdict old new (Send port bytes more trusted)
+sends_there plan verdict old new port bytes more trusted may x = record {
+  counted = x.counted;
+  bounded = x.bounded;
+  many = x.many;
+  regions = x.regions;
+  ends = λ b by h links stands.
+      subst (λ (s : Stepped). Ends plan new verdict s)
+      (sym (bytes_sent plan (beside_in old b) (links_state plan old) port bytes more trusted may))
+      (x.ends b
+      (sealing_there plan links.fits port bytes
+      (and_parts (has_port plan port) (not (at_switch plan port)) may).0) h links stands);
+}
+
+-- at an end that is not kept nothing of the topology is sent
+pub nowhere_sent : {s : Stepped} (plan : Plan) (old : Links) (end : PortName) → false ≡ is_some (port_on old.ends end)
+    → AreLinks plan old.ends old.keeper.keys → has_port plan end ≡ true → s ≡ (v.Nothing, links_state plan old)
+nowhere_sent plan old end none links has =
+    absurd (never (is_some (port_on old.ends end)) none
+    (ends_there plan old.ends old.keeper.keys links end has))
+  where
+    never : (b : Bool) → false ≡ b → b ≡ true → ⊥
+    never true is some = absurd cc
+    never false is some = absurd cc
+
+pub sends_or : (plan : Plan) (result : Result Verdict Memory) (old new : Links) (port : PortName) (bytes : List ℕ)
+    (more trusted : Bool) → may_send plan port ≡ true
+    → EndsSendingOr plan result old new (sealing_end plan port bytes) bytes more trusted
+    → EndsOr plan result old new (Send port bytes more trusted)
+sends_or plan (Ok verdict) old new port bytes more trusted may x =
+    sends_there plan verdict old new port bytes more trusted may x
+sends_or plan (Err e) old new port bytes more trusted may stays = stays

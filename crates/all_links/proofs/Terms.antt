@@ -13,32 +13,37 @@ pub use Rattle.key_laws.proofs.Tests.{lt-true, true-lt}
 pub use Rattle.key_laws.specs.History.{History}
 pub use Rattle.key_laws.specs.Operations.{Op, Reach, Work, reach_of, work_of}
 pub use Rattle.key_slots.specs.{Pool}
-pub use Rattle.all_ends.specs.AllEnds.{ArrivesAt, OperatesAt, ResetsAt, SendsAt, both_of, statuses_of}
-pub use Rattle.all_ends.specs.Cuts.{cut_packets}
+pub use Rattle.interface_answers.specs.{ArrivesAt, OperatesAt, ResetsAt, SendsAt, both_of, statuses_of, told_at}
+pub use Rattle.interface_answers.specs.{drawn_at, EndsView, live_on, port_on, trusting_on, with_port_on, stream_named}
+pub use Rattle.interface_answers.specs.{AreLinks, IsBounded, IsLink, name_of, ports_in, rows_of, state_of}
+pub use Rattle.interface_answers.specs.{arrival_verdict, packet_effect, packet_write, unit_writes, port_in, with_port}
+pub use Rattle.interface_answers.specs.{IsAtBothEnds, IsOperated, IsWalked, KeeperView, Operates, ends_found, LinkEnds}
+pub use Rattle.interface_answers.specs.{InterfacesView}
 pub use Rattle.all_links.specs.Events.{altered_bytes, operation_event}
-pub use Rattle.all_ends.specs.Places.{stream_named}
 pub use Rattle.accesses.specs.declared.link.LinkAccesses.{LinkAccesses}
 pub use Rattle.all_links.specs.Accesses.{standings_of_ends, policy_in, Brings}
 pub use Rattle.all_links.specs.States.{links_state}
-pub use Rattle.all_links.specs.Links.{Ends, EndsIf, EndsArriving, EndsAs, EndsOr, EndsWith, HasNoVerdict}
-pub use Rattle.all_ends.specs.States.{AreLinks, IsBounded, IsLink, name_of, ports_in, state_of}
+pub use Rattle.all_links.specs.Links.{Ends, EndsBy, EndsIf, EndsArriving, EndsAs, EndsOr, EndsSending, EndsWith}
+pub use Rattle.all_links.specs.Links.{HasNoVerdict, StandsForSome}
 pub use Rattle.all_links.specs.Besides.{IsAnsweredBy, AreEffects, answer_of_links, beside_in}
-pub use Rattle.all_ends.specs.Verdicts.{arrival_verdict, packet_effect, packet_write, unit_writes}
 pub use Rattle.all_links.specs.declared.links.Links.{Links}
-pub use Rattle.link_ends.proofs.Names.{IsNamed, named_stands}
-pub use Rattle.link_ends.proofs.Streams.{found_id}
-pub use Rattle.link_ends.specs.Ends.{port_in, reset_ends, taken_ends, with_port}
-pub use Rattle.link_ends.specs.Keepers.{IsAtBothEnds, IsOperated, IsWalked, KeeperView, Operates, ends_found}
-pub use Rattle.link_ends.specs.declared.ends.LinkEnds.{LinkEnds}
+pub use Rattle.interface_answers.proofs.{IsNamed, named_stands, found_id}
 pub use Rattle.link_events.specs.declared.event.Event.TheVariants.{Interface, Alter, Arrive, Cut, Dump, Pass, Reset}
 pub use Rattle.link_events.specs.declared.event.Event.TheVariants.{Send, Status}
 pub use Rattle.trusted_memory.specs.{MemoryContents, Leads, TrustedMemory, Write}
-pub use Rattle.link_ends.specs.Hosts.{InterfacesView}
 pub use Rattle.ide_plan.specs.declared.plan.Region.{Region}
 pub use Rattle.link_verdicts.specs.declared.verdict.UnitName.{UnitName}
-pub use Rattle.link_history.specs.Plan.{is_closed, mode_of, partner}
+pub use Rattle.link_history.specs.Plan.{has_port, is_closed, mode_of, partner}
 unfoldable pub use Rattle.link_history.specs.Plan.{stream_plan}
-pub use Rattle.link_ports.specs.Machine.{Beside, LinkPacket, LinkState, Stepped, altered_to, stepped_arrival}
+pub use Rattle.link_ports.specs.Machine.{
+  Beside,
+  LinkPacket,
+  LinkState,
+  Stepped,
+  altered_to,
+  stepped_arrival,
+  stepped_bytes,
+}
 pub use Rattle.link_ports.specs.Machine.{stepped_cut, cut_short, kept_at, stepped_operation, packet_numbered, passed}
 pub use Rattle.link_ports.specs.Machine.{reset_state, shown_packet, status_at, status_found, stepped_packet}
 pub use Rattle.stream_rules.specs.Stream.{unit_name}

@@ -16,15 +16,12 @@ use Rattle.link_history.specs.History.{Arrival}
 use Rattle.link_history.specs.Guarded.{happens_by}
 use Rattle.link_ports.specs.Machine.{LinkState}
 use Rattle.link_ports.specs.Stands.{PortsStandFor}
-use Rattle.whole_machine.specs.Accesses.{waiting_reads_after}
-use Rattle.whole_machine.specs.Machine.{unit_in}
-use Rattle.link_ends.specs.declared.ends.LinkEnds.{LinkEnds}
+use Rattle.line_arrivals.specs.{carried_next}
+use Rattle.interface_answers.specs.{unit_tlps, waiting_reads_after, unit_in, LinkEnds, AreLinks}
 use Rattle.accesses.specs.declared.link.LinkAccesses.{LinkAccesses}
-use Rattle.all_ends.specs.States.{AreLinks}
-pub use Rattle.link_steps.specs.Accesses.{reads_at, floors_at, sizes_at, mmio_at, standings_of_ends, policy_in}
-pub use Rattle.link_steps.specs.Accesses.{AreLeftBy}
-pub use Rattle.link_steps.specs.Accesses.{AccessesTurn, AccessesStay, same_reads, same_floors, nothing_happens}
-pub use Rattle.link_steps.specs.Accesses.{Brings}
+pub use Rattle.line_arrivals.specs.{reads_at, floors_at, sizes_at, mmio_at, standings_of_ends, policy_in, AreLeftBy}
+pub use Rattle.line_arrivals.specs.{AccessesTurn, AccessesStay, same_reads, same_floors, nothing_happens, carried_at}
+pub use Rattle.line_arrivals.specs.{same_carried, Brings}
 use Rattle.all_links.specs.declared.links.Links.{Links}
 use Rattle.all_links.specs.States.{links_state}
 use Rattle.all_links.specs.Interfaces.{tdi_named}
@@ -40,11 +37,11 @@ abbrev pub device_draw : Links → ℕ → ℕ → ℕ
 device_draw s i link =
     option_map_or (λ (draw : ℕ). draw)
     (option_and_then (λ (l : LinkEnds). receiving_draw_in l.device.port (planned_stream s i) Pr)
-    (slice_get s.ends link)) 0
+    (slice_get s.ends.links link)) 0
 
 -- the interface is in RUN
 abbrev pub runs_in : Links → ℕ → Bool
-runs_in s i = option_map_or (λ (t : Tdi). is_run t.state) (tdi_named s.keeper.interfaces s.ends i) false
+runs_in s i = option_map_or (λ (t : Tdi). is_run t.state) (tdi_named s.keeper.interfaces s.ends.links i) false
 
 -- ---- sends
 
@@ -57,16 +54,16 @@ is_sending verdict = true
 -- ---- arrivals
 
 -- at an event that brings these bytes
-pub record AccessesArrive (arrival : Plan → LinkState → Option Arrival) (e : Event) (verdict : Verdict) (old : Links)
-    (xs ys : List LinkAccesses) : Type 0 where
+pub record AccessesArrive (plan : Plan) (arrival : LinkState → Option Arrival) (e : Event) (verdict : Verdict)
+    (old : Links) (xs ys : List LinkAccesses) : Type 0 where
   pub many : length ys ≡ length xs
-  pub turn : (plan : Plan) (h : History) → AreLinks plan old.ends old.keeper.keys
-      → PortsStandFor plan (links_state plan old) h
-      → let ps = unit_in plan (links_state plan old) (arrival plan (links_state plan old)) in
-      AccessesTurn (waiting_reads_after ps e verdict) same_floors
-      (λ link. happens_by plan (policy_in old.keeper.interfaces old.ends xs).standings ps e verdict link) xs ys
+  pub turn : (h : History) → AreLinks plan old.ends old.keeper.keys → PortsStandFor plan (links_state plan old) h
+      → let ps = unit_in plan (links_state plan old) (arrival (links_state plan old)) in
+      AccessesTurn (waiting_reads_after plan ps e verdict) same_floors
+      (λ link. happens_by plan (policy_in old.keeper.interfaces old.ends xs).standings ps e verdict link)
+      (carried_next (unit_tlps plan ps verdict) e verdict) xs ys
 
-abbrev pub AccessesArriveOr : Result Verdict Memory → (Plan → LinkState → Option Arrival) → Event → Links
+abbrev pub AccessesArriveOr : Plan → Result Verdict Memory → (LinkState → Option Arrival) → Event → Links
     → List LinkAccesses → List LinkAccesses → Type 0
-AccessesArriveOr (Ok verdict) arrival e old xs ys = AccessesArrive arrival e verdict old xs ys
-AccessesArriveOr (Err memory) arrival e old xs ys = AccessesStay xs ys
+AccessesArriveOr plan (Ok verdict) arrival e old xs ys = AccessesArrive plan arrival e verdict old xs ys
+AccessesArriveOr plan (Err memory) arrival e old xs ys = AccessesStay xs ys

@@ -5,15 +5,10 @@ pub mod Interfaces
 pub mod Accesses
 pub mod Besides
 pub mod Sides
-pub use Rattle.all_ends.specs.AllEnds.{ends_from, grants_in}
-pub use Rattle.all_ends.specs.Places.{code_behind, located, stream_named}
-pub use Rattle.all_ends.specs.Requester.{requester_of}
-pub use Rattle.all_ends.specs.States.{AreLinks, IsBounded, IsLink, name_of, names_from, names_of, ops_in, ops_of}
-pub use Rattle.all_ends.specs.States.{ports_in, state_of, views_after}
-pub use Rattle.all_ends.specs.Writes.{writes_by}
-pub use Rattle.link_ends.specs.Ends.{new_ends, port_in, reset_ends}
-pub use Rattle.link_ends.specs.Hosts.{InterfacesView, keyed_if, operated_on, stopped_if}
-pub use Rattle.link_ends.specs.Keepers.{KeeperView}
-pub use Rattle.link_ends.specs.declared.ends.LinkEnds.{LinkEnds}
-pub use Rattle.link_ends.specs.declared.host.HostKeeper.{HostKeeper}
-pub use Rattle.whole_machine.specs.Accesses.{waiting_reads_after}
+pub use Rattle.interface_answers.specs.{EndsView, live_of, live_on, new_all_ends, port_on, trusting_on, bound_on}
+pub use Rattle.interface_answers.specs.{bound_trust, far_hop_trust, link_trust, live_at_port, pair_port, code_behind}
+pub use Rattle.interface_answers.specs.{located, stream_named, AreLinks, IsBounded, IsLink, name_of, names_from}
+pub use Rattle.interface_answers.specs.{names_of, ops_in, ops_of, state_of, views_after, grants_in, writes_by, new_ends}
+pub use Rattle.interface_answers.specs.{port_in, reset_ends, PairEnds, InterfacesView, keyed_if, live_for, operated_on}
+pub use Rattle.interface_answers.specs.{status_for, stopped_if, KeeperView, LinkEnds, HostKeeper, unit_tlps}
+pub use Rattle.interface_answers.specs.{waiting_reads_after}

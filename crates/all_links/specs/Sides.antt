@@ -1,8 +1,11 @@
--- What an event makes of what stands beside the ports: the devices' interfaces, the manager's, and trusted memory.
-use Rattle.std.specs.Prelude.{ℕ, ◌≡◌, ◌<◌, ◌≤◌, ◌==◌, ◌⊎◌, Bool, true, not, List, length, slice_get, slice_set, Option}
-use Rattle.std.specs.Prelude.{Some, None, if◌then◌else◌}
+-- What an event makes of what stands beside the ports: the devices' interfaces, the manager's with the draws of streams
+-- between devices, and trusted memory.
+use Rattle.std.specs.Prelude.{ℕ, ◌≡◌, ◌<◌, ◌≤◌, ◌==◌, ◌&&◌, Bool, true, false, not, List, length, slice_get}
+use Rattle.std.specs.Prelude.{slice_set, nat_le, Option, Some, None, if◌then◌else◌}
+use Rattle.ide_types.specs.Lines.{is_link_line}
 use Rattle.ide_plan.specs.declared.plan.Plan.{Plan}
 use Rattle.interface_words.specs.RegisterNames.{has_register}
+use Rattle.interface_states.specs.Views.{peer_of}
 use Rattle.link_events.specs.declared.event.Event.{Event}
 use Rattle.link_events.specs.declared.event.Event.TheVariants as event
 use Rattle.link_events.specs.declared.event.InterfaceEvent.{InterfaceEvent}
@@ -19,97 +22,132 @@ use Rattle.link_ports.specs.Machine.{LinkState}
 use Rattle.link_ports.specs.Stands.{PortsStandFor}
 use Rattle.tsm_host.specs.Managers.{Named, named}
 use Rattle.tdi_state.specs.Machine.{Tdi, Call, WriteRegister, LevelReset, FirmwareUpdate}
-use Rattle.tdi_device.specs.Replies.{settled_tdis, called_at}
+use Rattle.tdi_device.specs.Replies.{DeviceTdis, settled_tdis, reset_tdis, called_at}
 use Rattle.tdi_host.specs.declared.operation.InterfaceOp.{InterfaceOp}
 use Rattle.tdi_host.specs.declared.operation.InterfaceOp.TheVariants as op
 use Rattle.tdi_host.specs.Views.{HostTdi}
-use Rattle.tdi_host.specs.Managers.{stream_keyed, reset_interface_manager}
+use Rattle.tdi_host.specs.Managers.{stream_keyed, peer_stop, reset_interface_manager}
 use Rattle.trusted_memory.specs.{Leads}
-use Rattle.device_side.specs.Ends.{secure_at}
-use Rattle.link_ends.specs.declared.ends.LinkEnds.{LinkEnds}
-use Rattle.link_ends.specs.Hosts.{InterfacesView, keyed_if, stopped_if, operated_on}
-use Rattle.whole_machine.specs.Machine.{arrival_of}
+use Rattle.interface_answers.specs.{secure_with, LinkEnds, InterfacesView, keyed_if, stopped_if, operated_on}
+use Rattle.interface_answers.specs.{arrival_of, writes_by, grants_in, EndsView, live_on, stream_named, AreLinks}
+pub use Rattle.line_arrivals.specs.Follows.{IsSettledOrSame, AllFollow}
 use Rattle.all_links.specs.declared.links.Links.{Links}
-use Rattle.all_ends.specs.States.{AreLinks}
+use Rattle.all_links.specs.Interfaces.{interface_named, has_peer_in, peer_stream}
 use Rattle.all_links.specs.States.{links_state}
-use Rattle.all_ends.specs.AllEnds.{grants_in, ResetsAt}
-use Rattle.all_ends.specs.Places.{stream_named}
-use Rattle.all_ends.specs.Writes.{writes_by}
-use Rattle.all_links.specs.Interfaces.{interface_named}
 
 -- ---- nothing
 
 -- neither manager, nor any device's interfaces, nor memory
 pub record SidesKeep (old new : Links) : Type 0 where
   pub keeper : new.keeper.interfaces ≡ old.keeper.interfaces
-  pub devices : (i : ℕ) (l l' : LinkEnds) → slice_get old.ends i ≡ Some l → slice_get new.ends i ≡ Some l'
+  pub peer_draws : new.keeper.peer_draws ≡ old.keeper.peer_draws
+  pub devices : (i : ℕ) (l l' : LinkEnds) → slice_get old.ends.links i ≡ Some l → slice_get new.ends.links i ≡ Some l'
       → l'.device.interfaces ≡ l.device.interfaces
   pub contents : new.trusted.contents ≡ old.trusted.contents
 
--- ---- what keys and packets make of a device's interfaces
-
--- they are settled by the device's port as it is afterwards, or the device is as before
-abbrev pub IsSettledOrSame : LinkEnds → LinkEnds → Type 0
-IsSettledOrSame l l' = (l'.device.interfaces ≡ settled_tdis (secure_at l'.device.port) l.device.interfaces)
-    ⊎ (l'.device ≡ l.device)
-
-abbrev pub AllFollow : List LinkEnds → List LinkEnds → Type 0
-AllFollow old new = (i : ℕ) (l l' : LinkEnds) → slice_get old i ≡ Some l → slice_get new i ≡ Some l'
-    → IsSettledOrSame l l'
-
 -- ---- arrivals
 
-pub record SidesArrive (arrival : Plan → LinkState → Option Arrival) (verdict : Verdict) (old new : Links) :
+pub record SidesArrive (plan : Plan) (arrival : LinkState → Option Arrival) (verdict : Verdict) (old new : Links) :
     Type 0 where
   pub keeper : new.keeper.interfaces ≡ old.keeper.interfaces
-  pub devices : AllFollow old.ends new.ends
-  pub contents : (plan : Plan) (h : History) → AreLinks plan old.ends old.keeper.keys
-      → PortsStandFor plan (links_state plan old) h → old.trusted.contents.regions ≡ plan.memory
+  pub peer_draws : new.keeper.peer_draws ≡ old.keeper.peer_draws
+  pub devices : (h : History) → AreLinks plan old.ends old.keeper.keys → PortsStandFor plan (links_state plan old) h
+      → AllFollow old.ends new.ends
+  pub contents : (h : History) → AreLinks plan old.ends old.keeper.keys → PortsStandFor plan (links_state plan old) h
+      → old.trusted.contents.regions ≡ plan.memory
       → Leads old.trusted.contents (writes_by plan (grants_in old.keeper.interfaces) (links_state plan old)
-      (arrival plan (links_state plan old)) verdict) new.trusted.contents
+      (arrival (links_state plan old)) verdict) new.trusted.contents
 
 -- ---- operations on streams
 
--- what an operation on a stream tells the manager of interfaces: an establish that drew and a refresh at its end give
--- the stream its draw, a stop that begins breaks views; the manager's operation on the stream was this one, and so many
--- draws were made before it and after it
-abbrev pub told_by : Operation → ℕ → ℕ → Op → ℕ → ℕ → Verdict → InterfacesView → InterfacesView
-told_by operation.Establish link stream q before after verdict m = keyed_if (not (after == before)) link stream before m
-told_by operation.Refresh link stream q before after (v.Refreshed l s draw) m = stream_keyed link stream draw m
-told_by operation.Refresh link stream q before after verdict m = m
-told_by operation.Stop link stream q before after verdict m =
+-- there is such an operation on the line: a refresh is of a link's stream alone
+abbrev pub works_on : Operation → ℕ → Bool
+works_on operation.Refresh line = is_link_line line
+works_on o line = true
+
+-- what an operation on a stream of a link tells the manager of interfaces: an establish that drew and a refresh at its
+-- end give the stream its draw, a stop that begins breaks views; the manager's operation on the stream was this one,
+-- and
+-- so many draws were made before it and after it
+abbrev pub told_by_link : Operation → ℕ → ℕ → Op → ℕ → ℕ → Verdict → InterfacesView → InterfacesView
+told_by_link operation.Establish link stream q before after verdict m =
+    keyed_if (not (after == before)) link stream before m
+told_by_link operation.Refresh link stream q before after (v.Refreshed l s draw) m = stream_keyed link stream draw m
+told_by_link operation.Refresh link stream q before after verdict m = m
+told_by_link operation.Stop link stream q before after verdict m =
     stopped_if (work_of operation.Stop q 0).begins link stream m
 
-pub record SidesOperate (o : Operation) (link stream : ℕ) (verdict : Verdict) (old new : Links) : Type 0 where
+-- one on a stream between devices: each stop breaks the views of interfaces for which a binding to it was asked
+abbrev pub told_by_peer : Operation → ℕ → InterfacesView → InterfacesView
+told_by_peer operation.Stop line m = peer_stop (peer_of line) m
+told_by_peer o line m = m
+
+-- one on any line; one of a hop tells nothing
+abbrev pub told_by : Operation → ℕ → ℕ → Op → ℕ → ℕ → Verdict → InterfacesView → InterfacesView
+told_by o line stream q before after verdict m =
+    if is_link_line line then told_by_link o line stream q before after verdict m
+    else if nat_le 24 line then told_by_peer o line m else m
+
+-- the draws of the streams between devices, by number: an establish that drew gives its stream the draw
+abbrev pub peers_drawn : Operation → ℕ → ℕ → ℕ → List ℕ → List ℕ
+peers_drawn operation.Establish line before after draws =
+    if nat_le 24 line && not (after == before) then slice_set draws (peer_of line) before else draws
+peers_drawn o line before after draws = draws
+
+pub record SidesOperate (o : Operation) (line stream : ℕ) (verdict : Verdict) (old new : Links) : Type 0 where
   pub devices : AllFollow old.ends new.ends
   pub contents : new.trusted.contents ≡ old.trusted.contents
-  pub unnamed : stream_named old.keeper.keys.manager (length old.ends) link stream ≡ None
-      → new.keeper.interfaces ≡ old.keeper.interfaces
-  pub told : (n : Named) → stream_named old.keeper.keys.manager (length old.ends) link stream ≡ Some (link, stream)
-      → named old.keeper.keys.manager link stream ≡ Some n
-      → new.keeper.interfaces ≡ told_by o link stream n.stream.op old.keeper.keys.pool.draws
+  pub unnamed : stream_named old.keeper.keys.manager old.ends line stream ≡ None
+      → (new.keeper.interfaces ≡ old.keeper.interfaces) × (new.keeper.peer_draws ≡ old.keeper.peer_draws)
+  pub told : (n : Named) → stream_named old.keeper.keys.manager old.ends line stream ≡ Some (line, stream)
+      → named old.keeper.keys.manager line stream ≡ Some n
+      → new.keeper.interfaces ≡ told_by o line stream n.stream.op old.keeper.keys.pool.draws
       new.keeper.keys.pool.draws verdict old.keeper.interfaces
+  pub drawn : (n : Named) → stream_named old.keeper.keys.manager old.ends line stream ≡ Some (line, stream)
+      → named old.keeper.keys.manager line stream ≡ Some n
+      → new.keeper.peer_draws ≡ peers_drawn o line old.keeper.keys.pool.draws new.keeper.keys.pool.draws
+      old.keeper.peer_draws
 
 -- ---- a reset
 
+-- the interfaces of the link's own device are reset
+abbrev pub reset_if : Bool → DeviceTdis → DeviceTdis
+reset_if own d = if own then reset_tdis d else d
+
 pub record SidesReset (link : ℕ) (old new : Links) : Type 0 where
   pub contents : new.trusted.contents ≡ old.trusted.contents
-  pub ends : link < length old.ends → ResetsAt old.ends link new.ends
-  pub keeper : link < length old.ends → new.keeper.interfaces ≡ reset_interface_manager link old.keeper.interfaces
-  pub absent : length old.ends ≤ link → SidesKeep old new
+  pub peer_draws : new.keeper.peer_draws ≡ old.keeper.peer_draws
+  pub devices : link < length old.ends.links → (i : ℕ) (l l' : LinkEnds) → slice_get old.ends.links i ≡ Some l
+      → slice_get new.ends.links i ≡ Some l' → l'.device.interfaces
+      ≡ settled_tdis (secure_with l'.device.port (live_on new.ends i)) (reset_if (i == link) l.device.interfaces)
+  pub keeper : link < length old.ends.links
+      → new.keeper.interfaces ≡ reset_interface_manager link old.keeper.interfaces
+  pub absent : length old.ends.links ≤ link → SidesKeep old new
 
 -- ---- events on interfaces
+
+-- the ends with the interfaces of a device changed
+abbrev pub with_device : EndsView → ℕ → LinkEnds → DeviceTdis → EndsView
+with_device v link l d =
+    record v { links = slice_set v.links link (record l { device = record l.device { interfaces = d } }) }
 
 -- the manager and the device's interfaces after an operation of the manager on an interface
 pub record SidesAsk (number : ℕ) (o : InterfaceOp) (loss : Option Loss) (old new : Links) : Type 0 where
   pub contents : new.trusted.contents ≡ old.trusted.contents
-  pub unnamed : interface_named old.keeper.interfaces old.ends number ≡ None → SidesKeep old new
+  pub peer_draws : new.keeper.peer_draws ≡ old.keeper.peer_draws
+  pub unnamed : interface_named old.keeper.interfaces old.ends.links number ≡ None → SidesKeep old new
   pub asked : (at : ℕ × ℕ) (l : LinkEnds) (x : HostTdi)
-      → interface_named old.keeper.interfaces old.ends number ≡ Some at → slice_get old.ends at.0 ≡ Some l
-      → slice_get old.keeper.interfaces.interfaces number ≡ Some x
-      → let e = operated_on number o loss old.keeper.keys.pool.draws old.keeper.interfaces l x in
-      (new.keeper.interfaces ≡ e.manager)
-      × (new.ends ≡ slice_set old.ends at.0 (record l { device = record l.device { interfaces = e.device } }))
+      → interface_named old.keeper.interfaces old.ends.links number ≡ Some at
+      → slice_get old.ends.links at.0 ≡ Some l → slice_get old.keeper.interfaces.interfaces number ≡ Some x
+      → let e = operated_on number o loss old.keeper.keys (live_on old.ends at.0) old.keeper.interfaces l x in
+      (new.keeper.interfaces ≡ e.manager) × (new.ends ≡ with_device old.ends at.0 l e.device)
+
+-- of one on a stream between devices, if there is such an interface, and its device has the stream; its ID is a byte
+pub record SidesPeer (number line stream : ℕ) (o : InterfaceOp) (loss : Option Loss) (old new : Links) : Type 0 where
+  pub late : 256 ≤ stream → SidesKeep old new
+  pub absent : has_peer_in old.keeper old.ends number line stream ≡ false → SidesKeep old new
+  pub asked : stream < 256 → has_peer_in old.keeper old.ends number line stream ≡ true
+      → SidesAsk number o loss old new
 
 -- a call of one interface of a device, if it meets a test
 abbrev pub called_if : (Tdi → Bool) → LinkEnds → ℕ → Tdi → Call → LinkEnds
@@ -119,12 +157,13 @@ called_if test l place tdi call =
 
 pub record SidesCall (number : ℕ) (test : Tdi → Bool) (call : Call) (old new : Links) : Type 0 where
   pub keeper : new.keeper.interfaces ≡ old.keeper.interfaces
+  pub peer_draws : new.keeper.peer_draws ≡ old.keeper.peer_draws
   pub contents : new.trusted.contents ≡ old.trusted.contents
-  pub unnamed : interface_named old.keeper.interfaces old.ends number ≡ None → SidesKeep old new
+  pub unnamed : interface_named old.keeper.interfaces old.ends.links number ≡ None → SidesKeep old new
   pub called : (at : ℕ × ℕ) (l : LinkEnds) (tdi : Tdi)
-      → interface_named old.keeper.interfaces old.ends number ≡ Some at → slice_get old.ends at.0 ≡ Some l
-      → slice_get l.device.interfaces.interfaces at.1 ≡ Some tdi
-      → new.ends ≡ slice_set old.ends at.0 (called_if test l at.1 tdi call)
+      → interface_named old.keeper.interfaces old.ends.links number ≡ Some at
+      → slice_get old.ends.links at.0 ≡ Some l → slice_get l.device.interfaces.interfaces at.1 ≡ Some tdi
+      → new.ends ≡ record old.ends { links = slice_set old.ends.links at.0 (called_if test l at.1 tdi call) }
 
 abbrev pub SidesInterface : InterfaceEvent → Links → Links → Type 0
 SidesInterface (ie.Lock i loss) old new = SidesAsk i op.Lock loss old new
@@ -132,6 +171,10 @@ SidesInterface (ie.Report i loss) old new = SidesAsk i op.Report loss old new
 SidesInterface (ie.Start i loss) old new = SidesAsk i op.Start loss old new
 SidesInterface (ie.Halt i loss) old new = SidesAsk i op.Halt loss old new
 SidesInterface (ie.State i loss) old new = SidesAsk i op.State loss old new
+SidesInterface (ie.Bind i line stream loss) old new =
+    SidesPeer i line stream (op.Bind (peer_stream old.keeper line stream)) loss old new
+SidesInterface (ie.Unbind i line stream loss) old new =
+    SidesPeer i line stream (op.Unbind (peer_stream old.keeper line stream)) loss old new
 SidesInterface (ie.View i) old new = SidesKeep old new
 SidesInterface (ie.Write i register value) old new =
     SidesCall i (λ tdi. has_register tdi.plan register) (WriteRegister register value) old new
@@ -141,21 +184,26 @@ SidesInterface (ie.Memory at len) old new = SidesKeep old new
 
 -- ---- all events
 
-abbrev pub arrival_at : Event → Plan → LinkState → Option Arrival
-arrival_at e plan st = arrival_of plan st e
+abbrev pub arrival_at : Plan → Event → LinkState → Option Arrival
+arrival_at plan e st = arrival_of plan st e
 
-abbrev pub Sides : Event → Verdict → Links → Links → Type 0
-Sides (event.Send port bytes more trusted) verdict old new = SidesKeep old new
-Sides (event.Pass n) verdict old new = SidesArrive (arrival_at (event.Pass n)) verdict old new
-Sides (event.Alter n at mask) verdict old new = SidesArrive (arrival_at (event.Alter n at mask)) verdict old new
-Sides (event.Cut n len) verdict old new = SidesArrive (arrival_at (event.Cut n len)) verdict old new
-Sides (event.Arrive port bytes) verdict old new = SidesArrive (arrival_at (event.Arrive port bytes)) verdict old new
-Sides (event.Dump n) verdict old new = SidesKeep old new
-Sides (event.Establish link stream loss) verdict old new =
-    SidesOperate operation.Establish link stream verdict old new
-Sides (event.Refresh link stream loss) verdict old new = SidesOperate operation.Refresh link stream verdict old new
-Sides (event.Stop link stream loss) verdict old new = SidesOperate operation.Stop link stream verdict old new
-Sides (event.Reset link) verdict old new = SidesReset link old new
-Sides (event.Status link stream) verdict old new = SidesKeep old new
-Sides (event.Interface e) verdict old new = SidesInterface e old new
-Sides (event.Access e) verdict old new = SidesKeep old new
+abbrev pub SidesArriveAt : Plan → Event → Verdict → Links → Links → Type 0
+SidesArriveAt plan e verdict old new = SidesArrive plan (arrival_at plan e) verdict old new
+
+abbrev pub Sides : Plan → Event → Verdict → Links → Links → Type 0
+Sides plan (event.Send port bytes more trusted) verdict old new = SidesKeep old new
+Sides plan (event.Pass n) verdict old new = SidesArriveAt plan (event.Pass n) verdict old new
+Sides plan (event.Alter n at mask) verdict old new = SidesArriveAt plan (event.Alter n at mask) verdict old new
+Sides plan (event.Cut n len) verdict old new = SidesArriveAt plan (event.Cut n len) verdict old new
+Sides plan (event.Arrive port bytes) verdict old new = SidesArriveAt plan (event.Arrive port bytes) verdict old new
+Sides plan (event.Dump n) verdict old new = SidesKeep old new
+Sides plan (event.Establish line stream loss) verdict old new =
+    SidesOperate operation.Establish line stream verdict old new
+Sides plan (event.Refresh line stream loss) verdict old new = SidesOperate operation.Refresh line stream verdict old new
+Sides plan (event.Stop line stream loss) verdict old new = SidesOperate operation.Stop line stream verdict old new
+Sides plan (event.Reset link ends) verdict old new = SidesReset link old new
+Sides plan (event.Status line stream) verdict old new = SidesKeep old new
+Sides plan (event.Interface e) verdict old new = SidesInterface e old new
+Sides plan (event.Access e) verdict old new = SidesKeep old new
+Sides plan (event.Forward link d) verdict old new = SidesKeep old new
+Sides plan event.Absent verdict old new = SidesKeep old new

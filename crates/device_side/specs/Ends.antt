@@ -1,6 +1,8 @@
 -- The device's end of a link: its port, what its responder of keys answers, and its interfaces (PCI Express Base 6.0
 -- section 6.33 and chapter 11, in this profile).
-use Rattle.std.specs.Prelude.{ℕ, ◌==◌, Bool, true, false, List, [], ◌∷◌, Option, Some, None, if◌then◌else◌}
+use Rattle.std.specs.Prelude.{ℕ, ◌==◌, ◌||◌, Bool, true, false, List, [], ◌∷◌, Option, Some, None, is_some}
+use Rattle.std.specs.Prelude.{if◌then◌else◌}
+use Rattle.std.specs.Option.{option_and_then}
 use Rattle.ide_types.specs.Ports.{device_port}
 use Rattle.ide_types.specs.declared.port.Side.TheVariants as side
 use Rattle.ide_types.specs.declared.status.StreamStatus.{StreamStatus}
@@ -10,8 +12,17 @@ use Rattle.ide_plan.specs.declared.stream.StreamPlan.{StreamPlan}
 use Rattle.tlp_layout.specs.declared.head.HeadView.{HeadView}
 use Rattle.association.specs.Choice.{id_of}
 use Rattle.ide_km.specs.{PlaceCall, call_of, is_done, reply_of}
-use Rattle.tdi_device.specs.Replies.{DeviceTdis, new_tdis, settled_tdis, tdis_set_t, answered, answer_bytes}
+use Rattle.tdi_device.specs.Replies.{
+  DeviceTdis,
+  new_tdis,
+  settled_tdis,
+  tdis_set_t,
+  tdis_set_peer_t,
+  answered,
+  answer_bytes,
+}
 use Rattle.tdi_device.specs.Replies.{stream_asked}
+use Rattle.tdi_device.specs.declared.said.StreamSaid.{StreamSaid}
 use Rattle.tdi_device.specs.Replies.{reset_tdis}
 use Rattle.ide_port.specs.{PortEnd, new_port, reset_port, shown, called_port, status_in}
 use Rattle.device_side.specs.declared.device.Device.{Device}
@@ -37,13 +48,18 @@ says_secure status = false
 abbrev pub secure_at : PortEnd → ℕ → Bool
 secure_at port stream = says_secure (status_in port stream)
 
--- interfaces whose stream is not Secure at the port leave their lock
-abbrev pub settled_device : DeviceEnd → DeviceEnd
-settled_device e = record e { interfaces = settled_tdis (secure_at e.port) e.interfaces }
+-- `live` says of streams between the device and others which draw is Live where the device receives posted requests, if
+-- the stream is Secure at its end
+abbrev pub secure_with : PortEnd → (ℕ → Option ℕ) → ℕ → Bool
+secure_with port live stream = secure_at port stream || is_some (live stream)
+
+-- interfaces that are bound to a stream that is not Secure leave their lock
+abbrev pub settled_device : (ℕ → Option ℕ) → DeviceEnd → DeviceEnd
+settled_device live e = record e { interfaces = settled_tdis (secure_with e.port live) e.interfaces }
 
 -- with another port, they do so by that one
-abbrev pub device_with_port : DeviceEnd → PortEnd → DeviceEnd
-device_with_port e port = settled_device (record e { port = port })
+abbrev pub device_with_port : (ℕ → Option ℕ) → DeviceEnd → PortEnd → DeviceEnd
+device_with_port live e port = settled_device live (record e { port = port })
 
 -- ---- keys
 
@@ -65,14 +81,16 @@ abbrev pub is_lockable : PortEnd → Option ℕ → Bool
 is_lockable port None = false
 is_lockable port (Some stream) = secure_at port stream
 
-abbrev pub lockable : DeviceEnd → List ℕ → Bool
-lockable e request = is_lockable e.port (stream_asked request)
+-- what the device says of the stream that a request names
+abbrev pub said_of : PortEnd → (ℕ → Option ℕ) → Option ℕ → StreamSaid
+said_of port live stream = record { secure = is_lockable port stream; live = option_and_then live stream }
 
-abbrev pub asked_interfaces : DeviceEnd → List ℕ → DeviceEnd
-asked_interfaces e request = record e { interfaces = answered e.interfaces request (lockable e request) }
+abbrev pub asked_interfaces : (ℕ → Option ℕ) → DeviceEnd → List ℕ → DeviceEnd
+asked_interfaces live e request =
+    record e { interfaces = answered e.interfaces request (said_of e.port live (stream_asked request)) }
 
-abbrev pub reply_of_interfaces : DeviceEnd → List ℕ → List ℕ
-reply_of_interfaces e request = answer_bytes e.interfaces request (lockable e request)
+abbrev pub reply_of_interfaces : (ℕ → Option ℕ) → DeviceEnd → List ℕ → List ℕ
+reply_of_interfaces live e request = answer_bytes e.interfaces request (said_of e.port live (stream_asked request))
 
 -- ---- any message: the first byte of those to interfaces is 1
 
@@ -80,13 +98,14 @@ abbrev pub is_to_interfaces : List ℕ → Bool
 is_to_interfaces [] = false
 is_to_interfaces (b ∷ bs) = b == 1
 
-abbrev pub device_asked : DeviceEnd → List ℕ → ℕ → DeviceEnd
-device_asked e request draw =
-    if is_to_interfaces request then asked_interfaces e request else settled_device (asked_device e request draw)
+abbrev pub device_asked : (ℕ → Option ℕ) → DeviceEnd → List ℕ → ℕ → DeviceEnd
+device_asked live e request draw =
+    if is_to_interfaces request then asked_interfaces live e request
+    else settled_device live (asked_device e request draw)
 
-abbrev pub device_reply : DeviceEnd → List ℕ → ℕ → List ℕ
-device_reply e request draw =
-    if is_to_interfaces request then reply_of_interfaces e request else reply_given e request draw
+abbrev pub device_reply : (ℕ → Option ℕ) → DeviceEnd → List ℕ → ℕ → List ℕ
+device_reply live e request draw =
+    if is_to_interfaces request then reply_of_interfaces live e request else reply_given e request draw
 
 -- ---- T
 
@@ -97,6 +116,14 @@ owner_sets d stream (Some requester) = tdis_set_t d requester stream
 -- of a TLP with this header on a stream
 abbrev pub device_trusting : DeviceTdis → HeadView → ℕ → Bool
 device_trusting d head stream = owner_sets d stream (id_of side.Device head.fields)
+
+abbrev pub bound_owner_sets : DeviceTdis → ℕ → Option ℕ → Bool
+bound_owner_sets d stream None = false
+bound_owner_sets d stream (Some requester) = tdis_set_peer_t d requester stream
+
+-- of one on a stream between two devices
+abbrev pub peer_trusting : DeviceTdis → HeadView → ℕ → Bool
+peer_trusting d head stream = bound_owner_sets d stream (id_of side.Device head.fields)
 
 -- ---- a reset of the link
 

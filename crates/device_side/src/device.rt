@@ -8,15 +8,16 @@ ghost use Rattle.interface_words.specs.RegisterNames.{has_register, width_of};
 ghost use Rattle.tdi_state.specs.Machine.{state_code, LevelReset, FirmwareUpdate, WriteRegister};
 ghost use Rattle.tdi_device.specs.Replies.{called_at};
 ghost use Rattle.ide_port.specs.{IsSentAtPort};
-ghost use Rattle.device_side.specs.Ends.{is_to_interfaces, is_lockable, secure_at};
+ghost use Rattle.std.specs.Option.{option_and_then};
+ghost use Rattle.device_side.specs.Ends.{is_to_interfaces, is_lockable, said_of, secure_at};
 
-use crate::wiring::{Owners, SecureStreams, is_secure_at};
+use crate::wiring::{Owners, PeerStreams, SecureStreams, is_secure_at};
 use ide_km::Responder;
 use ide_plan::{InterfacePlan, StreamPlan};
 use ide_port::{Port, Sent};
 use ide_types::{Items, Memory, PortName, Side};
 use std::alloc::Global;
-use tdi_device::{DeviceInterfaces, TDISP_REPLY_ROOM, stream_asked};
+use tdi_device::{DeviceInterfaces, StreamSaid, TDISP_REPLY_ROOM, stream_asked};
 use tdi_state::Register;
 
 /// The room that a reply needs, in bytes.
@@ -51,6 +52,26 @@ fn is_lockable(port: &Port, stream: Option<u8>) -> bool
     match stream {
         None => false,
         Some(stream) => is_secure_at(port, stream),
+    }
+}
+
+// What it says of one between it and another device.
+fn live_at<P: PeerStreams>(peers: &P, stream: Option<u8>) -> Option<u32>
+    ensures { result ≡ option_and_then (P.live peers.now) stream }
+{
+    match stream {
+        None => None,
+        Some(stream) => peers.live(stream),
+    }
+}
+
+// What the device says of the stream that a request names.
+fn said_of<P: PeerStreams>(port: &Port, peers: &P, stream: Option<u8>) -> StreamSaid
+    ensures { result ≡ said_of port.now (P.live peers.now) stream }
+{
+    StreamSaid {
+        secure: is_lockable(port, stream),
+        live: live_at(peers, stream),
     }
 }
 
@@ -97,29 +118,39 @@ impl Device {
         })
     }
 
-    /// Sends each interface in CONFIG_LOCKED or RUN to ERROR if its stream is not Secure at the port.
-    pub fn settle(&mut self)
-        ensures { self.new ≡ settled_device self.old }
+    /// Sends each interface in CONFIG_LOCKED or RUN to ERROR if a stream that it is bound to is not Secure at the
+    /// device. `peers` says what stands at its ends of streams between it and others.
+    pub fn settle<P: PeerStreams>(&mut self, peers: &P)
+        ensures { self.new ≡ settled_device (P.live peers.now) self.old }
     {
-        let streams = SecureStreams { port: &self.port };
+        let streams = SecureStreams {
+            port: &self.port,
+            peers,
+        };
         self.interfaces.settle(&streams);
     }
 
     /// Answers a message of the host, of key management or to an interface, which its first byte tells: makes at most
     /// one call of its port or of one interface, and appends the reply, or nothing. `draw` is the number under which a
-    /// KEY_PROG's key is kept. After it, each interface in CONFIG_LOCKED or RUN goes to ERROR if its stream is not
-    /// Secure. `reply` has room for `REPLY_ROOM` bytes.
-    pub fn answer(&mut self, request: &[u8], draw: u32, reply: &mut Vec<u8>)
+    /// KEY_PROG's key is kept. After it, each interface in CONFIG_LOCKED or RUN goes to ERROR if a stream that it is
+    /// bound to is not Secure. `reply` has room for `REPLY_ROOM` bytes.
+    pub fn answer<P: PeerStreams>(
+        &mut self,
+        request: &[u8],
+        draw: u32,
+        peers: &P,
+        reply: &mut Vec<u8>,
+    )
         requires { vec_len reply.old + REPLY_ROOM ≤ vec_capacity reply.old }
-        ensures device { self.new ≡ device_asked self.old request.now draw }
-        ensures reply { reply.new.items ≡ reply.old.items ++ device_reply self.old request.now draw }
+        ensures device { self.new ≡ device_asked (P.live peers.now) self.old request.now draw }
+        ensures reply { reply.new.items ≡ reply.old.items ++ device_reply (P.live peers.now) self.old request.now draw }
         ensures capacity { vec_capacity reply.old ≤ vec_capacity reply.new }
     {
         if is_to_interfaces(request) {
-            self.answer_to_interfaces(request, reply)
+            self.answer_to_interfaces(request, peers, reply)
         } else {
             self.answer_of_keys(request, draw, reply);
-            self.settle();
+            self.settle(peers);
         }
     }
 
@@ -136,14 +167,20 @@ impl Device {
     }
 
     // Answers a message to an interface.
-    fn answer_to_interfaces(&mut self, request: &[u8], reply: &mut Vec<u8>)
+    fn answer_to_interfaces<P: PeerStreams>(
+        &mut self,
+        request: &[u8],
+        peers: &P,
+        reply: &mut Vec<u8>,
+    )
         requires { vec_len reply.old + REPLY_ROOM ≤ vec_capacity reply.old }
-        ensures device { self.new ≡ asked_interfaces self.old request.now }
-        ensures reply { reply.new.items ≡ reply.old.items ++ reply_of_interfaces self.old request.now }
+        ensures device { self.new ≡ asked_interfaces (P.live peers.now) self.old request.now }
+        ensures reply { reply.new.items ≡ reply.old.items ++ reply_of_interfaces
+            (P.live peers.now) self.old request.now }
         ensures capacity { vec_capacity reply.old ≤ vec_capacity reply.new }
     {
-        let secure = is_lockable(&self.port, stream_asked(request));
-        self.interfaces.answer(request, secure, reply);
+        let said = said_of(&self.port, peers, stream_asked(request));
+        self.interfaces.answer(request, said, reply);
     }
 
     /// Whether the port has the stream, and it is Secure there.

@@ -6,3 +6,4 @@ mod device;
 mod wiring;
 
 pub use device::{Device, REPLY_ROOM};
+pub use wiring::{BoundOwners, NoPeers, PeerStreams};

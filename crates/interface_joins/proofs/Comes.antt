@@ -17,6 +17,8 @@ use Rattle.interface_states.specs.Views.{Managed, on_operation}
 use Rattle.interface_states.specs.Devices.{tdi_asked, accepts_lock, one_if}
 use Rattle.interface_states.specs.Exchanges.{carries}
 use Rattle.interface_states.specs.Due.{Standing}
+use Rattle.interface_states.specs.Terms.{Op}
+use Rattle.tdi_device.specs.declared.said.StreamSaid.{StreamSaid}
 use Rattle.tdi_state.specs.Machine.{Tdi}
 use Rattle.tdi_host.specs.declared.operation.InterfaceOp.{InterfaceOp}
 use Rattle.tdi_host.specs.declared.operation.InterfaceOp.TheVariants as op
@@ -33,8 +35,8 @@ use Rattle.interface_joins.specs.Faces.{SeenAs, IsManaged}
 -- ---- what the manager keeps
 
 -- an interface that is laid out as the topology says
-abbrev pub laid : Site → ℕ → ℕ → Bool → Seen → HostTdi
-laid x draw needs started seen = record {
+abbrev pub laid : Site → ℕ → ℕ → Bool → Seen → List Bool → HostTdi
+laid x draw needs started seen asked = record {
   link = x.link;
   requester = x.plan.requester;
   stream = x.plan.stream;
@@ -44,6 +46,7 @@ laid x draw needs started seen = record {
   needs = needs;
   was_started = started;
   seen = seen;
+  asked = asked;
 }
 
 -- with what the manager's view keeps
@@ -56,7 +59,7 @@ told IsBroken m = record m { view = Broken }
 
 -- the manager's interface of this view, if the machine keeps the rest so
 abbrev pub host_of : Site → ℕ → Seen → Managed → HostTdi
-host_of x draw seen m = laid x draw (told seen m).needs (told seen m).started seen
+host_of x draw seen m = laid x draw (told seen m).needs (told seen m).started seen (told seen m).asked
 
 pub told_seen : (seen : Seen) (m : Managed) → SeenAs seen (told seen m)
 told_seen IsUnlocked m = refl
@@ -75,7 +78,7 @@ told_is IsDoubt m e = λ k. record m { view = sym e k }
 told_is IsBroken m e = λ k. record m { view = sym e k }
 
 pub managed_of : (x : Site) (draw : ℕ) (seen : Seen) (m : Managed) → SeenAs seen m → IsKey (nonce_of seen)
-    → IsManaged draw x (laid x draw m.needs m.started seen) m
+    → IsManaged draw x (laid x draw m.needs m.started seen m.asked) m
 managed_of x draw seen m view key = record {
   laid_out = record { link = refl; requester = refl; stream = refl; flags = refl; offset = refl };
   draw_is = refl;
@@ -83,6 +86,7 @@ managed_of x draw seen m view key = record {
   started = refl;
   seen = view;
   nonce = key;
+  asked = refl;
 }
 
 pub no_key : IsKey (replicate 32 0)
@@ -90,14 +94,23 @@ no_key = (refl, All-replicate (λ b. b < 256) 32 0 (omega arith))
 
 -- ---- what the machine reads
 
-abbrev pub stands : Site → Bool → Option (List ℕ) → Tdi → Managed → StreamStatus → ℕ → ℕ → Standing
-stands x secure next tdi m host draw drawn = record {
-  around = record { secure = secure; drawn = next; nonce = m.nonce };
+-- of streams between devices: the draw that is Live at the device by the ID, and how the manager of keys has them, by
+-- line and ID
+pub record PeersRead : Type 0 where
+  pub live : ℕ → Option ℕ
+  pub op : ℕ → ℕ → Op
+  pub draw : ℕ → ℕ → ℕ
+
+abbrev pub stands : Site → StreamSaid → PeersRead → Option (List ℕ) → Tdi → Managed → StreamStatus → ℕ → ℕ → Standing
+stands x said ps next tdi m host draw drawn = record {
+  around = record { secure = said.secure; drawn = next; nonce = m.nonce; live = ps.live };
   tdi = tdi;
   managed = m;
   host = host;
   draw = draw;
   drawn = drawn;
+  peer_op = ps.op;
+  peer_draw = ps.draw;
 }
 
 -- ---- the step

@@ -1,6 +1,6 @@
 -- An operation that the manager begins is the walk of one interface, or its refusal; how many bytes a portion is asked
 -- of stays as it is.
-use Rattle.std.proofs.Common.{◌≡◌, ℕ, zero, suc, Bool, Option, Some, None, refl, ap, sym}
+use Rattle.std.proofs.Common.{◌≡◌, ℕ, zero, suc, Option, Some, None, refl, ap, sym}
 use Rattle.std.specs.Prelude.{slice_get, slice_set}
 use Rattle.link_events.specs.declared.event.Loss.{Loss}
 use Rattle.tdi_host.specs.declared.interfaces.Asking.{Asking}
@@ -11,6 +11,7 @@ use Rattle.tdi_host.specs.declared.operation.Refusal.{Refusal}
 use Rattle.tdi_host.specs.Steps.{first_step}
 use Rattle.tdi_host.specs.Views.{HostTdi, interface_unless}
 use Rattle.tdi_host.specs.Managers.{InterfaceManagerView, CurrentInterface, current_interface, current_by, nothing_read}
+use Rattle.tdi_device.specs.declared.said.StreamSaid.{StreamSaid}
 use Rattle.tdi_device.specs.Replies.{DeviceTdis}
 use Rattle.tdi_walks.specs.Operations.{WalkedInterface, interface_walk, begun_at}
 use Rattle.tdi_ends.specs.Keepers.{Ended, interface_exchanged, ended_if_over, by_current, unless_refused, KeepersWalk}
@@ -32,20 +33,20 @@ by_portion : (c : Option CurrentInterface) (asked : CurrentInterface → Ended) 
 by_portion None asked rest p here later = later
 by_portion (Some c) asked rest p here later = here c
 
-pub portion_kept : (more : ℕ) (secure : Bool) (loss : Option Loss) (m : InterfaceManagerView) (d : DeviceTdis)
-    → (manager_walk more secure loss m d).manager.portion ≡ m.portion
+pub portion_kept : (more : ℕ) (said : StreamSaid) (loss : Option Loss) (m : InterfaceManagerView) (d : DeviceTdis)
+    → (manager_walk more said loss m d).manager.portion ≡ m.portion
 unfolding manager_walk
-portion_kept zero secure loss m d = refl
-portion_kept (suc more) secure loss m d =
+portion_kept zero said loss m d = refl
+portion_kept (suc more) said loss m d =
     by_portion (current_interface m)
-    (λ c. ended_if_over (interface_exchanged secure loss m d c).outcome (interface_exchanged secure loss m d c)
-    (manager_walk more secure loss (interface_exchanged secure loss m d c).manager
-    (interface_exchanged secure loss m d c).device))
+    (λ c. ended_if_over (interface_exchanged said loss m d c).outcome (interface_exchanged said loss m d c)
+    (manager_walk more said loss (interface_exchanged said loss m d c).manager
+    (interface_exchanged said loss m d c).device))
     (record { outcome = outcome.Next; manager = m; device = d }) m.portion
-    (λ c. goes_portion (interface_exchanged secure loss m d c).outcome (interface_exchanged secure loss m d c) _
+    (λ c. goes_portion (interface_exchanged said loss m d c).outcome (interface_exchanged said loss m d c) _
     m.portion refl
-    (portion_kept more secure loss (interface_exchanged secure loss m d c).manager
-    (interface_exchanged secure loss m d c).device))
+    (portion_kept more said loss (interface_exchanged said loss m d c).manager
+    (interface_exchanged said loss m d c).device))
     refl
 
 -- ---- the walk of one interface
@@ -63,31 +64,31 @@ abbrev pub asking_at : InterfaceManagerView → ℕ → InterfaceOp → ℕ → 
 asking_at m number o draws =
     record m { asking = Some (record { place = number; step = first_step o; draws = draws }); read = nothing_read }
 
-begun_is_over : KeepersWalk → (more : ℕ) (number : ℕ) (o : InterfaceOp) (draws : ℕ) (secure : Bool)
+begun_is_over : KeepersWalk → (more : ℕ) (number : ℕ) (o : InterfaceOp) (draws : ℕ) (said : StreamSaid)
     (loss : Option Loss) (m : InterfaceManagerView) (d : DeviceTdis) (i : HostTdi) → slice_get m.interfaces number
     ≡ Some i
-    → IsOver m number o (interface_walk more m.portion draws secure loss (begun_at o i d))
-    (manager_walk more secure loss (asking_at m number o draws) d)
-begun_is_over keepers more number o draws secure loss m d i there =
+    → IsOver m number o (interface_walk more m.portion draws said loss (begun_at o i d))
+    (manager_walk more said loss (asking_at m number o draws) d)
+begun_is_over keepers more number o draws said loss m d i there =
     let asking : Asking = record { place = number; step = first_step o; draws = draws } in
-    let w = keepers more secure loss (asking_at m number o draws) d (record { interface = i; asking = asking })
+    let w = keepers more said loss (asking_at m number o draws) d (record { interface = i; asking = asking })
     (ap (current_by asking) there) in
     record {
       outcome_is = w.outcome_is;
       interfaces_are = w.interfaces_are;
-      portion_is = portion_kept more secure loss (asking_at m number o draws) d;
+      portion_is = portion_kept more said loss (asking_at m number o draws) d;
       read_is = w.read_is;
       device_is = w.device_is;
     }
 
-pub is_over : KeepersWalk → (more : ℕ) (number : ℕ) (o : InterfaceOp) (draws : ℕ) (secure : Bool)
+pub is_over : KeepersWalk → (more : ℕ) (number : ℕ) (o : InterfaceOp) (draws : ℕ) (said : StreamSaid)
     (loss : Option Loss) (m : InterfaceManagerView) (d : DeviceTdis) (i : HostTdi) (r : Option Refusal)
     → slice_get m.interfaces number ≡ Some i
-    → IsOver m number o (begun_walk r i m.read d (interface_walk more m.portion draws secure loss (begun_at o i d)))
-    (unless_refused r m d (manager_walk more secure loss (interface_unless r m (asking_at m number o draws)) d))
-is_over keepers more number o draws secure loss m d i None there =
-    begun_is_over keepers more number o draws secure loss m d i there
-is_over keepers more number o draws secure loss m d i (Some r) there = record {
+    → IsOver m number o (begun_walk r i m.read d (interface_walk more m.portion draws said loss (begun_at o i d)))
+    (unless_refused r m d (manager_walk more said loss (interface_unless r m (asking_at m number o draws)) d))
+is_over keepers more number o draws said loss m d i None there =
+    begun_is_over keepers more number o draws said loss m d i there
+is_over keepers more number o draws said loss m d i (Some r) there = record {
   outcome_is = refl;
   interfaces_are = sym (set_same m.interfaces number i there);
   portion_is = refl;

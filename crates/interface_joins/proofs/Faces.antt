@@ -14,13 +14,14 @@ use Rattle.tdi_state.specs.declared.states.Lock.{Lock}
 use Rattle.tdi_state.specs.declared.states.TdiState.{TdiState}
 use Rattle.tdi_state.specs.declared.states.TdiState.TheVariants.{ConfigUnlocked, ConfigLocked, Run, Error}
 use Rattle.tdi_state.specs.Machine.{Tdi, Call, StartInterface, StopInterface, bound_stream, after_start, tdi_after}
-use Rattle.tdi_state.specs.Machine.{locked_with, new_lock}
+use Rattle.tdi_state.specs.Machine.{locked_with, new_lock, BindStream, UnbindStream, bind_answer, bound_with}
+use Rattle.tdi_state.specs.Machine.{unbind_answer, unbound_with}
 use Rattle.interface_states.specs.Sites.{Site}
 use Rattle.interface_states.specs.Views.{is_number, number_in, on_operation}
 use Rattle.interface_states.specs.Devices.{Around, tdi_asked, tdi_if_called, lock_call}
 use Rattle.interface_states.specs.Exchanges.{carries}
 use Rattle.interface_states.specs.Due.{lock_answer_at}
-use Rattle.interface_machine.specs.Machine.{Face, Streams, around_of, face_after}
+use Rattle.interface_machine.specs.Machine.{Face, Streams, ends_of, around_of, face_after}
 use Rattle.tdi_host.specs.declared.operation.InterfaceOp.{InterfaceOp}
 use Rattle.tdi_host.specs.declared.operation.InterfaceOp.TheVariants as op
 use Rattle.interface_joins.specs.Verdicts.{op_event}
@@ -33,13 +34,15 @@ number_is op.Report loss n = same-true n
 number_is op.Start loss n = same-true n
 number_is op.Halt loss n = same-true n
 number_is op.State loss n = same-true n
+number_is (op.Bind peer) loss n = same-true n
+number_is (op.Unbind peer) loss n = same-true n
 
 pub face_behind : (plan : Plan) (s : Streams) (used : ℕ → ℕ) (x : Site) (f : Face) (o : InterfaceOp)
     (loss : Option Loss) (due : Verdict)
     → (let k : Face = record {
       tdi = tdi_asked (around_of plan s used x f) x (op_event o x.number loss) due f.tdi;
       managed = on_operation s.drawn (op_event o x.number loss) due f.managed;
-    } in k) ≡ face_after plan s s.secure used (event.Interface (op_event o x.number loss)) due x f
+    } in k) ≡ face_after plan s (ends_of s) used (event.Interface (op_event o x.number loss)) due x f
 face_behind plan s used x f o loss due = ap
     (λ (b : Bool). let k : Face = record {
       tdi = if b then tdi_asked (around_of plan s used x f) x (op_event o x.number loss) due f.tdi else f.tdi;
@@ -62,6 +65,16 @@ lock_bound : (p : InterfacePlan) (flags offset : ℕ) (tdi : Tdi) (r : Result (L
     → IsBound p (locked_with tdi (new_lock tdi flags p.stream offset) r)
 lock_bound p flags offset tdi (Ok nonce) before = record { layout = before.layout; bound = refl }
 lock_bound p flags offset tdi (Err code) before = before
+
+bind_bound : (p : InterfacePlan) (tdi : Tdi) (stream : ℕ) (r : Result ℕ ℕ) → IsBound p tdi
+    → IsBound p (bound_with tdi stream r)
+bind_bound p tdi stream (Ok draw) before = record { layout = before.layout; bound = before.bound }
+bind_bound p tdi stream (Err code) before = before
+
+unbind_bound : (p : InterfacePlan) (tdi : Tdi) (stream : ℕ) (r : Result (Unit {0}) ℕ) → IsBound p tdi
+    → IsBound p (unbound_with tdi stream r)
+unbind_bound p tdi stream (Ok done) before = record { layout = before.layout; bound = before.bound }
+unbind_bound p tdi stream (Err code) before = before
 
 held_bound : (p : InterfacePlan) (b : Bool) (lock : Lock) (held : List ℕ)
     → lock.stream ≡ p.stream
@@ -89,3 +102,9 @@ asked_bound a x op.Start loss w tdi is =
 asked_bound a x op.Halt loss w tdi is =
     called_bound x.plan (carries w 1) StopInterface tdi is (record { layout = is.layout; bound = tt })
 asked_bound a x op.State loss w tdi is = is
+asked_bound a x (op.Bind peer) loss w tdi is =
+    called_bound x.plan (carries w 1) (BindStream peer.id (a.live peer.id)) tdi is
+    (bind_bound x.plan tdi peer.id (bind_answer tdi peer.id (a.live peer.id)) is)
+asked_bound a x (op.Unbind peer) loss w tdi is =
+    called_bound x.plan (carries w 1) (UnbindStream peer.id) tdi is
+    (unbind_bound x.plan tdi peer.id (unbind_answer tdi peer.id) is)

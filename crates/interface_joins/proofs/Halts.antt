@@ -1,5 +1,5 @@
 -- A halt is refused by nobody: either its one exchange is lost, or the interface is unlocked at both ends.
-use Rattle.std.proofs.Common.{◌≡◌, ℕ, ◌+◌, Bool, false, [], Option, Some, None, refl, sym, subst}
+use Rattle.std.proofs.Common.{◌≡◌, ℕ, ◌+◌, false, [], Option, Some, None, refl, sym, subst}
 use Rattle.std.specs.Prelude.{slice_set}
 use Rattle.ide_types.specs.declared.status.StreamStatus.{StreamStatus}
 use Rattle.interface_words.specs.declared.verdict.InterfaceVerdict.TheVariants as iv
@@ -18,13 +18,15 @@ use Rattle.tdi_host.specs.declared.operation.InterfaceOp.TheVariants as op
 use Rattle.tdi_host.specs.declared.step.Step.TheVariants as step
 use Rattle.tdi_host.specs.Judging.{Passed}
 use Rattle.tdi_host.specs.Views.{Seen, IsUnlocked, IsDoubt, halt_outcome, needs_after, taken_interface}
+use Rattle.tdi_device.specs.declared.said.StreamSaid.{StreamSaid}
 use Rattle.tdi_device.specs.Replies.{DeviceTdis, NamedTdi, next_nonce}
 use Rattle.key_laws.specs.Due.{lost_in}
 use Rattle.tdi_walks.specs.Operations.{carried, reached, stated_once, stated_alone, at_step}
 use Rattle.interface_joins.specs.Verdicts.{asked_as}
 use Rattle.interface_joins.specs.Faces.{IsManaged}
 use Rattle.interface_joins.proofs.Losses.{by_loss, once_lost, cut}
-use Rattle.interface_joins.proofs.Comes.{host_of, told, managed_of, no_key, stands, device_with, Comes, same_device}
+use Rattle.interface_joins.proofs.Comes.{PeersRead, host_of, told, managed_of, no_key, stands, device_with, Comes}
+use Rattle.interface_joins.proofs.Comes.{same_device}
 use Rattle.interface_joins.proofs.Comes.{left_device, no_more}
 
 -- the verdict if nothing is lost
@@ -53,17 +55,18 @@ halt_managed x draw draws seen m None = managed_of x draw IsUnlocked _ refl no_k
 halt_managed x draw draws seen m (Some Request) = managed_of x draw IsDoubt _ refl no_key
 halt_managed x draw draws seen m (Some Reply) = managed_of x draw IsDoubt _ refl no_key
 
-module _ (x : Site) (draw drawn portion place : ℕ) (secure : Bool) (loss : Option Loss) (d : DeviceTdis) (tdi : Tdi)
+module _ (x : Site) (draw drawn portion place : ℕ) (said : StreamSaid) (ps : PeersRead) (loss : Option Loss)
+    (d : DeviceTdis) (tdi : Tdi)
     (m : Managed) (seen : Seen) (host : StreamStatus) where
   abbrev standing : Standing
-  standing = stands x secure (next_nonce d) tdi (told seen m) host draw drawn
+  standing = stands x said ps (next_nonce d) tdi (told seen m) host draw drawn
 
   abbrev there : NamedTdi
   there = record { place = place; tdi = tdi }
 
   asked : (l : Option Lost) → lost_in loss 1 ≡ l → slice_set d.interfaces place tdi ≡ d.interfaces
       → Comes x standing place op.Halt loss d (by_loss l 1 (halted x drawn (told seen m)))
-      (stated_once portion drawn secure l there (at_step step.Halt (host_of x draw seen m) d))
+      (stated_once portion drawn said l there (at_step step.Halt (host_of x draw seen m) d))
   asked l is same = record {
     verdict = halt_verdict x drawn (told seen m) loss l is;
     device = halt_device x drawn (told seen m) d place tdi l same;
@@ -72,8 +75,8 @@ module _ (x : Site) (draw drawn portion place : ℕ) (secure : Bool) (loss : Opt
 
   pub halt_comes : slice_set d.interfaces place tdi ≡ d.interfaces
       → Comes x standing place op.Halt loss d (halt_due x standing loss)
-      (stated_alone step.Halt portion drawn secure loss (host_of x draw seen m) d there)
+      (stated_alone step.Halt portion drawn said loss (host_of x draw seen m) d there)
   halt_comes same =
       subst (λ w. Comes x standing place op.Halt loss d w
-      (stated_alone step.Halt portion drawn secure loss (host_of x draw seen m) d there))
+      (stated_alone step.Halt portion drawn said loss (host_of x draw seen m) d there))
       (sym (once_lost loss (halted x drawn (told seen m)))) (asked (lost_in loss 1) refl same)

@@ -2,7 +2,7 @@
 -- give the stated step, and this is case by case what the machine makes of both ends.
 use Rattle.std.proofs.Common.{◌≡◌, ℕ, suc, ◌-◌, ◌≤◌, Bool, length, Option, Some, None, refl, ap, sym, subst, ◌∙◌}
 use Rattle.std.proofs.Common.{arith}
-use Rattle.std.specs.Prelude.{IfSome}
+use Rattle.std.specs.Prelude.{IfSome, if◌then◌else◌}
 use Rattle.std.specs.Option.{option_map}
 use Rattle.ide_types.specs.declared.status.StreamStatus.{StreamStatus}
 use Rattle.ide_plan.specs.declared.plan.Plan.{Plan}
@@ -12,13 +12,16 @@ use Rattle.tdi_state.specs.Kept.{kept_report}
 use Rattle.tdi_state.specs.Machine.{Tdi, lock_of}
 use Rattle.interface_states.specs.Sites.{Site, nonce_behind}
 use Rattle.interface_states.specs.Views.{Managed}
-use Rattle.interface_states.specs.Due.{Standing, asked_due, portions}
+use Rattle.ide_types.specs.Lines.{peer_line}
+use Rattle.link_verdicts.specs.declared.verdict.Verdict.TheVariants as v
+use Rattle.interface_states.specs.Due.{Standing, asked_due, portions, bind_due, unbind_due}
 use Rattle.interface_machine.specs.Machine.{Face, Streams}
 use Rattle.tdi_host.specs.declared.operation.InterfaceOp.{InterfaceOp}
 use Rattle.tdi_host.specs.declared.operation.InterfaceOp.TheVariants as op
 use Rattle.tdi_host.specs.Steps.{Read}
 use Rattle.tdi_host.specs.Views.{HostTdi, Seen, interface_refusal_of, interface_unless}
 use Rattle.tdi_host.specs.Managers.{InterfaceManagerView}
+use Rattle.tdi_device.specs.declared.said.StreamSaid.{StreamSaid}
 use Rattle.tdi_device.specs.Replies.{DeviceTdis, NamedTdi, next_nonce}
 use Rattle.tdi_walks.proofs.Operations.{same_set}
 use Rattle.tdi_walks.specs.Exchanges.{IsReport, Meets, ReportsFit}
@@ -28,12 +31,16 @@ use Rattle.tdi_ends.specs.Keepers.{Ended, interface_operated, unless_refused, Ke
 unfoldable use Rattle.tdi_ends.specs.Keepers.{manager_walk}
 use Rattle.interface_joins.specs.Verdicts.{asked_as, report_of, op_event}
 use Rattle.interface_joins.specs.Faces.{IsFace}
-use Rattle.interface_joins.specs.Joined.{IsAt, IsInterfaceJoined, InterfaceOperationsJoin}
-use Rattle.interface_joins.proofs.Comes.{host_of, told, told_is, stands, read_in, tdi_behind, Comes, begun_walk}
+use Rattle.interface_joins.specs.Joined.{IsAt, IsInterfaceJoined, FitsPeer, op_host, said_of}
+use Rattle.interface_joins.specs.Joined.{InterfaceOperationsJoin}
+use Rattle.interface_joins.proofs.Comes.{PeersRead, host_of, told, told_is, stands, read_in, tdi_behind, Comes}
+use Rattle.interface_joins.proofs.Comes.{begun_walk}
 use Rattle.interface_joins.proofs.Locks.{lock_comes}
 use Rattle.interface_joins.proofs.Starts.{start_comes}
 use Rattle.interface_joins.proofs.Halts.{halt_comes}
 use Rattle.interface_joins.proofs.States.{state_comes}
+use Rattle.interface_joins.proofs.Binds.{bind_comes, unbind_comes}
+use Rattle.interface_states.specs.Peers.{has_peer, live_by}
 use Rattle.interface_joins.proofs.Portions.{counted}
 use Rattle.interface_joins.proofs.Reports.{IsWalk, report_comes}
 use Rattle.interface_joins.proofs.Meeting.{meets}
@@ -50,34 +57,35 @@ pub record Laws : Type 0 where
 
 -- ---- the walk
 
-stated_walk : Laws → (o : InterfaceOp) (fuel portion draws : ℕ) (secure : Bool) (loss : Option Loss) (i : HostTdi)
+stated_walk : Laws → (o : InterfaceOp) (fuel portion draws : ℕ) (said : StreamSaid) (loss : Option Loss) (i : HostTdi)
     (d : DeviceTdis) (n : NamedTdi) → IsShortOp o → Meets portion i d n → 3 ≤ fuel
-    → stated o portion draws secure loss i d n ≡ interface_walk fuel portion draws secure loss (begun_at o i d)
-stated_walk laws o fuel portion draws secure loss i d n short m enough =
+    → stated o portion draws said loss i d n ≡ interface_walk fuel portion draws said loss (begun_at o i d)
+stated_walk laws o fuel portion draws said loss i d n short m enough =
     let more : suc (suc (suc (fuel - 3))) ≡ fuel = omega arith in
-    subst (λ k. stated o portion draws secure loss i d n ≡ interface_walk k portion draws secure loss (begun_at o i d))
+    subst (λ k. stated o portion draws said loss i d n ≡ interface_walk k portion draws said loss (begun_at o i d))
     more
-    (sym (laws.stated_is o (fuel - 3) portion draws secure loss i d n short m))
+    (sym (laws.stated_is o (fuel - 3) portion draws said loss i d n short m))
 
-module _ (laws : Laws) (fuel : ℕ) (x : Site) (plan : Plan) (draw drawn portion place : ℕ) (secure : Bool)
-    (loss : Option Loss) (d : DeviceTdis) (tdi : Tdi) (m : Managed) (read : Read) (seen : Seen) (host : StreamStatus)
+module _ (laws : Laws) (fuel : ℕ) (x : Site) (plan : Plan) (draw drawn portion place : ℕ)
+    (said : StreamSaid) (ps : PeersRead) (loss : Option Loss) (d : DeviceTdis) (tdi : Tdi) (m : Managed) (read : Read)
+    (seen : Seen) (host : StreamStatus)
   where
     abbrev standing : Standing
-    standing = stands x secure (next_nonce d) tdi (told seen m) host draw drawn
+    standing = stands x said ps (next_nonce d) tdi (told seen m) host draw drawn
 
     abbrev there : NamedTdi
     there = record { place = place; tdi = tdi }
 
     report_walk : (lock : Option Lock) → lock_of tdi.state ≡ lock → Meets portion (host_of x draw seen m) d there
         → portion ≡ plan.portion → IfSome lock (λ l. IsReport (kept_report tdi.plan l)) → 1140 ≤ fuel
-        → IsWalk x plan draw drawn portion place secure loss d tdi m read seen
+        → IsWalk x plan draw drawn portion place said ps loss d tdi m read seen
         (option_map (kept_report tdi.plan) lock)
-        (interface_walk fuel portion drawn secure loss (begun_at op.Report (host_of x draw seen m) d))
+        (interface_walk fuel portion drawn said loss (begun_at op.Report (host_of x draw seen m) d))
     report_walk None is meet same report enough =
         let more : suc (fuel - 1) ≡ fuel = omega arith in
-        subst (λ k. IsWalk x plan draw drawn portion place secure loss d tdi m read seen None
-        (interface_walk k portion drawn secure loss (begun_at op.Report (host_of x draw seen m) d))) more
-        (laws.refused_is (fuel - 1) portion drawn secure loss (host_of x draw seen m) d there meet is)
+        subst (λ k. IsWalk x plan draw drawn portion place said ps loss d tdi m read seen None
+        (interface_walk k portion drawn said loss (begun_at op.Report (host_of x draw seen m) d))) more
+        (laws.refused_is (fuel - 1) portion drawn said loss (host_of x draw seen m) d there meet is)
     report_walk (Some lock) is meet same report enough =
         let short = report.short in
         let some = report.some in
@@ -88,46 +96,72 @@ module _ (laws : Laws) (fuel : ℕ) (x : Site) (plan : Plan) (draw drawn portion
         = counted fuel portion (length (kept_report tdi.plan lock)) least some whole
         ∙ ap (λ k. portions k (length (kept_report tdi.plan lock))) same in
         subst (λ k. ReportIsRead (lost_within loss 1 k) (kept_report tdi.plan lock) (host_of x draw seen m) d
-        (interface_walk fuel portion drawn secure loss (begun_at op.Report (host_of x draw seen m) d))) count
-        (laws.read_is fuel portion drawn secure loss (host_of x draw seen m) d there lock meet is whole)
+        (interface_walk fuel portion drawn said loss (begun_at op.Report (host_of x draw seen m) d))) count
+        (laws.read_is fuel portion drawn said loss (host_of x draw seen m) d there lock meet is whole)
 
-    comes : (o : InterfaceOp) → Meets portion (host_of x draw seen m) d there → portion ≡ plan.portion
+    comes : (o : InterfaceOp) → FitsPeer (has_peer plan.peers x.link) ps.draw ps.live said.live o
+        → Meets portion (host_of x draw seen m) d there → portion ≡ plan.portion
         → tdi.plan ≡ x.plan → 1140 ≤ fuel
         → Comes x standing place o loss d (asked_due plan x standing (op_event o x.number loss))
-        (begun_walk (interface_refusal_of o host (host_of x draw seen m)) (host_of x draw seen m) read d
-        (interface_walk fuel portion drawn secure loss (begun_at o (host_of x draw seen m) d)))
-    comes op.Lock meet same layout enough =
+        (begun_walk (interface_refusal_of o (op_host ps.op host o) (host_of x draw seen m))
+        (host_of x draw seen m) read d
+        (interface_walk fuel portion drawn said loss (begun_at o (host_of x draw seen m) d)))
+    comes op.Lock fits meet same layout enough =
         let i = host_of x draw seen m in
         subst (λ w. Comes x standing place op.Lock loss d (asked_due plan x standing (op_event op.Lock x.number loss))
         (begun_walk (interface_refusal_of op.Lock host i) i read d w))
-        (stated_walk laws op.Lock fuel portion drawn secure loss i d there tt meet (omega arith))
-        (lock_comes x draw drawn portion place secure loss d tdi m read seen host
+        (stated_walk laws op.Lock fuel portion drawn said loss i d there tt meet (omega arith))
+        (lock_comes x draw drawn portion place said ps loss d tdi m read seen host
         (same_set d x.plan.requester there meet.named_is) meet.drawn meet.nonce)
-    comes op.Report meet same layout enough =
-        report_comes x plan draw drawn portion place secure loss d tdi m read seen host _
+    comes op.Report fits meet same layout enough =
+        report_comes x plan draw drawn portion place said ps loss d tdi m read seen host _
         (same_set d x.plan.requester there meet.named_is) meet.nonce layout
         (report_walk (lock_of tdi.state) refl meet same meet.report enough)
-    comes op.Start meet same layout enough =
+    comes op.Start fits meet same layout enough =
         let i = host_of x draw seen m in
         subst (λ w. Comes x standing place op.Start loss d (asked_due plan x standing (op_event op.Start x.number loss))
         (begun_walk (interface_refusal_of op.Start host i) i read d w))
-        (stated_walk laws op.Start fuel portion drawn secure loss i d there tt meet (omega arith))
-        (start_comes x draw drawn portion place secure loss d tdi m read seen host
+        (stated_walk laws op.Start fuel portion drawn said loss i d there tt meet (omega arith))
+        (start_comes x draw drawn portion place said ps loss d tdi m read seen host
         (same_set d x.plan.requester there meet.named_is) meet.nonce)
-    comes op.Halt meet same layout enough =
+    comes op.Halt fits meet same layout enough =
         let i = host_of x draw seen m in
         subst (λ w. Comes x standing place op.Halt loss d (asked_due plan x standing (op_event op.Halt x.number loss))
         (begun_walk (interface_refusal_of op.Halt host i) i read d w))
-        (stated_walk laws op.Halt fuel portion drawn secure loss i d there tt meet (omega arith))
-        (halt_comes x draw drawn portion place secure loss d tdi m seen host
+        (stated_walk laws op.Halt fuel portion drawn said loss i d there tt meet (omega arith))
+        (halt_comes x draw drawn portion place said ps loss d tdi m seen host
         (same_set d x.plan.requester there meet.named_is))
-    comes op.State meet same layout enough =
+    comes op.State fits meet same layout enough =
         let i = host_of x draw seen m in
         subst (λ w. Comes x standing place op.State loss d (asked_due plan x standing (op_event op.State x.number loss))
         (begun_walk (interface_refusal_of op.State host i) i read d w))
-        (stated_walk laws op.State fuel portion drawn secure loss i d there tt meet (omega arith))
-        (state_comes x draw drawn portion place secure loss d tdi m seen host
+        (stated_walk laws op.State fuel portion drawn said loss i d there tt meet (omega arith))
+        (state_comes x draw drawn portion place said ps loss d tdi m seen host
         (same_set d x.plan.requester there meet.named_is) meet.nonce)
+    comes (op.Bind peer) fits meet same layout enough =
+        let i = host_of x draw seen m in
+        subst (λ (b : Bool). Comes x standing place (op.Bind peer) loss d
+        (if b then bind_due x standing (peer_line peer.number) peer.id loss else v.Nothing)
+        (begun_walk (interface_refusal_of (op.Bind peer) (op_host ps.op host (op.Bind peer)) i) i read d
+        (interface_walk fuel portion drawn said loss (begun_at (op.Bind peer) i d)))) (sym fits.0)
+        (subst (λ w. Comes x standing place (op.Bind peer) loss d
+        (bind_due x standing (peer_line peer.number) peer.id loss)
+        (begun_walk (interface_refusal_of (op.Bind peer) (op_host ps.op host (op.Bind peer)) i) i read d w))
+        (stated_walk laws (op.Bind peer) fuel portion drawn said loss i d there fits.1 meet (omega arith))
+        (bind_comes x draw drawn portion place said ps loss d tdi m read host peer fits.2 fits.3
+        (same_set d x.plan.requester there meet.named_is) seen meet.nonce))
+    comes (op.Unbind peer) fits meet same layout enough =
+        let i = host_of x draw seen m in
+        subst (λ (b : Bool). Comes x standing place (op.Unbind peer) loss d
+        (if b then unbind_due x standing (peer_line peer.number) peer.id loss else v.Nothing)
+        (begun_walk (interface_refusal_of (op.Unbind peer) (op_host ps.op host (op.Unbind peer)) i) i read d
+        (interface_walk fuel portion drawn said loss (begun_at (op.Unbind peer) i d)))) (sym fits.0)
+        (subst (λ w. Comes x standing place (op.Unbind peer) loss d
+        (unbind_due x standing (peer_line peer.number) peer.id loss)
+        (begun_walk (interface_refusal_of (op.Unbind peer) (op_host ps.op host (op.Unbind peer)) i) i read d w))
+        (stated_walk laws (op.Unbind peer) fuel portion drawn said loss i d there fits.1 meet (omega arith))
+        (unbind_comes x draw drawn portion place said ps loss d tdi m read host peer
+        (same_set d x.plan.requester there meet.named_is) seen meet.nonce))
 
 -- ---- both ends
 
@@ -137,46 +171,52 @@ bytes_in op.Report e = refl
 bytes_in op.Start e = refl
 bytes_in op.Halt e = refl
 bytes_in op.State e = refl
+bytes_in (op.Bind peer) e = refl
+bytes_in (op.Unbind peer) e = refl
 
 -- the interface as the topology and the machine have it
 abbrev face_of : Tdi → Seen → Managed → Face
 face_of tdi seen m = record { tdi = tdi; managed = told seen m }
 
-abbrev ended_at : ℕ → ℕ → InterfaceOp → StreamStatus → ℕ → Bool → Option Loss → InterfaceManagerView → DeviceTdis
+abbrev ended_at : ℕ → ℕ → InterfaceOp → StreamStatus → ℕ → StreamSaid → Option Loss → InterfaceManagerView → DeviceTdis
     → HostTdi
     → Ended
-ended_at fuel number o host draws secure loss m d i =
+ended_at fuel number o host draws said loss m d i =
     unless_refused (interface_refusal_of o host i) m d
-    (manager_walk fuel secure loss (interface_unless (interface_refusal_of o host i) m (asking_at m number o draws)) d)
+    (manager_walk fuel said loss (interface_unless (interface_refusal_of o host i) m (asking_at m number o draws)) d)
 
 joined_by : Laws → (fuel : ℕ) (plan : Plan) (s : Streams) (used : ℕ → ℕ) (x : Site) (place : ℕ) (o : InterfaceOp)
     (loss : Option Loss) (m : InterfaceManagerView) (d : DeviceTdis) (tdi : Tdi) (seen : Seen) (kept : Managed)
-    → 1140 ≤ fuel
+    (live : Option ℕ) → 1140 ≤ fuel
+    → FitsPeer (has_peer plan.peers x.link) s.draw (live_by s.live plan.peers x.link) live o
     → IsAt plan s used x (face_of tdi seen kept) x.number place m d
     (host_of x (s.draw x.link x.plan.stream) seen kept) tdi
     → IsInterfaceJoined plan s used x (face_of tdi seen kept) x.number place o loss m d
-    (ended_at fuel x.number o (s.host x.link x.plan.stream) s.drawn (s.secure x.link x.plan.stream) loss m d
+    (ended_at fuel x.number o (op_host s.op (s.host x.link x.plan.stream) o) s.drawn (said_of s x live) loss m d
     (host_of x (s.draw x.link x.plan.stream) seen kept))
-joined_by laws fuel plan s used x place o loss m d tdi seen kept enough a =
+joined_by laws fuel plan s used x place o loss m d tdi seen kept live enough fits a =
     let f = face_of tdi seen kept in
     let draw = s.draw x.link x.plan.stream in
     let host = s.host x.link x.plan.stream in
-    let secure = s.secure x.link x.plan.stream in
+    let said = said_of s x live in
+    let ps : PeersRead = record { live = live_by s.live plan.peers x.link; op = s.op; draw = s.draw } in
     let i = host_of x draw seen kept in
     let meet = meets laws.fit plan s used x f x.number place m d i tdi a in
-    let over = is_over laws.keepers fuel x.number o s.drawn secure loss m d i (interface_refusal_of o host i)
+    let over = is_over laws.keepers fuel x.number o s.drawn said loss m d i
+    (interface_refusal_of o (op_host s.op host o) i)
     a.at_manager in
-    let w = begun_walk (interface_refusal_of o host i) i m.read d
-    (interface_walk fuel m.portion s.drawn secure loss (begun_at o i d)) in
-    let st = stands x secure (nonce_behind plan x.link (used x.link)) tdi (told seen kept) host draw s.drawn in
+    let w = begun_walk (interface_refusal_of o (op_host s.op host o) i) i m.read d
+    (interface_walk fuel m.portion s.drawn said loss (begun_at o i d)) in
+    let st = stands x said ps (nonce_behind plan x.link (used x.link)) tdi (told seen kept) host draw s.drawn in
     let due = asked_due plan x st (op_event o x.number loss) in
     let step : Comes x st place o loss d due w = subst
-    (λ k. Comes x (stands x secure k tdi (told seen kept) host draw s.drawn) place o loss d
-    (asked_due plan x (stands x secure k tdi (told seen kept) host draw s.drawn) (op_event o x.number loss)) w)
+    (λ k. Comes x (stands x said ps k tdi (told seen kept) host draw s.drawn) place o loss d
+    (asked_due plan x (stands x said ps k tdi (told seen kept) host draw s.drawn) (op_event o x.number loss)) w)
     a.next_is
-    (comes laws fuel x plan draw s.drawn m.portion place secure loss d tdi kept m.read seen host o meet a.portion_is
+    (comes laws fuel x plan draw s.drawn m.portion place said ps loss d tdi kept m.read seen host o fits meet
+    a.portion_is
     a.face.layout enough) in
-    let e = ended_at fuel x.number o host s.drawn secure loss m d i in
+    let e = ended_at fuel x.number o (op_host s.op host o) s.drawn said loss m d i in
     let stays = asked_bound st.around x o loss due tdi
     (record { layout = a.face.layout; bound = a.face.bound }) in
     record {
@@ -197,10 +237,11 @@ joined_by laws fuel plan s used x place o loss m d tdi seen kept enough a =
 
 joined_at : Laws → (plan : Plan) (s : Streams) (used : ℕ → ℕ) (x : Site) (f : Face) (place : ℕ) (o : InterfaceOp)
     (loss : Option Loss) (m : InterfaceManagerView) (d : DeviceTdis) (i : HostTdi) (tdi : Tdi)
+    (live : Option ℕ) → FitsPeer (has_peer plan.peers x.link) s.draw (live_by s.live plan.peers x.link) live o
     → IsAt plan s used x f x.number place m d i tdi
     → IsInterfaceJoined plan s used x f x.number place o loss m d
-    (interface_operated x.number o (s.host x.link x.plan.stream) s.drawn (s.secure x.link x.plan.stream) loss m d i)
-joined_at laws plan s used x f place o loss m d i tdi a =
+    (interface_operated x.number o (op_host s.op (s.host x.link x.plan.stream) o) s.drawn (said_of s x live) loss m d i)
+joined_at laws plan s used x f place o loss m d i tdi live fits a =
     let b = a.face.managed in
     let l = b.laid_out in
     let kept = told_is i.seen f.managed b.seen in
@@ -214,25 +255,27 @@ joined_at laws plan s used x f place o loss m d i tdi a =
       needs = (ap (λ (j : Managed). j.needs) kept ∙ sym b.needs) k;
       was_started = (ap (λ (j : Managed). j.started) kept ∙ sym b.started) k;
       seen = i.seen;
+      asked = (ap (λ (j : Managed). j.asked) kept ∙ sym b.asked) k;
     } in
     let f_is : face_of tdi i.seen f.managed ≡ f = λ k. record { tdi = a.face.tdi_is k; managed = kept k } in
     subst (λ j. IsAt plan s used x f x.number place m d j tdi
     → IsInterfaceJoined plan s used x f x.number place o loss m d
-    (interface_operated x.number o (s.host x.link x.plan.stream) s.drawn (s.secure x.link x.plan.stream) loss m d j))
+    (interface_operated x.number o (op_host s.op (s.host x.link x.plan.stream) o) s.drawn
+    (said_of s x live) loss m d j))
     i_is
     (subst (λ g. IsAt plan s used x g x.number place m d (host_of x (s.draw x.link x.plan.stream) i.seen f.managed) tdi
     → IsInterfaceJoined plan s used x g x.number place o loss m d
-    (interface_operated x.number o (s.host x.link x.plan.stream) s.drawn (s.secure x.link x.plan.stream) loss m d
+    (interface_operated x.number o (op_host s.op (s.host x.link x.plan.stream) o) s.drawn (said_of s x live) loss m d
     (host_of x (s.draw x.link x.plan.stream) i.seen f.managed)))
     f_is
-    (joined_by laws 1140 plan s used x place o loss m d tdi i.seen f.managed (omega arith)))
+    (joined_by laws 1140 plan s used x place o loss m d tdi i.seen f.managed live (omega arith) fits))
     a
 
 pub operations_join : Laws → InterfaceOperationsJoin
-operations_join laws plan s used x f number place o loss m d i tdi a =
+operations_join laws plan s used x f number place o loss m d i tdi live a fits =
     subst (λ n. IsAt plan s used x f n place m d i tdi
     → IsInterfaceJoined plan s used x f n place o loss m d
-    (interface_operated n o (s.host x.link x.plan.stream) s.drawn (s.secure x.link x.plan.stream) loss m d i))
+    (interface_operated n o (op_host s.op (s.host x.link x.plan.stream) o) s.drawn (said_of s x live) loss m d i))
     a.number_is
-    (joined_at laws plan s used x f place o loss m d i tdi)
+    (joined_at laws plan s used x f place o loss m d i tdi live fits)
     a

@@ -4,6 +4,7 @@ pub mod Locks
 pub mod Starts
 pub mod Halts
 pub mod States
+pub mod Binds
 pub mod Portions
 pub mod Reports
 pub mod Meeting

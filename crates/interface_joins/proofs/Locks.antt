@@ -31,6 +31,7 @@ use Rattle.tdi_host.specs.declared.step.Step.TheVariants as step
 use Rattle.tdi_host.specs.Steps.{Read}
 use Rattle.tdi_host.specs.Views.{Seen, IsUnlocked, IsLocked, IsRunning, IsDoubt, IsBroken, nonce_of}
 use Rattle.tdi_host.specs.Views.{lock_outcome, lock_refusal, taken_interface}
+use Rattle.tdi_device.specs.declared.said.StreamSaid.{StreamSaid}
 use Rattle.tdi_device.specs.Replies.{DeviceTdis, NamedTdi, next_nonce, used_after}
 use Rattle.tdi_walks.specs.Exchanges.{nonce_due}
 use Rattle.tdi_walks.specs.Operations.{carried, reached, walked_unless_lost, lost_early, stated_once, at_step}
@@ -38,7 +39,8 @@ use Rattle.tdi_walks.specs.Operations.{stated_lock}
 use Rattle.interface_joins.specs.Verdicts.{asked_as}
 use Rattle.interface_joins.specs.Faces.{IsManaged}
 use Rattle.interface_joins.proofs.Losses.{by_loss, thrice_lost, cut, early_carries, early_kept}
-use Rattle.interface_joins.proofs.Comes.{host_of, told, told_seen, managed_of, no_key, stands, device_with, Comes}
+use Rattle.interface_joins.proofs.Comes.{PeersRead, host_of, told, told_seen, managed_of, no_key, stands, device_with}
+use Rattle.interface_joins.proofs.Comes.{Comes}
 use Rattle.interface_joins.proofs.Comes.{begun_walk, refused_walk, same_device, left_device, quiet, no_lock}
 
 -- ---- the third exchange, by what the device answers
@@ -110,10 +112,11 @@ answer_key tdi flags offset secure next key =
 
 -- ---- all exchanges
 
-module _ (x : Site) (draw drawn portion place : ℕ) (secure : Bool) (loss : Option Loss) (d : DeviceTdis) (tdi : Tdi)
+module _ (x : Site) (draw drawn portion place : ℕ) (said : StreamSaid) (ps : PeersRead) (loss : Option Loss)
+    (d : DeviceTdis) (tdi : Tdi)
     (m : Managed) (read : Read) where
   abbrev standing : Seen → StreamStatus → Standing
-  standing seen host = stands x secure (next_nonce d) tdi (told seen m) host draw drawn
+  standing seen host = stands x said ps (next_nonce d) tdi (told seen m) host draw drawn
 
   abbrev there : NamedTdi
   there = record { place = place; tdi = tdi }
@@ -121,16 +124,16 @@ module _ (x : Site) (draw drawn portion place : ℕ) (secure : Bool) (loss : Opt
   third : (l : Option Lost) → lost_in loss 3 ≡ l → slice_set d.interfaces place tdi ≡ d.interfaces
       → IfSome (next_nonce d) IsKey
       → Comes x (standing IsUnlocked status.Secure) place op.Lock loss d
-      (by_loss l 3 (locked_as x (lock_answer tdi x.plan.flags x.plan.offset secure (next_nonce d))))
-      (stated_once portion drawn secure l there (at_step step.Lock (host_of x draw IsUnlocked m) d))
+      (by_loss l 3 (locked_as x (lock_answer tdi x.plan.flags x.plan.offset said.secure (next_nonce d))))
+      (stated_once portion drawn said l there (at_step step.Lock (host_of x draw IsUnlocked m) d))
   third l is same key =
-      let r = lock_answer tdi x.plan.flags x.plan.offset secure (next_nonce d) in
+      let r = lock_answer tdi x.plan.flags x.plan.offset said.secure (next_nonce d) in
       record {
         verdict = lock_verdict x loss l r is;
         device = lock_device x d place tdi (new_lock tdi x.plan.flags x.plan.stream x.plan.offset)
             (lock_call (standing IsUnlocked status.Secure).around x) l r same refl;
         managed = lock_managed x draw drawn m l r
-            (answer_key tdi x.plan.flags x.plan.offset secure (next_nonce d) key);
+            (answer_key tdi x.plan.flags x.plan.offset said.secure (next_nonce d) key);
       }
 
   -- a loss of one of the first two
@@ -149,10 +152,10 @@ module _ (x : Site) (draw drawn portion place : ℕ) (secure : Bool) (loss : Opt
       → slice_set d.interfaces place tdi ≡ d.interfaces → IfSome (next_nonce d) IsKey
       → Comes x (standing IsUnlocked status.Secure) place op.Lock loss d
       (by_loss a 1 (by_loss b 2 (by_loss (lost_in loss 3) 3
-      (locked_as x (lock_answer tdi x.plan.flags x.plan.offset secure (next_nonce d))))))
+      (locked_as x (lock_answer tdi x.plan.flags x.plan.offset said.secure (next_nonce d))))))
       (walked_unless_lost a (lost_early 1 (host_of x draw IsUnlocked m) d)
       (walked_unless_lost b (lost_early 2 (host_of x draw IsUnlocked m) d)
-      (stated_once portion drawn secure (lost_in loss 3) there (at_step step.Lock (host_of x draw IsUnlocked m) d))))
+      (stated_once portion drawn said (lost_in loss 3) there (at_step step.Lock (host_of x draw IsUnlocked m) d))))
   begun (Some k) b first second same key = early k 1 (omega arith) first same
   begun None (Some k) first second same key = early k 2 (omega arith) second same
   begun None None first second same key = third (lost_in loss 3) refl same key
@@ -173,11 +176,12 @@ module _ (x : Site) (draw drawn portion place : ℕ) (secure : Bool) (loss : Opt
       → IfSome (next_nonce d) IsKey → IsKey (nonce_of seen)
       → Comes x (standing seen host) place op.Lock loss d (lock_due x (standing seen host) loss)
       (begun_walk (lock_refusal host seen) (host_of x draw seen m) read d
-      (stated_lock portion drawn secure loss (host_of x draw seen m) d there))
+      (stated_lock portion drawn said loss (host_of x draw seen m) d there))
   lock_comes IsUnlocked status.Secure same key held =
-      let due = thrice_lost loss (locked_as x (lock_answer tdi x.plan.flags x.plan.offset secure (next_nonce d))) in
+      let due = thrice_lost loss (locked_as x (lock_answer tdi x.plan.flags x.plan.offset said.secure
+      (next_nonce d))) in
       subst (λ w. Comes x (standing IsUnlocked status.Secure) place op.Lock loss d w
-      (stated_lock portion drawn secure loss (host_of x draw IsUnlocked m) d there)) (sym due)
+      (stated_lock portion drawn said loss (host_of x draw IsUnlocked m) d there)) (sym due)
       (begun (lost_in loss 1) (lost_in loss 2) refl refl same key)
   lock_comes IsUnlocked status.Idle same key held = refused IsUnlocked status.Idle _ _ same held refl refl refl
   lock_comes IsUnlocked status.Partial same key held = refused IsUnlocked status.Partial _ _ same held refl refl refl

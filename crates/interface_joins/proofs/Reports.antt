@@ -1,6 +1,6 @@
 -- A report: what is refused before its first portion, by the device, or is lost, changes nothing; a report that is read
 -- whole is the one that the lock kept.
-use Rattle.std.proofs.Common.{◌≡◌, ℕ, ◌+◌, Bool, true, false, List, length, Option, Some, None}
+use Rattle.std.proofs.Common.{◌≡◌, ℕ, ◌+◌, true, false, List, length, Option, Some, None}
 use Rattle.std.proofs.Common.{refl, ap, sym, subst, ◌∙◌}
 use Rattle.std.specs.Prelude.{slice_set}
 use Rattle.std.specs.Option.{option_map}
@@ -29,6 +29,7 @@ use Rattle.tdi_host.specs.Steps.{Read}
 use Rattle.tdi_host.specs.Managers.{nothing_read, read_after}
 use Rattle.tdi_host.specs.Views.{Seen, IsUnlocked, IsLocked, IsRunning, IsDoubt, IsBroken, nonce_of, reported}
 use Rattle.tdi_host.specs.Views.{report_outcome, report_refusal, taken_interface}
+use Rattle.tdi_device.specs.declared.said.StreamSaid.{StreamSaid}
 use Rattle.tdi_device.specs.Replies.{DeviceTdis, NamedTdi, next_nonce}
 use Rattle.tdi_walks.specs.Exchanges.{portion_due}
 use Rattle.tdi_walks.specs.Operations.{WalkedInterface, carried, reached, stated_alone}
@@ -36,7 +37,7 @@ use Rattle.tdi_walks.specs.Reports.{lost_within, read_outcome, read_interface, R
 use Rattle.interface_joins.specs.Verdicts.{asked_as}
 use Rattle.interface_joins.specs.Faces.{SeenAs, IsManaged}
 use Rattle.interface_joins.proofs.Losses.{by_loss, by_number, once_lost, number_lost, cut}
-use Rattle.interface_joins.proofs.Comes.{host_of, told, told_seen, managed_of, stands, device_with, Comes}
+use Rattle.interface_joins.proofs.Comes.{PeersRead, host_of, told, told_seen, managed_of, stands, device_with, Comes}
 use Rattle.interface_joins.proofs.Comes.{begun_walk, refused_walk, same_device, left_device, no_more, quiet}
 
 -- ---- the device is in no lock
@@ -105,17 +106,18 @@ read_managed x draw seen m loss report (Some n) due key is =
 
 -- ---- the operation
 
-module _ (x : Site) (plan : Plan) (draw drawn portion place : ℕ) (secure : Bool) (loss : Option Loss) (d : DeviceTdis)
+module _ (x : Site) (plan : Plan) (draw drawn portion place : ℕ) (said : StreamSaid) (ps : PeersRead)
+    (loss : Option Loss) (d : DeviceTdis)
     (tdi : Tdi) (m : Managed) (read : Read) where
   abbrev standing : Seen → StreamStatus → Standing
-  standing seen host = stands x secure (next_nonce d) tdi (told seen m) host draw drawn
+  standing seen host = stands x said ps (next_nonce d) tdi (told seen m) host draw drawn
 
   abbrev there : NamedTdi
   there = record { place = place; tdi = tdi }
 
   -- what the exchanges give, by the report that the lock kept
   abbrev pub IsWalk : Seen → Option (List ℕ) → WalkedInterface → Type 0
-  IsWalk seen None w = w ≡ stated_alone step.Report portion drawn secure loss (host_of x draw seen m) d there
+  IsWalk seen None w = w ≡ stated_alone step.Report portion drawn said loss (host_of x draw seen m) d there
   IsWalk seen (Some report) w =
       ReportIsRead (lost_within loss 1 (portions plan.portion (length report))) report (host_of x draw seen m) d w
 
@@ -123,7 +125,7 @@ module _ (x : Site) (plan : Plan) (draw drawn portion place : ℕ) (secure : Boo
   unread : (seen : Seen) (host : StreamStatus) → slice_set d.interfaces place tdi ≡ d.interfaces
       → IsKey (nonce_of seen) → option_map (kept_report tdi.plan) (lock_of tdi.state) ≡ None
       → Comes x (standing seen host) place op.Report loss d (by_loss (lost_in loss 1) 1 (v.RefusedDevice 1 4))
-      (stated_alone step.Report portion drawn secure loss (host_of x draw seen m) d there)
+      (stated_alone step.Report portion drawn said loss (host_of x draw seen m) d there)
   unread seen host same key is =
       let l = lost_in loss 1 in
       let judged : portion_due (portion_of (option_map (kept_report tdi.plan) (lock_of tdi.state)) 0 portion)
@@ -145,7 +147,7 @@ module _ (x : Site) (plan : Plan) (draw drawn portion place : ℕ) (secure : Boo
   walked seen host None w same key is walk =
       subst (λ k. Comes x (standing seen host) place op.Report loss d (reported_as plan x loss None) k) (sym walk)
       (subst (λ k. Comes x (standing seen host) place op.Report loss d k
-      (stated_alone step.Report portion drawn secure loss (host_of x draw seen m) d there))
+      (stated_alone step.Report portion drawn said loss (host_of x draw seen m) d there))
       (sym (once_lost loss (v.RefusedDevice 1 4))) (unread seen host same key is))
   walked seen host (Some report) w same key is walk =
       let lost = lost_within loss 1 (portions plan.portion (length report)) in

@@ -26,6 +26,7 @@ use Rattle.tdi_host.specs.declared.step.Step.TheVariants as step
 use Rattle.tdi_host.specs.Steps.{Read}
 use Rattle.tdi_host.specs.Views.{Seen, IsUnlocked, IsLocked, IsRunning, IsDoubt, IsBroken, nonce_of}
 use Rattle.tdi_host.specs.Views.{start_outcome, start_refusal, taken_interface}
+use Rattle.tdi_device.specs.declared.said.StreamSaid.{StreamSaid}
 use Rattle.tdi_device.specs.Replies.{DeviceTdis, NamedTdi, next_nonce}
 use Rattle.tdi_walks.specs.Exchanges.{start_judged}
 use Rattle.key_laws.specs.Due.{lost_in}
@@ -33,7 +34,8 @@ use Rattle.tdi_walks.specs.Operations.{carried, reached, stated_once, stated_alo
 use Rattle.interface_joins.specs.Verdicts.{asked_as}
 use Rattle.interface_joins.specs.Faces.{IsManaged}
 use Rattle.interface_joins.proofs.Losses.{by_loss, once_lost, cut}
-use Rattle.interface_joins.proofs.Comes.{host_of, told, told_seen, managed_of, no_key, stands, device_with, Comes}
+use Rattle.interface_joins.proofs.Comes.{PeersRead, host_of, told, told_seen, managed_of, no_key, stands, device_with}
+use Rattle.interface_joins.proofs.Comes.{Comes}
 use Rattle.interface_joins.proofs.Comes.{begun_walk, refused_walk, same_device, left_device, no_more, quiet}
 
 -- ---- the exchange, by what the device answers
@@ -66,10 +68,11 @@ start_managed x draw draws nonce m (Some Reply) r = managed_of x draw IsDoubt _ 
 
 -- ---- the operation
 
-module _ (x : Site) (draw drawn portion place : ℕ) (secure : Bool) (loss : Option Loss) (d : DeviceTdis) (tdi : Tdi)
+module _ (x : Site) (draw drawn portion place : ℕ) (said : StreamSaid) (ps : PeersRead) (loss : Option Loss)
+    (d : DeviceTdis) (tdi : Tdi)
     (m : Managed) (read : Read) where
   abbrev standing : Seen → StreamStatus → Standing
-  standing seen host = stands x secure (next_nonce d) tdi (told seen m) host draw drawn
+  standing seen host = stands x said ps (next_nonce d) tdi (told seen m) host draw drawn
 
   abbrev there : NamedTdi
   there = record { place = place; tdi = tdi }
@@ -77,7 +80,7 @@ module _ (x : Site) (draw drawn portion place : ℕ) (secure : Bool) (loss : Opt
   asked : (nonce : List ℕ) (l : Option Lost) → lost_in loss 1 ≡ l → slice_set d.interfaces place tdi ≡ d.interfaces
       → Comes x (standing (IsLocked nonce true) status.Secure) place op.Start loss d
       (by_loss l 1 (started_as x draw (start_answer tdi.state nonce)))
-      (stated_once portion drawn secure l there (at_step step.Start (host_of x draw (IsLocked nonce true) m) d))
+      (stated_once portion drawn said l there (at_step step.Start (host_of x draw (IsLocked nonce true) m) d))
   asked nonce l is same =
       let r = start_answer tdi.state nonce in
       record {
@@ -104,11 +107,11 @@ module _ (x : Site) (draw drawn portion place : ℕ) (secure : Bool) (loss : Opt
       else due_unless_lost loss 1 (started_as x draw (start_answer tdi.state nonce)))
       (begun_walk (if stale then Some (refusal.RefreshFirst draw m.needs) else None)
       (host_of x draw (IsLocked nonce true) m) read d
-      (stated_alone step.Start portion drawn secure loss (host_of x draw (IsLocked nonce true) m) d there))
+      (stated_alone step.Start portion drawn said loss (host_of x draw (IsLocked nonce true) m) d there))
   fresh nonce true same key = refused (IsLocked nonce true) status.Secure _ _ same key refl refl refl
   fresh nonce false same key =
       subst (λ w. Comes x (standing (IsLocked nonce true) status.Secure) place op.Start loss d w
-      (stated_alone step.Start portion drawn secure loss (host_of x draw (IsLocked nonce true) m) d there))
+      (stated_alone step.Start portion drawn said loss (host_of x draw (IsLocked nonce true) m) d there))
       (sym (once_lost loss (started_as x draw (start_answer tdi.state nonce))))
       (asked nonce (lost_in loss 1) refl same)
 
@@ -116,7 +119,7 @@ module _ (x : Site) (draw drawn portion place : ℕ) (secure : Bool) (loss : Opt
       → IsKey (nonce_of seen)
       → Comes x (standing seen host) place op.Start loss d (start_due x (standing seen host) loss)
       (begun_walk (start_refusal host draw (told seen m).needs seen) (host_of x draw seen m) read d
-      (stated_alone step.Start portion drawn secure loss (host_of x draw seen m) d there))
+      (stated_alone step.Start portion drawn said loss (host_of x draw seen m) d there))
   start_comes (IsLocked nonce true) status.Secure same key = fresh nonce (nat_lt draw m.needs) same key
   start_comes (IsLocked nonce true) status.Idle same key =
       refused (IsLocked nonce true) status.Idle _ _ same key refl refl refl

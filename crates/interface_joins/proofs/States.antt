@@ -19,13 +19,15 @@ use Rattle.tdi_host.specs.declared.step.Step.TheVariants as step
 use Rattle.tdi_host.specs.Judging.{State}
 use Rattle.tdi_host.specs.Views.{Seen, IsUnlocked, IsLocked, IsRunning, IsDoubt, IsBroken, nonce_of, state_outcome}
 use Rattle.tdi_host.specs.Views.{taken_interface}
+use Rattle.tdi_device.specs.declared.said.StreamSaid.{StreamSaid}
 use Rattle.tdi_device.specs.Replies.{DeviceTdis, NamedTdi, next_nonce}
 use Rattle.key_laws.specs.Due.{lost_in}
 use Rattle.tdi_walks.specs.Operations.{carried, reached, stated_once, stated_alone, at_step}
 use Rattle.interface_joins.specs.Verdicts.{asked_as}
 use Rattle.interface_joins.specs.Faces.{IsManaged}
 use Rattle.interface_joins.proofs.Losses.{by_loss, once_lost, cut}
-use Rattle.interface_joins.proofs.Comes.{host_of, laid, told, told_seen, managed_of, no_key, stands, device_with, Comes}
+use Rattle.interface_joins.proofs.Comes.{PeersRead, host_of, laid, told, told_seen, managed_of, no_key, stands}
+use Rattle.interface_joins.proofs.Comes.{device_with, Comes}
 use Rattle.interface_joins.proofs.Comes.{same_device, left_device, no_more}
 
 -- the verdict if nothing is lost
@@ -45,13 +47,13 @@ state_device d place tdi (Some Request) same = left_device d place tdi _ false s
 state_device d place tdi (Some Reply) same = same_device d place _ _ _ _ refl (no_more d.used)
 
 locked_told : (x : Site) (draw : ℕ) (nonce : List ℕ) (reported : Bool) (m : Managed) (b : Bool) → IsKey nonce
-    → IsManaged draw x (laid x draw m.needs m.started (if b then IsLocked nonce reported else IsBroken))
+    → IsManaged draw x (laid x draw m.needs m.started (if b then IsLocked nonce reported else IsBroken) m.asked)
     (record m { view = if b then Locked else Broken; nonce = nonce; reported = reported })
 locked_told x draw nonce reported m true key = managed_of x draw (IsLocked nonce reported) _ (refl, refl, refl) key
 locked_told x draw nonce reported m false key = managed_of x draw IsBroken _ refl no_key
 
 running_told : (x : Site) (draw floor : ℕ) (m : Managed) (b : Bool)
-    → IsManaged draw x (laid x draw m.needs m.started (if b then IsRunning floor else IsBroken))
+    → IsManaged draw x (laid x draw m.needs m.started (if b then IsRunning floor else IsBroken) m.asked)
     (record m { view = if b then Running else Broken; floor = floor })
 running_told x draw floor m true = managed_of x draw (IsRunning floor) _ (refl, refl) no_key
 running_told x draw floor m false = managed_of x draw IsBroken _ refl no_key
@@ -68,10 +70,11 @@ state_managed x draw draws code (IsRunning floor) m None key = running_told x dr
 state_managed x draw draws code IsDoubt m None key = managed_of x draw IsDoubt _ refl no_key
 state_managed x draw draws code IsBroken m None key = managed_of x draw IsBroken _ refl no_key
 
-module _ (x : Site) (draw drawn portion place : ℕ) (secure : Bool) (loss : Option Loss) (d : DeviceTdis) (tdi : Tdi)
+module _ (x : Site) (draw drawn portion place : ℕ) (said : StreamSaid) (ps : PeersRead) (loss : Option Loss)
+    (d : DeviceTdis) (tdi : Tdi)
     (m : Managed) (seen : Seen) (host : StreamStatus) where
   abbrev standing : Standing
-  standing = stands x secure (next_nonce d) tdi (told seen m) host draw drawn
+  standing = stands x said ps (next_nonce d) tdi (told seen m) host draw drawn
 
   abbrev there : NamedTdi
   there = record { place = place; tdi = tdi }
@@ -79,7 +82,7 @@ module _ (x : Site) (draw drawn portion place : ℕ) (secure : Bool) (loss : Opt
   asked : (l : Option Lost) → lost_in loss 1 ≡ l → slice_set d.interfaces place tdi ≡ d.interfaces
       → IsKey (nonce_of seen)
       → Comes x standing place op.State loss d (by_loss l 1 (told_state x (state_code tdi.state)))
-      (stated_once portion drawn secure l there (at_step step.State (host_of x draw seen m) d))
+      (stated_once portion drawn said l there (at_step step.State (host_of x draw seen m) d))
   asked l is same key = record {
     verdict = state_verdict x (state_code tdi.state) loss l is;
     device = state_device d place tdi l same;
@@ -88,8 +91,8 @@ module _ (x : Site) (draw drawn portion place : ℕ) (secure : Bool) (loss : Opt
 
   pub state_comes : slice_set d.interfaces place tdi ≡ d.interfaces → IsKey (nonce_of seen)
       → Comes x standing place op.State loss d (state_due x standing loss)
-      (stated_alone step.State portion drawn secure loss (host_of x draw seen m) d there)
+      (stated_alone step.State portion drawn said loss (host_of x draw seen m) d there)
   state_comes same key =
       subst (λ w. Comes x standing place op.State loss d w
-      (stated_alone step.State portion drawn secure loss (host_of x draw seen m) d there))
+      (stated_alone step.State portion drawn said loss (host_of x draw seen m) d there))
       (sym (once_lost loss (told_state x (state_code tdi.state)))) (asked (lost_in loss 1) refl same key)

@@ -32,6 +32,7 @@ pub record IsManaged (draw : ℕ) (x : Site) (i : HostTdi) (m : Managed) : Type 
   pub started : i.was_started ≡ m.started
   pub seen : SeenAs i.seen m
   pub nonce : IsKey (nonce_of i.seen)
+  pub asked : i.asked ≡ m.asked
 
 -- what manager and device keep of it; `draw` is that of its stream
 pub record IsFace (draw : ℕ) (x : Site) (i : HostTdi) (tdi : Tdi) (f : Face) : Type 0 where

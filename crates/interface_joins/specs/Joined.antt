@@ -1,5 +1,5 @@
 -- An operation on an interface, carried exchange by exchange, is a step of the machine of interfaces.
-use Rattle.std.specs.Prelude.{ℕ, ◌≡◌, ◌+◌, ◌≤◌, List, slice_get, slice_set, Option, Some, All}
+use Rattle.std.specs.Prelude.{ℕ, ◌≡◌, ◌+◌, ◌<◌, ◌≤◌, Bool, true, List, slice_get, slice_set, Option, Some, All}
 use Rattle.ide_plan.specs.declared.plan.Plan.{Plan}
 use Rattle.ide_plan.specs.Fits.{IsKey, FitsStream, FitsInterface}
 use Rattle.ide_plan.specs.declared.stream.StreamPlan.{StreamPlan}
@@ -8,12 +8,18 @@ use Rattle.link_events.specs.declared.event.Event.TheVariants as event
 use Rattle.link_verdicts.specs.declared.verdict.Verdict.{Verdict}
 use Rattle.interface_states.specs.Sites.{Site, nonce_behind}
 use Rattle.interface_states.specs.Devices.{accepts_lock, one_if}
-use Rattle.interface_states.specs.Due.{asked_due}
-use Rattle.interface_machine.specs.Machine.{Face, Streams, around_of, face_standing, face_after}
+use Rattle.interface_states.specs.Due.{asked_due, op_status}
+use Rattle.interface_states.specs.Peers.{has_peer, live_by}
+use Rattle.interface_states.specs.Terms.{Op}
+use Rattle.ide_types.specs.Lines.{peer_line}
+use Rattle.ide_types.specs.declared.status.StreamStatus.{StreamStatus}
+use Rattle.interface_machine.specs.Machine.{Face, Streams, ends_of, around_of, face_standing, face_after}
 use Rattle.tdi_state.specs.Machine.{Tdi}
 use Rattle.tdi_host.specs.declared.operation.InterfaceOp.{InterfaceOp}
+use Rattle.tdi_host.specs.declared.operation.InterfaceOp.TheVariants as op
 use Rattle.tdi_host.specs.Views.{HostTdi}
 use Rattle.tdi_host.specs.Managers.{InterfaceManagerView}
+use Rattle.tdi_device.specs.declared.said.StreamSaid.{StreamSaid}
 use Rattle.tdi_device.specs.Replies.{DeviceTdis, named_tdi, next_nonce}
 use Rattle.tdi_ends.specs.Keepers.{Ended, interface_operated}
 use Rattle.interface_joins.specs.Verdicts.{ended_as, op_event}
@@ -55,12 +61,36 @@ pub record IsInterfaceJoined (plan : Plan) (s : Streams) (used : ℕ → ℕ) (x
         (accepts_lock (around_of plan s used x f) x (event.Interface (op_event o number loss)) verdict f.tdi);
   }
   pub face : IsFace (s.draw x.link x.plan.stream) x interface tdi
-      (face_after plan s s.secure used (event.Interface (op_event o number loss)) verdict x f)
+      (face_after plan s (ends_of s) used (event.Interface (op_event o number loss)) verdict x f)
+
+-- of a stream between devices that an operation names: the device has it; its ID, its draw as the manager of keys has
+-- it, and what the device says of it
+abbrev pub FitsPeer : (has : ℕ → ℕ → Bool) → (draws : ℕ → ℕ → ℕ) → (by_id : ℕ → Option ℕ) → Option ℕ → InterfaceOp
+    → Type 0
+FitsPeer has draws by_id live (op.Bind peer) =
+    (has (peer_line peer.number) peer.id ≡ true) × (peer.id < 256)
+    × (peer.draw ≡ draws (peer_line peer.number) peer.id) × (live ≡ by_id peer.id)
+FitsPeer has draws by_id live (op.Unbind peer) =
+    (has (peer_line peer.number) peer.id ≡ true) × (peer.id < 256)
+FitsPeer has draws by_id live o = Unit {0}
+
+-- the status of the stream that an operation asks for: of its bound one at the host's port; of one between devices as
+-- the manager of keys has it
+abbrev pub op_host : (ops : ℕ → ℕ → Op) → StreamStatus → InterfaceOp → StreamStatus
+op_host ops host (op.Bind peer) = op_status (ops (peer_line peer.number) peer.id)
+op_host ops host (op.Unbind peer) = op_status (ops (peer_line peer.number) peer.id)
+op_host ops host o = host
+
+-- what the device says: of the interface's bound stream, and of the one between devices that is named
+abbrev pub said_of : Streams → Site → Option ℕ → StreamSaid
+said_of s x live = record { secure = s.secure x.link x.plan.stream; live = live }
 
 abbrev pub InterfaceOperationsJoin : Type 0
 InterfaceOperationsJoin =
     (plan : Plan) (s : Streams) (used : ℕ → ℕ) (x : Site) (f : Face) (number place : ℕ)
     (o : InterfaceOp) (loss : Option Loss) (m : InterfaceManagerView) (d : DeviceTdis) (i : HostTdi) (tdi : Tdi)
+    (live : Option ℕ)
     → IsAt plan s used x f number place m d i tdi
+    → FitsPeer (has_peer plan.peers x.link) s.draw (live_by s.live plan.peers x.link) live o
     → IsInterfaceJoined plan s used x f number place o loss m d
-    (interface_operated number o (s.host x.link x.plan.stream) s.drawn (s.secure x.link x.plan.stream) loss m d i)
+    (interface_operated number o (op_host s.op (s.host x.link x.plan.stream) o) s.drawn (said_of s x live) loss m d i)

@@ -46,6 +46,12 @@ abbrev pub pool_after : Pool → Pool
 pool_after pool =
     if nat_lt pool.draws (draws_in pool.keys) then record { keys = pool.keys; draws = pool.draws + 1 } else pool
 
+-- the six keys by the lanes of a near end, which receives direction 1 and sends direction 0
+abbrev pub near_six : List (List ℕ) → List (List ℕ)
+near_six keys =
+    slice_index_or keys 3 [] ∷ slice_index_or keys 4 [] ∷ slice_index_or keys 5 []
+    ∷ slice_index_or keys 0 [] ∷ slice_index_or keys 1 [] ∷ slice_index_or keys 2 [] ∷ []
+
 -- the six keys of a draw, none of them spent
 abbrev pub unspent : List (List ℕ) → List (Option (List ℕ))
 unspent keys = map Some keys

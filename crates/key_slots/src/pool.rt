@@ -3,7 +3,7 @@
 ghost use Rattle.std.specs.Prelude.{◌≡◌, ◌*◌, ◌+◌, ◌≤◌, ◌<◌, ℕ, List, [], ◌∷◌, None, IfOk, length, slice_index_or};
 ghost use Rattle.std.specs.Prelude.{slice_set};
 ghost use Rattle.std.specs.Option.{option_copied};
-ghost use Rattle.key_slots.specs.Draws.{new_pool, draw_answer, pool_after, unspent};
+ghost use Rattle.key_slots.specs.Draws.{new_pool, draw_answer, pool_after, unspent, near_six};
 
 use crate::Key;
 use ide_types::Memory;
@@ -153,6 +153,32 @@ impl KeySix {
             Some(Key::of(f)),
         ];
         (HostSix { keys: host }, WireSix { keys: wire })
+    }
+
+    /// The six keys for the two ends of a line that are both keyed by messages: first those of the near end, by its own
+    /// lanes, which receive direction 1 and send direction 0; then those of the far end.
+    pub fn split_wire(self) -> (WireSix, WireSix)
+        ensures near { result.0 ≡ unspent (near_six self.keys) }
+        ensures far { result.1 ≡ unspent self.keys }
+    {
+        let [a, b, c, d, e, f] = self.keys;
+        let near = [
+            Some(Key::of(d)),
+            Some(Key::of(e)),
+            Some(Key::of(f)),
+            Some(Key::of(a)),
+            Some(Key::of(b)),
+            Some(Key::of(c)),
+        ];
+        let far = [
+            Some(Key::of(a)),
+            Some(Key::of(b)),
+            Some(Key::of(c)),
+            Some(Key::of(d)),
+            Some(Key::of(e)),
+            Some(Key::of(f)),
+        ];
+        (WireSix { keys: near }, WireSix { keys: far })
     }
 }
 

@@ -12,6 +12,7 @@ use Rattle.link_ends.proofs.Terms.{asked_device, reply_given, LinkEnds, lost_in,
 use Rattle.link_ends.proofs.Terms.{IsAtBothEnds}
 use Rattle.link_ends.proofs.Terms.{DiffersInStream, IsExchanged, ap, subst}
 use Rattle.key_slots.specs.{is_one}
+use Rattle.ide_types.specs.Lines.{is_hosted}
 use Rattle.link_events.specs.declared.event.Lost.{Lost}
 use Rattle.tsm_host.specs.declared.judge.Judged.TheVariants.{Lost as NotCarried}
 use Rattle.link_ends.proofs.Lists.{read_set, set_again}
@@ -69,19 +70,19 @@ is_lost loss n came x k is = grind (arith, nat_tests)
 pub record IsDelivered (l0 : LinkEnds) (id : ℕ) (a : Asked) (e : StreamEnds) (device : DeviceEnd) (reply : List ℕ) :
     Type 0 where
   pub after : StreamState
-  pub came : came_to l0.device.requester (request_asked a e.keeper) e.keeper.id a.draw e.device
-      ≡ record { judged = judged_bytes (request_asked a e.keeper) reply; device = after }
+  pub came : came_to l0.device.requester (request_asked true a e.keeper) e.keeper.id a.draw e.device
+      ≡ record { judged = judged_bytes (request_asked true a e.keeper) reply; device = after }
   pub port : HasStream l0.device.port id after device.port
   pub requester : device.requester ≡ l0.device.requester
 
 pub is_delivered : (m0 m : ManagerView) (l0 l : LinkEnds) (place id : ℕ) (host device : Found) (e : StreamEnds)
     (a : Asked) (after : DeviceEnd) (reply : List ℕ)
-    → IsAtBothEnds m0 l0 place id host device → DiffersInStream m0 l0 place id e m l → IsAsked (Some a)
-    → after ≡ asked_device l.device (spelling (request_asked a e.keeper)) a.draw → reply
-    ≡ reply_given l.device (spelling (request_asked a e.keeper)) a.draw
+    → IsAtBothEnds m0 l0 place id host device → DiffersInStream m0 l0 place id e m l → IsAsked true (Some a)
+    → after ≡ asked_device l.device (spelling (request_asked true a e.keeper)) a.draw → reply
+    ≡ reply_given l.device (spelling (request_asked true a e.keeper)) a.draw
     → IsDelivered l0 id a e after reply
 is_delivered m0 m l0 l place id host device e a after reply on st asked after_is reply_is =
-    let request : List ℕ = spelling (request_asked a e.keeper) in
+    let request : List ℕ = spelling (request_asked true a e.keeper) in
     let went : DeviceGoes l0.device.port id e.device request a.draw l.device.port =
     device_goes l0.device.port l.device.port id device e.device a e.keeper on.device_side on.device_found st.device
     st.id_is asked in
@@ -92,7 +93,7 @@ is_delivered m0 m l0 l place id host device e a after reply on st asked after_is
     record {
       after = port_called call e.device;
       came = λ i. record {
-        judged = judged_bytes (request_asked a e.keeper) (said i);
+        judged = judged_bytes (request_asked true a e.keeper) (said i);
         device = port_called call e.device;
       };
       port = rw after_is went.port;
@@ -101,15 +102,18 @@ is_delivered m0 m l0 l place id host device e a after reply on st asked after_is
 
 -- ---- the manager takes it
 
-taken_id : (a : Asked) (j : Judged) (s : StreamView) → (taken_stream a j s).id ≡ s.id
+taken_link : (a : Asked) (j : Judged) (s : StreamView) → (taken_stream true a j s).link ≡ s.link
+taken_link a j s = grind arith
+
+taken_id : (a : Asked) (j : Judged) (s : StreamView) → (taken_stream true a j s).id ≡ s.id
 taken_id a j s = grind arith
 
 go_at_all : (id : ℕ) (set b : Bool) → AllAt id (if b then goes id set else [])
 go_at_all id set true = goes_at id set
 go_at_all id set false = tt
 
-taken_at : (id : ℕ) (a : Asked) (j : Judged) → AllAt id (taken_calls a j id)
-taken_at id a Expected = go_at_all id (is_one a.set) (is_last_receiver_go (exchange_asked a))
+taken_at : (id : ℕ) (a : Asked) (j : Judged) → AllAt id (taken_calls true a j id)
+taken_at id a Expected = go_at_all id (is_one a.set) (is_last_receiver_go (exchange_asked true a))
 taken_at id a NotCarried = tt
 taken_at id a (Refused code) = tt
 taken_at id a Bad = tt
@@ -119,32 +123,35 @@ pub exchange_ends : (m0 m m' : ManagerView) (l0 l l' : LinkEnds) (place id : ℕ
     (result : Outcome) (j : Judged) (y : StreamState)
     → IsAtBothEnds m0 l0 place id host device → DiffersInStream m0 l0 place id e m l
     → exchanged loss l0.device.requester a e ≡ record { judged = j; device = y }
-    → result ≡ outcome_of a j
+    → result ≡ outcome_of true a j
     → m' ≡ record {
-      streams = slice_set m.streams place (taken_stream a j e.keeper);
+      streams = slice_set m.streams place (taken_stream true a j e.keeper);
       asking = asking_after place
-          (outcome_of a j);
+          (outcome_of true a j);
     }
-    → PortMoves l.host (taken_calls a j e.keeper.id) l'.host
+    → PortMoves l.host (taken_calls true a j e.keeper.id) l'.host
     → HasStream l0.device.port id y l'.device.port → l'.device.requester ≡ l0.device.requester
     → IsExchanged m0 l0 place id loss a e result m' l'
 exchange_ends m0 m m' l0 l l' place id host device e a loss result j y on st is result_is after moves port requester =
-    let called : HasStream l0.host id (all_called_at l0.host.name.side (taken_calls a j e.keeper.id) e.host) l'.host =
-    all_there l0.host l.host l'.host id host e.host (taken_calls a j e.keeper.id) on.host_found st.host
+    let called : HasStream l0.host id (all_called_at l0.host.name.side (taken_calls true a j e.keeper.id) e.host)
+    l'.host =
+    all_there l0.host l.host l'.host id host e.host (taken_calls true a j e.keeper.id) on.host_found st.host
     (rw st.id_is (taken_at id a j)) moves in
     let stands : DiffersInStream m0 l0 place id (ends_after_exchange a (record { judged = j; device = y }) e) m' l'
     = record {
       id_is = taken_id a j e.keeper ∙ st.id_is;
+      hosted = ap is_hosted (taken_link a j e.keeper) ∙ st.hosted;
       streams = ap (λ (k : ManagerView). k.streams) after ∙ ap
-          (λ (vs : List StreamView). slice_set vs place (taken_stream a j e.keeper)) st.streams
-          ∙ set_again m0.streams place e.keeper (taken_stream a j e.keeper);
-      host = subst (λ (s : Side). HasStream l0.host id (all_called_at s (taken_calls a j e.keeper.id) e.host) l'.host)
+          (λ (vs : List StreamView). slice_set vs place (taken_stream true a j e.keeper)) st.streams
+          ∙ set_again m0.streams place e.keeper (taken_stream true a j e.keeper);
+      host = subst (λ (s : Side). HasStream l0.host id (all_called_at s (taken_calls true a j e.keeper.id) e.host)
+          l'.host)
           on.host_side called;
       device = port;
       requester = requester;
     } in
     record {
-      outcome = result_is ∙ sym (ap (λ (x : Exchanged). outcome_of a x.judged) is);
+      outcome = result_is ∙ sym (ap (λ (x : Exchanged). outcome_of true a x.judged) is);
       stands = subst (λ (x : Exchanged). DiffersInStream m0 l0 place id (ends_after_exchange a x e) m' l') (sym is)
           stands;
       asking = ap (λ (k : ManagerView). k.asking) after ∙ ap (λ (o : Outcome). asking_after place o) (sym result_is);

@@ -8,6 +8,7 @@ use Rattle.link_ends.proofs.Terms.{PortEnd, Found, found, shown}
 use Rattle.link_ends.proofs.Terms.{called_port, after_call, HasStream, ap, subst}
 use Rattle.std.specs.Int.{w64, from_le_bytes}
 use Rattle.key_slots.specs.{KeySet}
+use Rattle.tsm_host.specs.Streams.{wire_asked}
 use Rattle.ide_types.specs.declared.key_set.KeySet.TheVariants.{Zero, One}
 use Rattle.ide_types.specs.declared.port.Side.TheVariants.{Device}
 use Rattle.ide_km.specs.declared.object.KmFault.{KmFault}
@@ -24,7 +25,7 @@ there : (set : KeySet) (lane : ℕ) → lane < 6 → nat_lt (sub_of (selector_of
 there One = by_lane (λ lane. nat_lt (sub_of (selector_of One lane)) 3 ≡ true) refl refl refl refl refl refl
 there Zero = by_lane (λ lane. nat_lt (sub_of (selector_of Zero lane)) 3 ≡ true) refl refl refl refl refl refl
 
-lane_at : (id : ℕ) (set : KeySet) (lane : ℕ) → lane < 6 → IsAt id (selected_place id (selector_of set lane))
+pub lane_at : (id : ℕ) (set : KeySet) (lane : ℕ) → lane < 6 → IsAt id (selected_place id (selector_of set lane))
 lane_at id set lane lt = record { stream_is = refl; is_there = there set lane lt }
 
 -- ---- the call of a request is at the stream, where ports that show the same of it take the same calls
@@ -36,7 +37,8 @@ abbrev pub CallAt : ℕ → Option PlaceCall → Type 0
 CallAt id None = Unit {0}
 CallAt id (Some c) = IsAt id c.place
 
-same_done : (id : ℕ) (a b : Shown) (o : Option PlaceCall) → SameShown id a b → CallAt id o → is_done a o ≡ is_done b o
+pub same_done : (id : ℕ) (a b : Shown) (o : Option PlaceCall) → SameShown id a b → CallAt id o → is_done a o
+    ≡ is_done b o
 same_done id a b None same at = refl
 same_done id a b (Some c) same at = rw (same c.place at) refl
 
@@ -47,20 +49,20 @@ program_at_all : (id sel draw : ℕ) (key : List ℕ) (counter : ℕ) → IsAt i
 program_at_all id sel draw key counter at true e = rw e at
 program_at_all id sel draw key counter at false e = rw e tt
 
-program_at : (id sel draw : ℕ) (key : List ℕ) (counter : ℕ) → IsAt id (selected_place id sel)
+pub program_at : (id sel draw : ℕ) (key : List ℕ) (counter : ℕ) → IsAt id (selected_place id sel)
     → (fault : Option KmFault) → CallAt id (call_from draw (objects.object_or (KeyProg id sel 0 key counter) fault))
 program_at id sel draw key counter at None = program_at_all id sel draw key counter at (counter == 1) refl
 program_at id sel draw key counter at (Some fault) = tt
 
-turn_at : (id draw : ℕ) (keys : WireKeys) (o : Operation) (set : KeySet) (n : ℕ) → Turn o set n
-    → CallAt id (call_of (spelling (request_of id keys (exchange_of o set n))) draw)
-turn_at id draw keys o set n (asks is first e) = rw e tt
-turn_at id draw keys o set n (puts lane lt makes is e) =
-    let request : List ℕ = spelling (request_of id keys (exchange.Program set lane)) in
+turn_at : (id draw : ℕ) (keys : WireKeys) (i : ℕ) (o : Operation) (set : KeySet) (n : ℕ) → Turn o set n
+    → CallAt id (call_of (spelling (request_of id keys i (exchange_of true o set n))) draw)
+turn_at id draw keys i o set n (asks is first e) = rw e tt
+turn_at id draw keys i o set n (puts lane lt makes is e) =
+    let request : List ℕ = spelling (request_of id keys i (exchange.Program set lane)) in
     rw e (program_at id (selector_of set lane) draw (slice_range request 8 40)
     (from_le_bytes w64 (slice_range request 40 48)) (lane_at id set lane lt) (objects.fault_of request))
-turn_at id draw keys o set n (goes lane lt makes is e) = rw e (lane_at id set lane lt)
-turn_at id draw keys o set n (halts k lane lt is e) = rw e (lane_at id k lane lt)
+turn_at id draw keys i o set n (goes lane lt makes is e) = rw e (lane_at id set lane lt)
+turn_at id draw keys i o set n (halts k lane lt is e) = rw e (lane_at id k lane lt)
 
 -- ---- the device's port shows the stream
 
@@ -86,12 +88,12 @@ moved_there e e' id f x (Some call) side is has at =
 pub device_goes : (e e' : PortEnd) (id : ℕ) (f : Found) (x : StreamState) (a : Asked) (keeper : StreamView)
     → e.name.side ≡ Device
     → found e.plans e.states id ≡ Some f → HasStream e id x e'
-    → keeper.id ≡ id → IsAsked (Some a) → DeviceGoes e id x (spelling (request_asked a keeper)) a.draw e'
+    → keeper.id ≡ id → IsAsked true (Some a) → DeviceGoes e id x (spelling (request_asked true a keeper)) a.draw e'
 device_goes e e' id f x a keeper side is has named asked =
     let side' : e'.name.side ≡ Device = ap (λ (p : PortEnd). p.name.side) has ∙ side in
     let shows : SameShown id (λ place. shown e' place) (shown_stream id x) = shown_there e' id _ side'
     (found_there e e' id f x is has) in
-    let at : CallAt id (call_of (spelling (request_asked a keeper)) a.draw) =
-    rw named (turn_at id a.draw keeper.keys a.operation a.set a.exchange
+    let at : CallAt id (call_of (spelling (request_asked true a keeper)) a.draw) =
+    rw named (turn_at id a.draw keeper.keys (wire_asked true a) a.operation a.set a.exchange
     (turn a.operation a.set a.exchange asked.0 asked.1)) in
     record { done = same_done id _ _ _ shows at; port = moved_there e e' id f x _ side is has at }

@@ -8,3 +8,7 @@ mod Exchanges
 mod Carried
 mod Walks
 mod Operates
+mod PairCarried
+mod PairWalks
+mod PairOperates
+pub use Rattle.link_walks.proofs.Works.{is_asked}

@@ -18,7 +18,9 @@ use Rattle.tsm_host.specs.declared.operation.Op.{Op}
 use Rattle.tsm_host.specs.declared.operation.Outcome.TheVariants as outcome
 use Rattle.tsm_host.specs.declared.operation.Refusal.{Refusal}
 use Rattle.link_walks.specs.Joined.{host_of}
-use Rattle.link_walks.proofs.Works.{begun_id}
+use Rattle.link_walks.proofs.Works.{begun_id, begun_link}
+use Rattle.ide_types.specs.Lines.{is_hosted}
+use Rattle.tsm_host.specs.Streams.{has_host}
 use Rattle.link_ends.proofs.Lists.{set_read}
 use Rattle.link_ends.proofs.Ports.{AllAt, PortMoves, all_there, programs_at, halts_at, stream_stands}
 use Rattle.link_ends.proofs.Names.{IsNamed, named_stands}
@@ -27,7 +29,7 @@ use Rattle.link_ends.proofs.Names.{IsNamed, named_stands}
 abbrev pub seen : PortEnd → ℕ → HostView
 seen e id = host_view (λ port stream. status_in port stream) (λ port stream sub. live_in_port port stream sub) e id
 
-host_seen : (e : PortEnd) (id : ℕ) (f : Found) → found e.plans e.states id ≡ Some f → seen e id ≡ host_of f.state
+pub host_seen : (e : PortEnd) (id : ℕ) (f : Found) → found e.plans e.states id ≡ Some f → seen e id ≡ host_of f.state
 host_seen e id f is =
     ap (λ (o : Option Found). let v : HostView = record {
       status = option_map (λ (g : Found). stream_status g.state) o;
@@ -36,23 +38,23 @@ host_seen e id f is =
     } in v)
     is
 
-refused_by : (o : Option Refusal) (r : Refusal) → Err r ≡ ok_unless o → o ≡ Some r
+pub refused_by : (o : Option Refusal) (r : Refusal) → Err r ≡ ok_unless o → o ≡ Some r
 refused_by o r is = grind arith
 
-not_refused : (o : Option Refusal) → Ok tt ≡ ok_unless o → o ≡ None
+pub not_refused : (o : Option Refusal) → Ok tt ≡ ok_unless o → o ≡ None
 not_refused o is = grind arith
 
 -- ---- what it asks when it begins, or goes on
 
 standing_first : (o : Operation) (set : Bool) (draw f : ℕ) (b : Bool)
-    → IsAsked (asked_in (op_standing (work o set draw f b) 1))
+    → IsAsked true (asked_in (op_standing (work o set draw f b) 1))
 standing_first o set draw f b = grind arith
 
-begun_asked : (w : Work) (pool : Pool) (s : StreamView) → IsAsked (asked_in s.op)
-    → IsAsked (asked_in (begun_stream w pool s).op)
+begun_asked : (w : Work) (pool : Pool) (s : StreamView) → IsAsked true (asked_in s.op)
+    → IsAsked true (asked_in (begun_stream true w pool s).op)
 begun_asked w pool s asked = grind (arith, standing_first w.operation w.set w.draw w.first w.begins)
 
-begun_at : (id : ℕ) (w : Work) (pool : Pool) → AllAt id (begun_calls w pool id)
+begun_at : (id : ℕ) (w : Work) (pool : Pool) → AllAt id (begun_calls true w pool id)
 begun_at id w pool = by_tests w.begins (makes_draw w.operation)
   where
     by_tests : (b makes : Bool) → AllAt id
@@ -66,7 +68,7 @@ begun_at id w pool = by_tests w.begins (makes_draw w.operation)
 module _ (k : KeeperView) (m1 : ManagerView) (pool1 : Pool) (l : LinkEnds) (host1 : PortEnd) (op : Op)
     (loss : Option Loss) (n : Named) (host device : Found)
     (is : named k.manager (op_name op).link (op_name op).stream ≡ Some n)
-    (on : IsAtBothEnds k.manager l n.place (op_name op).stream host device)
+    (hosted : has_host n.stream ≡ true) (on : IsAtBothEnds k.manager l n.place (op_name op).stream host device)
     (manager_is : m1 ≡ begun_manager k.manager (op_name op).operation (seen l.host n.stream.id) k.pool n)
     (pool_is : pool1 ≡ pool_begun (op_name op).operation (seen l.host n.stream.id) k.pool n)
     (moves : PortMoves l.host (calls_begun (op_name op).operation (seen l.host n.stream.id) k.pool n) host1) where
@@ -105,6 +107,7 @@ module _ (k : KeeperView) (m1 : ManagerView) (pool1 : Pool) (l : LinkEnds) (host
       (record { host = host1; device = l.device }) =
       rw (same_manager, same_host) (record {
         id_is = at_name.id_is;
+        hosted = hosted;
         streams = sym (set_read k.manager.streams n.place n.stream at_name.read);
         host = stream_stands l.host (op_name op).stream host on.host_found;
         device = stream_stands l.device.port (op_name op).stream device on.device_found;
@@ -118,7 +121,7 @@ module _ (k : KeeperView) (m1 : ManagerView) (pool1 : Pool) (l : LinkEnds) (host
       }
 
   pub operate_goes : (m2 : ManagerView) (pool2 : Pool) (l2 : LinkEnds) (result : Outcome)
-      → IsAsked (asked_in n.stream.op)
+      → IsAsked true (asked_in n.stream.op)
       → Ok tt ≡ ok_unless (begin_refusal (op_name op).operation (seen l.host n.stream.id) k.pool n)
       → Walks 13 loss m1 (record { host = host1; device = l.device }) result m2 l2 → pool2 ≡ pool1
       → IsOperated k l op loss n host device result (record { manager = m2; pool = pool2 }) l2
@@ -127,24 +130,26 @@ module _ (k : KeeperView) (m1 : ManagerView) (pool1 : Pool) (l : LinkEnds) (host
       let refusal : begin_refusal (op_name op).operation (seen l.host n.stream.id) k.pool n ≡ None =
       not_refused (begin_refusal (op_name op).operation (seen l.host n.stream.id) k.pool n) answer in
       let after : m1 ≡ record {
-        streams = slice_set k.manager.streams n.place (begun_stream begun_work k.pool n.stream);
+        streams = slice_set k.manager.streams n.place (begun_stream true begun_work k.pool n.stream);
         asking = Some
             n.place;
       } =
-      rw refusal at manager_is in
-      let called : PortMoves l.host (begun_calls begun_work k.pool n.stream.id) host1 = rw refusal at moves in
+      rw (refusal, hosted) at manager_is in
+      let called : PortMoves l.host (begun_calls true begun_work k.pool n.stream.id) host1 = rw (refusal, hosted) at
+      moves in
       let moved : HasStream l.host id
-      (all_called_at l.host.name.side (begun_calls begun_work k.pool n.stream.id) host.state) host1 =
-      all_there l.host l.host host1 id host host.state (begun_calls begun_work k.pool n.stream.id) on.host_found
+      (all_called_at l.host.name.side (begun_calls true begun_work k.pool n.stream.id) host.state) host1 =
+      all_there l.host l.host host1 id host host.state (begun_calls true begun_work k.pool n.stream.id) on.host_found
       (stream_stands l.host id host on.host_found)
       (rw at_name.id_is (begun_at id begun_work k.pool)) called in
       let st : DiffersInStream k.manager l n.place id (begun_ends begun_work k.pool (ends_found n host device)) m1
       (record { host = host1; device = l.device }) =
       record {
         id_is = begun_id begun_work k.pool n.stream ∙ at_name.id_is;
+        hosted = ap is_hosted (begun_link begun_work k.pool n.stream) ∙ hosted;
         streams = ap (λ (m : ManagerView). m.streams) after;
         host = subst (λ (d : Side). HasStream l.host id
-            (all_called_at d (begun_calls begun_work k.pool n.stream.id) host.state) host1) on.host_side moved;
+            (all_called_at d (begun_calls true begun_work k.pool n.stream.id) host.state) host1) on.host_side moved;
         device = stream_stands l.device.port id device on.device_found;
         requester = refl;
       } in

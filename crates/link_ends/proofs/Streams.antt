@@ -2,8 +2,7 @@
 use Rattle.link_ends.proofs.Terms.{◌≡◌, ℕ, List, [], ◌∷◌, refl, arith, Some, option_map, nat_tests, StreamState, Found}
 use Rattle.link_ends.proofs.Terms.{found, changed, found-id}
 use Rattle.ide_plan.specs.declared.stream.StreamPlan.{StreamPlan}
-use Rattle.link_history.specs.Plan.{with_id}
-use Rattle.link_ports.specs.Machine as machine
+use Rattle.link_walks.specs.{with_id, changed_by_id as id_changed, found_by_id as id_found}
 
 -- ---- one stream
 
@@ -32,14 +31,14 @@ found_plan (s ∷ ss) (x ∷ xs) id f is = grind (arith, nat_tests, found_plan s
 
 -- ---- as the machine has them
 
-pub machine_found : (ss : List StreamPlan) (xs : List StreamState) (id : ℕ) → machine.found_by_id ss xs id
+pub machine_found : (ss : List StreamPlan) (xs : List StreamState) (id : ℕ) → id_found ss xs id
     ≡ option_map (λ (f : Found). f.state) (found ss xs id)
 machine_found [] xs id = refl
 machine_found (s ∷ ss) [] id = refl
 machine_found (s ∷ ss) (x ∷ xs) id = grind (arith, nat_tests, machine_found ss xs id)
 
 pub machine_changed : (ss : List StreamPlan) (xs : List StreamState) (id : ℕ) (y : StreamState)
-    → machine.changed_by_id ss xs id y ≡ changed ss xs id y
+    → id_changed ss xs id y ≡ changed ss xs id y
 machine_changed [] xs id y = refl
 machine_changed (s ∷ ss) [] id y = refl
 machine_changed (s ∷ ss) (x ∷ xs) id y = grind (arith, nat_tests, machine_changed ss xs id y)

@@ -16,17 +16,17 @@ use Rattle.link_ends.proofs.Carried.{keeper_read, current_is}
 
 -- ---- the exchange after one that was acknowledged
 
-next_asked : (o : Operation) (set : Bool) (draw n k : ℕ) → 1 ≤ k → k ≤ last_exchange_of o
-    → IsAsked (asked_in (op_standing (work o set draw n false) k))
+next_asked : (o : Operation) (set : Bool) (draw n k : ℕ) → 1 ≤ k → k ≤ last_exchange_of true o
+    → IsAsked true (asked_in (op_standing (work o set draw n false) k))
 next_asked o set draw n k least most = grind arith
 
-goes_next : (a : Asked) (s : StreamView) → IsAsked (Some a) → outcome_of a Expected ≡ outcome.Next
-    → IsAsked (asked_in (taken_stream a Expected s).op)
+goes_next : (a : Asked) (s : StreamView) → IsAsked true (Some a) → outcome_of true a Expected ≡ outcome.Next
+    → IsAsked true (asked_in (taken_stream true a Expected s).op)
 goes_next a s asked is =
     grind (arith, nat_tests, next_asked a.operation (is_one a.set) a.draw a.exchange (a.exchange + 1))
 
-pub still_asked : (a : Asked) (j : Judged) (s : StreamView) → IsAsked (Some a) → outcome_of a j ≡ outcome.Next
-    → IsAsked (asked_in (taken_stream a j s).op)
+pub still_asked : (a : Asked) (j : Judged) (s : StreamView) → IsAsked true (Some a) → outcome_of true a j ≡ outcome.Next
+    → IsAsked true (asked_in (taken_stream true a j s).op)
 still_asked a Expected s asked is = goes_next a s asked is
 still_asked a NotCarried s asked is = absurd cc
 still_asked a (Refused code) s asked is = absurd cc
@@ -57,7 +57,7 @@ idle_walks more loss m l idle m0 l0 place id host device e on st asking within =
 walk_asked : (more : ℕ) (loss : Option Loss) (requester : ℕ) (e : StreamEnds) (a : Asked) → asked_in e.keeper.op
     ≡ Some a
     → walk_on (suc more) loss requester e
-    ≡ goes_on (outcome_of a (exchanged loss requester a e).judged)
+    ≡ goes_on (outcome_of true a (exchanged loss requester a e).judged)
     (ends_after_exchange a (exchanged loss requester a e) e)
     (walk_on more loss requester (ends_after_exchange a (exchanged loss requester a e) e))
 walk_asked more loss requester e a asked = rw asked refl
@@ -73,7 +73,7 @@ module _ (more : ℕ) (loss : Option Loss) (m m1 : ManagerView) (l l1 : LinkEnds
   record One (m0 : ManagerView) (l0 : LinkEnds) (place id : ℕ) (e : StreamEnds) : Type 0 where
     asked : Asked
     asked_is : asked_in e.keeper.op ≡ Some asked
-    within : IsAsked (Some asked)
+    within : IsAsked true (Some asked)
     exchange : IsExchanged m0 l0 place id loss asked e r m1 l1
     walk : walk_on (suc more) loss l0.device.requester e
         ≡ goes_on r (ends_after_exchange asked (exchanged loss l0.device.requester asked e) e)
@@ -83,13 +83,13 @@ module _ (more : ℕ) (loss : Option Loss) (m m1 : ManagerView) (l l1 : LinkEnds
   one : (m0 : ManagerView) (l0 : LinkEnds) (place id : ℕ) (host device : Found) (e : StreamEnds)
       → IsAtBothEnds m0 l0 place id host device
       → DiffersInStream m0 l0 place id e m l → m.asking ≡ Some place
-      → IsAsked (asked_in e.keeper.op) → One m0 l0 place id e
+      → IsAsked true (asked_in e.keeper.op) → One m0 l0 place id e
   one m0 l0 place id host device e on st asking within =
       let some = some_asked place e.keeper (asked_in e.keeper.op)
       (ap is_some (sym (current_is m place e.keeper asking (keeper_read m0 m l0 l place id host device e on st))) ∙
       asks) in
       let a : Asked = some.0 in
-      let inside : IsAsked (Some a) = subst IsAsked some.1 within in
+      let inside : IsAsked true (Some a) = subst (IsAsked true) some.1 within in
       let x : IsExchanged m0 l0 place id loss a e r m1 l1 = goes m0 l0 place id host device e a on st asking some.1
       inside in
       record {

@@ -1,5 +1,5 @@
 -- The two ends of a link.
-use Rattle.std.specs.Prelude.{ℕ, Bool, List}
+use Rattle.std.specs.Prelude.{ℕ, Bool, List, Option}
 use Rattle.ide_types.specs.declared.port.Side.{Side}
 use Rattle.ide_types.specs.declared.port.Side.TheVariants.{Host, Device}
 use Rattle.ide_plan.specs.declared.stream.StreamPlan.{StreamPlan}
@@ -7,7 +7,7 @@ use Rattle.ide_plan.specs.declared.interface.InterfacePlan.{InterfacePlan}
 use Rattle.ide_port.specs.{PortEnd, Trusting, new_port, reset_port}
 use Rattle.device_side.specs.Ends.{new_device, device_with_port as device_with, device_trusting}
 use Rattle.device_side.specs.Ends.{reset_device}
-use Rattle.link_ports.specs.Machine.{port_at}
+use Rattle.link_walks.specs.{port_at}
 use Rattle.link_ends.specs.declared.ends.LinkEnds.{LinkEnds}
 
 -- no stream has keys
@@ -28,9 +28,9 @@ with_port Host e l = record l { host = e }
 with_port Device e l = record l { device = record l.device { port = e } }
 
 -- with another port of a side, after bytes that came
-abbrev pub taken_ends : Side → PortEnd → LinkEnds → LinkEnds
-taken_ends Host e l = record l { host = e }
-taken_ends Device e l = record l { device = device_with l.device e }
+abbrev pub taken_ends : Side → (ℕ → Option ℕ) → PortEnd → LinkEnds → LinkEnds
+taken_ends Host live e l = record l { host = e }
+taken_ends Device live e l = record l { device = device_with live l.device e }
 
 -- T at the port of a side, if a host is asked for it
 abbrev pub trusting_at : Side → LinkEnds → Bool → Trusting

@@ -1,5 +1,10 @@
 -- What the host's manager of interfaces is told of streams, and its operations at the two ends of a link.
-use Rattle.std.specs.Prelude.{ℕ, Bool, if◌then◌else◌, Option}
+use Rattle.std.specs.Prelude.{ℕ, ◌-◌, ◌<◌, ◌&&◌, nat_le, Bool, if◌then◌else◌, List, slice_set, Option, None}
+use Rattle.ide_types.specs.Lines.{peer_line}
+use Rattle.ide_types.specs.declared.status.StreamStatus.{StreamStatus}
+use Rattle.tdi_host.specs.declared.operation.InterfaceOp.TheVariants.{Bind, Unbind}
+use Rattle.tsm_host.specs.Managers.{ManagerView, named, status_named}
+use Rattle.link_ends.specs.Keepers.{KeeperView}
 use Rattle.link_events.specs.declared.event.Loss.{Loss}
 use Rattle.tsm_host.specs.declared.operation.Op.{Op}
 use Rattle.tsm_host.specs.declared.operation.Op.TheVariants.{Establish, Refresh, Stop}
@@ -9,7 +14,7 @@ use Rattle.tsm_host.specs.declared.operation.Shown.TheVariants.{Draw}
 use Rattle.tsm_host.specs.Streams.{status_or_idle}
 use Rattle.tdi_host.specs.declared.operation.InterfaceOp.{InterfaceOp}
 use Rattle.tdi_host.specs.Views.{HostTdi}
-use Rattle.tdi_host.specs.Managers.{InterfaceManagerView, stop_begun, stream_keyed}
+use Rattle.tdi_host.specs.Managers.{InterfaceManagerView, stop_begun, peer_stop, stream_keyed}
 use Rattle.tdi_ends.specs.Keepers.{Ended, interface_operated}
 use Rattle.ide_port.specs.{status_in}
 use Rattle.device_side.specs.Ends.{secure_at}
@@ -37,10 +42,47 @@ told (Establish link stream) begins drew draw outcome m = keyed_if drew link str
 told (Refresh link stream) begins drew draw outcome m = keyed_at_end outcome link stream m
 told (Stop link stream) begins drew draw outcome m = stopped_if begins link stream m
 
+-- ---- what an operation on a line that is keyed by messages at both ends tells
+
+-- lines from 24 on are the streams between devices, by their number
+abbrev pub peer_number : ℕ → ℕ
+peer_number line = line - 24
+
+-- each event of a stop of a stream between devices breaks views
+abbrev pub pair_told : Op → InterfaceManagerView → InterfaceManagerView
+pair_told (Establish line stream) m = m
+pair_told (Refresh line stream) m = m
+pair_told (Stop line stream) m = if nat_le 24 line then peer_stop (peer_number line) m else m
+
+-- the draws of the establishes of streams between devices that drew last, by the streams' numbers
+abbrev pub peer_drawn : Op → Bool → ℕ → List ℕ → List ℕ
+peer_drawn (Establish line stream) drew draw draws =
+    if nat_le 24 line && drew then slice_set draws (peer_number line) draw else draws
+peer_drawn (Refresh line stream) drew draw draws = draws
+peer_drawn (Stop line stream) drew draw draws = draws
+
 -- ---- an operation on an interface
 
-abbrev pub operated_on : ℕ → InterfaceOp → Option Loss → ℕ → InterfaceManagerView → LinkEnds → HostTdi → Ended
-operated_on interface op loss draws m l i =
-    interface_operated interface op (status_or_idle (status_in l.host i.stream)) draws
-    (secure_at l.device.port i.stream) loss m
-    l.device.interfaces i
+-- the status of the stream that it asks for: of the interface's own at the host's port, of one between devices by the
+-- operations of the manager of keys
+abbrev pub status_for : ManagerView → Option StreamStatus → InterfaceOp → StreamStatus
+status_for m host (Bind peer) = status_named (named m (peer_line peer.number) peer.id)
+status_for m host (Unbind peer) = status_named (named m (peer_line peer.number) peer.id)
+status_for m host op = status_or_idle host
+
+-- what is Live at the device's end of the stream between devices that it names
+abbrev pub live_for : (ℕ → Option ℕ) → InterfaceOp → Option ℕ
+live_for live (Bind peer) = live peer.id
+live_for live op = None
+
+-- a stream between devices has one of eight numbers
+abbrev pub NamesPeer : InterfaceOp → Type 0
+NamesPeer (Bind peer) = peer.number < 8
+NamesPeer (Unbind peer) = peer.number < 8
+NamesPeer op = Unit {0}
+
+abbrev pub operated_on : ℕ → InterfaceOp → Option Loss → KeeperView → (ℕ → Option ℕ) → InterfaceManagerView → LinkEnds
+    → HostTdi → Ended
+operated_on interface op loss k live m l i =
+    interface_operated interface op (status_for k.manager (status_in l.host i.stream) op) k.pool.draws
+    (record { secure = secure_at l.device.port i.stream; live = live_for live op }) loss m l.device.interfaces i

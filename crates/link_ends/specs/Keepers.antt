@@ -1,6 +1,6 @@
 -- The manager at the two ends of a link: what an exchange and an operation make of one stream, and that no other
 -- changes.
-use Rattle.std.specs.Prelude.{ℕ, ◌≡◌, ◌<◌, length, slice_set, Option, Some}
+use Rattle.std.specs.Prelude.{ℕ, ◌≡◌, ◌<◌, length, slice_set, Option, Some, true}
 use Rattle.ide_types.specs.declared.port.Side.TheVariants.{Host, Device}
 use Rattle.link_events.specs.declared.event.Loss.{Loss}
 use Rattle.key_slots.specs.{Pool}
@@ -9,7 +9,7 @@ use Rattle.tsm_host.specs.declared.operation.Op.{Op}
 use Rattle.tsm_host.specs.declared.operation.Outcome.{Outcome}
 use Rattle.tsm_host.specs.declared.stage.Asked.{Asked}
 use Rattle.tsm_host.specs.Operations.{op_name}
-use Rattle.tsm_host.specs.Streams.{asked_in, outcome_of}
+use Rattle.tsm_host.specs.Streams.{asked_in, has_host, outcome_of}
 use Rattle.tsm_host.specs.Managers.{ManagerView, Named, named, asking_after, pool_begun}
 use Rattle.tsm_host.specs.Walk.{IsAsked}
 use Rattle.ide_port.specs.{PortEnd, Found, found, changed}
@@ -40,6 +40,7 @@ pub record IsAtBothEnds (m : ManagerView) (l : LinkEnds) (place id : ℕ) (host 
 pub record DiffersInStream (m : ManagerView) (l : LinkEnds) (place id : ℕ) (e : StreamEnds) (m' : ManagerView)
     (l' : LinkEnds) : Type 0 where
   pub id_is : e.keeper.id ≡ id
+  pub hosted : has_host e.keeper ≡ true
   pub streams : m'.streams ≡ slice_set m.streams place e.keeper
   pub host : HasStream l.host id e.host l'.host
   pub device : HasStream l.device.port id e.device l'.device.port
@@ -49,7 +50,7 @@ pub record DiffersInStream (m : ManagerView) (l : LinkEnds) (place id : ℕ) (e 
 
 pub record IsExchanged (m0 : ManagerView) (l0 : LinkEnds) (place id : ℕ) (loss : Option Loss) (a : Asked)
     (e : StreamEnds) (result : Outcome) (m : ManagerView) (l : LinkEnds) : Type 0 where
-  pub outcome : result ≡ outcome_of a (exchanged loss l0.device.requester a e).judged
+  pub outcome : result ≡ outcome_of true a (exchanged loss l0.device.requester a e).judged
   pub stands : DiffersInStream m0 l0 place id (ends_after_exchange a (exchanged loss l0.device.requester a e) e) m l
   pub asking : m.asking ≡ asking_after place result
 
@@ -58,7 +59,8 @@ abbrev pub Exchanges : Option Loss → ManagerView → LinkEnds → Outcome → 
 Exchanges loss m l result m' l' =
     (m0 : ManagerView) (l0 : LinkEnds) (place id : ℕ) (host device : Found) (e : StreamEnds) (a : Asked)
     → IsAtBothEnds m0 l0 place id host device
-    → DiffersInStream m0 l0 place id e m l → m.asking ≡ Some place → asked_in e.keeper.op ≡ Some a → IsAsked (Some a)
+    → DiffersInStream m0 l0 place id e m l → m.asking ≡ Some place → asked_in e.keeper.op ≡ Some a
+    → IsAsked true (Some a)
     → IsExchanged m0 l0 place id loss a e result m' l'
 
 -- ---- one exchange after another
@@ -72,7 +74,7 @@ abbrev pub Walks : ℕ → Option Loss → ManagerView → LinkEnds → Outcome 
 Walks more loss m l result m' l' =
     (m0 : ManagerView) (l0 : LinkEnds) (place id : ℕ) (host device : Found) (e : StreamEnds)
     → IsAtBothEnds m0 l0 place id host device
-    → DiffersInStream m0 l0 place id e m l → m.asking ≡ Some place → IsAsked (asked_in e.keeper.op)
+    → DiffersInStream m0 l0 place id e m l → m.asking ≡ Some place → IsAsked true (asked_in e.keeper.op)
     → IsWalked m0 l0 place id (walk_on more loss l0.device.requester e) result m' l'
 
 -- ---- an operation
@@ -89,7 +91,8 @@ pub record IsOperated (k : KeeperView) (l : LinkEnds) (op : Op) (loss : Option L
 abbrev pub Operates : KeeperView → LinkEnds → Op → Option Loss → Outcome → KeeperView → LinkEnds → Type 0
 Operates k l op loss result k' l' =
     (n : Named) (host device : Found) → named k.manager (op_name op).link (op_name op).stream ≡ Some n
-    → IsAtBothEnds k.manager l n.place (op_name op).stream host device → IsAsked (asked_in n.stream.op)
+    → has_host n.stream ≡ true → IsAtBothEnds k.manager l n.place (op_name op).stream host device
+    → IsAsked true (asked_in n.stream.op)
     → IsOperated k l op loss n host device result k' l'
 
 -- ---- calls

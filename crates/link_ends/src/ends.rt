@@ -6,7 +6,7 @@ ghost use Rattle.tdi_state.specs.Held.{FitsTdi};
 ghost use Rattle.ide_prefix.specs.Reading.{cut_of};
 ghost use Rattle.ide_port.specs.{IsSentAtPort, take_step};
 
-use device_side::Device;
+use device_side::{Device, PeerStreams};
 use ide_plan::{InterfacePlan, StreamPlan};
 use ide_port::{Arrival, Asked, Port, Sent};
 use ide_types::{Items, Memory, PortName, Side};
@@ -85,13 +85,14 @@ impl LinkEnds {
     }
 
     /// Ends an arrival at the port of this side: at the device's, each interface in CONFIG_LOCKED or RUN goes to ERROR
-    /// if its stream is not Secure there.
-    pub fn settle(&mut self, side: Side)
-        ensures { self.new ≡ taken_ends side (port_in side self.old) self.old }
+    /// if a stream that it is bound to is not Secure at the device; `peers` says what stands at its ends of streams
+    /// between it and others.
+    pub fn settle<P: PeerStreams>(&mut self, side: Side, peers: &P)
+        ensures { self.new ≡ taken_ends side (P.live peers.now) (port_in side self.old) self.old }
     {
         match side {
             Side::Host => {}
-            Side::Device => self.device.settle(),
+            Side::Device => self.device.settle(peers),
         }
     }
 

@@ -1,6 +1,7 @@
 //! What the host keeps of all links, and its operations.
 
-ghost use Rattle.std.specs.Prelude.{◌≡◌, ◌==◌, ◌<◌, ◌≤◌, not, IfOk, IfSome, IsSome, is_some, length, slice_get};
+ghost use Rattle.std.specs.Prelude.{◌≡◌, ◌==◌, ◌-◌, ◌<◌, ◌≤◌, not, IfOk, IfSome, IsSome, is_some, length, replicate};
+ghost use Rattle.std.specs.Prelude.{slice_get, slice_set};
 ghost use Rattle.key_slots.specs.{new_pool};
 ghost use Rattle.key_laws.specs.Operations.{work_of};
 ghost use Rattle.tsm_host.specs.Operations.{op_name};
@@ -12,25 +13,36 @@ ghost use Rattle.tdi_host.specs.Managers.{
 };
 ghost use Rattle.tdi_device.specs.Replies.{settled_tdis};
 ghost use Rattle.tdi_ends.specs.Keepers.{Ended};
-ghost use Rattle.device_side.specs.Ends.{secure_at};
-ghost use Rattle.link_ends.specs.Hosts.{told, keyed_if, keyed_at_end, stopped_if};
+ghost use Rattle.device_side.specs.Ends.{secure_at, secure_with};
+ghost use Rattle.ide_types.specs.Lines.{peer_line};
+ghost use Rattle.link_ends.specs.Hosts.{told, keyed_if, keyed_at_end, stopped_if, NamesPeer, live_for, status_for};
+ghost use Rattle.link_ends.specs.Hosts.{peer_number, pair_told, peer_drawn};
 
 use crate::ends::LinkEnds;
 use crate::keeper::Keeper;
+use device_side::PeerStreams;
 use ide_plan::Plan;
-use ide_types::{Memory, StreamStatus};
+use ide_types::{Memory, PortName, StreamStatus};
+use line_ends::PairEnds;
 use link_events::Loss;
 use std::alloc::Global;
+use tdi_device::StreamSaid;
 use tdi_ends::InterfaceKeeper;
 use tdi_host::InterfaceOp;
 use tsm_host::{Op, Outcome, Shown};
 
-/// The host's manager of all links: of keys, and of device interfaces (PCI Express Base 6.0 section 6.33 and chapter
+/// The first line of a stream between devices.
+const FIRST_PEER_LINE: u8 = 24;
+
+/// The host's manager of all lines: of keys, and of device interfaces (PCI Express Base 6.0 section 6.33 and chapter
 /// 11, in this profile).
 #[derive(Drop)]
 pub struct HostKeeper {
     pub keys: Keeper,
     pub interfaces: InterfaceKeeper,
+    /// Of each stream between devices, by its number: the draw of the last establish of it that drew, 0 before the
+    /// first.
+    pub peer_draws: [u32; 8],
 }
 
 fn status_or_idle(status: Option<StreamStatus>) -> StreamStatus
@@ -39,6 +51,24 @@ fn status_or_idle(status: Option<StreamStatus>) -> StreamStatus
     match status {
         None => StreamStatus::Idle,
         Some(status) => status,
+    }
+}
+
+// The line of a stream between devices.
+fn peer_line(number: u8) -> u8
+    requires { number < 8 }
+    ensures { result ≡ peer_line number }
+{
+    FIRST_PEER_LINE + number
+}
+
+// What is Live at the device's end of the stream between devices that an operation names.
+fn live_for<P: PeerStreams>(peers: &P, op: InterfaceOp) -> Option<u32>
+    ensures { result ≡ live_for (P.live peers.now) op }
+{
+    match op {
+        InterfaceOp::Bind(peer) => peers.live(peer.id),
+        _ => None,
     }
 }
 
@@ -86,90 +116,191 @@ fn tell(
     }
 }
 
+// Tells it of an operation on a line that is keyed by messages at both ends.
+fn tell_of_pair(interfaces: &mut InterfaceKeeper, op: Op)
+    ensures { interfaces.new ≡ pair_told op interfaces.old }
+{
+    match op {
+        Op::Stop(line, _) if line >= FIRST_PEER_LINE => {
+            interfaces.peer_stop(line - FIRST_PEER_LINE);
+        }
+        _ => {}
+    }
+}
+
+// Notes the draw of the stream between devices of this number, if there is such a one.
+fn set_draw(draws: &mut [u32; 8], number: u8, draw: u32)
+    ensures { draws.new ≡ slice_set draws.old number draw }
+{
+    if (number as usize) < draws.len() {
+        draws[number as usize] = draw;
+    }
+}
+
+// Notes the draw of an operation on such a line, if it is an establish of a stream between devices that drew.
+fn note_draw(draws: &mut [u32; 8], op: Op, drew: bool, draw: u32)
+    ensures { draws.new ≡ peer_drawn op drew draw draws.old }
+{
+    match op {
+        Op::Establish(line, _) if line >= FIRST_PEER_LINE && drew => {
+            set_draw(draws, line - FIRST_PEER_LINE, draw);
+        }
+        _ => {}
+    }
+}
+
 impl HostKeeper {
-    ghost use Rattle.link_ends.specs.Keepers.{Operates, HasCalls};
+    ghost use Rattle.link_ends.specs.Keepers.{Operates, HasCalls, SameCalls};
+    ghost use Rattle.link_ends.specs.PairKeepers.{PairOperates, HasPairCalls};
     ghost use Rattle.link_ends.specs.Hosts.{operated_on};
 
     /// A manager of the plan's links, and the plan's keys, none of them drawn; no interface is locked. Returns `Memory`
     /// for want of memory.
     pub fn make(alloc: Global, plan: &Plan) -> Result<HostKeeper, Memory>
         requires links { length plan.now.links ≤ 8 }
+        requires peers { length plan.now.peers ≤ 8 }
         requires pool { length plan.now.pool ≤ 6144 }
         ensures { IfOk result (λ k. k ≡ record {
-          keys = record { manager = new_manager plan.now.links; pool = new_pool plan.now.pool };
+          keys = record { manager = new_manager plan.now.links plan.now.peers; pool = new_pool plan.now.pool };
           interfaces = new_interfaces plan.now.links plan.now.portion;
+          peer_draws = replicate 8 0;
         }) }
     {
         let keys = Keeper::make(alloc, plan)?;
         let interfaces = InterfaceKeeper::make(alloc, &plan.links, plan.portion)?;
-        Ok(HostKeeper { keys, interfaces })
+        Ok(HostKeeper {
+            keys,
+            interfaces,
+            peer_draws: [0; 8],
+        })
     }
 
     /// Begins an operation on a stream of the link with these ends, or goes on with it, and carries its exchanges until
     /// it is done or refused, or `loss` loses one. If a stop begins, views of the stream's interfaces that are Locked,
     /// Running or Doubt become Broken. At the end, each of the device's interfaces in CONFIG_LOCKED or RUN goes to
-    /// ERROR if its stream is not Secure at the device's port.
-    pub fn operate(&mut self, ends: &mut LinkEnds, op: Op, loss: Option<Loss>) -> Outcome
+    /// ERROR if a stream that it is bound to is not Secure at the device; `peers` says what stands at its ends of
+    /// streams between it and others.
+    pub fn operate<P: PeerStreams>(
+        &mut self,
+        ends: &mut LinkEnds,
+        peers: &P,
+        op: Op,
+        loss: Option<Loss>,
+    ) -> Outcome
         requires { IsSome (named self.old.keys.manager (op_name op).link (op_name op).stream) }
         ensures operates { Operates self.old.keys ends.old op loss result self.new.keys ends.new }
         ensures calls { HasCalls ends.old ends.new }
-        ensures settles { ends.new.device.interfaces ≡ settled_tdis (secure_at ends.new.device.port)
-            ends.old.device.interfaces }
+        ensures settles { ends.new.device.interfaces ≡ settled_tdis
+            (secure_with ends.new.device.port (P.live peers.now)) ends.old.device.interfaces }
         ensures interfaces { IfSome (named self.old.keys.manager (op_name op).link (op_name op).stream) (λ n.
             let begins = (work_of (op_name op).operation n.stream.op 0).begins in
             let draw = self.old.keys.pool.draws in
             let drew = not (self.new.keys.pool.draws == draw) in
             self.new.interfaces ≡ told op begins drew draw result self.old.interfaces) }
+        ensures peer_draws { self.new.peer_draws ≡ self.old.peer_draws }
     {
         let begins = self.keys.begins(op);
         let draw = self.keys.draws();
         let outcome = self.keys.operate(ends, op, loss);
-        ends.device.settle();
+        ends.device.settle(peers);
         let drew = self.keys.draws() != draw;
         tell(&mut self.interfaces, op, begins, drew, draw, outcome);
         outcome
     }
 
+    /// The same on the segment of a hop towards the host, whose ends these are. It is of no interface's stream: the
+    /// manager of interfaces is told nothing.
+    pub fn operate_near(&mut self, ends: &mut LinkEnds, op: Op, loss: Option<Loss>) -> Outcome
+        requires { IsSome (named self.old.keys.manager (op_name op).link (op_name op).stream) }
+        ensures operates { Operates self.old.keys ends.old op loss result self.new.keys ends.new }
+        ensures calls { SameCalls ends.old ends.new }
+        ensures kept { self.new ≡ record self.old { keys = self.new.keys } }
+    {
+        self.keys.operate(ends, op, loss)
+    }
+
+    /// The same on a line that is keyed by messages at both ends: the segment of a hop towards the device, or a stream
+    /// between devices. At each event of a stop of a stream between devices views of the interfaces that it was to be
+    /// bound to, and that are Locked, Running or Doubt, become Broken.
+    pub fn operate_pair(&mut self, ends: &mut PairEnds, op: Op, loss: Option<Loss>) -> Outcome
+        requires { IsSome (named self.old.keys.manager (op_name op).link (op_name op).stream) }
+        ensures operates { PairOperates self.old.keys ends.old op loss result self.new.keys ends.new }
+        ensures calls { HasPairCalls ends.old ends.new }
+        ensures interfaces { self.new.interfaces ≡ pair_told op self.old.interfaces }
+        ensures peer_draws { let draw = self.old.keys.pool.draws in
+            let drew = not (self.new.keys.pool.draws == draw) in
+            self.new.peer_draws ≡ peer_drawn op drew draw self.old.peer_draws }
+    {
+        let draw = self.keys.draws();
+        let outcome = self.keys.operate_pair(ends, op, loss);
+        let drew = self.keys.draws() != draw;
+        tell_of_pair(&mut self.interfaces, op);
+        note_draw(&mut self.peer_draws, op, drew, draw);
+        outcome
+    }
+
+    // The status of the stream that an operation on an interface asks for: of its own at the host's port; of one
+    // between devices as the manager of keys has it.
+    fn status_for(&self, op: InterfaceOp, host: Option<StreamStatus>) -> StreamStatus
+        requires { NamesPeer op }
+        ensures { result ≡ status_for self.now.keys.manager host op }
+    {
+        match op {
+            InterfaceOp::Bind(peer) | InterfaceOp::Unbind(peer) => {
+                self.keys.status(peer_line(peer.number), peer.id)
+            }
+            _ => status_or_idle(host),
+        }
+    }
+
     /// Begins an operation on an interface of the link with these ends, and carries its exchanges until it is over, or
     /// `loss` loses one.
-    pub fn operate_on(
+    pub fn operate_on<P: PeerStreams>(
         &mut self,
         ends: &mut LinkEnds,
+        peers: &P,
         interface: usize,
         op: InterfaceOp,
         loss: Option<Loss>,
     ) -> tdi_host::Outcome
-        requires { interface < length self.old.interfaces.interfaces }
+        requires interface { interface < length self.old.interfaces.interfaces }
+        requires peer { NamesPeer op }
         ensures operated { IfSome (slice_get self.old.interfaces.interfaces interface) (λ i.
             let e : Ended = record {
               outcome = result;
               manager = self.new.interfaces;
               device = ends.new.device.interfaces;
             } in
-            e ≡ operated_on interface op loss self.old.keys.pool.draws self.old.interfaces ends.old i) }
+            e ≡ operated_on interface op loss self.old.keys (P.live peers.now) self.old.interfaces ends.old i) }
         ensures keys { self.new.keys ≡ self.old.keys }
+        ensures peer_draws { self.new.peer_draws ≡ self.old.peer_draws }
         ensures ends { ends.new ≡ record ends.old {
           device = record ends.old.device { interfaces = ends.new.device.interfaces };
         } }
     {
         let stream = self.interfaces.manager().stream(interface);
-        let status = status_or_idle(ends.host.status(stream));
-        let secure = ends.device.is_secure(stream);
+        let status = self.status_for(op, ends.host.status(stream));
+        let said = StreamSaid {
+            secure: ends.device.is_secure(stream),
+            live: live_for(peers, op),
+        };
         let draws = self.keys.draws();
         let device = &mut ends.device.interfaces;
         self.interfaces
-            .operate(device, interface, op, status, secure, draws, loss)
+            .operate(device, interface, op, status, said, draws, loss)
     }
 
-    /// Notes a reset of a link: its streams are without keys again and their operations are dropped; views of its
-    /// interfaces that are Locked, Running or Doubt become Broken.
-    pub fn link_reset(&mut self, link: u8)
+    /// Notes a reset of a link, which clears these ends: the streams of their lines are without keys again and their
+    /// operations are dropped, those between devices are to be stopped; views of the link's interfaces that are Locked,
+    /// Running or Doubt become Broken.
+    pub fn reset(&mut self, link: u8, ends: &[PortName])
         ensures { self.new ≡ record {
-          keys = record self.old.keys { manager = reset_manager link self.old.keys.manager };
+          keys = record self.old.keys { manager = reset_manager ends.now self.old.keys.manager };
           interfaces = reset_interfaces link self.old.interfaces;
+          peer_draws = self.old.peer_draws;
         } }
     {
-        self.keys.link_reset(link);
+        self.keys.reset(ends);
         self.interfaces.link_reset(link);
     }
 }

@@ -7,8 +7,9 @@ ghost use Rattle.key_laws.specs.Operations.{work_of};
 ghost use Rattle.ide_km.specs.declared.object.KmView.{KmView};
 ghost use Rattle.tsm_host.specs.Judging.{judged};
 ghost use Rattle.tsm_host.specs.Operations.{op_name};
-ghost use Rattle.tsm_host.specs.Streams.{request_asked};
-ghost use Rattle.tsm_host.specs.Managers.{new_manager, named, current, reset_manager};
+ghost use Rattle.tsm_host.specs.Streams.{has_host, end_asked, request_asked};
+ghost use Rattle.line_ends.specs.Ends.{answered_end, end_reply, end_in, with_end};
+ghost use Rattle.tsm_host.specs.Managers.{new_manager, named, status_named, current, reset_manager};
 ghost use Rattle.key_slots.specs.{new_pool};
 ghost use Rattle.device_side.specs.Ends.{asked_device, reply_given};
 ghost use Rattle.link_walks.specs.Walks.{judged_bytes};
@@ -17,8 +18,9 @@ ghost use Rattle.key_laws.specs.Due.{lost_in};
 use crate::ends::LinkEnds;
 use device_side::Device;
 use ide_plan::Plan;
-use ide_types::Memory;
+use ide_types::{Memory, PortName, StreamStatus};
 use key_slots::KeyPool;
+use line_ends::PairEnds;
 use link_events::{Loss, Lost};
 use std::alloc::Global;
 use std::marker::Model;
@@ -32,6 +34,9 @@ const REPLY_ROOM: usize = 8;
 
 /// The most exchanges of an operation.
 const MOST_EXCHANGES: u8 = 13;
+
+/// The most exchanges of an operation on a line that is keyed by messages at both ends.
+const MOST_PAIR_EXCHANGES: u8 = 24;
 
 /// The manager of all links with the keys that it draws, and room for one exchange (PCI Express Base 6.0 section 6.33,
 /// in this profile).
@@ -81,9 +86,9 @@ fn deliver(manager: &Manager, device: &mut Device, request: &mut Vec<u8>, reply:
     requires request_room { 49 ≤ vec_capacity request.old }
     requires reply_room { 8 ≤ vec_capacity reply.old }
     ensures device { IfSome (current manager.now) (λ c. device.new ≡ asked_device device.old
-        (spelling (request_asked c.asked c.stream)) c.asked.draw) }
+        (spelling (request_asked (has_host c.stream) c.asked c.stream)) c.asked.draw) }
     ensures reply { IfSome (current manager.now) (λ c. reply.new.items ≡ reply_given device.old
-        (spelling (request_asked c.asked c.stream)) c.asked.draw) }
+        (spelling (request_asked (has_host c.stream) c.asked c.stream)) c.asked.draw) }
     ensures request_room { 49 ≤ vec_capacity request.new }
     ensures reply_room { 8 ≤ vec_capacity reply.new }
 {
@@ -93,19 +98,48 @@ fn deliver(manager: &Manager, device: &mut Device, request: &mut Vec<u8>, reply:
     device.answer_of_keys(request, draw, reply);
 }
 
+// Gives the end of a line that it is for the request of the exchange that is next; `reply` holds what it answers.
+fn deliver_to_end(
+    manager: &Manager,
+    ends: &mut PairEnds,
+    request: &mut Vec<u8>,
+    reply: &mut Vec<u8>,
+)
+    requires asking { IsSome (current manager.now) }
+    requires request_room { 49 ≤ vec_capacity request.old }
+    requires reply_room { 8 ≤ vec_capacity reply.old }
+    ensures ends { IfSome (current manager.now) (λ c.
+        let side = end_asked (has_host c.stream) c.asked in
+        let bytes = spelling (request_asked (has_host c.stream) c.asked c.stream) in
+        ends.new ≡ with_end side (answered_end (end_in side ends.old) bytes c.asked.draw) ends.old) }
+    ensures reply { IfSome (current manager.now) (λ c.
+        let side = end_asked (has_host c.stream) c.asked in
+        let bytes = spelling (request_asked (has_host c.stream) c.asked c.stream) in
+        reply.new.items ≡ end_reply (end_in side ends.old) bytes c.asked.draw) }
+    ensures request_room { 49 ≤ vec_capacity request.new }
+    ensures reply_room { 8 ≤ vec_capacity reply.new }
+{
+    request.clear();
+    let draw = manager.ask(request);
+    reply.clear();
+    ends.answer(manager.end(), request, draw, reply);
+}
+
 impl Keeper {
     ghost use Rattle.link_ends.specs.Keepers.{Exchanges, Walks, Operates, SameCalls};
+    ghost use Rattle.link_ends.specs.PairKeepers.{PairExchanges, PairWalks, PairOperates, HasPairCalls};
 
     /// A manager of the plan's links, and the plan's keys, none of them drawn. Returns `Memory` for want of memory.
     pub fn make(alloc: Global, plan: &Plan) -> Result<Keeper, Memory>
         requires links { length plan.now.links ≤ 8 }
+        requires peers { length plan.now.peers ≤ 8 }
         requires pool { length plan.now.pool ≤ 6144 }
         ensures { IfOk result (λ k. k ≡ record {
-          manager = new_manager plan.now.links;
+          manager = new_manager plan.now.links plan.now.peers;
           pool = new_pool plan.now.pool;
         }) }
     {
-        let manager = Manager::make(alloc, &plan.links)?;
+        let manager = Manager::make(alloc, &plan.links, &plan.peers)?;
         let pool = KeyPool::make(alloc, plan.pool.as_slice())?;
         let request = Vec::with_capacity(alloc, REQUEST_ROOM)?;
         let reply = Vec::with_capacity(alloc, REPLY_ROOM)?;
@@ -122,6 +156,13 @@ impl Keeper {
         ensures { result ≡ is_some (named self.now.manager link stream) }
     {
         self.manager.has_stream(link, stream)
+    }
+
+    /// What the manager says of a stream by its operations alone.
+    pub fn status(&self, line: u8, stream: u8) -> StreamStatus
+        ensures { result ≡ status_named (named self.now.manager line stream) }
+    {
+        self.manager.status(line, stream)
     }
 
     /// How many draws were made.
@@ -201,10 +242,61 @@ impl Keeper {
         }
     }
 
-    /// Notes a reset of a link: its streams are without keys again, and their operations are dropped.
-    pub fn link_reset(&mut self, link: u8)
-        ensures { self.new ≡ record self.old { manager = reset_manager link self.old.manager } }
+    // The same at the ends of a line that is keyed by messages at both.
+    fn pair_exchange(&mut self, ends: &mut PairEnds, loss: Option<Loss>) -> Outcome
+        requires { IsSome (current self.old.manager) }
+        ensures calls { HasPairCalls ends.old ends.new }
+        ensures exchange { PairExchanges loss self.old.manager ends.old result self.new.manager ends.new }
+        ensures pool { self.new.pool ≡ self.old.pool }
     {
-        self.manager.link_reset(link);
+        match lost_at(loss, self.manager.exchange()) {
+            None => {
+                deliver_to_end(&self.manager, ends, &mut self.request, &mut self.reply);
+                self.manager.take(&mut ends.near.port, carried(&self.reply))
+            }
+            Some(Lost::Request) => self.manager.take(&mut ends.near.port, Carried::Lost),
+            Some(Lost::Reply) => {
+                deliver_to_end(&self.manager, ends, &mut self.request, &mut self.reply);
+                self.manager.take(&mut ends.near.port, Carried::Lost)
+            }
+        }
+    }
+
+    fn pair_walk(&mut self, more: u8, ends: &mut PairEnds, loss: Option<Loss>) -> Outcome
+        ensures calls { HasPairCalls ends.old ends.new }
+        ensures walk { PairWalks more loss self.old.manager ends.old result self.new.manager ends.new }
+        ensures pool { self.new.pool ≡ self.old.pool }
+    {
+        if more == 0 {
+            return Outcome::Next;
+        }
+        if !self.manager.is_asking() {
+            return Outcome::Next;
+        }
+        match self.pair_exchange(ends, loss) {
+            Outcome::Next => self.pair_walk(more - 1, ends, loss),
+            outcome => outcome,
+        }
+    }
+
+    /// Begins an operation on the stream of the line with these ends, which is keyed by messages at both, or goes on
+    /// with it, and carries its exchanges until it is done or refused, or `loss` loses one.
+    pub fn operate_pair(&mut self, ends: &mut PairEnds, op: Op, loss: Option<Loss>) -> Outcome
+        requires { IsSome (named self.old.manager (op_name op).link (op_name op).stream) }
+        ensures operates { PairOperates self.old ends.old op loss result self.new ends.new }
+        ensures calls { HasPairCalls ends.old ends.new }
+    {
+        match self.manager.begin(&mut ends.near.port, &mut self.pool, op) {
+            Err(refusal) => Outcome::Refused(refusal),
+            Ok(()) => self.pair_walk(MOST_PAIR_EXCHANGES, ends, loss),
+        }
+    }
+
+    /// Notes a reset that clears these ends: the streams of their lines are without keys again, and their operations
+    /// are dropped; those between devices are to be stopped.
+    pub fn reset(&mut self, ends: &[PortName])
+        ensures { self.new ≡ record self.old { manager = reset_manager ends.now self.old.manager } }
+    {
+        self.manager.reset(ends);
     }
 }

@@ -1,60 +1,77 @@
--- Bytes that arrive at a port, as the machine has them. It goes as the bytes are cut: a fault, a plain TLP, or an IDE
+-- Bytes that arrive at an end, as the machine has them. It goes as the bytes are cut: a fault, a plain TLP, or an IDE
 -- packet, whose stream is found or not, and whose answer goes test by test. The hard case is an accepted unit: here its
 -- effects are read of decrypted packets, by the machine of encrypted ones, and decryption changes only bodies and tags.
--- A packet by number, whole, altered or cut, arrives at the partner of its port.
-use Rattle.all_ends.specs.{InterfacesView, KeeperView, LinkEnds, port_in, with_port}
+-- A packet by number, whole, altered or cut, arrives at the partner of its end.
+use Rattle.end_states.specs.{InterfacesView, KeeperView, LinkEnds, EndsView, port_on, with_port_on, AreLinks, IsBounded}
+use Rattle.end_states.specs.{IsPort, state_of, standings_in}
+use Rattle.end_states.proofs.{found_id, Keeps, IsWired, closed_at, find_at, mode_at, port_is, put_at, state_kept, wired}
 use Rattle.ide_plan.specs.declared.plan.Region.{Region}
-use Rattle.all_ends.specs.States.{IsBounded, state_of}
+use Rattle.ide_plan.specs.declared.plan.Plan.{Plan}
 use Rattle.link_ports.specs.Machine.{Beside, LinkPacket, LinkState, Stepped, altered_to, cut_short, packet_numbered}
 use Rattle.link_ports.specs.Machine.{passed, shown_packet, stepped_arrival, stepped_cut, stepped_packet}
-use Rattle.stream_rules.specs.Stream.{unit_name}
 use Rattle.link_ports.specs.Machine.{verdict_of_taken}
-use Rattle.accesses.specs.declared.link.LinkAccesses.{LinkAccesses}
+unfoldable use Rattle.link_ports.specs.Machine.{put, step_of}
+use Rattle.stream_rules.specs.Stream.{unit_name}
 use Rattle.stream_rules.specs.Stream.{Accepted, LiveKey, StreamState, Taken, state_after, taken_by}
-use Rattle.std.proofs.Common.{Bool, List, [], ap, arith, length, refl, sym, take, true, ℕ, ◌+◌, ◌-◌, ◌<◌, ◌==◌, ◌∙◌}
-use Rattle.std.proofs.Common.{◌∷◌, ◌≡◌}
-use Rattle.std.specs.Prelude.{Err, None, Ok, Option, Result, Some, if◌then◌else◌, nat_le, option_map, slice_get}
-use Rattle.std.specs.Prelude.{slice_set}
+use Rattle.accesses.specs.declared.link.LinkAccesses.{LinkAccesses}
+use Rattle.std.proofs.Common.{Bool, List, [], ap, arith, false, length, refl, sym, take, true, ℕ, ◌+◌, ◌-◌, ◌<◌, ◌==◌}
+use Rattle.std.proofs.Common.{◌∙◌, ◌∷◌, ◌≡◌}
+use Rattle.std.specs.Prelude.{Err, None, Ok, Option, Result, Some, IsSome, if◌then◌else◌, nat_le, option_map, slice_get}
 use Rattle.std.specs.Option.{option_and_then}
 use Rattle.ide_types.specs.declared.port.PortName.{PortName}
-use Rattle.ide_plan.specs.declared.plan.Plan.{Plan}
 use Rattle.ide_prefix.specs.Packet.{Packet}
+use Rattle.ide_prefix.specs.{is_sync_packet}
+use Rattle.ide_prefix.specs.declared.fault.PacketFault.{PacketFault}
+use Rattle.ide_prefix.specs.Reading.{CutValue, IdePacket, PlainTlp, cut_of}
 use Rattle.link_verdicts.specs.declared.verdict.Verdict.{Verdict}
+use Rattle.link_verdicts.specs.declared.verdict.Verdict.TheVariants as v
 use Rattle.link_verdicts.specs.declared.verdict.Effect.{Effect}
-use Rattle.link_history.specs.Plan.{is_closed, mode_of, partner}
+use Rattle.link_verdicts.specs.declared.verdict.Effect.TheVariants as effect
+use Rattle.link_verdicts.specs.declared.verdict.UnitName.{UnitName}
 use Rattle.link_events.specs.declared.event.Event.TheVariants.{Alter, Cut, Dump, Pass}
+use Rattle.link_history.specs.Plan.{is_closed, mode_of, partner}
+use Rattle.link_history.specs.Ports.{at_switch, port_of}
+use Rattle.link_history.specs.Packets.{arrival_at}
+use Rattle.link_history.specs.History.{Arrival}
+use Rattle.link_history.specs.Memory.{Policy, device_effect, effect_by, effects_each, host_effect, waiting_then}
+use Rattle.link_history.specs.Admission.{switch_effect}
 use Rattle.sub_stream.specs.{opened_from, opened_under}
 use Rattle.ide_stream.specs.{opened_after}
-unfoldable use Rattle.link_ports.specs.Machine.{put, step_of}
-use Rattle.ide_port.specs.{Found, TakeStep, changed, found, take_step}
-use Rattle.link_verdicts.specs.declared.verdict.UnitName.{UnitName}
-use Rattle.all_ends.specs.Verdicts.{arrival_verdict, claimed_effect, effects_from, head_effect, packet_effect}
-use Rattle.link_steps.specs.Events.{altered_bytes}
-use Rattle.all_ends.proofs.{found_id}
+use Rattle.ide_port.specs.{Found, PortEnd, TakeStep, changed, found, take_step}
+use Rattle.ide_port.specs.Arrivals.{packet_step, port_arrival}
 use Rattle.tlp_layout.specs.declared.head.HeadView.{HeadView}
 use Rattle.tlp_layout.specs.declared.fault.TlpFault.{TlpFault}
 use Rattle.tlp_layout.specs.Reading.{read_head_of}
-use Rattle.ide_prefix.specs.{is_sync_packet}
 use Rattle.key_laws.specs.Places.{sent_direction}
-use Rattle.link_history.specs.Memory.{Policy, device_effect, effect_by, effects_each, host_effect, waiting_then}
-use Rattle.all_ends.specs.AllEnds.{grants_in, standings_in}
-use Rattle.ide_prefix.specs.declared.fault.PacketFault.{PacketFault}
-use Rattle.ide_prefix.specs.Reading.{CutValue, IdePacket, PlainTlp}
-use Rattle.link_history.specs.History.{Arrival}
-use Rattle.ide_port.specs.Arrivals.{packet_step, port_arrival}
-use Rattle.all_ends.proofs.Writes.{IsTaken, taken_is}
-use Rattle.all_ends.proofs.Finds.{IsPort, closed_at, find_at, mode_at, port_is, put_at, state_kept}
-use Rattle.link_verdicts.specs.declared.verdict.Effect.TheVariants as effect
-use Rattle.link_verdicts.specs.declared.verdict.Verdict.TheVariants as v
+use Rattle.arrival_facts.specs.{arrival_verdict, claimed_effect, effects_from, grants_in, head_effect, packet_effect}
+use Rattle.arrival_facts.proofs.{IsEndOf, IsTaken, taken_is}
+use Rattle.link_steps.specs.Events.{altered_bytes}
+
+-- ---- what an arrival leaves of an end
+
+pub take_keeps : (e : PortEnd) (r : Result CutValue PacketFault) → Keeps e (take_step e r).port
+take_keeps e r = grind arith
+
+-- an end of the plan, whose states are the machine's
+pub end_of : (plan : Plan) (ends : EndsView) (k : KeeperView) (packets : List LinkPacket) (end : PortName)
+    (e : PortEnd) → AreLinks plan ends k → port_on ends end ≡ Some e
+    → IsEndOf plan (state_of plan ends k packets) end e
+end_of plan ends k packets end e links is =
+    let at_port = port_is plan ends k links end e is in
+    record {
+      finds = λ id. find_at plan ends k packets (wired plan ends k links) end e is id at_port;
+      modes = λ id x at. mode_at plan end e id x at_port at;
+      closes = λ id x at. closed_at plan end e id x at_port at;
+    }
 
 -- ---- the verdict
 
 -- the effects of decrypted packets, by what is said of them as they came
 abbrev pub Opens : Beside → PortName → (UnitName → List Packet → List Effect) → Type 0
-Opens b port effects = (unit : UnitName) (key iv : List ℕ) (n : ℕ) (ps : List Packet)
-    → effects unit (opened_from key iv n ps) ≡ b.effects port unit ps
+Opens b end effects = (unit : UnitName) (key iv : List ℕ) (n : ℕ) (ps : List Packet)
+    → effects unit (opened_from key iv n ps) ≡ b.effects end unit ps
 
-module _ (plan : Plan) (policy : Policy) (port : PortName) (unit : UnitName) where
+module _ (plan : Plan) (policy : Policy) (port : PortName) (unit : UnitName) (apart : at_switch plan port ≡ false) where
   abbrev effect_at : ℕ → Packet → Effect
   effect_at waiting p =
       packet_effect plan.memory policy.grants (policy.standings port.link) waiting port unit p
@@ -76,6 +93,10 @@ module _ (plan : Plan) (policy : Policy) (port : PortName) (unit : UnitName) whe
       (λ i. if is_sync_packet p then effect.Sync
       else if sent_direction port.side == 0 then same_host waiting p (read_head_of p.head) i
       else same_device p (read_head_of p.head) i)
+      ∙ sym (ap (λ (b : Bool). if is_sync_packet p then effect.Sync else if b then switch_effect
+      else if sent_direction port.side == 0
+      then host_effect plan policy.grants waiting port unit p (read_head_of p.head)
+      else device_effect (policy.standings port.link) unit p (read_head_of p.head)) apart)
 
   -- decryption changes only bodies and tags
   pub opens_each : (waiting : ℕ) (key iv : List ℕ) (n : ℕ) (ps : List Packet)
@@ -95,113 +116,114 @@ abbrev pub effects_at : List Region → InterfacesView → PortName → LinkEnds
 effects_at regions m port l a unit ps =
     effects_from regions (grants_in m) (standings_in l a) (length a.reads) port unit ps
 
-module _ (b : Beside) (port : PortName) (effects : UnitName → List Packet → List Effect) (opens : Opens b port effects)
-  where
-    abbrev Says : Packet → StreamState → Taken → Type 0
-    Says p x t = verdict_of_taken b port p t ≡ arrival_verdict port (port_arrival p t)
-        (λ unit. effects unit (opened_after x p t))
+module _ (b : Beside) (plan : Plan) (end port : PortName) (at : port_of plan end ≡ port)
+    (effects : UnitName → List Packet → List Effect) (opens : Opens b end effects) where
+  abbrev Says : Packet → StreamState → Taken → Type 0
+  Says p x t = verdict_of_taken b end p t ≡ arrival_verdict end port (port_arrival p t)
+      (λ unit. effects unit (opened_after x p t))
 
-    taken_says : (p : Packet) (x : StreamState) (t : Taken) → IsTaken x p t → Says p x t
-    taken_says p x (Accepted draw n ps) under =
-        let unit : UnitName = unit_name p draw n in
-        ap (λ (es : List Effect). v.Accepted port unit es)
-        (sym (ap (λ (o : Option LiveKey). effects unit (opened_under o p.prefix.sub ps)) under.live
-        ∙ opens unit under.key.key _ 0 ps))
-    taken_says p x t under = refl
+  taken_says : (p : Packet) (x : StreamState) (t : Taken) → IsTaken x p t → Says p x t
+  taken_says p x (Accepted draw n ps) under =
+      let unit : UnitName = unit_name p draw n in
+      ap (λ (es : List Effect). v.Accepted end unit es)
+      (sym (ap (λ (o : Option LiveKey). effects unit (opened_under o p.prefix.sub ps)) under.live
+      ∙ opens unit under.key.key _ 0 ps))
+  taken_says p x t under = refl
 
-    -- ---- one step
+  -- ---- one step
 
-    -- what a step of the port makes of all links
-    abbrev stepped : Plan → List LinkEnds → KeeperView → List LinkPacket → LinkEnds → TakeStep → Stepped
-    stepped plan ends k packets l t = (
-      arrival_verdict port t.answer (λ unit. effects unit t.port.delivered),
-      state_of plan (slice_set ends port.link (with_port port.side t.port l)) k packets,
-    )
+  -- what a step of the end makes of all lines
+  abbrev stepped : EndsView → KeeperView → List LinkPacket → TakeStep → Stepped
+  stepped ends k packets t = (
+    arrival_verdict end port t.answer (λ unit. effects unit t.port.delivered),
+    state_of plan (with_port_on ends end t.port) k packets,
+  )
 
-    pub arrives_as : (plan : Plan) (ends : List LinkEnds) (k : KeeperView) (packets : List LinkPacket) (l : LinkEnds)
-        (r : Result CutValue PacketFault) → slice_get ends port.link ≡ Some l → IsPort plan port (port_in port.side l)
-        → stepped_cut plan b (state_of plan ends k packets) port r
-        ≡ stepped plan ends k packets l (take_step (port_in port.side l) r)
-    arrives_as plan ends k packets l (Err fault) is at_port =
-        ap (λ (st : LinkState). ((stepped_cut plan b (state_of plan ends k packets) port (Err fault)).0, st))
-        (state_kept plan ends k packets port l _ is refl)
-    arrives_as plan ends k packets l (Ok PlainTlp) is at_port =
-        ap (λ (st : LinkState). (v.Plain port, st)) (state_kept plan ends k packets port l _ is refl)
-    arrives_as plan ends k packets l (Ok (IdePacket p)) is at_port =
-        ap (λ (o : Option StreamState). stepped_packet plan b (state_of plan ends k packets) port p o)
-        (find_at plan ends k packets port l p.prefix.stream is at_port)
-        ∙ by_found (found (port_in port.side l).plans (port_in port.side l).states p.prefix.stream) refl
-      where
-        by_found : (o : Option Found) → found (port_in port.side l).plans (port_in port.side l).states p.prefix.stream
-            ≡ o
-            → stepped_packet plan b (state_of plan ends k packets) port p (option_map (λ (f : Found). f.state) o)
-            ≡ stepped plan ends k packets l (packet_step (port_in port.side l) p o)
-        by_found None at = ap (λ (st : LinkState). (v.Unknown port p.prefix.stream, st))
-            (state_kept plan ends k packets port l _ is refl)
-        by_found (Some f) at =
-            let e = port_in port.side l in
-            let st : LinkState = state_of plan ends k packets in
-            let mode : mode_of plan port.link p.prefix.stream ≡ f.plan.mode = mode_at plan port e p.prefix.stream f
-            at_port at in
-            let closed : is_closed plan port.link p.prefix.stream
-            ≡ f.plan.closed = closed_at plan port e p.prefix.stream f at_port at in
-            let id : f.plan.id ≡ p.prefix.stream = found_id e.plans e.states p.prefix.stream f at in
-            let t : Taken = taken_by f.plan.mode f.plan.closed f.state p in
-            let one : stepped_packet plan b st port p (Some f.state)
-            ≡ (verdict_of_taken b port p t, put plan st port p.prefix.stream (state_after f.state p t)) =
-            (λ i. (
-              verdict_of_taken b port p (taken_by (mode i) (closed i) f.state p),
-              put plan st port p.prefix.stream (state_after f.state p (taken_by (mode i) (closed i) f.state p)),
-            )) in
-            let after = put_at plan ends k packets port l p.prefix.stream (state_after f.state p t)
-            (packet_step e p (Some f)).port is at_port
-            (ap (λ (n : ℕ). changed e.plans e.states n (state_after f.state p t)) id) in
-            one ∙ ap (λ (w : Verdict). (w, put plan st port p.prefix.stream (state_after f.state p t)))
-            (taken_says p f.state t (taken_is f.state p f.plan.mode f.plan.closed))
-            ∙ ap (λ (x : LinkState). (
-              arrival_verdict port (port_arrival p t) (λ unit. effects unit (opened_after f.state p t)),
-              x,
-            )) after
+  module _ (ends : EndsView) (k : KeeperView) (packets : List LinkPacket) (w : IsWired ends) (e : PortEnd)
+      (is : port_on ends end ≡ Some e) (at_port : IsPort plan end e) where
+    abbrev st : LinkState
+    st = state_of plan ends k packets
 
--- ---- bytes that arrive
+    by_found : (p : Packet) (o : Option Found) → found e.plans e.states p.prefix.stream ≡ o
+        → stepped_packet plan b st end p (option_map (λ (f : Found). f.state) o)
+        ≡ stepped ends k packets (packet_step e p o)
+    by_found p None here =
+        (λ i. (
+          v.Unknown (at i) p.prefix.stream,
+          state_kept plan ends k packets w end e is (packet_step e p None).port refl i,
+        ))
+    by_found p (Some f) here =
+        let mode : mode_of plan end.link p.prefix.stream ≡ f.plan.mode = mode_at plan end e p.prefix.stream f
+        at_port here in
+        let closed : is_closed plan end.link p.prefix.stream ≡ f.plan.closed = closed_at plan end e p.prefix.stream f
+        at_port here in
+        let id : f.plan.id ≡ p.prefix.stream = found_id e.plans e.states p.prefix.stream f here in
+        let t : Taken = taken_by f.plan.mode f.plan.closed f.state p in
+        let one : stepped_packet plan b st end p (Some f.state)
+        ≡ (verdict_of_taken b end p t, put plan st end p.prefix.stream (state_after f.state p t)) =
+        (λ i. (
+          verdict_of_taken b end p (taken_by (mode i) (closed i) f.state p),
+          put plan st end p.prefix.stream (state_after f.state p (taken_by (mode i) (closed i) f.state p)),
+        )) in
+        let after = put_at plan ends k packets w end e is p.prefix.stream (state_after f.state p t)
+        (packet_step e p (Some f)).port at_port
+        (ap (λ (n : ℕ). changed e.plans e.states n (state_after f.state p t)) id) in
+        one ∙ ap (λ (y : Verdict). (y, put plan st end p.prefix.stream (state_after f.state p t)))
+        (taken_says p f.state t (taken_is f.state p f.plan.mode f.plan.closed))
+        ∙ ap (λ (x : LinkState). (
+          arrival_verdict end port (port_arrival p t) (λ unit. effects unit (opened_after f.state p t)),
+          x,
+        )) after
 
-abbrev pub arrival_step : Beside → PortName → List ℕ → Plan → LinkState → Stepped
-arrival_step b port bytes plan st = stepped_arrival plan b st (Some (record { port = port; bytes = bytes }))
+    pub arrives_as : (r : Result CutValue PacketFault)
+        → stepped_cut plan b st end r ≡ stepped ends k packets (take_step e r)
+    arrives_as (Err fault) =
+        (λ i. (
+          arrival_verdict end (at i) (take_step e (Err fault)).answer (λ unit. []),
+          state_kept plan ends k packets w end e is (take_step e (Err fault)).port refl i,
+        ))
+    arrives_as (Ok PlainTlp) =
+        (λ i. (v.Plain (at i), state_kept plan ends k packets w end e is (take_step e (Ok PlainTlp)).port refl i))
+    arrives_as (Ok (IdePacket p)) =
+        ap (λ (o : Option StreamState). stepped_packet plan b st end p o)
+        (find_at plan ends k packets w end e is p.prefix.stream at_port)
+        ∙ by_found p (found e.plans e.states p.prefix.stream) refl
 
 -- ---- packets by number
 
-pub numbered_here : (ends : List LinkEnds) (packets : List LinkPacket) (steps n : ℕ) (x : LinkPacket)
-    → IsBounded ends packets steps → Some x ≡ packet_numbered packets n → x.port.link < length ends
+pub numbered_here : (ends : EndsView) (packets : List LinkPacket) (steps n : ℕ) (x : LinkPacket)
+    → IsBounded ends packets steps → Some x ≡ packet_numbered packets n → IsSome (port_on ends x.port)
 numbered_here ends packets steps n x bounded is = bounded.sealed_here (n - 1) x (seat (n == 0) (sym is))
   where
     seat : (b : Bool) → (if b then None else slice_get packets (n - 1)) ≡ Some x
         → slice_get packets (n - 1) ≡ Some x
     seat b is = grind arith
 
-abbrev pub at_partner : LinkPacket → List ℕ → Arrival
-at_partner x bytes = record { port = partner x.port; bytes = bytes }
+-- bytes of it arrive at the port of its partner
+abbrev pub at_partner : Plan → LinkPacket → List ℕ → Arrival
+at_partner plan x bytes = arrival_at plan (partner x.port) bytes
 
-pub altered_is : (at mask : ℕ) (x : LinkPacket) → altered_to at mask x
-    ≡ option_map (at_partner x) (altered_bytes at mask x.bytes)
-altered_is at mask x = grind arith
+pub altered_is : (plan : Plan) (at mask : ℕ) (x : LinkPacket) → altered_to plan at mask x
+    ≡ option_map (at_partner plan x) (altered_bytes at mask x.bytes)
+altered_is plan at mask x = grind arith
 
 -- a step at a packet of this number
 module _ (b : Beside) (plan : Plan) (st : LinkState) where
   module _ (n : ℕ) (o : Option LinkPacket) (is : o ≡ packet_numbered st.packets n) where
-    pub passes : step_of plan b st (Pass n) ≡ stepped_arrival plan b st (option_and_then passed o)
+    pub passes : step_of plan b st (Pass n) ≡ stepped_arrival plan b st (option_and_then (passed plan) o)
     unfolding step_of
-    passes = ap (λ (p : Option LinkPacket). stepped_arrival plan b st (option_and_then passed p)) (sym is)
+    passes = ap (λ (p : Option LinkPacket). stepped_arrival plan b st (option_and_then (passed plan) p)) (sym is)
 
     pub alters_it : (at mask : ℕ) → step_of plan b st (Alter n at mask)
-        ≡ stepped_arrival plan b st (option_and_then (altered_to at mask) o)
+        ≡ stepped_arrival plan b st (option_and_then (altered_to plan at mask) o)
     unfolding step_of
     alters_it at mask = ap
-        (λ (p : Option LinkPacket). stepped_arrival plan b st (option_and_then (altered_to at mask) p)) (sym is)
+        (λ (p : Option LinkPacket). stepped_arrival plan b st (option_and_then (altered_to plan at mask) p)) (sym is)
 
     pub cuts_it : (len : ℕ) → step_of plan b st (Cut n len)
-        ≡ stepped_arrival plan b st (option_and_then (cut_short len) o)
+        ≡ stepped_arrival plan b st (option_and_then (cut_short plan len) o)
     unfolding step_of
-    cuts_it len = ap (λ (p : Option LinkPacket). stepped_arrival plan b st (option_and_then (cut_short len) p))
+    cuts_it len = ap (λ (p : Option LinkPacket). stepped_arrival plan b st (option_and_then (cut_short plan len) p))
         (sym is)
 
     pub dumps : step_of plan b st (Dump n) ≡ (shown_packet n o, st)
@@ -211,37 +233,35 @@ module _ (b : Beside) (plan : Plan) (st : LinkState) where
   pub alters : (n at mask : ℕ) (x : LinkPacket) (o : Option (List ℕ)) → Some x ≡ packet_numbered st.packets n
       → o ≡ altered_bytes at mask x.bytes
       → step_of plan b st (Alter n at mask) ≡ stepped_arrival plan b st
-      (option_map (at_partner x) o)
+      (option_map (at_partner plan x) o)
   alters n at mask x o is same =
       alters_it n (Some x) is at mask
       ∙ ap (λ (a : Option Arrival). stepped_arrival plan b st a)
-      (altered_is at mask x ∙ ap (λ (p : Option (List ℕ)). option_map (at_partner x) p) (sym same))
+      (altered_is plan at mask x ∙ ap (λ (p : Option (List ℕ)). option_map (at_partner plan x) p) (sym same))
 
   pub cuts : (n len : ℕ) (x : LinkPacket) (whole : Bool) → Some x ≡ packet_numbered st.packets n
       → nat_le len (length x.bytes) ≡ whole
       → step_of plan b st (Cut n len) ≡ stepped_arrival plan b st
-      (if whole then Some (at_partner x (take len x.bytes)) else None)
+      (if whole then Some (at_partner plan x (take len x.bytes)) else None)
   cuts n len x whole is test = cuts_it n (Some x) is len ∙ ap
-      (λ (t : Bool). stepped_arrival plan b st (if t then Some (at_partner x (take len x.bytes)) else None)) test
+      (λ (t : Bool). stepped_arrival plan b st (if t then Some (at_partner plan x (take len x.bytes)) else None)) test
 
 -- ---- what events bring
 
-module _ (packets : List LinkPacket) (n : ℕ) (x : LinkPacket) (is : Some x ≡ packet_numbered packets n) where
-  pub brings_whole : option_and_then passed (packet_numbered packets n) ≡ Some (at_partner x x.bytes)
-  brings_whole = ap (λ (o : Option LinkPacket). option_and_then passed o) (sym is)
+module _ (plan : Plan) (packets : List LinkPacket) (n : ℕ) (x : LinkPacket) (is : Some x ≡ packet_numbered packets n)
+  where
+    pub brings_whole : option_and_then (passed plan) (packet_numbered packets n) ≡ Some (at_partner plan x x.bytes)
+    brings_whole = ap (λ (o : Option LinkPacket). option_and_then (passed plan) o) (sym is)
 
-  pub brings_altered : (at mask : ℕ) (port : PortName) (bytes : List ℕ) → Some bytes ≡ altered_bytes at mask x.bytes
-      → port ≡ partner x.port
-      → option_and_then (altered_to at mask) (packet_numbered packets n)
-      ≡ Some (record { port = port; bytes = bytes })
-  brings_altered at mask port bytes some port_is =
-      ap (λ (o : Option LinkPacket). option_and_then (altered_to at mask) o) (sym is) ∙ altered_is at mask x
-      ∙ ap (λ (o : Option (List ℕ)). option_map (at_partner x) o) (sym some)
-      ∙ (λ i. Some (record { port = sym port_is i; bytes = bytes }))
+    pub brings_altered : (at mask : ℕ) (bytes : List ℕ) → Some bytes ≡ altered_bytes at mask x.bytes
+        → option_and_then (altered_to plan at mask) (packet_numbered packets n) ≡ Some (at_partner plan x bytes)
+    brings_altered at mask bytes some =
+        ap (λ (o : Option LinkPacket). option_and_then (altered_to plan at mask) o) (sym is) ∙ altered_is plan at mask x
+        ∙ ap (λ (o : Option (List ℕ)). option_map (at_partner plan x) o) (sym some)
 
-  pub brings_cut : (len : ℕ) → nat_le len (length x.bytes) ≡ true
-      → option_and_then (cut_short len) (packet_numbered packets n)
-      ≡ Some (at_partner x (take len x.bytes))
-  brings_cut len test =
-      ap (λ (o : Option LinkPacket). option_and_then (cut_short len) o) (sym is)
-      ∙ ap (λ (b : Bool). if b then Some (at_partner x (take len x.bytes)) else None) test
+    pub brings_cut : (len : ℕ) → nat_le len (length x.bytes) ≡ true
+        → option_and_then (cut_short plan len) (packet_numbered packets n)
+        ≡ Some (at_partner plan x (take len x.bytes))
+    brings_cut len test =
+        ap (λ (o : Option LinkPacket). option_and_then (cut_short plan len) o) (sym is)
+        ∙ ap (λ (b : Bool). if b then Some (at_partner plan x (take len x.bytes)) else None) test

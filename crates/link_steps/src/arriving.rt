@@ -1,11 +1,11 @@
 //! Bytes that arrive at a port of one of the links.
 
-ghost use Rattle.std.specs.Prelude.{◌≡◌, ◌<◌, ◌^◌, IfOk, OnErr, length};
-ghost use Rattle.all_ends.specs.AllEnds.{CallsBelow};
+ghost use Rattle.std.specs.Prelude.{◌≡◌, ◌<◌, ◌^◌, IfOk, IsSome, OnErr, length};
+ghost use Rattle.end_states.specs.{port_on, CallsBelow};
 ghost use Rattle.link_steps.specs.Accesses.{AccessesStay, Brings};
 
 use accesses::Accesses;
-use all_ends::AllEnds;
+use end_states::AllEnds;
 use ide_types::{Memory, PortName};
 use link_verdicts::Verdict;
 use tdi_ends::InterfaceKeeper;
@@ -14,25 +14,28 @@ use trusted_memory::Trusted;
 /// The most pages of trusted memory that the writes of a unit go to: it has at most 8 packets, each in one page.
 const MOST_PAGES: u8 = 8;
 
-/// Bytes arrive at a port. The pages that a unit may need are taken first, so for want of memory nothing changes.
+/// Bytes arrive at an end that is at this port of a host or a device. The pages that a unit may need are taken first,
+/// so for want of memory nothing changes.
 pub fn bring(
     ends: &mut AllEnds,
     keeper: &InterfaceKeeper,
     trusted: &mut Trusted,
     accesses: &mut Accesses,
+    end: PortName,
     port: PortName,
     bytes: &[u8],
 ) -> Result<Verdict, Memory>
-    requires here { port.link < length ends.old }
+    requires here { IsSome (port_on ends.old end) }
+    requires link { port.link < length ends.old.links }
     requires few { CallsBelow (2 ^ 40) ends.old }
-    requires many { length accesses.old ≡ length ends.old }
-    ensures brings { IfOk result (λ v. Brings keeper.now port bytes.now v ends.old trusted.old.contents accesses.old
-        ends.new trusted.new.contents accesses.new) }
+    requires many { length accesses.old ≡ length ends.old.links }
+    ensures brings { IfOk result (λ v. Brings keeper.now end port bytes.now v ends.old trusted.old.contents
+        accesses.old ends.new trusted.new.contents accesses.new) }
     ensures ends { OnErr result (ends.new ≡ ends.old) }
     ensures memory { OnErr result (trusted.new.contents ≡ trusted.old.contents) }
     ensures accesses { OnErr result (AccessesStay accesses.old accesses.new) }
 {
     trusted.spare(MOST_PAGES)?;
     accesses.at_mut(port.link).spare()?;
-    Ok(ends.arrive(port, bytes, keeper, trusted, accesses))
+    Ok(ends.arrive(end, port, bytes, keeper, trusted, accesses))
 }

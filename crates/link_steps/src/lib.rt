@@ -6,3 +6,4 @@
 mod arriving;
 
 pub use arriving::bring;
+pub use end_states::AllEnds;

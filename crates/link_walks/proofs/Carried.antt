@@ -1,7 +1,7 @@
 -- Exchanges from one to another: which of them concern a place, if two exchanges of the operation do.
 use Rattle.link_walks.proofs.CallTerms.{◌≡◌, Bool, arith, ℕ, List, ◌++◌, ◌≤◌, ◌∙◌, ◌+◌, ◌==◌, [], zero, suc, ◌<◌}
 use Rattle.link_walks.proofs.CallTerms.{nat_tests}
-use Rattle.link_walks.proofs.CallTerms.{SubKind, Plan, KeyCall, Work, is_within, exchange_call, exchanges_called}
+use Rattle.link_walks.proofs.CallTerms.{SubKind, KeyCall, StreamCall, is_within, calls_from}
 use Rattle.link_walks.proofs.Streams.{one_if, calls_at, calls_append}
 
 -- one of two calls or both, if each comes between two exchanges
@@ -17,16 +17,14 @@ next_within : (p q n below : ℕ) (first second : KeyCall) → p < q → n < bel
     ≡ calls_within p q n below first second
 next_within p q n below first second lt low = grind (arith, nat_tests)
 
-pub carried_at : (plan : Plan) (w : Work) (sends : Bool) (u : SubKind) (p q last below : ℕ) (first second : KeyCall)
-    → p < q → below ≤ last + 1
-    → ((n : ℕ) → 1 ≤ n → n ≤ last → calls_at sends u (exchange_call plan w n) ≡ one_if (p == n) first
-    ++ one_if (q == n) second)
-    → (m n : ℕ) → 1 ≤ n → n + m ≡ below → calls_at sends u (exchanges_called plan w n m)
+pub carried_at : (made : ℕ → List StreamCall) (sends : Bool) (u : SubKind) (p q last below : ℕ)
+    (first second : KeyCall) → p < q → below ≤ last + 1
+    → ((n : ℕ) → 1 ≤ n → n ≤ last → calls_at sends u (made n) ≡ one_if (p == n) first ++ one_if (q == n) second)
+    → (m n : ℕ) → 1 ≤ n → n + m ≡ below → calls_at sends u (calls_from made n m)
     ≡ calls_within p q n below first second
-carried_at plan w sends u p q last below first second lt most each zero n low is = none_within p q n below first second
-    is
-carried_at plan w sends u p q last below first second lt most each (suc m) n low is =
-    let rest = carried_at plan w sends u p q last below first second lt most each m (n + 1) (omega arith) (omega arith)
+carried_at made sends u p q last below first second lt most each zero n low is = none_within p q n below first second is
+carried_at made sends u p q last below first second lt most each (suc m) n low is =
+    let rest = carried_at made sends u p q last below first second lt most each m (n + 1) (omega arith) (omega arith)
     in
-    calls_append sends u (exchange_call plan w n) (exchanges_called plan w (n + 1) m)
+    calls_append sends u (made n) (calls_from made (n + 1) m)
     ∙ ((λ i. each n low (omega arith) i ++ rest i) ∙ next_within p q n below first second lt (omega arith))

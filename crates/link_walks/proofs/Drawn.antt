@@ -1,16 +1,22 @@
 -- Every draw was made from a pool that had keys for it, and each stream's ID has one byte.
-use Rattle.link_walks.proofs.Terms.{◌≡◌, Bool, arith, true, ℕ, List, Plan, if◌then◌else◌, nat_tests, ◌≤◌, sym, Reach}
-use Rattle.link_walks.proofs.Terms.{lane_key, Host, ◌+◌, [], ◌<◌, subst, ◌∷◌, ◌/◌, Option, length, inl, inr, ◌*◌}
+use Rattle.link_walks.proofs.Terms.{◌≡◌, Bool, arith, true, ℕ, List, Plan, if◌then◌else◌, nat_tests, ◌≤◌, Reach}
+use Rattle.link_walks.proofs.Terms.{lane_key, Host, ◌+◌, [], ◌<◌, ◌∷◌, ◌/◌, Option, length, ◌*◌}
 use Rattle.link_walks.proofs.Terms.{is_some, All, reach_of, Manager}
-use Rattle.link_walks.proofs.Terms.{operated, manager_after, get_or-map, get_or_past, length-map, cases_lt, IsKey}
+use Rattle.link_walks.proofs.Terms.{operated, manager_after, IsKey}
 use Rattle.link_walks.proofs.Terms.{FitsPlan, FitsStream, Verdict, KeyPlan, History, draws, status_of, PortView}
 use Rattle.link_walks.proofs.Terms.{ports_at, performed, work_of, op_of}
-use Rattle.key_laws.specs.Due.{may_establish, may_refresh, unless_open}
-use Rattle.link_walks.proofs.Terms.{streams_by_link, streams_of, with_id}
+use Rattle.key_laws.specs.Due.{has_refresh, may_establish, may_refresh, unless_open}
+use Rattle.link_history.specs.Plan.{streams_by_link, streams_of, with_id, hop_by_link, hop_streams, peer_streams}
+use Rattle.link_history.specs.Plan.{lone_stream, in_eight, streams_by_line}
+use Rattle.ide_plan.specs.declared.plan.HopPlan.{HopPlan}
+use Rattle.ide_plan.specs.declared.plan.PeerPlan.{PeerPlan}
+use Rattle.ide_plan.specs.Fits.{FitsLink, FitsHopIf, FitsPeer}
+use Rattle.ide_types.specs.declared.port.PortName.{PortName}
+use Rattle.std.specs.Prelude.{map, replicate, slice_index_or, suc, take, zero, ◌++◌, Some, None}
 use Rattle.key_laws.specs.History.{manager}
 use Rattle.key_laws.specs.Due.{key_due}
 use Rattle.link_history.specs.Plan.{stream_plan}
-use Rattle.std.proofs.lemmas.List.Elements.{All-tail, All-nil}
+use Rattle.std.proofs.lemmas.List.Elements.{All-tail}
 use Rattle.ide_types.specs.declared.status.StreamStatus.{StreamStatus}
 use Rattle.ide_plan.specs.declared.plan.LinkPlan.{LinkPlan}
 use Rattle.ide_plan.specs.declared.stream.StreamPlan.{StreamPlan}
@@ -23,14 +29,14 @@ use Rattle.link_verdicts.specs.declared.verdict.Verdict.TheVariants as v
 
 establish_fits : (plan : KeyPlan) (known : Bool) (m : Manager) (l s : ℕ) (performed x : Verdict)
     → length m.begun ≤ plan.pool
-    → x ≡ (if known then may_establish plan (length m.begun) (m.ops l s) performed else v.Nothing)
+    → x ≡ (if known then may_establish plan l (length m.begun) (m.ops l s) performed else v.Nothing)
     → length (operated m op.Establish l s (reach_of op.Establish x)).begun ≤ plan.pool
 establish_fits plan known m l s performed x le is = grind (arith, nat_tests)
 
 refresh_fits : (plan : KeyPlan) (known : Bool) (m : Manager) (ports : PortView) (host : StreamStatus) (l s : ℕ)
     (set : Bool) (performed x : Verdict)
     → length m.begun ≤ plan.pool
-    → x ≡ (if known then may_refresh plan (length m.begun) (m.ops l s) host (unless_open ports l s set) performed
+    → x ≡ (if known then may_refresh plan l (length m.begun) (m.ops l s) host (unless_open ports l s set) performed
     else v.Nothing)
     → length (operated m op.Refresh l s (reach_of op.Refresh x)).begun ≤ plan.pool
 refresh_fits plan known m ports host l s set performed x le is = grind (arith, nat_tests)
@@ -39,9 +45,9 @@ stop_fits : (m : Manager) (l s top : ℕ) (r : Option Reach) → length m.begun 
     → length (operated m op.Stop l s r).begun ≤ top
 stop_fits m l s top r le = grind arith
 
-reset_fits : (m : Manager) (link top : ℕ) (x : Verdict) → length m.begun ≤ top
-    → length (manager_after m (event.Reset link) x).begun ≤ top
-reset_fits m link top x le = grind arith
+reset_fits : (m : Manager) (link : ℕ) (ends : List PortName) (top : ℕ) (x : Verdict) → length m.begun ≤ top
+    → length (manager_after m (event.Reset link ends) x).begun ≤ top
+reset_fits m link ends top x le = grind arith
 
 pub draws_fit : (plan : KeyPlan) (h : History) → KeyCauseLaw plan h → draws h ≤ plan.pool
 unfolding manager key_due
@@ -52,11 +58,12 @@ draws_fit plan ((event.Establish l s loss, x) ∷ h) cause =
     cause.0
 draws_fit plan ((event.Refresh l s loss, x) ∷ h) cause =
     let w = work_of op.Refresh (op_of h l s) (draws h) in
-    refresh_fits plan (plan.has_stream l s) (manager h) (ports_at h) (status_of h Host l s) l s w.set
+    refresh_fits plan (has_refresh plan l s) (manager h) (ports_at h) (status_of h Host l s) l s w.set
     (performed (ports_at h) l s loss w) x (draws_fit plan h cause.2) cause.0
 draws_fit plan ((event.Stop l s loss, x) ∷ h) cause = stop_fits (manager h) l s plan.pool (reach_of op.Stop x)
     (draws_fit plan h cause.2)
-draws_fit plan ((event.Reset link, x) ∷ h) cause = reset_fits (manager h) link plan.pool x (draws_fit plan h cause.2)
+draws_fit plan ((event.Reset link ends, x) ∷ h) cause =
+    reset_fits (manager h) link ends plan.pool x (draws_fit plan h cause.2)
 draws_fit plan ((e, x) ∷ h) cause = draws_fit plan h cause.2
 
 -- ---- keys of the plan
@@ -67,24 +74,81 @@ lane_keys plan fits draw lt lane low = fits.each_key (6 * draw + lane) [] (omega
 
 -- ---- streams of the plan
 
-id_below : (ss : List StreamPlan) (id : ℕ) → All FitsStream ss → is_some (with_id ss id) ≡ true → id ≤ 255
-id_below [] id all known = absurd cc
-id_below (s ∷ ss) id all known = grind (arith, nat_tests, id_below ss id (All-tail FitsStream s ss all), all 0 s)
+-- each has an ID of one byte
+abbrev SmallIds : List StreamPlan → Type 0
+SmallIds [] = Unit {0}
+SmallIds (s ∷ ss) = (s.id ≤ 255) × SmallIds ss
 
-no_link : LinkPlan
-no_link = record { nonces = []; streams = []; interfaces = [] }
+abbrev SmallRows : List (List StreamPlan) → Type 0
+SmallRows [] = Unit {0}
+SmallRows (ss ∷ rows) = SmallIds ss × SmallRows rows
 
-streams_fit : (plan : Plan) → FitsPlan plan → (link : ℕ) → All FitsStream (streams_of plan link)
-streams_fit plan fits link = elim (cases_lt link (length plan.links)) [
-  | inl less ↦ subst (λ (ss : List StreamPlan). All FitsStream ss)
-      (sym (get_or-map (λ (l : LinkPlan). l.streams) plan.links link no_link [] less))
-      ((fits.each_link link no_link less).each_stream)
-  | inr past ↦ let long : length (streams_by_link plan) ≡ length plan.links = length-map plan.links
-      (λ (l : LinkPlan). l.streams) in
-      subst (λ (ss : List StreamPlan). All FitsStream ss)
-      (sym (get_or_past (streams_by_link plan) link [] (omega (arith, long, past)))) (All-nil FitsStream)
-]
+rows_append : (xs ys : List (List StreamPlan)) → SmallRows xs → SmallRows ys → SmallRows (xs ++ ys)
+rows_append [] ys one two = two
+rows_append (ss ∷ xs) ys one two = (one.0, rows_append xs ys one.1 two)
+
+rows_none : (n : ℕ) → SmallRows (replicate n [])
+rows_none zero = tt
+rows_none (suc n) = (tt, rows_none n)
+
+rows_take : (n : ℕ) (rows : List (List StreamPlan)) → SmallRows rows → SmallRows (take n rows)
+rows_take zero rows small = tt
+rows_take (suc n) [] small = tt
+rows_take (suc n) (ss ∷ rows) small = (small.0, rows_take n rows small.1)
+
+rows_at : (rows : List (List StreamPlan)) (line : ℕ) → SmallRows rows → SmallIds (slice_index_or rows line [])
+rows_at [] line small = tt
+rows_at (ss ∷ rows) zero small = small.0
+rows_at (ss ∷ rows) (suc line) small = rows_at rows line small.1
+
+rows_eight : (rows : List (List StreamPlan)) → SmallRows rows → SmallRows (in_eight rows)
+rows_eight rows small = rows_take 8 (rows ++ replicate 8 []) (rows_append rows (replicate 8 []) small (rows_none 8))
+
+small_streams : (ss : List StreamPlan) → All FitsStream ss → SmallIds ss
+small_streams [] all = tt
+small_streams (s ∷ ss) all = ((all 0 s (omega arith)).id, small_streams ss (All-tail FitsStream s ss all))
+
+small_links : (ls : List LinkPlan) → All FitsLink ls → SmallRows (map (λ (l : LinkPlan). l.streams) ls)
+small_links [] all = tt
+small_links (l ∷ ls) all = (
+  small_streams l.streams (all 0 l (omega arith)).each_stream,
+  small_links ls (All-tail FitsLink l ls all),
+)
+
+small_hop : (streams : List StreamPlan) (o : Option HopPlan) → FitsHopIf streams o → SmallIds (hop_streams o)
+small_hop streams None fits = tt
+small_hop streams (Some o) fits = (fits.id, tt)
+
+small_hops : (ls : List LinkPlan) → All FitsLink ls → SmallRows (map (λ (l : LinkPlan). hop_streams l.hop) ls)
+small_hops [] all = tt
+small_hops (l ∷ ls) all = (
+  small_hop l.streams l.hop (all 0 l (omega arith)).hop,
+  small_hops ls (All-tail FitsLink l ls all),
+)
+
+small_peers : (links : List LinkPlan) (ps : List PeerPlan) → All (FitsPeer links) ps
+    → SmallRows (map (λ (p : PeerPlan). lone_stream p.id p.mode ∷ []) ps)
+small_peers links [] all = tt
+small_peers links (p ∷ ps) all = (
+  ((all 0 p (omega arith)).id, tt),
+  small_peers links ps (All-tail (FitsPeer links) p ps all),
+)
+
+small_rows : (plan : Plan) → FitsPlan plan → SmallRows (streams_by_line plan)
+unfolding streams_by_line
+small_rows plan fits =
+    let links = rows_eight (streams_by_link plan) (small_links plan.links fits.each_link) in
+    let hops = rows_eight (hop_by_link plan) (small_hops plan.links fits.each_link) in
+    rows_append (in_eight (streams_by_link plan)) _ links
+    (rows_append (in_eight (hop_by_link plan)) _ hops
+    (rows_append (in_eight (hop_by_link plan)) (peer_streams plan) hops
+    (small_peers plan.links plan.peers fits.each_peer)))
+
+id_below : (ss : List StreamPlan) (id : ℕ) → SmallIds ss → is_some (with_id ss id) ≡ true → id ≤ 255
+id_below [] id small known = absurd cc
+id_below (s ∷ ss) id small known = grind (arith, nat_tests, id_below ss id small.1)
 
 pub id_fits : (plan : Plan) → FitsPlan plan → (link id : ℕ) → is_some (stream_plan plan link id) ≡ true → id ≤ 255
 unfolding stream_plan
-id_fits plan fits link id known = id_below (streams_of plan link) id (streams_fit plan fits link) known
+id_fits plan fits link id known = id_below (streams_of plan link) id
+    (rows_at (streams_by_line plan) link (small_rows plan fits)) known

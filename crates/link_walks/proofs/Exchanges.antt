@@ -1,50 +1,101 @@
--- The exchanges of an operation at a place of the device's port.
-use Rattle.link_walks.proofs.CallTerms.{◌≡◌, Bool, arith, true, ℕ, ◌++◌, ◌≤◌, ◌+◌, ◌==◌, zero, suc, refl, ◌-◌}
-use Rattle.link_walks.proofs.CallTerms.{nat_tests}
-use Rattle.link_walks.proofs.CallTerms.{SubKind, Plan, Work, work, last_exchange_of, program_at, go_at, lane_key}
-use Rattle.link_walks.proofs.CallTerms.{exchange_call}
-use Rattle.link_walks.proofs.CallTerms.{exchanges_called, Device, Operation}
-use Rattle.link_walks.proofs.CallTerms.{lane, place_at_end}
+-- The exchanges of an operation at a place whose keys are given by messages.
+use Rattle.link_walks.proofs.CallTerms.{
+  ◌≡◌,
+  Bool,
+  arith,
+  true,
+  false,
+  ℕ,
+  ◌++◌,
+  ◌≤◌,
+  ◌<◌,
+  ◌+◌,
+  ◌==◌,
+  zero,
+  suc,
+  refl,
+  ◌-◌,
+}
+use Rattle.link_walks.proofs.CallTerms.{nat_tests, ◌&&◌, if◌then◌else◌}
+use Rattle.link_walks.proofs.CallTerms.{SubKind, Plan, Work, work, last_exchange_of, makes_draw, lane_key, key_number}
+use Rattle.link_walks.proofs.CallTerms.{told_call, calls_from, Side, Host, Device, Operation, is_host, program_number}
+use Rattle.link_walks.proofs.CallTerms.{go_number, stop_number}
+use Rattle.ide_types.specs.Sub.{sub_bits}
 use Rattle.ide_types.proofs.KeySets.{one_of_set}
 use Rattle.link_verdicts.specs.declared.verdict.Operation.TheVariants as op
 use Rattle.link_walks.proofs.Slots.{first_call, second_call, is_of}
 use Rattle.link_walks.proofs.Streams.{one_if, calls_at, all_by, all_append}
 use Rattle.link_walks.proofs.Carried.{calls_within, carried_at}
 
-abbrev CallsOnce : Plan → Work → ℕ → ℕ → Bool → SubKind → ℕ → Type 0
-CallsOnce plan w link stream sends u n =
-    let p = place_at_end link stream sends Device u in
-    calls_at sends u (exchange_call plan w n)
-    ≡ one_if (program_at w.operation p == n) (first_call w (lane_key plan w.draw (lane p)))
-    ++ one_if (go_at w.operation p == n) (second_call w)
+-- the exchanges that make an operation's first and its second call in a lane
+abbrev pub first_number : (hosted near : Bool) → Operation → ℕ → ℕ
+first_number hosted near o l = if makes_draw o then program_number hosted near o l else stop_number hosted near l
+
+abbrev pub second_number : (hosted near : Bool) → Operation → ℕ → ℕ
+second_number hosted near o l = if makes_draw o then go_number hosted near o l else stop_number hosted near l + 6
+
+abbrev pub lane_at : Bool → SubKind → ℕ
+lane_at sends u = (if sends then 3 else 0) + sub_bits u
+
+abbrev ToldOnce : Plan → (hosted : Bool) → Side → Work → Bool → SubKind → ℕ → Type 0
+ToldOnce plan hosted side w sends u n =
+    calls_at sends u (told_call plan hosted side w n)
+    ≡ one_if (first_number hosted (is_host side) w.operation (lane_at sends u) == n)
+    (first_call w (lane_key plan w.draw (key_number side (lane_at sends u))))
+    ++ one_if (second_number hosted (is_host side) w.operation (lane_at sends u) == n) (second_call w)
 
 -- ---- one exchange
 
-calls_once : (plan : Plan) (o : Operation) (set : Bool) (draw first : ℕ) (begins : Bool) (link stream : ℕ)
-    (sends : Bool) (u : SubKind) (n : ℕ)
-    → 1 ≤ n → n ≤ last_exchange_of o → CallsOnce plan (work o set draw first begins) link stream sends u n
-calls_once plan op.Establish set draw first begins link stream sends u n low high = grind (arith, nat_tests, one_of_set)
-calls_once plan op.Refresh set draw first begins link stream sends u n low high = grind (arith, nat_tests, one_of_set)
-calls_once plan op.Stop set draw first begins link stream sends u n low high = grind (arith, nat_tests, one_of_set)
+told_once : (plan : Plan) (hosted : Bool) (side : Side) (o : Operation) (set : Bool) (draw first : ℕ) (begins : Bool)
+    (sends : Bool) (u : SubKind) (n : ℕ) → (is_host side && hosted) ≡ false
+    → 1 ≤ n → n ≤ last_exchange_of hosted o → ToldOnce plan hosted side (work o set draw first begins) sends u n
+told_once plan true Host o set draw first begins sends u n told low high = absurd cc
+told_once plan true Device op.Establish set draw first begins sends u n told low high = grind
+    (arith, nat_tests, one_of_set)
+told_once plan true Device op.Refresh set draw first begins sends u n told low high = grind
+    (arith, nat_tests, one_of_set)
+told_once plan true Device op.Stop set draw first begins sends u n told low high = grind
+    (arith, nat_tests, one_of_set)
+told_once plan false Host op.Establish set draw first begins sends u n told low high = grind
+    (arith, nat_tests, one_of_set)
+told_once plan false Host op.Refresh set draw first begins sends u n told low high = grind
+    (arith, nat_tests, one_of_set)
+told_once plan false Host op.Stop set draw first begins sends u n told low high = grind
+    (arith, nat_tests, one_of_set)
+told_once plan false Device op.Establish set draw first begins sends u n told low high = grind
+    (arith, nat_tests, one_of_set)
+told_once plan false Device op.Refresh set draw first begins sends u n told low high = grind
+    (arith, nat_tests, one_of_set)
+told_once plan false Device op.Stop set draw first begins sends u n told low high = grind
+    (arith, nat_tests, one_of_set)
 
-kind_once : (plan : Plan) (w : Work) (n : ℕ) → all_by (is_of w.operation) (exchange_call plan w n) ≡ true
-kind_once plan w n = grind arith
+kind_once : (plan : Plan) (hosted : Bool) (side : Side) (w : Work) (n : ℕ)
+    → all_by (is_of w.operation) (told_call plan hosted side w n) ≡ true
+kind_once plan hosted side w n = grind arith
+
+numbers_in_order : (hosted near : Bool) (o : Operation) (l : ℕ) → first_number hosted near o l
+    < second_number hosted near o l
+numbers_in_order hosted near o l = grind (arith, nat_tests)
 
 -- ---- all that were carried
 
-pub calls_carried : (plan : Plan) (w : Work) (link stream : ℕ) (sends : Bool) (u : SubKind) (carried : ℕ) → 1 ≤ w.first
-    → w.first ≤ carried → carried ≤ last_exchange_of w.operation + 1
-    → let p = place_at_end link stream sends Device u in
-    calls_at sends u (exchanges_called plan w w.first (carried - w.first))
-    ≡ calls_within (program_at w.operation p) (go_at w.operation p) w.first carried
-    (first_call w (lane_key plan w.draw (lane p))) (second_call w)
-calls_carried plan w link stream sends u carried low from most =
-    carried_at plan w sends u _ _ (last_exchange_of w.operation) carried _ _ (grind arith) most
-    (calls_once plan w.operation w.set w.draw w.first w.begins link stream sends u) (carried - w.first) w.first low
-    (omega arith)
+pub calls_carried : (plan : Plan) (hosted : Bool) (side : Side) (w : Work) (sends : Bool) (u : SubKind) (carried : ℕ)
+    → (is_host side && hosted) ≡ false → 1 ≤ w.first
+    → w.first ≤ carried → carried ≤ last_exchange_of hosted w.operation + 1
+    → calls_at sends u (calls_from (told_call plan hosted side w) w.first (carried - w.first))
+    ≡ calls_within (first_number hosted (is_host side) w.operation (lane_at sends u))
+    (second_number hosted (is_host side) w.operation (lane_at sends u)) w.first carried
+    (first_call w (lane_key plan w.draw (key_number side (lane_at sends u)))) (second_call w)
+calls_carried plan hosted side w sends u carried told low from most =
+    carried_at (told_call plan hosted side w) sends u _ _ (last_exchange_of hosted w.operation) carried _ _
+    (numbers_in_order hosted (is_host side) w.operation (lane_at sends u)) most
+    (λ n. told_once plan hosted side w.operation w.set w.draw w.first w.begins sends u n told) (carried - w.first)
+    w.first low (omega arith)
 
-pub kind_carried : (plan : Plan) (w : Work) (m n : ℕ) → all_by (is_of w.operation) (exchanges_called plan w n m) ≡ true
-kind_carried plan w zero n = refl
-kind_carried plan w (suc m) n =
-    all_append (is_of w.operation) (exchange_call plan w n) (exchanges_called plan w (n + 1) m) (kind_once plan w n)
-    (kind_carried plan w m (n + 1))
+pub kind_carried : (plan : Plan) (hosted : Bool) (side : Side) (w : Work) (m n : ℕ)
+    → all_by (is_of w.operation) (calls_from (told_call plan hosted side w) n m) ≡ true
+kind_carried plan hosted side w zero n = refl
+kind_carried plan hosted side w (suc m) n =
+    all_append (is_of w.operation) (told_call plan hosted side w n)
+    (calls_from (told_call plan hosted side w) (n + 1) m)
+    (kind_once plan hosted side w n) (kind_carried plan hosted side w m (n + 1))

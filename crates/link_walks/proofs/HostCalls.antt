@@ -1,6 +1,15 @@
 -- The host's local calls at a place.
 use Rattle.link_walks.proofs.CallTerms.{◌≡◌, Bool, arith, true, ℕ, List, ◌++◌, SubKind, Plan, Work, Reach, makes_draw}
-use Rattle.link_walks.proofs.CallTerms.{is_within, lane_key, StreamCall, stream_call, Host, lane, place_at_end}
+use Rattle.link_walks.proofs.CallTerms.{
+  is_within,
+  lane_key,
+  key_number,
+  StreamCall,
+  stream_call,
+  Host,
+  lane,
+  place_at_end,
+}
 use Rattle.link_walks.proofs.CallTerms.{host_go}
 use Rattle.link_walks.proofs.CallTerms.{host_calls, if◌then◌else◌, map}
 use Rattle.link_walks.proofs.Slots.{first_call, second_call, is_of}
@@ -11,7 +20,8 @@ host_stream_calls plan stream w r = map (stream_call Host) (host_calls plan stre
 
 pub calls_asked : (plan : Plan) (w : Work) (link stream : ℕ) (sends : Bool) (u : SubKind) (r : Reach)
     → calls_at sends u (host_stream_calls plan stream w r)
-    ≡ one_if w.begins (first_call w (lane_key plan w.draw (lane (place_at_end link stream sends Host u))))
+    ≡ one_if w.begins (first_call w
+    (lane_key plan w.draw (key_number Host (lane (place_at_end link stream sends Host u)))))
     ++ one_if (if makes_draw w.operation then is_within w.first (host_go w.operation) r.acknowledged else w.begins)
     (second_call w)
 calls_asked plan w link stream sends u r = grind arith

@@ -16,13 +16,18 @@ use Rattle.link_walks.proofs.Terms.{StreamEnds, walk_on, begun_ends, walked_ends
 use Rattle.link_walks.proofs.Terms.{verdict_due, IsJoined}
 use Rattle.link_walks.proofs.Terms.{OperationsJoin}
 use Rattle.tsm_host.proofs.Dues.{all_due}
+use Rattle.tsm_host.specs.Walk.{WalkIsDue}
+use Rattle.ide_types.specs.Lines.{is_hosted}
+use Rattle.std.specs.Prelude.{Bool}
 use Rattle.tsm_host.specs.declared.operation.Outcome.TheVariants as outcome
 use Rattle.link_walks.proofs.Drawn.{lane_keys, id_fits}
 use Rattle.link_walks.proofs.Standing.{is_sound, reads_stream, host_read}
 use Rattle.link_walks.proofs.Kept.{ready_before, draw_below}
 use Rattle.link_walks.proofs.Works.{same_operation, work_fits, begins_first, first_within, is_asked, begun_op}
 use Rattle.link_walks.proofs.Works.{begun_link, begun_id, begun_keys, refused_reach, has_room}
-use Rattle.link_walks.proofs.Walking.{Knows, IsNext}
+use Rattle.link_walks.proofs.Walking.{Knows, IsNext, denial}
+use Rattle.tsm_host.proofs.Walks.{ends_as}
+use Rattle.link_walks.proofs.Terms.{first_from, cut_at, lost_in}
 use Rattle.link_walks.proofs.Resting.{goes_from, Rest, rest_is}
 
 calls_append : (side : Side) (cs more : List PlaceCall) (x : StreamState) → all_called_at side (cs ++ more) x
@@ -41,15 +46,16 @@ record Found (plan : Plan) (st : LinkState) (h : History) (requester : ℕ) (e :
   pub fits : FitsPlan plan
   pub stands : PortsStandFor plan st h
   pub requester_most : requester ≤ 65535
+  pub hosted : is_hosted e.keeper.link ≡ true
   pub host : find plan st (port_at Host e.keeper.link) e.keeper.id ≡ Some e.host
   pub device : find plan st (port_at Device e.keeper.link) e.keeper.id ≡ Some e.device
   pub op_is : find_op plan st e.keeper.link e.keeper.id ≡ Some e.keeper.op
   pub kept : KeysKept plan e.keeper
 
-last_most : (o : Operation) → last_exchange_of o ≤ 13
+last_most : (o : Operation) → last_exchange_of true o ≤ 13
 last_most o = grind arith
 
-draws_on : (w : Work) (pool : Pool) → (draws_now w ≡ true → nat_lt pool.draws (draws_in pool.keys) ≡ true)
+pub draws_on : (w : Work) (pool : Pool) → (draws_now w ≡ true → nat_lt pool.draws (draws_in pool.keys) ≡ true)
     → (begun_pool w pool).draws ≡ (if draws_now w then pool.draws + 1 else pool.draws)
 draws_on w pool room = grind arith
 
@@ -61,9 +67,9 @@ module _ (plan : Plan) (st : LinkState) (h : History) (operation : Operation) (l
 
   abbrev told : Operation → ManagerWalk
   told o =
-      walk (last_exchange_of o + 1 - w.first)
+      walk true (last_exchange_of true o + 1 - w.first)
       (answers loss (refusal_at (ports_of plan st) o w.set e.keeper.link e.keeper.id))
-      (begun_stream w (pool_of plan st) e.keeper)
+      (begun_stream true w (pool_of plan st) e.keeper)
 
   abbrev verdict : Verdict
   verdict = verdict_due plan st operation e.keeper.op e.keeper.link e.keeper.id loss
@@ -72,10 +78,12 @@ module _ (plan : Plan) (st : LinkState) (h : History) (operation : Operation) (l
       → verdict_of operation e.keeper.link e.keeper.id loss (manager_walked r e.keeper (told operation)).outcome
       ≡ Some verdict
   is_due r is =
-      let due = all_due operation (key_plan plan) (ports_of plan st) (status_at plan st Host e.keeper.link e.keeper.id)
+      let due = subst (λ (b : Bool). WalkIsDue b operation (key_plan plan) (ports_of plan st)
+      (status_at plan st Host e.keeper.link e.keeper.id) (host_of e.host) (pool_of plan st) loss e.keeper) found.hosted
+      (all_due operation (key_plan plan) (ports_of plan st) (status_at plan st Host e.keeper.link e.keeper.id)
       (host_of e.host)
-      (pool_of plan st) loss e.keeper (is_asked plan e.keeper.op e.keeper.keys found.kept)
-      (host_read plan st h found.stands.ports_stand e.keeper.link e.keeper.id e.host found.host st.draws) in
+      (pool_of plan st) loss e.keeper (rw found.hosted (is_asked plan e.keeper.op e.keeper.keys found.kept))
+      (host_read plan st h found.stands.ports_stand e.keeper.link e.keeper.id e.host found.host st.draws)) in
       sym (λ i. verdict_of operation e.keeper.link e.keeper.id loss
       (manager_walked (is i) e.keeper (told operation)).outcome) ∙ due.verdict_is
 
@@ -84,7 +92,7 @@ module _ (plan : Plan) (st : LinkState) (h : History) (operation : Operation) (l
   refused : (r : Refusal) → refusal_of operation e.keeper.op (host_of e.host) (pool_of plan st) ≡ Some r
       → IsJoined plan st operation loss (pool_of plan st) e (record { outcome = outcome.Refused r; ends = e })
   refused r is =
-      let none : reach_of operation verdict ≡ None = refused_reach operation e.keeper.op (host_of e.host)
+      let none : reach_of operation verdict ≡ None = refused_reach e.keeper.link operation e.keeper.op (host_of e.host)
       (pool_of plan st) loss r verdict is (is_due (Some r) is) in
       record {
         verdict_is = is_due (Some r) is;
@@ -106,20 +114,25 @@ module _ (plan : Plan) (st : LinkState) (h : History) (operation : Operation) (l
     keys = begun_keys plan operation e.keeper.op st.draws e.keeper found.kept;
     fresh = λ makes lane lt le. refl;
     ready = λ makes lane lt past le. ready_before plan st h found.stands e.keeper.link e.keeper.id e.keeper.op
-        found.op_is operation e.device found.device
+        found.op_is found.hosted operation e.device found.device
         makes lane lt past;
   }
 
-  within : (1 ≤ w.first) × (w.first ≤ last_exchange_of w.operation)
+  within : (1 ≤ w.first) × (w.first ≤ last_exchange_of true w.operation)
   within = first_within plan operation e.keeper.op st.draws e.keeper.keys found.kept
 
   -- what the walk gives
   comes_is : Comes w.operation w.set w.draw w.first w.begins e.keeper.link e.keeper.id loss e.keeper.op
       (stays (ports_of plan st) e.keeper.link e.keeper.id loss w) (told w.operation)
   comes_is =
-      walk_comes w.operation w.set w.draw w.first w.begins (work_fits operation e.keeper.op st.draws)
-      (ports_of plan st) e.keeper.link e.keeper.id loss e.keeper.op (begun_stream w (pool_of plan st) e.keeper)
-      within.1 (begun_op operation e.keeper.op st.draws (pool_of plan st) e.keeper refl)
+      subst (λ (b : Bool). Comes w.operation w.set w.draw w.first w.begins e.keeper.link e.keeper.id loss e.keeper.op
+      (stays (ports_of plan st) e.keeper.link e.keeper.id loss w)
+      (walk b (last_exchange_of b w.operation + 1 - w.first)
+      (answers loss (refusal_at (ports_of plan st) w.operation w.set e.keeper.link e.keeper.id))
+      (begun_stream true w (pool_of plan st) e.keeper))) found.hosted
+      (walk_comes w.operation w.set w.draw w.first w.begins (work_fits operation e.keeper.op st.draws)
+      (ports_of plan st) e.keeper.link e.keeper.id loss e.keeper.op (begun_stream true w (pool_of plan st) e.keeper)
+      (rw found.hosted within.1) (begun_op operation e.keeper.op st.draws (pool_of plan st) e.keeper refl))
 
   module _ (free : refusal_of operation e.keeper.op (host_of e.host) (pool_of plan st) ≡ None) where
     knows : Knows plan (ports_of plan st) w e.keeper.link e.keeper.id requester e.device
@@ -127,6 +140,7 @@ module _ (plan : Plan) (st : LinkState) (h : History) (operation : Operation) (l
         let link = e.keeper.link in
         let id = e.keeper.id in
         record {
+          hosted = found.hosted;
           fits = work_fits operation e.keeper.op st.draws;
           small = id_fits plan found.fits link id
               (kept_is plan st h (port_at Device link) id e.device found.stands.ports_stand found.device).known;
@@ -156,11 +170,16 @@ module _ (plan : Plan) (st : LinkState) (h : History) (operation : Operation) (l
     rest_comes more enough =
         let range = within in
         let top = last_most w.operation in
-        let long : suc (last_exchange_of w.operation - w.first)
-        ≡ last_exchange_of w.operation + 1 - w.first = omega (arith, range) in
-        rw (← long) (rest_is plan (ports_of plan st) w e.keeper.link e.keeper.id requester e.device knows loss
-        (last_exchange_of w.operation - w.first) more w.first
-        (begun_from plan st operation e) (omega (arith, range)) range.0 (omega (arith, range, top, enough)) first_next)
+        let long : suc (last_exchange_of true w.operation - w.first)
+        ≡ last_exchange_of true w.operation + 1 - w.first = omega (arith, range) in
+        subst (λ (b : Bool). Rest plan w e.keeper.id w.first (begun_from plan st operation e)
+        (ends_as e.keeper.link e.keeper.id w (first_from
+        (λ x. cut_at (lost_in loss x) (denial (ports_of plan st) w e.keeper.link e.keeper.id x) x) w.first
+        (last_exchange_of b w.operation + 1 - w.first)))
+        (told w.operation) (walk_on (suc more) loss requester (begun_from plan st operation e))) (sym found.hosted)
+        (rw (← long) (rest_is plan (ports_of plan st) w e.keeper.link e.keeper.id requester e.device knows loss
+        (last_exchange_of true w.operation - w.first) more w.first
+        (begun_from plan st operation e) (omega (arith, range)) range.0 (omega (arith, range, top, enough)) first_next))
 
     joins : CallsAreTouches → (more : ℕ) → 12 ≤ more → IsJoined plan st operation loss (pool_of plan st) e
         (walk_on (suc more) loss requester (begun_from plan st operation e))
@@ -175,7 +194,7 @@ module _ (plan : Plan) (st : LinkState) (h : History) (operation : Operation) (l
         let stands = found.stands.ports_stand in
         let same_touches : AreTouches plan (ports_of plan st) link id w r e.host e.device = calls plan
         (ports_of plan st) link id
-        w r e.host e.device
+        w r e.host e.device found.hosted
         (operation, e.keeper.op, st.draws, refl)
         (assumption (within, rest.within, begins_first operation e.keeper.op st.draws))
         (is_sound plan st h stands Host link id e.host found.host)
@@ -187,9 +206,10 @@ module _ (plan : Plan) (st : LinkState) (h : History) (operation : Operation) (l
               (sym (λ i. verdict_of (same i) link id loss (told w.operation).outcome)
               ∙ (comes_is.verdict_is ∙ ap Some verdict_comes));
           op_is = ap (λ (s : StreamView). s.op) rest.keeper_is ∙
-              (comes_is.op_is ∙ (λ i. op_by e.keeper.op w (reach_of (same i) (verdict_comes i))));
+              (comes_is.op_is ∙ (λ i. op_by (is_hosted e.keeper.link) e.keeper.op w
+              (reach_of (same i) (verdict_comes i))));
           host_is = rw reached (rest.host_is ∙
-              (sym (calls_append Host (begun_calls w (pool_of plan st) id) (goes_from w id w.first r.acknowledged)
+              (sym (calls_append Host (begun_calls true w (pool_of plan st) id) (goes_from w id w.first r.acknowledged)
               e.host) ∙ same_touches.host_touched));
           device_is = rw reached (rest.device_is ∙ same_touches.device_touched);
           draws_is = rw reached
@@ -207,7 +227,7 @@ module _ (plan : Plan) (st : LinkState) (h : History) (operation : Operation) (l
   by_refusal calls more enough None is = joins is calls more enough
 
 pub joined : CallsAreTouches → OperationsJoin
-joined calls plan st h operation loss requester pool e fits stands most host device op_is is kept =
+joined calls plan st h operation loss requester pool e fits stands most hosted host device op_is is kept =
     let found : Found plan st h requester e = assumption in
     subst (λ (p : Pool). IsJoined plan st operation loss p e (event_walk operation (host_of e.host) p loss requester e))
     (sym is)

@@ -14,6 +14,7 @@ use Rattle.key_states.proofs.States.{in_state}
 use Rattle.port_operations.specs.Points.{key_held, point_lane}
 use Rattle.port_operations.proofs.Points.{points}
 use Rattle.link_walks.proofs.Lanes.{lane_place, lane_slots, IsFull, first_program}
+use Rattle.ide_types.specs.Lines.{is_hosted}
 use Rattle.link_walks.proofs.Drawn.{draws_fit}
 
 -- ---- the state of the operation
@@ -24,7 +25,7 @@ known_op plan st h stands link stream q found = let is = stands.ops_is link stre
 
 -- ---- a draw is kept after its KEY_PROG
 
-kept_rising : (r k : Bool) (j a b n : ℕ) (u : Marks) (sh : Shape) → Rising r k j a b n u sh → a < n
+pub kept_rising : (r k : Bool) (j a b n : ℕ) (u : Marks) (sh : Shape) → Rising r k j a b n u sh → a < n
     → kept_in (key_in (keys_of sh) k) ≡ Some j
 kept_rising r k j a b n u sh rising lt = grind arith
 
@@ -33,11 +34,11 @@ lane_is link stream lane lt = grind (arith, nat_tests)
 
 -- a lane whose KEY_PROG was acknowledged before the event keeps the draw of the operation
 kept_before : (q : Op) (next top : ℕ) (link stream : ℕ) (sends : Bool) (u : SubKind) (ts : List Touch) (o : Operation)
-    → FitsAt q top (place_at_end link stream sends Device u) ts
+    → is_hosted link ≡ true → FitsAt q top (place_at_end link stream sends Device u) ts
     → let w = work_of o q next in makes_draw w.operation ≡ true
     → first_program w.operation + lane_number (place_at_end link stream sends Device u) < w.first
     → kept_in (key_in (keys sends ts) w.set) ≡ Some w.draw
-kept_before q next top link stream sends u ts o at makes lt = grind (arith, kept_rising)
+kept_before q next top link stream sends u ts o hosted at makes lt = grind (arith, kept_rising)
 
 -- the draw of the operation is made as it begins, or was made before
 drawn_before : (q : Op) (next made top : ℕ) (p : KeyPlace) (ts : List Touch) (o : Operation) → FitsAt q made p ts
@@ -45,7 +46,7 @@ drawn_before : (q : Op) (next made top : ℕ) (p : KeyPlace) (ts : List Touch) (
     → let w = work_of o q next in (draws_now w ≡ true → next < top) → makes_draw w.operation ≡ true → w.draw < top
 drawn_before q next made top p ts o at le now makes = grind arith
 
-kept_is_full : (s : LaneSlot) (x : ℕ × List ℕ) → key_held s ≡ Some x → IsFull s
+pub kept_is_full : (s : LaneSlot) (x : ℕ × List ℕ) → key_held s ≡ Some x → IsFull s
 kept_is_full s x is = grind arith
 
 module _ (plan : Plan) (st : LinkState) (h : History) (stands : PortsStandFor plan st h) (link id : ℕ) (q : Op)
@@ -56,16 +57,17 @@ module _ (plan : Plan) (st : LinkState) (h : History) (stands : PortsStandFor pl
       (known_op plan st h stands link id q found)
 
   -- its slot at the device has a key
-  pub ready_before : (o : Operation) (x : StreamState) → find plan st (port_at Device link) id ≡ Some x
+  pub ready_before : is_hosted link ≡ true → (o : Operation) (x : StreamState) → find plan st (port_at Device link) id
+      ≡ Some x
       → let w = work_of o q st.draws in
       makes_draw w.operation ≡ true → (lane : ℕ) → lane < 6 → first_program w.operation + lane < w.first
       → IsFull (slot_in_set (lane_slots lane x) w.set)
-  ready_before o x at makes lane low lt =
+  ready_before hosted o x at makes lane low lt =
       let w = work_of o q st.draws in
       let sends = lane_sends lane in
       let u = sub_from (lane % 3) in
       let there = point_lane Device link id sends u in
-      let kept = kept_before q st.draws (draws h) link id sends u _ o (place_fits lane) makes
+      let kept = kept_before q st.draws (draws h) link id sends u _ o hosted (place_fits lane) makes
       (omega (arith, lane_is link id lane low, lt)) in
       kept_is_full (slot_in_set (slots_at sends u x) w.set) (w.draw, key_of plan w.draw there)
       ((points plan st h stands).kept Device link id x at sends u w.set ∙ ap

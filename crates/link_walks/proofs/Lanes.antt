@@ -10,6 +10,7 @@ use Rattle.link_walks.proofs.Terms.{None}
 use Rattle.link_walks.proofs.Terms.{is_empty, slots_at, exchange_of, KeySet}
 use Rattle.ide_types.specs.declared.key_set.KeySet.TheVariants.{Zero, One}
 use Rattle.key_slots.specs as pair
+use Rattle.ide_types.specs.Lines.{is_hosted}
 use Rattle.link_verdicts.specs.declared.verdict.Operation.TheVariants as op
 use Rattle.tsm_host.specs.declared.exchange.Exchange.TheVariants as exchange
 
@@ -50,14 +51,15 @@ first_program op.Stop = 1
 -- ---- each exchange by its number
 
 pub data Turn (o : Operation) (set : KeySet) (n : ℕ) : Type 0 where
-  asks : o ≡ op.Establish → n ≡ 1 → exchange_of o set n ≡ exchange.Query → Turn o set n
-  puts : (lane : ℕ) → lane < 6 → makes_draw o ≡ true → n ≡ first_program o + lane → exchange_of o set n
+  asks : o ≡ op.Establish → n ≡ 1 → exchange_of true o set n ≡ exchange.Query → Turn o set n
+  puts : (lane : ℕ) → lane < 6 → makes_draw o ≡ true → n ≡ first_program o + lane → exchange_of true o set n
       ≡ exchange.Program set lane → Turn o set n
-  goes : (lane : ℕ) → lane < 6 → makes_draw o ≡ true → n ≡ first_program o + (6 + lane) → exchange_of o set n
+  goes : (lane : ℕ) → lane < 6 → makes_draw o ≡ true → n ≡ first_program o + (6 + lane) → exchange_of true o set n
       ≡ exchange.Go set lane → Turn o set n
-  halts : (k : KeySet) (lane : ℕ) → lane < 6 → o ≡ op.Stop → exchange_of o set n ≡ exchange.Stop k lane → Turn o set n
+  halts : (k : KeySet) (lane : ℕ) → lane < 6 → o ≡ op.Stop → exchange_of true o set n ≡ exchange.Stop k lane
+      → Turn o set n
 
-pub turn : (o : Operation) (set : KeySet) (n : ℕ) → 1 ≤ n → n ≤ last_exchange_of o → Turn o set n
+pub turn : (o : Operation) (set : KeySet) (n : ℕ) → 1 ≤ n → n ≤ last_exchange_of true o → Turn o set n
 turn op.Establish set n least most = elim (cases_lt n 2) [
   | inl first ↦ asks refl (omega (arith, first)) (grind (arith, nat_tests))
   | inr past ↦ elim (cases_lt n 8) [
@@ -77,12 +79,16 @@ turn op.Stop set n least most = elim (cases_lt n 7) [
 -- ---- refusals
 
 -- only a KEY_PROG may be refused, by its lane's place
-pub put_refused : (ports : PortView) (o : Operation) (set : Bool) (link stream : ℕ) → makes_draw o ≡ true → (lane : ℕ)
-    → lane < 6
+pub put_refused : (ports : PortView) (o : Operation) (set : Bool) (link stream : ℕ) → is_hosted link ≡ true
+    → makes_draw o ≡ true → (lane : ℕ) → lane < 6
     → refusal_at ports o set link stream (first_program o + lane) ≡ ports.refusal (lane_place link stream lane) set
-put_refused ports o set link stream draws lane lt = grind (arith, nat_tests)
+put_refused ports o set link stream hosted draws lane lt = grind (arith, nat_tests)
 
-pub go_refused : (ports : PortView) (o : Operation) (set : Bool) (link stream : ℕ) → makes_draw o ≡ true → (lane : ℕ)
-    → lane < 6
+pub go_refused : (ports : PortView) (o : Operation) (set : Bool) (link stream : ℕ) → is_hosted link ≡ true
+    → makes_draw o ≡ true → (lane : ℕ) → lane < 6
     → refusal_at ports o set link stream (first_program o + (6 + lane)) ≡ None
-go_refused ports o set link stream draws lane lt = grind (arith, nat_tests)
+go_refused ports o set link stream hosted draws lane lt = grind (arith, nat_tests)
+
+pub query_refused : (ports : PortView) (set : Bool) (link stream : ℕ) → is_hosted link ≡ true
+    → refusal_at ports op.Establish set link stream 1 ≡ None
+query_refused ports set link stream hosted = grind (arith, nat_tests)

@@ -17,3 +17,8 @@ pub mod Resting
 pub mod Works
 pub mod Kept
 pub mod Joins
+pub mod PairTurns
+mod PairWalking
+mod PairResting
+mod PairKept
+mod PairJoins

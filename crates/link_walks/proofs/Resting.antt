@@ -21,6 +21,7 @@ use Rattle.tsm_host.proofs.Walks.{WorkFits, ends_as}
 use Rattle.link_verdicts.specs.declared.verdict.Verdict.TheVariants as v
 use Rattle.tsm_host.specs.declared.operation.Outcome.TheVariants as outcome
 use Rattle.link_walks.proofs.Lanes.{first_program}
+use Rattle.ide_types.specs.Lines.{is_hosted}
 use Rattle.link_walks.proofs.Walking.{asked_of, denial, Knows, IsNext, came_is, next_is}
 
 -- ---- lists of calls
@@ -51,8 +52,8 @@ goes_from w id n below = if makes_draw w.operation then
     (if is_within n (host_go w.operation) below then host_goes id w.set else []) else []
 
 -- which exchange makes the host's port go on
-go_at_host : (o : Operation) (set : KeySet) (n : ℕ) → 1 ≤ n → n ≤ last_exchange_of o
-    → is_last_receiver_go (exchange_of o set n)
+go_at_host : (o : Operation) (set : KeySet) (n : ℕ) → 1 ≤ n → n ≤ last_exchange_of true o
+    → is_last_receiver_go (exchange_of true o set n)
     ≡ (makes_draw o && (n == host_go o))
 go_at_host o set n least most = grind (arith, nat_tests)
 
@@ -66,9 +67,9 @@ host_steps : (draws t : Bool) (n go below : ℕ) (cs : List PlaceCall) (host : S
     ≡ all_called_at Host (if draws then (if is_within n go below then cs else []) else []) host
 host_steps draws t n go below cs host e lt = grind (arith, nat_tests)
 
-host_step : (w : Work) (id n below : ℕ) (host : StreamState) → 1 ≤ n → n ≤ last_exchange_of w.operation → n < below
+host_step : (w : Work) (id n below : ℕ) (host : StreamState) → 1 ≤ n → n ≤ last_exchange_of true w.operation → n < below
     → all_called_at Host (goes_from w id (n + 1) below)
-    (all_called_at Host (taken_calls (asked_of w n) Expected id) host)
+    (all_called_at Host (taken_calls true (asked_of w n) Expected id) host)
     ≡ all_called_at Host (goes_from w id n below) host
 host_step w id n below host least most lt =
     rw (go_at_host w.operation (key_set w.set) n least most, one_of_set w.set)
@@ -77,13 +78,13 @@ host_step w id n below host least most lt =
 
 -- ---- keys that are kept
 
-kept_standing : (plan : Plan) (w : Work) (n : ℕ) (keys : WireKeys) → 1 ≤ n → n ≤ last_exchange_of w.operation
+kept_standing : (plan : Plan) (w : Work) (n : ℕ) (keys : WireKeys) → 1 ≤ n → n ≤ last_exchange_of true w.operation
     → (makes_draw w.operation ≡ true → HasKeys plan w.draw (first_program w.operation) n keys)
     → KeysKeptIn plan (op_standing w n) keys
 kept_standing plan w n keys least most has = grind arith
 
-kept_ended : (plan : Plan) (w : Work) (n : ℕ) (keys : WireKeys) → n ≡ last_exchange_of w.operation
-    → KeysKeptIn plan (op_after (work_asked (asked_of w n)) (reach (n + 1) (n + 1))) keys
+kept_ended : (plan : Plan) (w : Work) (n : ℕ) (keys : WireKeys) → n ≡ last_exchange_of true w.operation
+    → KeysKeptIn plan (op_after true (work_asked (asked_of w n)) (reach (n + 1) (n + 1))) keys
 kept_ended plan w n keys is = grind (arith, nat_tests)
 
 -- ---- what the rest of a walk gives
@@ -96,7 +97,7 @@ pub record Rest (plan : Plan) (w : Work) (id n : ℕ) (e : StreamEnds) (verdict 
   pub comes : Reach
   pub says : reach_of w.operation verdict ≡ Some comes
   pub within : (n ≤ comes.acknowledged) × (comes.acknowledged ≤ comes.carried)
-      × (comes.carried ≤ last_exchange_of w.operation + 1)
+      × (comes.carried ≤ last_exchange_of true w.operation + 1)
   pub host_is : x.ends.host ≡ all_called_at Host (goes_from w id n comes.acknowledged) e.host
   pub device_is : x.ends.device ≡ all_called (exchanges_called plan w n (comes.carried - n)) e.device
   pub names_are : (x.ends.keeper.link ≡ e.keeper.link) × (x.ends.keeper.id ≡ e.keeper.id)
@@ -114,14 +115,15 @@ by_fate : (P : Verdict → Judged → Exchanged → Type 0) (link id : ℕ) (w :
     (exchanged_unless_lost loss n came x)
 by_fate P link id w loss n rest r came x request reply refused onward = grind arith
 
-standing_asked : (w : Work) (n : ℕ) → WorkFits w.operation w.set w.draw → asked_in (op_standing w n)
+pub standing_asked : (w : Work) (n : ℕ) → WorkFits w.operation w.set w.draw → asked_in (op_standing w n)
     ≡ Some (asked_of w n)
 unfolding WorkFits
 standing_asked w n fits = grind arith
 
-done_says : (link id : ℕ) (w : Work) (n : ℕ) → n ≡ last_exchange_of w.operation → reach_of w.operation (done link id w)
+done_says : (link id : ℕ) (w : Work) (n : ℕ) → is_hosted link ≡ true → n ≡ last_exchange_of true w.operation
+    → reach_of w.operation (done link id w)
     ≡ Some (reach (n + 1) (n + 1))
-done_says link id w n is = grind arith
+done_says link id w n hosted is = grind arith
 
 module _ (plan : Plan) (ports : PortView) (w : Work) (link id requester : ℕ) (before : StreamState)
     (knows : Knows plan ports w link id requester before)
@@ -129,7 +131,7 @@ module _ (plan : Plan) (ports : PortView) (w : Work) (link id requester : ℕ) (
   -- it stays at the exchange
   stays : (n : ℕ) (e : StreamEnds) → KeysKept plan e.keeper → (verdict : Verdict) (carried : ℕ)
       → reach_of w.operation verdict ≡ Some (reach carried n)
-      → n ≤ carried → carried ≤ last_exchange_of w.operation + 1
+      → n ≤ carried → carried ≤ last_exchange_of true w.operation + 1
       → (device : StreamState) → device ≡ all_called (exchanges_called plan w n (carried - n)) e.device
       → (out : Outcome)
       → Rest plan w id n e verdict (record { outcome = out; stream = e.keeper })
@@ -150,11 +152,11 @@ module _ (plan : Plan) (ports : PortView) (w : Work) (link id requester : ℕ) (
   abbrev told : ℕ → Judged → ℕ → StreamView → ManagerWalk
   told n j k s =
       let a = asked_of w n in
-      continued (outcome_of a j) (taken_stream a j s)
-      (walk k (answers loss (denial ports w link id)) (taken_stream a j s))
+      continued (outcome_of true a j) (taken_stream true a j s)
+      (walk true k (answers loss (denial ports w link id)) (taken_stream true a j s))
 
   abbrev walked : ℕ → Exchanged → ℕ → StreamEnds → WalkedEnds
-  walked n x more e = let a = asked_of w n in goes_on (outcome_of a x.judged) (ends_after_exchange a x e)
+  walked n x more e = let a = asked_of w n in goes_on (outcome_of true a x.judged) (ends_after_exchange a x e)
       (walk_on more loss requester (ends_after_exchange a x e))
 
   abbrev answered : ℕ → Option ℕ → StreamEnds → Exchanged
@@ -164,7 +166,7 @@ module _ (plan : Plan) (ports : PortView) (w : Work) (link id requester : ℕ) (
   after n e = ends_after_exchange (asked_of w n) (answered n None e) e
 
   -- what is known after an exchange tells what is known from it on
-  back : (n : ℕ) (e : StreamEnds) → IsNext plan w id before n e → 1 ≤ n → n ≤ last_exchange_of w.operation
+  back : (n : ℕ) (e : StreamEnds) → IsNext plan w id before n e → 1 ≤ n → n ≤ last_exchange_of true w.operation
       → (verdict : Verdict) (y : ManagerWalk) (x : WalkedEnds)
       → Rest plan w id (n + 1) (after n e) verdict y x → Rest plan w id n e verdict y x
   back n e at least most verdict y x rest =
@@ -177,7 +179,7 @@ module _ (plan : Plan) (ports : PortView) (w : Work) (link id requester : ℕ) (
         within = omega (arith, within);
         host_is =
             rest.host_is ∙ (ap (λ (z : ℕ). all_called_at Host (goes_from w id (n + 1) rest.comes.acknowledged)
-            (all_called_at Host (taken_calls (asked_of w n) Expected z) e.host)) at.id_is
+            (all_called_at Host (taken_calls true (asked_of w n) Expected z) e.host)) at.id_is
             ∙ host_step w id n rest.comes.acknowledged e.host least most (omega (arith, within)));
         device_is = rest.device_is ∙ one_more plan w n rest.comes.carried e.device (omega (arith, within));
         names_are = rest.names_are;
@@ -185,36 +187,37 @@ module _ (plan : Plan) (ports : PortView) (w : Work) (link id requester : ℕ) (
       }
 
   -- after the last exchange
-  ends : (n more k : ℕ) (e : StreamEnds) → IsNext plan w id before n e → 1 ≤ n → n ≡ last_exchange_of w.operation
+  ends : (n more k : ℕ) (e : StreamEnds) → IsNext plan w id before n e → 1 ≤ n → n ≡ last_exchange_of true w.operation
       → Rest plan w id n e (done link id w) (told n Expected k e.keeper) (walked n (answered n None e) more e)
   ends n more k e at least same =
-      let last : (n == last_exchange_of w.operation) ≡ true = grind (arith, nat_tests) in
+      let last : (n == last_exchange_of true w.operation) ≡ true = grind (arith, nat_tests) in
       let next = after n e in
       let rest = stays (n + 1) next (kept_ended plan w n next.keeper.keys same) (done link id w) (n + 1)
-      (done_says link id w n same) (omega arith)
+      (done_says link id w n knows.hosted same) (omega arith)
       (omega (arith, same)) next.device (none_carried plan w (n + 1) next.device)
       (outcome.Done (shown_at_end (asked_of w n))) in
       rw last (rw last at (back n e at least (omega (arith, same)) _ _ _ rest))
 
   -- after another one the walk goes on
-  further : (n more k : ℕ) (e : StreamEnds) → IsNext plan w id before n e → 1 ≤ n → n < last_exchange_of w.operation
+  further : (n more k : ℕ) (e : StreamEnds) → IsNext plan w id before n e → 1 ≤ n
+      → n < last_exchange_of true w.operation
       → (verdict : Verdict) → let next = after n e in
-      Rest plan w id (n + 1) next verdict (walk k (answers loss (denial ports w link id)) next.keeper)
+      Rest plan w id (n + 1) next verdict (walk true k (answers loss (denial ports w link id)) next.keeper)
       (walk_on more loss requester next)
       → Rest plan w id n e verdict (told n Expected k e.keeper) (walked n (answered n None e) more e)
   further n more k e at least less verdict rest =
-      let other = different-false n (last_exchange_of w.operation) less in rw other
+      let other = different-false n (last_exchange_of true w.operation) less in rw other
       (rw other at (back n e at least (omega (arith, less)) _ _ _ rest))
 
   -- one exchange, if the rest is known
-  steps : (n more k : ℕ) (e : StreamEnds) → IsNext plan w id before n e → 1 ≤ n → n ≤ last_exchange_of w.operation
+  steps : (n more k : ℕ) (e : StreamEnds) → IsNext plan w id before n e → 1 ≤ n → n ≤ last_exchange_of true w.operation
       → (rest : Option Verdict)
       → (denial ports w link id n ≡ None → Rest plan w id n e (ends_as link id w rest)
       (told n Expected k e.keeper)
       (walked n (answered n None e) more e))
       → Rest plan w id n e
       (ends_as link id w (option_or (cut_at (lost_in loss n) (denial ports w link id n) n) rest))
-      (walk (suc k) (answers loss (denial ports w link id)) e.keeper) (walk_on (suc more) loss requester e)
+      (walk true (suc k) (answers loss (denial ports w link id)) e.keeper) (walk_on (suc more) loss requester e)
   steps n more k e at least most rest onward =
       let r = denial ports w link id n in
       let came = all_called (exchange_call plan w n) e.device in
@@ -231,17 +234,17 @@ module _ (plan : Plan) (ports : PortView) (w : Work) (link id requester : ℕ) (
       (one_carried plan w n e.device) _))
       (λ free. rw free (onward free)))
 
-  pub rest_is : (k more n : ℕ) (e : StreamEnds) → n + k ≡ last_exchange_of w.operation → 1 ≤ n → k ≤ more
+  pub rest_is : (k more n : ℕ) (e : StreamEnds) → n + k ≡ last_exchange_of true w.operation → 1 ≤ n → k ≤ more
       → IsNext plan w id before n e
       → Rest plan w id n e
       (ends_as link id w (first_from (λ x. cut_at (lost_in loss x) (denial ports w link id x) x) n (suc k)))
-      (walk (suc k) (answers loss (denial ports w link id)) e.keeper) (walk_on (suc more) loss requester e)
+      (walk true (suc k) (answers loss (denial ports w link id)) e.keeper) (walk_on (suc more) loss requester e)
   rest_is zero more n e count least le at =
-      let same : n ≡ last_exchange_of w.operation = omega (arith, count) in
+      let same : n ≡ last_exchange_of true w.operation = omega (arith, count) in
       steps n more zero e at least (omega (arith, same)) None (λ free. ends n more zero e at least same)
   rest_is (suc k) zero n e count least le at = absurd (omega (arith, le))
   rest_is (suc k) (suc more) n e count least le at =
-      let less : n < last_exchange_of w.operation = omega (arith, count) in
+      let less : n < last_exchange_of true w.operation = omega (arith, count) in
       let rest = first_from (λ x. cut_at (lost_in loss x) (denial ports w link id x) x) (n + 1) (suc k) in
       steps n (suc more) (suc k) e at least (omega (arith, less)) rest
       (λ free. further n (suc more) (suc k) e at least less (ends_as link id w rest)

@@ -20,16 +20,13 @@ use Rattle.link_walks.proofs.Terms.{live_at, status_there, Side, live_set, is_se
 use Rattle.link_walks.proofs.Terms.{tx_slots, rx_slots, PortsStand, kept_is, host_of, Keys, Shape}
 use Rattle.link_walks.proofs.Terms.{keys_of}
 use Rattle.link_walks.proofs.Terms.{key_cause}
-use Rattle.link_ports.specs.Stands.{standing}
+use Rattle.port_operations.specs.{standing}
 use Rattle.ide_types.specs.declared.port.PortName.{PortName}
 use Rattle.key_laws.proofs.Whole.{fits}
 use Rattle.link_history.specs.History.{SealedList, sealed_packets, keys_at, has_live_out, has_live_in}
 use Rattle.link_history.specs.Cause.{CauseLaw}
-use Rattle.link_keys.proofs.AllFacts.{facts}
-use Rattle.link_keys.proofs.Seats.{keys_out}
-use Rattle.link_keys.proofs.RealFacts.{InOrder, in_order}
+use Rattle.port_operations.proofs.{facts, keys_out, InOrder, in_order, failed_live}
 use Rattle.stream_rules.specs.Slots.{is_live_slot}
-use Rattle.link_ports.proofs.Frames.{failed_live}
 use Rattle.port_operations.proofs.SlotTouches.{live_in_is, live_out_is}
 use Rattle.link_walks.proofs.Settling.{outs, ins, any_of, settle}
 

@@ -64,8 +64,8 @@ pub use Rattle.key_laws.specs.Due.{lost_in, cut_at, first_from, done}
 pub use Rattle.key_laws.specs.Keys.{refusal_if}
 pub use Rattle.link_history.specs.Plan.{key_plan, streams_by_link, streams_of, with_id}
 pub use Rattle.stream_rules.specs.Stream.{slot_in_set, Armed}
-pub use Rattle.link_ports.specs.Machine.{LinkState, find, find_op, ports_of, status_at, refuses_at, live_at}
-pub use Rattle.link_ports.specs.Machine.{status_if_planned as status_there}
+pub use Rattle.port_operations.specs.{LinkState, find, find_op, ports_of, status_at, refuses_at, live_at}
+pub use Rattle.port_operations.specs.{status_if_planned as status_there, PortsStandFor, tx_slots, rx_slots, PortsStand}
 pub use Rattle.link_walks.specs.Touches.{AreTouches}
 pub use Rattle.ide_types.specs.declared.port.Side.{Side}
 pub use Rattle.ide_types.proofs.KeySets.{one_of_set}
@@ -82,8 +82,7 @@ pub use Rattle.tsm_host.specs.Walk.{Walked as ManagerWalk, answers, walk, walked
 pub use Rattle.tsm_host.specs.Walk.{op_by, carried_as, continued, Reads, key_refusal_verdict, IsAsked}
 pub use Rattle.tsm_host.proofs.Walks.{Comes, walk_comes, WorkFits}
 pub use Rattle.sub_stream.specs.Calls.{sends_in, pair_at}
-pub use Rattle.link_ports.specs.Stands.{PortsStandFor, tx_slots, rx_slots, PortsStand}
-pub use Rattle.link_ports.proofs.Changes.{kept_is}
+pub use Rattle.port_operations.proofs.{kept_is, key_cause}
 pub use Rattle.link_walks.specs.Walks.{StreamEnds, walk_on, came_to, ends_after_exchange, begun_ends}
 pub use Rattle.link_walks.specs.Walks.{walked_ends_unless, event_walk}
 pub use Rattle.link_walks.specs.Walks.{shown_stream, port_called, judged_bytes, Exchanged, exchanged_unless_lost}
@@ -91,7 +90,6 @@ pub use Rattle.link_walks.specs.Walks.{WalkedEnds, goes_on}
 pub use Rattle.link_walks.specs.Joined.{HasKeys, host_of, KeysKept, KeysKeptIn, verdict_due, IsJoined, OperationsJoin}
 pub use Rattle.key_laws.specs.Keys.{key_in, kept_in, Touch, keys, Keys}
 pub use Rattle.key_laws.proofs.Shapes.{Shape, keys_of, Marks}
-pub use Rattle.link_keys.proofs.Given.{key_cause}
 pub use Rattle.tsm_host.specs.Exchanges.{exchange_of, WireKeys, kept_key, selector_of, is_last_receiver_go, request_of}
 pub use Rattle.tsm_host.specs.declared.judge.Judged.{Judged}
 pub use Rattle.tsm_host.specs.declared.judge.Judged.TheVariants.{Expected, Refused, Lost}

@@ -2,8 +2,8 @@
 -- all keys, which is the same.
 use Rattle.link_walks.proofs.CallTerms.{◌≡◌, Bool, arith, true, ℕ, ◌++◌, false, ◌≤◌, Some, nat_tests, SubKind}
 use Rattle.link_walks.proofs.CallTerms.{Plan}
-use Rattle.link_walks.proofs.CallTerms.{Program, Go, Halt, Work, Reach, makes_draw, work, is_within, program_at, go_at}
-use Rattle.link_walks.proofs.CallTerms.{when, worked, Device, Host}
+use Rattle.link_walks.proofs.CallTerms.{Program, Go, Halt, Work, Reach, makes_draw, work, is_within}
+use Rattle.link_walks.proofs.CallTerms.{when, worked, Host}
 use Rattle.link_walks.proofs.CallTerms.{Operation, KeyPlace, place_at_end, taken_touches, is_only_live, slot_pair}
 use Rattle.link_walks.proofs.CallTerms.{LaneSlots, SubStream}
 use Rattle.link_walks.proofs.CallTerms.{key_of, slots_touched, host_go, if◌then◌else◌}
@@ -11,6 +11,8 @@ use Rattle.key_laws.specs.Keys.{Program as ProgramTouch, Go as GoTouch, Stop as 
 use Rattle.link_verdicts.specs.declared.verdict.Operation.TheVariants as op
 use Rattle.link_walks.proofs.Slots.{first_call, second_call}
 use Rattle.link_walks.proofs.Streams.{one_if, called_by}
+use Rattle.link_walks.proofs.Exchanges.{first_number, second_number}
+use Rattle.link_walks.proofs.CallTerms.{is_hosted, is_local, is_host, lane}
 
 -- what the calls of a place leave is what the touches of its event do
 abbrev pub AreTouched : Plan → Work → Reach → KeyPlace → SubStream → (Bool → Bool) → Bool → Bool → LaneSlots → Type 0
@@ -30,27 +32,26 @@ stopped_touches : (plan : Plan) (s : SubStream) (sends : Bool) (refuses : Bool �
     ≡ slots_touched sends plan s (taken_touches refuses (when a (StopTouch false) ++ when b (StopTouch true))) x
 stopped_touches plan s sends refuses x a b = grind arith
 
--- at the device's port
-pub touches_carried : (plan : Plan) (o : Operation) (set : Bool) (draw first : ℕ) (begins : Bool) (link stream : ℕ)
-    (sends : Bool) (u : SubKind) (r : Reach)
-    (s : SubStream) (x : LaneSlots) (refuses : Bool → Bool) → refuses set ≡ is_only_live (slot_pair sends x) set
-    → let p = place_at_end link stream sends Device u in
-    AreTouched plan (work o set draw first begins) r p s refuses (is_within first (program_at o p) r.carried)
-    (is_within first (go_at o p) r.carried) x
-touches_carried plan op.Establish set draw first begins link stream sends u r s x refuses same = keyed_touches plan s
-    sends
-    refuses set draw x same _ _
-touches_carried plan op.Refresh set draw first begins link stream sends u r s x refuses same = keyed_touches plan s
-    sends
-    refuses set draw x same _ _
-touches_carried plan op.Stop set draw first begins link stream sends u r s x refuses same = stopped_touches plan s sends
-    refuses x _ _
+-- at a place whose keys are given by messages
+pub touches_told : (plan : Plan) (o : Operation) (set : Bool) (draw first : ℕ) (begins : Bool) (hosted : Bool)
+    (p : KeyPlace) (r : Reach) (s : SubStream) (x : LaneSlots) (refuses : Bool → Bool) → is_hosted p.link ≡ hosted
+    → is_local p ≡ false → refuses set ≡ is_only_live (slot_pair p.sends x) set
+    → AreTouched plan (work o set draw first begins) r p s refuses
+    (is_within first (first_number hosted (is_host p.side) o (lane p)) r.carried)
+    (is_within first (second_number hosted (is_host p.side) o (lane p)) r.carried) x
+touches_told plan op.Establish set draw first begins hosted p r s x refuses line told same =
+    rw (told, ← line) (keyed_touches plan s p.sends refuses set draw x same _ _)
+touches_told plan op.Refresh set draw first begins hosted p r s x refuses line told same =
+    rw (told, ← line) (keyed_touches plan s p.sends refuses set draw x same _ _)
+touches_told plan op.Stop set draw first begins hosted p r s x refuses line told same =
+    rw (told, ← line) (stopped_touches plan s p.sends refuses x _ _)
 
 -- at the host's port
 pub touches_asked : (plan : Plan) (w : Work) (link stream : ℕ) (sends : Bool) (u : SubKind) (r : Reach) (s : SubStream)
     (x : LaneSlots) (refuses : Bool → Bool)
-    → refuses w.set ≡ is_only_live (slot_pair sends x) w.set → 1 ≤ w.first → w.first ≤ r.acknowledged
+    → is_hosted link ≡ true → refuses w.set ≡ is_only_live (slot_pair sends x) w.set → 1 ≤ w.first
+    → w.first ≤ r.acknowledged
     → (w.begins ≡ true → w.first ≡ 1)
     → AreTouched plan w r (place_at_end link stream sends Host u) s refuses w.begins
     (if makes_draw w.operation then is_within w.first (host_go w.operation) r.acknowledged else w.begins) x
-touches_asked plan w link stream sends u r s x refuses same low from one = grind (arith, nat_tests)
+touches_asked plan w link stream sends u r s x refuses hosted same low from one = grind (arith, nat_tests)

@@ -14,7 +14,10 @@ use Rattle.link_walks.proofs.Terms.{request_of, Expected, KeySet, key_set, one_o
 use Rattle.tsm_host.specs.declared.stage.Asked.{Asked}
 use Rattle.link_walks.proofs.Slots.{only_live_is, is_refusal}
 use Rattle.link_walks.proofs.Lanes.{lane_place, lane_slots, slot_seen, IsFull, first_program, Turn, asks, puts, goes}
-use Rattle.link_walks.proofs.Lanes.{halts, turn, put_refused, go_refused}
+use Rattle.link_walks.proofs.Lanes.{halts, turn, put_refused, go_refused, query_refused}
+use Rattle.link_walks.proofs.Terms.{Device}
+use Rattle.ide_types.specs.Lines.{is_hosted}
+use Rattle.tsm_host.specs.Exchanges.{exchange_lane}
 use Rattle.link_walks.proofs.Replies.{lane_pair, query_comes, program_comes, go_comes, halt_comes}
 
 abbrev pub asked_of : Work → ℕ → Asked
@@ -27,6 +30,7 @@ denial ports w link id n = refusal_at ports w.operation w.set link id n
 -- what an event of an operation finds: the stream at the device, the keys of its draw, what the ports refuse
 pub record Knows (plan : Plan) (ports : PortView) (w : Work) (link id requester : ℕ) (before : StreamState) : Type 0
   where
+    pub hosted : is_hosted link ≡ true
     pub fits : WorkFits w.operation w.set w.draw
     pub small : id ≤ 255
     pub requester_most : requester ≤ 65535
@@ -47,21 +51,22 @@ pub record IsNext (plan : Plan) (w : Work) (id : ℕ) (before : StreamState) (n 
       → IsFull (slot_in_set (lane_slots lane e.device) w.set)
 
 -- the operation after an exchange that is not its last
-standing_behind : (w : Work) (n : ℕ) → n < last_exchange_of w.operation
-    → op_after (work_asked (asked_of w n)) (reach (n + 1) (n + 1)) ≡ op_standing w (n + 1)
+standing_behind : (w : Work) (n : ℕ) → n < last_exchange_of true w.operation
+    → op_after true (work_asked (asked_of w n)) (reach (n + 1) (n + 1)) ≡ op_standing w (n + 1)
 standing_behind w n less = grind (arith, nat_tests, one_of_set)
 
 -- a KEY_PROG takes its own lane's key
 kept_after : (o : Operation) (set : KeySet) (n lane : ℕ) (keys : WireKeys) (key : List ℕ) → makes_draw o ≡ true → 1 ≤ n
     → n + 1 ≤ first_program o + lane
-    → kept_key keys lane ≡ Some key → kept_key (keys_after (exchange_of o set n) keys) lane ≡ Some key
+    → kept_key keys lane ≡ Some key → kept_key
+    (keys_after (exchange_of true o set n) (exchange_lane (exchange_of true o set n)) keys) lane ≡ Some key
 kept_after o set n lane keys key makes least le kept = grind (arith, nat_tests, get_or-set_other {A = Option (List ℕ)})
 
 -- lanes whose KEY_PROG comes later stay as they are
 fresh_after : (plan : Plan) (o : Operation) (set : KeySet) (draw n lane : ℕ) (x : StreamState) → makes_draw o ≡ true
     → 1 ≤ n → lane < 6
     → n + 1 ≤ first_program o + lane
-    → lane_slots lane (all_called (call_of_exchange plan draw (exchange_of o set n)) x) ≡ lane_slots lane x
+    → lane_slots lane (all_called (call_of_exchange plan draw Device (exchange_of true o set n)) x) ≡ lane_slots lane x
 fresh_after plan o set draw n lane x makes least lt le = grind (arith, nat_tests)
 
 -- a lane has its key from its KEY_PROG on, until its GO
@@ -70,7 +75,8 @@ ready_after : (plan : Plan) (o : Operation) (set : Bool) (draw n lane : ℕ) (x 
     → first_program o + lane < n + 1 → n + 1 ≤ first_program o + (6 + lane)
     → (n ≡ first_program o + lane → is_only_live (lane_pair lane x) set ≡ false)
     → (first_program o + lane < n → IsFull (slot_in_set (lane_slots lane x) set))
-    → IsFull (slot_in_set (lane_slots lane (all_called (call_of_exchange plan draw (exchange_of o (key_set set) n)) x))
+    → IsFull (slot_in_set
+    (lane_slots lane (all_called (call_of_exchange plan draw Device (exchange_of true o (key_set set) n)) x))
     set)
 ready_after plan o set draw n lane x makes least lt past le free before = grind (arith, nat_tests, one_of_set)
 
@@ -85,15 +91,15 @@ module _ (plan : Plan) (ports : PortView) (w : Work) (link id requester : ℕ) (
       rw (
         at.fresh makes lane lt (omega (arith, is_n)),
         is_n,
-        put_refused ports w.operation w.set link id makes lane lt,
+        put_refused ports w.operation w.set link id knows.hosted makes lane lt,
         knows.reads lane lt,
       )
       (ap refusal_if (only_live_is (lane_sends lane) (lane_slots lane before) w.set
       (knows.apart lane lt)))
 
   -- each request is answered as expected, but for a KEY_PROG that is refused
-  pub came_is : (n : ℕ) (e : StreamEnds) → IsNext plan w id before n e → 1 ≤ n → n ≤ last_exchange_of w.operation
-      → came_to requester (request_asked (asked_of w n) e.keeper) e.keeper.id w.draw e.device
+  pub came_is : (n : ℕ) (e : StreamEnds) → IsNext plan w id before n e → 1 ≤ n → n ≤ last_exchange_of true w.operation
+      → came_to requester (request_asked true (asked_of w n) e.keeper) e.keeper.id w.draw e.device
       ≡ record {
         judged = carried_as None (denial ports w link id n);
         device = all_called
@@ -104,15 +110,16 @@ module _ (plan : Plan) (ports : PortView) (w : Work) (link id requester : ℕ) (
       small : e.keeper.id ≤ 255
       small = omega (arith, knows.small, at.id_is)
 
-      by_turn : Turn w.operation (key_set w.set) n → let x = exchange_of w.operation (key_set w.set) n in
-          came_to requester (request_of e.keeper.id e.keeper.keys x) e.keeper.id w.draw e.device
+      by_turn : Turn w.operation (key_set w.set) n → let x = exchange_of true w.operation (key_set w.set) n in
+          came_to requester (request_of e.keeper.id e.keeper.keys (exchange_lane x) x) e.keeper.id w.draw e.device
           ≡ record {
             judged = carried_as None (denial ports w link id n);
             device = all_called
-                (call_of_exchange plan w.draw x) e.device;
+                (call_of_exchange plan w.draw Device x) e.device;
           }
       by_turn (asks is_o is_n is) =
-          let free : denial ports w link id n ≡ None = λ i. refusal_at ports (is_o i) w.set link id (is_n i) in
+          let free : denial ports w link id n ≡ None = (λ i. refusal_at ports (is_o i) w.set link id (is_n i))
+          ∙ query_refused ports w.set link id knows.hosted in
           rw (is, free) (query_comes requester w.draw e.keeper.id e.device knows.requester_most)
       by_turn (puts lane lt makes is_n is) =
           let key : kept_key e.keeper.keys lane ≡ Some (lane_key plan w.draw lane) = at.keys makes lane lt
@@ -122,7 +129,7 @@ module _ (plan : Plan) (ports : PortView) (w : Work) (link id requester : ℕ) (
           (lane_key plan w.draw lane) e.device small lt (knows.keys makes lane lt)))
       by_turn (goes lane lt makes is_n is) =
           let free : denial ports w link id n ≡ None = rw is_n
-          (go_refused ports w.operation w.set link id makes lane lt) in
+          (go_refused ports w.operation w.set link id knows.hosted makes lane lt) in
           let full : is_empty (pair_slot (lane_pair lane e.device) w.set) ≡ false =
           ap is_empty (slot_seen (lane_sends lane) (lane_slots lane e.device) w.set)
           ∙ at.ready makes lane lt (omega (arith, is_n, lt)) (omega (arith, is_n)) in
@@ -134,12 +141,12 @@ module _ (plan : Plan) (ports : PortView) (w : Work) (link id requester : ℕ) (
 
   -- ---- the exchange was acknowledged
 
-  next_keys : (n : ℕ) (e : StreamEnds) → IsNext plan w id before n e → 1 ≤ n → n < last_exchange_of w.operation
+  next_keys : (n : ℕ) (e : StreamEnds) → IsNext plan w id before n e → 1 ≤ n → n < last_exchange_of true w.operation
       → makes_draw w.operation ≡ true
       → (lane : ℕ) → lane < 6 → n + 1 ≤ first_program w.operation + lane
-      → kept_key (acknowledged (asked_of w n) e.keeper).keys lane ≡ Some (lane_key plan w.draw lane)
+      → kept_key (acknowledged true (asked_of w n) e.keeper).keys lane ≡ Some (lane_key plan w.draw lane)
   next_keys n e at least less makes lane lt le =
-      rw (different-false n (last_exchange_of w.operation) less)
+      rw (different-false n (last_exchange_of true w.operation) less)
       (kept_after w.operation (key_set w.set) n lane e.keeper.keys _ makes least le
       (at.keys makes lane lt (omega (arith, le))))
 
@@ -162,7 +169,7 @@ module _ (plan : Plan) (ports : PortView) (w : Work) (link id requester : ℕ) (
       ∙ ap is_some (pair_refused n e at makes lane lt same ∙ free))
       (λ before. at.ready makes lane lt before (omega (arith, le)))
 
-  pub next_is : (n : ℕ) (e : StreamEnds) → IsNext plan w id before n e → 1 ≤ n → n < last_exchange_of w.operation
+  pub next_is : (n : ℕ) (e : StreamEnds) → IsNext plan w id before n e → 1 ≤ n → n < last_exchange_of true w.operation
       → denial ports w link id n ≡ None
       → IsNext plan w id before (n + 1)
       (ends_after_exchange (asked_of w n)

@@ -22,22 +22,22 @@ begins_first o q next begins = grind arith
 
 -- its first exchange is one of the operation's
 pub first_within : (plan : Plan) (o : Operation) (q : Op) (next : ℕ) (keys : WireKeys) → KeysKeptIn plan q keys
-    → let w = work_of o q next in (1 ≤ w.first) × (w.first ≤ last_exchange_of w.operation)
+    → let w = work_of o q next in (1 ≤ w.first) × (w.first ≤ last_exchange_of true w.operation)
 first_within plan o q next keys kept = grind arith
 
-pub is_asked : (plan : Plan) (q : Op) (keys : WireKeys) → KeysKeptIn plan q keys → IsAsked (asked_in q)
+pub is_asked : (plan : Plan) (q : Op) (keys : WireKeys) → KeysKeptIn plan q keys → IsAsked true (asked_in q)
 is_asked plan q keys kept = grind arith
 
 -- ---- the stream as it begins, or goes on
 
 pub begun_op : (o : Operation) (q : Op) (next : ℕ) (pool : Pool) (s : StreamView) → s.op ≡ q
-    → let w = work_of o q next in (begun_stream w pool s).op ≡ op_standing w w.first
+    → let w = work_of o q next in (begun_stream true w pool s).op ≡ op_standing w w.first
 begun_op o q next pool s is = grind arith
 
-pub begun_link : (w : Work) (pool : Pool) (s : StreamView) → (begun_stream w pool s).link ≡ s.link
+pub begun_link : (w : Work) (pool : Pool) (s : StreamView) → (begun_stream true w pool s).link ≡ s.link
 begun_link w pool s = grind arith
 
-pub begun_id : (w : Work) (pool : Pool) (s : StreamView) → (begun_stream w pool s).id ≡ s.id
+pub begun_id : (w : Work) (pool : Pool) (s : StreamView) → (begun_stream true w pool s).id ≡ s.id
 begun_id w pool s = grind arith
 
 -- the six keys of a draw
@@ -49,17 +49,18 @@ six_kept plan draw first next lane lt le = by_lane
 pub begun_keys : (plan : Plan) (o : Operation) (q : Op) (next : ℕ) (s : StreamView) → KeysKeptIn plan q s.keys
     → let w = work_of o q next in
     makes_draw w.operation ≡ true → HasKeys plan w.draw (first_program w.operation) w.first
-    (begun_stream w (record { keys = plan.pool; draws = next }) s).keys
+    (begun_stream true w (record { keys = plan.pool; draws = next }) s).keys
 begun_keys plan o q next s kept makes lane lt le = grind
     (arith, six_kept plan next 2 1 lane lt, six_kept plan next 1 1 lane lt)
 
 -- ---- refusals
 
 -- at the beginning no exchange was asked, so its verdict says that nothing was reached
-pub refused_reach : (o : Operation) (q : Op) (host : HostView) (pool : Pool) (loss : Option Loss) (r : Refusal)
-    (verdict : Verdict) → refusal_of o q host pool ≡ Some r → key_refusal_verdict loss r ≡ Some verdict
+pub refused_reach : (line : ℕ) (o : Operation) (q : Op) (host : HostView) (pool : Pool) (loss : Option Loss)
+    (r : Refusal)
+    (verdict : Verdict) → refusal_of o q host pool ≡ Some r → key_refusal_verdict line loss r ≡ Some verdict
     → reach_of o verdict ≡ None
-refused_reach o q host pool loss r verdict is due = grind arith
+refused_reach line o q host pool loss r verdict is due = grind arith
 
 -- if it is not refused, the pool has keys for its draw
 pub has_room : (o : Operation) (q : Op) (host : HostView) (pool : Pool) → refusal_of o q host pool ≡ None

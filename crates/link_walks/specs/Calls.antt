@@ -1,8 +1,11 @@
 -- The calls of an operation's event at the two ports of a stream, one after another.
-use Rattle.std.specs.Prelude.{ℕ, suc, zero, ◌==◌, ◌+◌, ◌*◌, ◌/◌, ◌%◌, Bool, List, [], ◌∷◌, ◌++◌, map}
+use Rattle.std.specs.Prelude.{ℕ, suc, zero, ◌==◌, ◌+◌, ◌-◌, ◌*◌, ◌/◌, ◌%◌, nat_lt, Bool, true, List, [], ◌∷◌, ◌++◌, map}
+use Rattle.std.specs.Prelude.{if◌then◌else◌}
 use Rattle.std.specs.List.{slice_index_or}
 use Rattle.ide_types.specs.declared.sub.SubKind.{SubKind}
 use Rattle.ide_types.specs.declared.port.Side.{Side}
+use Rattle.ide_types.specs.declared.port.Side.TheVariants.{Host, Device}
+use Rattle.key_laws.specs.Places.{is_same_side}
 use Rattle.ide_plan.specs.declared.plan.Plan.{Plan}
 use Rattle.ide_types.specs.{is_one, key_set}
 use Rattle.ide_prefix.specs.{sub_from}
@@ -11,7 +14,7 @@ use Rattle.ide_km.specs.{PlaceCall}
 use Rattle.key_laws.specs.Operations.{Work}
 use Rattle.tsm_host.specs.declared.exchange.Exchange.{Exchange}
 use Rattle.tsm_host.specs.declared.exchange.Exchange.TheVariants as exchange
-use Rattle.tsm_host.specs.Exchanges.{exchange_of}
+use Rattle.tsm_host.specs.Exchanges.{exchange_of, end_of}
 use Rattle.stream_rules.specs.Stream.{StreamState}
 use Rattle.sub_stream.specs.Calls.{sends_in, called}
 
@@ -36,31 +39,46 @@ stream_call side c =
 abbrev pub all_called_at : Side → List PlaceCall → StreamState → StreamState
 all_called_at side cs x = all_called (map (stream_call side) cs) x
 
--- ---- exchanges at the device's port: its receivers are lanes 0 to 2, its senders lanes 3 to 5
+-- ---- exchanges at an end: its receivers are lanes 0 to 2, its senders lanes 3 to 5
 
--- whether the device sends in a lane
+-- whether the end sends in a lane
 abbrev pub lane_sends : ℕ → Bool
 lane_sends lane = lane / 3 == 1
 
 abbrev pub lane_call : ℕ → KeyCall → StreamCall
 lane_call lane call = record { sends = lane_sends lane; sub = sub_from (lane % 3); call = call }
 
--- the key of a draw in a lane
+-- the key of a draw by its number among the six: those of direction 0, then those of direction 1
 abbrev pub lane_key : Plan → ℕ → ℕ → List ℕ
-lane_key plan draw lane = slice_index_or plan.pool (6 * draw + lane) []
+lane_key plan draw i = slice_index_or plan.pool (6 * draw + i) []
 
-abbrev pub call_of_exchange : Plan → ℕ → Exchange → List StreamCall
-call_of_exchange plan draw exchange.Query = []
-call_of_exchange plan draw (exchange.Program set lane) =
-    lane_call lane (Program (is_one set) (lane_key plan draw lane) draw) ∷ []
-call_of_exchange plan draw (exchange.Go set lane) = lane_call lane (Go (is_one set)) ∷ []
-call_of_exchange plan draw (exchange.Stop set lane) = lane_call lane (Halt (is_one set)) ∷ []
+-- the number of a lane's key: a far end receives direction 0, a near end direction 1
+abbrev pub key_number : Side → ℕ → ℕ
+key_number Host lane = if nat_lt lane 3 then 3 + lane else lane - 3
+key_number Device lane = lane
 
--- the calls that exchange n of an operation makes at the device's port
+abbrev pub call_of_exchange : Plan → ℕ → Side → Exchange → List StreamCall
+call_of_exchange plan draw side exchange.Query = []
+call_of_exchange plan draw side (exchange.Program set lane) =
+    lane_call lane (Program (is_one set) (lane_key plan draw (key_number side lane)) draw) ∷ []
+call_of_exchange plan draw side (exchange.Go set lane) = lane_call lane (Go (is_one set)) ∷ []
+call_of_exchange plan draw side (exchange.Stop set lane) = lane_call lane (Halt (is_one set)) ∷ []
+
+-- the calls that exchange n of an operation makes at an end: none if it is carried to the other
+abbrev pub told_call : Plan → (hosted : Bool) → Side → Work → ℕ → List StreamCall
+told_call plan hosted side w n =
+    if is_same_side (end_of hosted w.operation n) side
+    then call_of_exchange plan w.draw side (exchange_of hosted w.operation (key_set w.set) n)
+    else []
+
+-- of so many exchanges from this one on
+abbrev pub calls_from : (ℕ → List StreamCall) → ℕ → ℕ → List StreamCall
+calls_from each n zero = []
+calls_from each n (suc more) = each n ++ calls_from each (n + 1) more
+
+-- with a host's port at the near end all are made at the device's port
 abbrev pub exchange_call : Plan → Work → ℕ → List StreamCall
-exchange_call plan w n = call_of_exchange plan w.draw (exchange_of w.operation (key_set w.set) n)
+exchange_call plan w n = told_call plan true Device w n
 
--- so many exchanges from this one on
 abbrev pub exchanges_called : Plan → Work → ℕ → ℕ → List StreamCall
-exchanges_called plan w n zero = []
-exchanges_called plan w n (suc more) = exchange_call plan w n ++ exchanges_called plan w (n + 1) more
+exchanges_called plan w n more = calls_from (exchange_call plan w) n more

@@ -11,6 +11,7 @@ use Rattle.link_verdicts.specs.declared.verdict.Verdict.{Verdict}
 use Rattle.key_slots.specs.{Pool, live_set}
 use Rattle.key_laws.specs.Operations.{Op, Establishing, Refreshing, Stopping, Work, Reach, work_of, reach_of}
 use Rattle.key_laws.specs.History.{History}
+use Rattle.ide_types.specs.Lines.{is_hosted}
 use Rattle.link_history.specs.Plan.{key_plan}
 use Rattle.tsm_host.specs.Exchanges.{WireKeys, kept_key}
 use Rattle.tsm_host.specs.Streams.{StreamView, HostView, begun_pool}
@@ -18,10 +19,8 @@ use Rattle.tsm_host.specs.Walk.{verdict_of, due_on, op_by}
 use Rattle.stream_rules.specs.Stream.{StreamState}
 use Rattle.sub_stream.specs.Calls.{pair_at, stream_status}
 use Rattle.link_walks.specs.Calls.{lane_key}
-use Rattle.link_ports.specs.Machine.{LinkState, find, find_op, port_at, place_at_end, ports_of, status_at, touches_at}
-use Rattle.link_ports.specs.Machine.{draws_after}
-use Rattle.link_ports.specs.Touches.{touched_stream}
-use Rattle.link_ports.specs.Stands.{PortsStandFor}
+use Rattle.port_operations.specs.{LinkState, find, find_op, port_at, place_at_end, ports_of, status_at, touches_at}
+use Rattle.port_operations.specs.{draws_after, touched_stream, PortsStandFor}
 use Rattle.link_walks.specs.Walks.{StreamEnds, WalkedEnds, event_walk}
 
 -- what the manager reads of the host's port
@@ -75,7 +74,7 @@ pub record IsJoined (plan : Plan) (st : LinkState) (operation : Operation) (loss
   pub verdict_is : verdict_of operation e.keeper.link e.keeper.id loss r.outcome
       ≡ Some (verdict_due plan st operation e.keeper.op e.keeper.link e.keeper.id loss)
   pub op_is : let w = work_of operation e.keeper.op st.draws in
-      r.ends.keeper.op ≡ op_by e.keeper.op w
+      r.ends.keeper.op ≡ op_by (is_hosted e.keeper.link) e.keeper.op w
       (reach_of operation (verdict_due plan st operation e.keeper.op e.keeper.link e.keeper.id loss))
   pub host_is : let w = work_of operation e.keeper.op st.draws in
       r.ends.host ≡ touched_by plan st e.keeper.link e.keeper.id w Host
@@ -92,12 +91,13 @@ pub record IsJoined (plan : Plan) (st : LinkState) (operation : Operation) (loss
   pub id_is : r.ends.keeper.id ≡ e.keeper.id
   pub keys_are : KeysKept plan r.ends.keeper
 
--- It is so if the state of the machine stands for a history, and both ends, the manager and the pool are as it says.
+-- It is so on a line with a host's port at its near end, if the state of the machine stands for a history, and both
+-- ends, the manager and the pool are as it says.
 abbrev pub OperationsJoin : Type 0
 OperationsJoin =
     (plan : Plan) (st : LinkState) (h : History) (operation : Operation) (loss : Option Loss) (requester : ℕ)
     (pool : Pool) (e : StreamEnds)
-    → FitsPlan plan → PortsStandFor plan st h → requester ≤ 65535
+    → FitsPlan plan → PortsStandFor plan st h → requester ≤ 65535 → is_hosted e.keeper.link ≡ true
     → find plan st (port_at Host e.keeper.link) e.keeper.id ≡ Some e.host
     → find plan st (port_at Device e.keeper.link) e.keeper.id ≡ Some e.device
     → find_op plan st e.keeper.link e.keeper.id ≡ Some e.keeper.op

@@ -9,3 +9,6 @@ pub use Rattle.link_walks.specs.Joined.{host_of, KeysKept, IsJoined, OperationsJ
 pub use Rattle.link_walks.specs.Calls.{StreamCall, all_called, stream_call, all_called_at, lane_call}
 pub use Rattle.link_walks.specs.Calls.{lane_key, exchange_call, exchanges_called}
 pub use Rattle.link_walks.specs.Touches.{IsSound, host_calls, device_calls, IsReached, CallsAreTouches}
+pub mod Paired
+pub use Rattle.link_history.specs.Plan.{with_id}
+pub use Rattle.port_operations.specs.{changed_by_id, found_by_id, port_at}

@@ -12,14 +12,14 @@ use Rattle.link_verdicts.specs.declared.verdict.Operation.{Operation}
 use Rattle.key_laws.specs.History.{is_within, go_at}
 use Rattle.key_laws.specs.Places.{key_place_at}
 use Rattle.key_laws.specs.Keys.{refusal_if}
+use Rattle.ide_types.specs.Lines.{is_hosted}
 use Rattle.key_laws.specs.Due.{PortView}
 use Rattle.tsm_host.specs.Local.{goes}
 use Rattle.tsm_host.specs.Streams.{begun_calls}
 use Rattle.stream_rules.specs.Stream.{Live, Armed, LaneSlots, StreamState, LiveKey, slot_in_set, at_sub}
 use Rattle.stream_rules.specs.Slots.{is_live_slot, rested_stream, slots_at}
-use Rattle.link_ports.specs.Machine.{port_at, place_at_end, refuses_in, touches_at}
-use Rattle.link_ports.specs.Touches.{touched_stream}
-use Rattle.link_walks.specs.Calls.{StreamCall, all_called, all_called_at, exchanges_called}
+use Rattle.port_operations.specs.{port_at, place_at_end, refuses_in, touches_at, touched_stream}
+use Rattle.link_walks.specs.Calls.{StreamCall, all_called, all_called_at, exchanges_called, calls_from, told_call}
 
 -- ---- what is known of a stream at a port
 
@@ -56,7 +56,7 @@ host_go o = go_at o (key_place_at Host 0 0 false Pr)
 -- the host's local calls: those with which the operation begins, and its GOs after the last of the device's receivers
 abbrev pub host_calls : Plan → ℕ → Work → Reach → List PlaceCall
 host_calls plan stream w r =
-    begun_calls w (new_pool plan.pool) stream
+    begun_calls true w (new_pool plan.pool) stream
     ++ (if makes_draw w.operation then (if is_within w.first (host_go w.operation) r.acknowledged then goes stream w.set
     else []) else [])
 
@@ -64,13 +64,17 @@ host_calls plan stream w r =
 abbrev pub device_calls : Plan → Work → Reach → List StreamCall
 device_calls plan w r = exchanges_called plan w w.first (r.carried - w.first)
 
+-- of a line that is keyed by messages at both ends, those of the exchanges that were carried to the end
+abbrev pub told_calls : Plan → Side → Work → Reach → List StreamCall
+told_calls plan side w r = calls_from (told_call plan false side w) w.first (r.carried - w.first)
+
 -- how far an event of an operation comes
-pub record IsReached (w : Work) (r : Reach) : Type 0 where
+pub record IsReached (hosted : Bool) (w : Work) (r : Reach) : Type 0 where
   pub first : 1 ≤ w.first
   pub begins : w.begins ≡ true → w.first ≡ 1
   pub goes_on : w.first ≤ r.acknowledged
   pub carried : r.acknowledged ≤ r.carried
-  pub last : r.carried ≤ last_exchange_of w.operation + 1
+  pub last : r.carried ≤ last_exchange_of hosted w.operation + 1
 
 -- an operation in a state of the stream
 abbrev pub IsWork : Work → Type 0
@@ -93,6 +97,25 @@ pub record AreTouches (plan : Plan) (ports : PortView) (link stream : ℕ) (w : 
 abbrev pub CallsAreTouches : Type 0
 CallsAreTouches =
     (plan : Plan) (ports : PortView) (link stream : ℕ) (w : Work) (r : Reach) (host device : StreamState)
-    → IsWork w → IsReached w r → IsSound host → IsSound device
+    → is_hosted link ≡ true → IsWork w → IsReached true w r → IsSound host → IsSound device
     → ReadsStream ports Host link stream host → ReadsStream ports Device link stream device
     → AreTouches plan ports link stream w r host device
+
+-- The same of a line that is keyed by messages at both ends: no call is made but those of the exchanges.
+pub record AreTold (plan : Plan) (ports : PortView) (link stream : ℕ) (w : Work) (r : Reach) (near far :
+    StreamState) : Type 0 where
+  pub near_touched : all_called (told_calls plan Host w r) near
+      ≡ touched_stream plan (port_at Host link) stream
+      (λ u. touches_at ports w r (place_at_end link stream true Host u))
+      (λ u. touches_at ports w r (place_at_end link stream false Host u)) near
+  pub far_touched : all_called (told_calls plan Device w r) far
+      ≡ touched_stream plan (port_at Device link) stream
+      (λ u. touches_at ports w r (place_at_end link stream true Device u))
+      (λ u. touches_at ports w r (place_at_end link stream false Device u)) far
+
+abbrev pub CallsAreTold : Type 0
+CallsAreTold =
+    (plan : Plan) (ports : PortView) (link stream : ℕ) (w : Work) (r : Reach) (near far : StreamState)
+    → is_hosted link ≡ false → IsWork w → IsReached false w r → IsSound near → IsSound far
+    → ReadsStream ports Host link stream near → ReadsStream ports Device link stream far
+    → AreTold plan ports link stream w r near far

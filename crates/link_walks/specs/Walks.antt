@@ -1,6 +1,6 @@
 -- An event of an operation at both ends of a stream: the manager begins it, and its exchanges are carried one after
 -- another. The session may lose each of them.
-use Rattle.std.specs.Prelude.{ℕ, suc, zero, ◌==◌, nat_lt, ◌&&◌, List, [], ◌∷◌, Option, Some, None, if◌then◌else◌}
+use Rattle.std.specs.Prelude.{ℕ, suc, zero, ◌==◌, nat_lt, ◌&&◌, true, List, [], ◌∷◌, Option, Some, None, if◌then◌else◌}
 use Rattle.ide_types.specs.declared.port.Side.TheVariants.{Host, Device}
 use Rattle.link_events.specs.declared.event.Loss.{Loss}
 use Rattle.link_events.specs.declared.event.Lost.{Lost}
@@ -75,15 +75,16 @@ exchanged_unless_lost (Some loss) n came x = if loss.exchange == n then lost_as 
 
 abbrev pub exchanged : Option Loss → ℕ → Asked → StreamEnds → Exchanged
 exchanged loss requester a e =
-    exchanged_unless_lost loss a.exchange (came_to requester (request_asked a e.keeper) e.keeper.id a.draw e.device)
+    exchanged_unless_lost loss a.exchange
+    (came_to requester (request_asked true a e.keeper) e.keeper.id a.draw e.device)
     e.device
 
 -- the manager takes it, and calls the host's port
 abbrev pub ends_after_exchange : Asked → Exchanged → StreamEnds → StreamEnds
 ends_after_exchange a x e = record {
-  host = all_called_at Host (taken_calls a x.judged e.keeper.id) e.host;
+  host = all_called_at Host (taken_calls true a x.judged e.keeper.id) e.host;
   device = x.device;
-  keeper = taken_stream a x.judged e.keeper;
+  keeper = taken_stream true a x.judged e.keeper;
 }
 
 -- ---- one exchange after another
@@ -99,7 +100,7 @@ goes_on o e rest = record { outcome = o; ends = e }
 -- what the next exchange gives, if there is one
 abbrev pub outcome_next : Option Loss → ℕ → StreamEnds → Option Asked → Outcome
 outcome_next loss requester e None = outcome.Next
-outcome_next loss requester e (Some a) = outcome_of a (exchanged loss requester a e).judged
+outcome_next loss requester e (Some a) = outcome_of true a (exchanged loss requester a e).judged
 
 abbrev pub ends_next : Option Loss → ℕ → StreamEnds → Option Asked → StreamEnds
 ends_next loss requester e None = e
@@ -117,9 +118,9 @@ walk_on (suc more) loss requester e =
 -- it begins, or goes on
 abbrev pub begun_ends : Work → Pool → StreamEnds → StreamEnds
 begun_ends w pool e = record {
-  host = all_called_at Host (begun_calls w pool e.keeper.id) e.host;
+  host = all_called_at Host (begun_calls true w pool e.keeper.id) e.host;
   device = e.device;
-  keeper = begun_stream w pool e.keeper;
+  keeper = begun_stream true w pool e.keeper;
 }
 
 -- a refusal, or what up to 13 exchanges give; an operation has 13 at most

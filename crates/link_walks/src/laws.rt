@@ -1,7 +1,8 @@
 //! Operations, exchange by exchange, and the calls that they make.
 
 ghost use Rattle.link_walks.specs.Joined.{OperationsJoin};
-ghost use Rattle.link_walks.specs.Touches.{CallsAreTouches};
+ghost use Rattle.link_walks.specs.Paired.{PairOperationsJoin};
+ghost use Rattle.link_walks.specs.Touches.{CallsAreTouches, CallsAreTold};
 
 /// If the state of the machine of links stands for a history, an event of an operation, whose exchanges are carried one
 /// after another or lost, gives the machine's verdict, and leaves both ports' slots, the manager's state and the draws
@@ -16,4 +17,15 @@ pub fn operations_join()
 // the stream as the touches of the event do, which the machine of links makes at once.
 fn calls_are_touches()
     ensures { CallsAreTouches }
+{}
+
+/// The same of an establish and a stop on a line that is keyed by messages at both ends.
+pub fn pair_operations_join()
+    ensures { PairOperationsJoin }
+{}
+
+/// On a line that is keyed by messages at both ends, the calls that the exchanges make at each end, one after another,
+/// leave the stream there as the touches of the event do, which the machine of links makes at once.
+pub fn calls_are_told()
+    ensures { CallsAreTold }
 {}

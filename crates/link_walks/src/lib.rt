@@ -3,4 +3,4 @@
 
 mod laws;
 
-pub use laws::operations_join;
+pub use laws::{calls_are_told, operations_join, pair_operations_join};

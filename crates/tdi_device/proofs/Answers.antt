@@ -6,9 +6,10 @@ use Rattle.tdisp_codec.specs.declared.request.RequestView.{RequestView}
 use Rattle.tdisp_codec.specs.declared.request.RequestView.TheVariants.{GetVersion, GetCapabilities, LockInterface}
 use Rattle.tdisp_codec.specs.declared.request.RequestView.TheVariants.{GetDeviceInterfaceReport}
 use Rattle.tdisp_codec.specs.declared.request.RequestView.TheVariants.{GetDeviceInterfaceState, StartInterface}
-use Rattle.tdisp_codec.specs.declared.request.RequestView.TheVariants.{StopInterface}
+use Rattle.tdisp_codec.specs.declared.request.RequestView.TheVariants.{StopInterface, BindP2p, UnbindP2p}
 use Rattle.tdisp_codec.specs.Replies.{reply_spelling}
 use Rattle.tdi_state.specs.Machine.{Tdi, lock_answer}
+use Rattle.tdi_device.specs.declared.said.StreamSaid.{StreamSaid}
 use Rattle.tdi_device.specs.Replies.{DeviceTdis, next_nonce, tdi_call, tdi_called, tdi_reply, takes_nonce}
 use Rattle.tdi_device.specs.Replies.{used_after, asked_at}
 
@@ -17,18 +18,20 @@ given_some : (tdi : Tdi) (flags offset : ℕ) (secure : Bool) → is_ok (lock_an
     ≡ false
 given_some tdi flags offset secure = grind arith
 
-pub taken_some : (tdi : Tdi) (request : RequestView) (secure : Bool) (drawn : Option (List ℕ))
-    → takes_nonce tdi request secure drawn ≡ true → IsSome drawn
-taken_some tdi request secure (Some nonce) e = refl
-taken_some tdi (LockInterface function flags stream offset mask) secure None e =
-    let no : true ≡ false = sym e ∙ given_some tdi flags offset secure in
+pub taken_some : (tdi : Tdi) (request : RequestView) (said : StreamSaid) (drawn : Option (List ℕ))
+    → takes_nonce tdi request said drawn ≡ true → IsSome drawn
+taken_some tdi request said (Some nonce) e = refl
+taken_some tdi (LockInterface function flags stream offset mask) said None e =
+    let no : true ≡ false = sym e ∙ given_some tdi flags offset said.secure in
     absurd cc
-taken_some tdi (GetVersion function) secure None e = absurd cc
-taken_some tdi (GetCapabilities function) secure None e = absurd cc
-taken_some tdi (GetDeviceInterfaceReport function offset count) secure None e = absurd cc
-taken_some tdi (GetDeviceInterfaceState function) secure None e = absurd cc
-taken_some tdi (StartInterface function nonce) secure None e = absurd cc
-taken_some tdi (StopInterface function) secure None e = absurd cc
+taken_some tdi (GetVersion function) said None e = absurd cc
+taken_some tdi (GetCapabilities function) said None e = absurd cc
+taken_some tdi (GetDeviceInterfaceReport function offset count) said None e = absurd cc
+taken_some tdi (GetDeviceInterfaceState function) said None e = absurd cc
+taken_some tdi (StartInterface function nonce) said None e = absurd cc
+taken_some tdi (StopInterface function) said None e = absurd cc
+taken_some tdi (BindP2p function stream) said None e = absurd cc
+taken_some tdi (UnbindP2p function stream) said None e = absurd cc
 
 -- an element that is read at its place
 pub at_place : {A : Type 0} (xs : List A) (p : ℕ) (x : A) → p < length xs → x ≡ get_or xs p x → slice_get xs p ≡ Some x
@@ -36,22 +39,22 @@ at_place [] p x lt is = absurd (omega arith)
 at_place (y ∷ xs) zero x lt is = ap Some (sym is)
 at_place (y ∷ xs) (suc p) x lt is = at_place xs p x (omega arith) is
 
-pub reply_now : (d : DeviceTdis) (place : ℕ) (tdi : Tdi) (request : RequestView) (secure : Bool)
+pub reply_now : (d : DeviceTdis) (place : ℕ) (tdi : Tdi) (request : RequestView) (said : StreamSaid)
     (drawn : Option (List ℕ)) (before after : List ℕ)
     → slice_get d.interfaces place ≡ Some tdi → drawn ≡ next_nonce d → after ≡ before
-    ++ reply_spelling (tdi_reply tdi request secure drawn)
+    ++ reply_spelling (tdi_reply tdi request said drawn)
     → IfSome (slice_get d.interfaces place)
-    (λ t. after ≡ before ++ reply_spelling (tdi_reply t request secure (next_nonce d)))
-reply_now d place tdi request secure drawn before after is next reply = rw (is, ← next) reply
+    (λ t. after ≡ before ++ reply_spelling (tdi_reply t request said (next_nonce d)))
+reply_now d place tdi request said drawn before after is next reply = rw (is, ← next) reply
 
-pub device_now : (d : DeviceTdis) (place : ℕ) (tdi new : Tdi) (request : RequestView) (secure takes : Bool)
+pub device_now : (d : DeviceTdis) (place : ℕ) (tdi new : Tdi) (request : RequestView) (said : StreamSaid) (takes : Bool)
     (drawn : Option (List ℕ)) (interfaces : List Tdi) (nonces : List (List ℕ)) (used : ℕ)
     → slice_get d.interfaces place ≡ Some tdi → drawn ≡ next_nonce d → new
-    ≡ tdi_called tdi (tdi_call request secure drawn) → takes ≡ takes_nonce tdi request secure drawn
+    ≡ tdi_called tdi (tdi_call request said drawn) → takes ≡ takes_nonce tdi request said drawn
     → interfaces ≡ d.interfaces → nonces ≡ d.nonces → used ≡ used_after takes d.used
     → IfSome (slice_get d.interfaces place)
     (λ t. (let kept : DeviceTdis = record
     { interfaces = slice_set interfaces place new; nonces = nonces; used = used } in kept)
-    ≡ asked_at d (record { place = place; tdi = t }) request secure)
-device_now d place tdi new request secure takes drawn interfaces nonces used is next called taken same keeps counts = rw
+    ≡ asked_at d (record { place = place; tdi = t }) request said)
+device_now d place tdi new request said takes drawn interfaces nonces used is next called taken same keeps counts = rw
     (is, called, counts, taken, next, same, keeps) refl

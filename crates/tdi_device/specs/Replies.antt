@@ -1,8 +1,10 @@
 -- What a device's interfaces answer, and what each request makes of them (TDISP sections 11.1 and 11.3, in this
 -- profile).
-use Rattle.std.specs.Prelude.{ℕ, ◌≡◌, ◌≤◌, ◌+◌, ◌/◌, ◌%◌, ◌^◌, ◌==◌, ◌&&◌, nat_lt, Bool, true, false, not, List, []}
+use Rattle.std.specs.Prelude.{ℕ, ◌≡◌, ◌≤◌, ◌+◌, ◌/◌, ◌%◌, ◌^◌, ◌==◌, ◌&&◌, ◌||◌, nat_lt, Bool, true, false, not, List}
+use Rattle.std.specs.Prelude.{[]}
 use Rattle.std.specs.Prelude.{◌∷◌, length, map, replicate, position, is_some, slice_get, slice_set, Option, Some, None}
 use Rattle.std.specs.Prelude.{Result, Ok, Err, if◌then◌else◌, is_ok}
+use Rattle.std.specs.List.{list_any}
 use Rattle.std.specs.Option.{unwrap_or}
 use Rattle.ide_plan.specs.declared.interface.InterfacePlan.{InterfacePlan}
 use Rattle.tdisp_codec.specs.declared.fault.TdispFault.{TdispFault}
@@ -11,7 +13,7 @@ use Rattle.tdisp_codec.specs.declared.request.RequestView.{RequestView}
 use Rattle.tdisp_codec.specs.declared.request.RequestView.TheVariants.{GetVersion, GetCapabilities, LockInterface}
 use Rattle.tdisp_codec.specs.declared.request.RequestView.TheVariants.{GetDeviceInterfaceReport}
 use Rattle.tdisp_codec.specs.declared.request.RequestView.TheVariants.{GetDeviceInterfaceState, StartInterface}
-use Rattle.tdisp_codec.specs.declared.request.RequestView.TheVariants.{StopInterface}
+use Rattle.tdisp_codec.specs.declared.request.RequestView.TheVariants.{StopInterface, BindP2p, UnbindP2p}
 use Rattle.tdisp_codec.specs.Messages.{function_of}
 use Rattle.tdisp_codec.specs.Requests.{request_function, request_reading}
 use Rattle.tdisp_codec.specs.Replies.{Reply, reply_spelling}
@@ -22,7 +24,11 @@ use Rattle.tdi_state.specs.declared.error_codes.ErrorCode.TheVariants.{VersionMi
 use Rattle.tdi_state.specs.declared.states.TdiState.{TdiState}
 use Rattle.tdi_state.specs.declared.states.TdiState.TheVariants.{Run}
 use Rattle.tdi_state.specs.Machine.{Tdi, new_tdi, error_code, state_code, lock_answer, portion_answer, start_answer}
-use Rattle.tdi_state.specs.Machine.{Call, LinkReset, StreamLeft, tdi_after, bound_stream}
+use Rattle.tdi_state.specs.Machine.{Call, LinkReset, StreamLeft, tdi_after, bound_stream, bind_answer, is_answered}
+use Rattle.tdi_state.specs.Machine.{unbind_answer}
+use Rattle.tdi_state.specs.declared.bindings.Binding.{Binding}
+use Rattle.tdi_state.specs.Bindings.{binds}
+use Rattle.tdi_device.specs.declared.said.StreamSaid.{StreamSaid}
 use Rattle.tdi_state.specs.Machine as call
 
 -- ---- what is kept
@@ -74,13 +80,15 @@ named_tdi d function = named_tdi_in d.interfaces (tdi_place d function)
 
 -- ---- the call of an interface that a request makes
 
--- `secure` says that the stream of a LOCK_INTERFACE is known and Secure at the device; `drawn` is the next nonce
-abbrev pub tdi_call : RequestView → Bool → Option (List ℕ) → Option Call
-tdi_call (LockInterface function flags stream offset mask) secure drawn =
-    Some (call.LockInterface flags stream offset secure drawn)
-tdi_call (StartInterface function nonce) secure drawn = Some (call.StartInterface nonce)
-tdi_call (StopInterface function) secure drawn = Some call.StopInterface
-tdi_call request secure drawn = None
+-- `said` is what the device says of the stream that the request names; `drawn` is the next nonce
+abbrev pub tdi_call : RequestView → StreamSaid → Option (List ℕ) → Option Call
+tdi_call (LockInterface function flags stream offset mask) said drawn =
+    Some (call.LockInterface flags stream offset said.secure drawn)
+tdi_call (StartInterface function nonce) said drawn = Some (call.StartInterface nonce)
+tdi_call (StopInterface function) said drawn = Some call.StopInterface
+tdi_call (BindP2p function stream) said drawn = Some (call.BindStream stream said.live)
+tdi_call (UnbindP2p function stream) said drawn = Some (call.UnbindStream stream)
+tdi_call request said drawn = None
 
 abbrev pub tdi_called : Tdi → Option Call → Tdi
 tdi_called tdi None = tdi
@@ -103,26 +111,37 @@ abbrev pub start_reply : ℕ → Result (Unit {0}) ℕ → Reply
 start_reply function (Ok done) = reply.StartInterface function
 start_reply function (Err code) = refused_reply function code
 
+abbrev pub bind_reply : ℕ → Result (Unit {0}) ℕ → Reply
+bind_reply function (Ok done) = reply.BindP2p function
+bind_reply function (Err code) = refused_reply function code
+
+abbrev pub unbind_reply : ℕ → Result (Unit {0}) ℕ → Reply
+unbind_reply function (Ok done) = reply.UnbindP2p function
+unbind_reply function (Err code) = refused_reply function code
+
 -- one version, 1.0
 abbrev pub version_reply : ℕ → Reply
 version_reply function = reply.Version function (0x10 ∷ [])
 
--- requests 0x81 to 0x87; lock flags 0, 1, 2 and 4; addresses of 64 bits; one request at once
+-- requests 0x81 to 0x89; lock flags 0 to 4; addresses of 64 bits; one request at once
 abbrev pub capabilities_reply : ℕ → Reply
-capabilities_reply function = reply.Capabilities function 0 (0xfe ∷ replicate 15 0) 0x0017 64 1 1
+capabilities_reply function = reply.Capabilities function 0 (0xfe ∷ 0x03 ∷ replicate 14 0) 0x001f 64 1 1
 
 -- of the interface that is meant
-abbrev pub tdi_reply : Tdi → RequestView → Bool → Option (List ℕ) → Reply
-tdi_reply tdi (GetVersion function) secure drawn = version_reply function
-tdi_reply tdi (GetCapabilities function) secure drawn = capabilities_reply function
-tdi_reply tdi (LockInterface function flags stream offset mask) secure drawn =
-    lock_reply function (lock_answer tdi flags offset secure drawn)
-tdi_reply tdi (GetDeviceInterfaceReport function offset count) secure drawn =
+abbrev pub tdi_reply : Tdi → RequestView → StreamSaid → Option (List ℕ) → Reply
+tdi_reply tdi (GetVersion function) said drawn = version_reply function
+tdi_reply tdi (GetCapabilities function) said drawn = capabilities_reply function
+tdi_reply tdi (LockInterface function flags stream offset mask) said drawn =
+    lock_reply function (lock_answer tdi flags offset said.secure drawn)
+tdi_reply tdi (GetDeviceInterfaceReport function offset count) said drawn =
     portion_reply function (portion_answer tdi offset count)
-tdi_reply tdi (GetDeviceInterfaceState function) secure drawn =
+tdi_reply tdi (GetDeviceInterfaceState function) said drawn =
     reply.DeviceInterfaceState function (state_code tdi.state)
-tdi_reply tdi (StartInterface function nonce) secure drawn = start_reply function (start_answer tdi.state nonce)
-tdi_reply tdi (StopInterface function) secure drawn = reply.StopInterface function
+tdi_reply tdi (StartInterface function nonce) said drawn = start_reply function (start_answer tdi.state nonce)
+tdi_reply tdi (StopInterface function) said drawn = reply.StopInterface function
+tdi_reply tdi (BindP2p function stream) said drawn = bind_reply function
+    (is_answered (bind_answer tdi stream said.live))
+tdi_reply tdi (UnbindP2p function stream) said drawn = unbind_reply function (unbind_answer tdi stream)
 
 -- its bytes have room in 1,200
 abbrev pub IsShortReply : Reply → Type 0
@@ -135,34 +154,34 @@ IsShortReply r = Unit {0}
 -- ---- a request that is read
 
 -- a lock that is accepted takes the nonce
-abbrev pub takes_nonce : Tdi → RequestView → Bool → Option (List ℕ) → Bool
-takes_nonce tdi (LockInterface function flags stream offset mask) secure drawn =
-    is_ok (lock_answer tdi flags offset secure drawn)
-takes_nonce tdi request secure drawn = false
+abbrev pub takes_nonce : Tdi → RequestView → StreamSaid → Option (List ℕ) → Bool
+takes_nonce tdi (LockInterface function flags stream offset mask) said drawn =
+    is_ok (lock_answer tdi flags offset said.secure drawn)
+takes_nonce tdi request said drawn = false
 
 abbrev pub used_after : Bool → ℕ → ℕ
 used_after takes used = if takes then used + 1 else used
 
-abbrev pub asked_at : DeviceTdis → NamedTdi → RequestView → Bool → DeviceTdis
-asked_at d n request secure = record {
-  interfaces = slice_set d.interfaces n.place (tdi_called n.tdi (tdi_call request secure (next_nonce d)));
+abbrev pub asked_at : DeviceTdis → NamedTdi → RequestView → StreamSaid → DeviceTdis
+asked_at d n request said = record {
+  interfaces = slice_set d.interfaces n.place (tdi_called n.tdi (tdi_call request said (next_nonce d)));
   nonces = d.nonces;
-  used = used_after (takes_nonce n.tdi request secure (next_nonce d)) d.used;
+  used = used_after (takes_nonce n.tdi request said (next_nonce d)) d.used;
 }
 
-abbrev pub tdis_asked_by : DeviceTdis → RequestView → Bool → Option NamedTdi → DeviceTdis
-tdis_asked_by d request secure None = d
-tdis_asked_by d request secure (Some n) = asked_at d n request secure
+abbrev pub tdis_asked_by : DeviceTdis → RequestView → StreamSaid → Option NamedTdi → DeviceTdis
+tdis_asked_by d request said None = d
+tdis_asked_by d request said (Some n) = asked_at d n request said
 
-abbrev pub reply_by : DeviceTdis → RequestView → Bool → Option NamedTdi → Reply
-reply_by d request secure None = refused_reply (request_function request) (error_code InvalidInterface)
-reply_by d request secure (Some n) = tdi_reply n.tdi request secure (next_nonce d)
+abbrev pub reply_by : DeviceTdis → RequestView → StreamSaid → Option NamedTdi → Reply
+reply_by d request said None = refused_reply (request_function request) (error_code InvalidInterface)
+reply_by d request said (Some n) = tdi_reply n.tdi request said (next_nonce d)
 
-abbrev pub asked_tdis : DeviceTdis → RequestView → Bool → DeviceTdis
-asked_tdis d request secure = tdis_asked_by d request secure (named_tdi d (request_function request))
+abbrev pub asked_tdis : DeviceTdis → RequestView → StreamSaid → DeviceTdis
+asked_tdis d request said = tdis_asked_by d request said (named_tdi d (request_function request))
 
-abbrev pub reply_to : DeviceTdis → RequestView → Bool → Reply
-reply_to d request secure = reply_by d request secure (named_tdi d (request_function request))
+abbrev pub reply_to : DeviceTdis → RequestView → StreamSaid → Reply
+reply_to d request said = reply_by d request said (named_tdi d (request_function request))
 
 -- ---- bytes that are a message of TDISP, by their first byte
 
@@ -185,30 +204,31 @@ request_or_error false (Err f) = Err (code_by f)
 abbrev pub request_checked : List ℕ → Result RequestView ErrorCode
 request_checked bytes = request_or_error (nat_lt (length bytes) 17) (request_reading bytes)
 
-abbrev pub tdis_by : DeviceTdis → Bool → Result RequestView ErrorCode → DeviceTdis
-tdis_by d secure (Ok request) = asked_tdis d request secure
-tdis_by d secure (Err code) = d
+abbrev pub tdis_by : DeviceTdis → StreamSaid → Result RequestView ErrorCode → DeviceTdis
+tdis_by d said (Ok request) = asked_tdis d request said
+tdis_by d said (Err code) = d
 
-abbrev pub tdi_reply_from : DeviceTdis → Bool → ℕ → Result RequestView ErrorCode → Reply
-tdi_reply_from d secure function (Ok request) = reply_to d request secure
-tdi_reply_from d secure function (Err code) = refused_reply function (error_code code)
+abbrev pub tdi_reply_from : DeviceTdis → StreamSaid → ℕ → Result RequestView ErrorCode → Reply
+tdi_reply_from d said function (Ok request) = reply_to d request said
+tdi_reply_from d said function (Err code) = refused_reply function (error_code code)
 
-abbrev pub answered : DeviceTdis → List ℕ → Bool → DeviceTdis
-answered d bytes secure = tdis_by d secure (request_checked bytes)
+abbrev pub answered : DeviceTdis → List ℕ → StreamSaid → DeviceTdis
+answered d bytes said = tdis_by d said (request_checked bytes)
 
-abbrev pub tdi_answer : DeviceTdis → List ℕ → Bool → Reply
-tdi_answer d bytes secure = tdi_reply_from d secure (function_or_none bytes) (request_checked bytes)
+abbrev pub tdi_answer : DeviceTdis → List ℕ → StreamSaid → Reply
+tdi_answer d bytes said = tdi_reply_from d said (function_or_none bytes) (request_checked bytes)
 
-abbrev pub answer_bytes : DeviceTdis → List ℕ → Bool → List ℕ
-answer_bytes d bytes secure = reply_spelling (tdi_answer d bytes secure)
+abbrev pub answer_bytes : DeviceTdis → List ℕ → StreamSaid → List ℕ
+answer_bytes d bytes said = reply_spelling (tdi_answer d bytes said)
 
--- the stream that a LOCK_INTERFACE names
-abbrev pub lock_stream : RequestView → Option ℕ
-lock_stream (LockInterface function flags stream offset mask) = Some stream
-lock_stream request = None
+-- the stream that a LOCK_INTERFACE or a BIND_P2P names
+abbrev pub stream_named : RequestView → Option ℕ
+stream_named (LockInterface function flags stream offset mask) = Some stream
+stream_named (BindP2p function stream) = Some stream
+stream_named request = None
 
 abbrev pub stream_by : Result RequestView ErrorCode → Option ℕ
-stream_by (Ok request) = lock_stream request
+stream_by (Ok request) = stream_named request
 stream_by (Err code) = None
 
 abbrev pub stream_asked : List ℕ → Option ℕ
@@ -221,9 +241,15 @@ abbrev pub is_left : (ℕ → Bool) → Option ℕ → Bool
 is_left is_secure None = false
 is_left is_secure (Some stream) = not (is_secure stream)
 
--- in CONFIG_LOCKED and RUN an interface goes to ERROR if its stream is not Secure at the device's port
+-- so is one of these
+abbrev pub any_left : (ℕ → Bool) → List Binding → Bool
+any_left is_secure bs = list_any (λ b. not (is_secure b.stream)) bs
+
+-- in CONFIG_LOCKED and RUN an interface goes to ERROR if a stream that it is bound to is not Secure at the device
 abbrev pub settled_tdi : (ℕ → Bool) → Tdi → Tdi
-settled_tdi is_secure tdi = if is_left is_secure (bound_stream tdi.state) then tdi_after tdi StreamLeft else tdi
+settled_tdi is_secure tdi =
+    if is_left is_secure (bound_stream tdi.state) || any_left is_secure tdi.bindings then tdi_after tdi StreamLeft
+    else tdi
 
 abbrev pub settled_tdis : (ℕ → Bool) → DeviceTdis → DeviceTdis
 settled_tdis is_secure d = record d { interfaces = map (settled_tdi is_secure) d.interfaces }
@@ -238,7 +264,7 @@ called_at d place tdi c = record d { interfaces = slice_set d.interfaces place (
 
 -- ---- the T bit of what the device sends
 
--- running, and bound to this stream
+-- running, and locked with this stream of its link
 abbrev pub runs_on : ℕ → TdiState → Bool
 runs_on stream (Run lock) = lock.stream == stream
 runs_on stream state = false
@@ -246,7 +272,20 @@ runs_on stream state = false
 abbrev pub is_owner : ℕ → ℕ → Tdi → Bool
 is_owner requester stream tdi = (requester == tdi.plan.requester) && runs_on stream tdi.state
 
--- T is set of a TLP whose owner, its requester or its completer, is an interface that runs, on the stream that the
--- interface is bound to
+-- T is set of a TLP whose owner, its requester or its completer, is an interface that runs, on the stream of the link
+-- that the interface is locked with
 abbrev pub tdis_set_t : DeviceTdis → ℕ → ℕ → Bool
 tdis_set_t d requester stream = is_some (position (is_owner requester stream) d.interfaces)
+
+-- running, and bound to this stream between two devices
+abbrev pub runs_bound : ℕ → TdiState → List Binding → Bool
+runs_bound stream (Run lock) bs = binds stream bs
+runs_bound stream state bs = false
+
+abbrev pub is_bound_owner : ℕ → ℕ → Tdi → Bool
+is_bound_owner requester stream tdi =
+    (requester == tdi.plan.requester) && runs_bound stream tdi.state tdi.bindings
+
+-- so it is at an end of a stream between two devices, if the interface is bound to it
+abbrev pub tdis_set_peer_t : DeviceTdis → ℕ → ℕ → Bool
+tdis_set_peer_t d requester stream = is_some (position (is_bound_owner requester stream) d.interfaces)

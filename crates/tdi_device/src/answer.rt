@@ -4,25 +4,28 @@ ghost use Rattle.std.specs.Prelude.{◌≡◌, ◌+◌, ◌≤◌, ◌++◌, tru
 ghost use Rattle.tdisp_codec.specs.Replies.{reply_spelling};
 ghost use Rattle.tdi_device.specs.Replies.{tdi_call, tdi_called, tdi_reply, takes_nonce};
 
-use crate::replies::{append, append_versions, capabilities, locked, reported, started};
+use crate::StreamSaid;
+use crate::replies::{
+    append, append_versions, bound, capabilities, locked, reported, started, unbound,
+};
 use tdi_state::Interface;
 use tdisp_codec::{ReplyView, RequestView};
 
 /// Answers a request to an interface, for which `nonce` is the next of the device's list, and says whether it was
-/// given. `secure` says that the stream which a LOCK_INTERFACE names is known and Secure at the device's port.
+/// given. `said` is what the device says of the stream that the request names.
 pub(crate) fn answer_one(
     interface: &mut Interface,
     nonce: Option<[u8; 32]>,
     request: RequestView,
-    secure: bool,
+    said: StreamSaid,
     reply: &mut Vec<u8>,
 ) -> bool
     requires { vec_len reply.old + 1200 ≤ vec_capacity reply.old }
-    ensures interface { interface.new ≡ tdi_called interface.old (tdi_call request secure nonce) }
+    ensures interface { interface.new ≡ tdi_called interface.old (tdi_call request said nonce) }
     ensures reply { reply.new.items ≡ reply.old.items
-        ++ reply_spelling (tdi_reply interface.old request secure nonce) }
+        ++ reply_spelling (tdi_reply interface.old request said nonce) }
     ensures capacity { vec_capacity reply.old ≤ vec_capacity reply.new }
-    ensures taken { result ≡ takes_nonce interface.old request secure nonce }
+    ensures taken { result ≡ takes_nonce interface.old request said nonce }
 {
     match request {
         RequestView::GetVersion { function } => {
@@ -40,7 +43,7 @@ pub(crate) fn answer_one(
             offset,
             ..
         } => {
-            let answer = interface.lock(flags, stream, offset, secure, nonce.as_ref());
+            let answer = interface.lock(flags, stream, offset, said.secure, nonce.as_ref());
             append(&locked(function, answer), reply);
             answer.is_ok()
         }
@@ -65,6 +68,16 @@ pub(crate) fn answer_one(
         RequestView::StopInterface { function } => {
             interface.stop();
             append(&ReplyView::StopInterface { function }, reply);
+            false
+        }
+        RequestView::BindP2p { function, stream } => {
+            let answer = interface.bind(stream, said.live);
+            append(&bound(function, answer), reply);
+            false
+        }
+        RequestView::UnbindP2p { function, stream } => {
+            let answer = interface.unbind(stream);
+            append(&unbound(function, answer), reply);
             false
         }
     }

@@ -8,8 +8,10 @@ ghost use Rattle.tdi_state.specs.Held.{FitsTdi};
 ghost use Rattle.interface_words.specs.RegisterNames.{has_register, width_of};
 ghost use Rattle.tdi_state.specs.Machine.{new_tdi, tdi_after, LinkReset, state_code, LevelReset, FirmwareUpdate};
 ghost use Rattle.tdi_state.specs.Machine.{WriteRegister};
-ghost use Rattle.tdi_device.specs.Replies.{new_tdis, is_elsewhere, is_left, settled_tdi, is_owner, runs_on};
+ghost use Rattle.tdi_device.specs.Replies.{new_tdis, is_elsewhere, is_left, any_left, settled_tdi, is_owner};
+ghost use Rattle.tdi_device.specs.Replies.{runs_on, runs_bound, is_bound_owner};
 
+use crate::StreamSaid;
 use crate::answer::answer_one;
 use crate::front::{function, request_asked};
 use crate::replies::{append, refused};
@@ -17,7 +19,7 @@ use ide_plan::InterfacePlan;
 use ide_types::{Items, Memory};
 use std::alloc::Global;
 use std::marker::Model;
-use tdi_state::{ErrorCode, Interface, Register, TdiState};
+use tdi_state::{Binding, Bindings, ErrorCode, Interface, Register, TdiState};
 use tdisp_codec::RequestView;
 
 /// The room that a reply needs, in bytes.
@@ -59,12 +61,13 @@ fn made(alloc: Global, plans: &[InterfacePlan]) -> Result<Vec<Interface>, Memory
     Ok(interfaces)
 }
 
-/// What the interfaces of a device ask of its port: whether streams are Secure there (this profile).
+/// What the interfaces of a device ask of it: whether its streams are Secure there, those of its link and those between
+/// it and others (this profile).
 pub trait StreamStates {
-    /// Whether the port has the stream, and it is Secure there.
+    /// Whether the device has the stream, and it is Secure there.
     ghost is_secure: { Self → ℕ → Bool };
 
-    /// Whether the port has the stream, and it is Secure there.
+    /// Whether the device has the stream, and it is Secure there.
     fn is_secure(&self, stream: u8) -> bool
         ensures { result ≡ is_secure self.now stream };
 }
@@ -79,10 +82,19 @@ fn is_left<P: StreamStates>(streams: &P, bound: Option<u8>) -> bool
     }
 }
 
+// Whether one of these is to a stream that is not Secure.
+fn any_left<P: StreamStates>(streams: &P, bindings: &[Binding]) -> bool
+    ensures { result ≡ any_left (P.is_secure streams.now) bindings.now }
+{
+    bindings
+        .iter()
+        .any(|binding| !streams.is_secure(binding.stream))
+}
+
 fn settle_one<P: StreamStates>(interface: &mut Interface, streams: &P)
     ensures { interface.new ≡ settled_tdi (P.is_secure streams.now) interface.old }
 {
-    if is_left(streams, interface.bound()) {
+    if is_left(streams, interface.bound()) || any_left(streams, interface.peers().as_slice()) {
         interface.stream_left();
     }
 }
@@ -95,7 +107,7 @@ fn settle_all<P: StreamStates>(interfaces: &mut Vec<Interface>, streams: &P)
     }
 }
 
-// Whether it has this requester ID, and runs on this stream.
+// Whether it has this requester ID, and runs on this stream of its link.
 fn is_owner(interface: &Interface, requester: u16, stream: u8) -> bool
     ensures { result ≡ is_owner requester stream interface.now }
 {
@@ -107,6 +119,23 @@ fn runs_on(state: &TdiState, stream: u8) -> bool
 {
     match state {
         TdiState::Run { lock } => lock.stream == stream,
+        _ => false,
+    }
+}
+
+// Whether it has this requester ID, and runs bound to this stream between two devices.
+fn is_bound_owner(interface: &Interface, requester: u16, stream: u8) -> bool
+    ensures { result ≡ is_bound_owner requester stream interface.now }
+{
+    requester == interface.requester()
+        && runs_bound(interface.standing(), interface.peers(), stream)
+}
+
+fn runs_bound(state: &TdiState, peers: &Bindings, stream: u8) -> bool
+    ensures { result ≡ runs_bound stream state.now peers.now }
+{
+    match state {
+        TdiState::Run { .. } => peers.binds(stream),
         _ => false,
     }
 }
@@ -135,6 +164,7 @@ impl DeviceInterfaces {
       reset_tdis,
       called_at,
       tdis_set_t,
+      tdis_set_peer_t,
     };
 
     /// The interfaces of a link's device in CONFIG_UNLOCKED, and its nonces, none of them given.
@@ -183,33 +213,39 @@ impl DeviceInterfaces {
     }
 
     // Answers a request to the interface at this place.
-    fn answer_at(&mut self, place: usize, request: RequestView, secure: bool, reply: &mut Vec<u8>)
+    fn answer_at(
+        &mut self,
+        place: usize,
+        request: RequestView,
+        said: StreamSaid,
+        reply: &mut Vec<u8>,
+    )
         requires exists { place < length self.old.interfaces }
         requires room { vec_len reply.old + TDISP_REPLY_ROOM ≤ vec_capacity reply.old }
         ensures device { IfSome (slice_get self.old.interfaces place) (λ tdi.
-            self.new ≡ asked_at self.old (record { place = place; tdi = tdi }) request secure) }
+            self.new ≡ asked_at self.old (record { place = place; tdi = tdi }) request said) }
         ensures reply { IfSome (slice_get self.old.interfaces place) (λ tdi.
             reply.new.items ≡ reply.old.items
-            ++ reply_spelling (tdi_reply tdi request secure (next_nonce self.old))) }
+            ++ reply_spelling (tdi_reply tdi request said (next_nonce self.old))) }
         ensures capacity { vec_capacity reply.old ≤ vec_capacity reply.new }
     {
         let nonce = self.next_nonce();
         let interface = &mut self.interfaces[place];
-        if answer_one(interface, nonce, request, secure, reply) {
+        if answer_one(interface, nonce, request, said, reply) {
             self.used += 1;
         }
     }
 
     // Answers a request that is read.
-    fn answer_read(&mut self, request: RequestView, secure: bool, reply: &mut Vec<u8>)
+    fn answer_read(&mut self, request: RequestView, said: StreamSaid, reply: &mut Vec<u8>)
         requires { vec_len reply.old + TDISP_REPLY_ROOM ≤ vec_capacity reply.old }
-        ensures device { self.new ≡ asked_tdis self.old request secure }
-        ensures reply { reply.new.items ≡ reply.old.items ++ reply_spelling (reply_to self.old request secure) }
+        ensures device { self.new ≡ asked_tdis self.old request said }
+        ensures reply { reply.new.items ≡ reply.old.items ++ reply_spelling (reply_to self.old request said) }
         ensures capacity { vec_capacity reply.old ≤ vec_capacity reply.new }
     {
         let function = request_function(request);
         match self.place(function) {
-            Some(place) => self.answer_at(place, request, secure, reply),
+            Some(place) => self.answer_at(place, request, said, reply),
             None => append(
                 &refused(function, ErrorCode::InvalidInterface.code()),
                 reply,
@@ -218,36 +254,52 @@ impl DeviceInterfaces {
     }
 
     /// Answers a message of TDISP, whose first byte says so: makes at most one call of one interface, and appends the
-    /// reply. `secure` says that the stream which a LOCK_INTERFACE names is known and Secure at the device's port
-    /// (`stream_asked` says which it is). `reply` has room for `TDISP_REPLY_ROOM` bytes, so it takes no memory. Refused
+    /// reply. `said` is what the device says of the stream that the request names (`stream_asked` says
+    /// which it is). `reply` has room for `TDISP_REPLY_ROOM` bytes, so it takes no memory. Refused
     /// in the order of `request_asked`, then INVALID_INTERFACE if no interface has the function ID, and then as the
     /// interface refuses the request.
-    pub fn answer(&mut self, request: &[u8], secure: bool, reply: &mut Vec<u8>)
+    pub fn answer(&mut self, request: &[u8], said: StreamSaid, reply: &mut Vec<u8>)
         requires { vec_len reply.old + TDISP_REPLY_ROOM ≤ vec_capacity reply.old }
-        ensures device { self.new ≡ answered self.old request.now secure }
-        ensures reply { reply.new.items ≡ reply.old.items ++ answer_bytes self.old request.now secure }
+        ensures device { self.new ≡ answered self.old request.now said }
+        ensures reply { reply.new.items ≡ reply.old.items ++ answer_bytes self.old request.now said }
         ensures capacity { vec_capacity reply.old ≤ vec_capacity reply.new }
     {
         match request_asked(request) {
-            Ok(request) => self.answer_read(request, secure, reply),
+            Ok(request) => self.answer_read(request, said, reply),
             Err(code) => append(&refused(function(request), code.code()), reply),
         }
     }
 
-    /// To be called after each call of the device's port: each interface in CONFIG_LOCKED or RUN goes to ERROR if its
-    /// bound stream is not Secure at that port.
+    /// To be called after each call of the device's port: each interface in CONFIG_LOCKED or RUN goes to ERROR if one
+    /// of the streams that it is bound to is not Secure there.
     pub fn settle<P: StreamStates>(&mut self, streams: &P)
         ensures { self.new ≡ settled_tdis (P.is_secure streams.now) self.old }
     {
         settle_all(&mut self.interfaces, streams);
     }
 
-    /// Whether a TLP with this owner (the requester of a request, the completer of a completion) has T on this stream:
-    /// it has if the owner is an interface in RUN and this is its bound stream.
+    /// Whether a TLP with this owner (the requester of a request, the completer of a completion) has T on this stream
+    /// of the link: it has if the owner is an interface in RUN that is locked with it.
     pub fn sets_t(&self, requester: u16, stream: u8) -> bool
         ensures { result ≡ tdis_set_t self.now requester stream }
     {
         self.owner_place(requester, stream).is_some()
+    }
+
+    /// Whether it has T on this stream between two devices: it has if the owner is an interface in RUN that is bound to
+    /// it.
+    pub fn sets_peer_t(&self, requester: u16, stream: u8) -> bool
+        ensures { result ≡ tdis_set_peer_t self.now requester stream }
+    {
+        self.bound_owner_place(requester, stream).is_some()
+    }
+
+    fn bound_owner_place(&self, requester: u16, stream: u8) -> Option<usize>
+        ensures { result ≡ position (is_bound_owner requester stream) self.now.interfaces }
+    {
+        self.interfaces
+            .iter()
+            .position(|i| is_bound_owner(i, requester, stream))
     }
 
     fn owner_place(&self, requester: u16, stream: u8) -> Option<usize>
@@ -341,6 +393,8 @@ fn request_function(request: RequestView) -> u32
         | RequestView::GetDeviceInterfaceReport { function, .. }
         | RequestView::GetDeviceInterfaceState { function }
         | RequestView::StartInterface { function, .. }
-        | RequestView::StopInterface { function } => function,
+        | RequestView::StopInterface { function }
+        | RequestView::BindP2p { function, .. }
+        | RequestView::UnbindP2p { function, .. } => function,
     }
 }

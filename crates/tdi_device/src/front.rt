@@ -1,7 +1,7 @@
 //! Requests as they come, and which are refused before an interface is looked for.
 
 ghost use Rattle.std.specs.Prelude.{◌≡◌, length};
-ghost use Rattle.tdi_device.specs.Replies.{code_by, function_or_none, request_checked, lock_stream, stream_asked};
+ghost use Rattle.tdi_device.specs.Replies.{code_by, function_or_none, request_checked, stream_asked, stream_named};
 
 use tdi_state::ErrorCode;
 use tdisp_codec::{RequestView, TdispFault, function_of, request_read};
@@ -41,21 +41,22 @@ pub(crate) fn function(bytes: &[u8]) -> u32
     function_of(bytes).unwrap_or(0)
 }
 
-fn lock_stream(request: RequestView) -> Option<u8>
-    ensures { result ≡ lock_stream request }
+fn stream_named(request: RequestView) -> Option<u8>
+    ensures { result ≡ stream_named request }
 {
     match request {
         RequestView::LockInterface { stream, .. } => Some(stream),
+        RequestView::BindP2p { stream, .. } => Some(stream),
         _ => None,
     }
 }
 
-/// The stream that a LOCK_INTERFACE names; `None` if the bytes spell another request, or none.
+/// The stream that a LOCK_INTERFACE or a BIND_P2P names; `None` if the bytes spell another request, or none.
 pub fn stream_asked(bytes: &[u8]) -> Option<u8>
     ensures { result ≡ stream_asked bytes.now }
 {
     match request_asked(bytes) {
-        Ok(request) => lock_stream(request),
+        Ok(request) => stream_named(request),
         Err(_) => None,
     }
 }

@@ -5,15 +5,15 @@ ghost use Rattle.tdisp_codec.specs.Replies.{reply_shown, reply_spelling};
 ghost use Rattle.tdi_state.specs.Kept.{IsShortReport};
 ghost use Rattle.tdi_state.specs.Machine.{portion_shown};
 ghost use Rattle.tdi_device.specs.Replies.{refused_reply, lock_reply, portion_reply, start_reply, version_reply};
-ghost use Rattle.tdi_device.specs.Replies.{capabilities_reply, IsShortReply};
+ghost use Rattle.tdi_device.specs.Replies.{capabilities_reply, bind_reply, unbind_reply, IsShortReply};
 
 use tdisp_codec::{ReplyView, reply_write};
 
 /// The versions that are spoken: 1.0 alone.
 const VERSIONS: [u8; 1] = [0x10];
 
-/// Requests 0x81 to 0x87.
-const REQUESTS: [u8; 16] = [0xfe, 0, 0, 0, 0, 0, 0, 0, 0, 0, 0, 0, 0, 0, 0, 0];
+/// Requests 0x81 to 0x89.
+const REQUESTS: [u8; 16] = [0xfe, 0x03, 0, 0, 0, 0, 0, 0, 0, 0, 0, 0, 0, 0, 0, 0];
 
 pub(crate) fn refused<'a>(function: u32, code: u32) -> ReplyView<'a>
     ensures reply { reply_shown result ≡ refused_reply function code }
@@ -34,7 +34,7 @@ pub(crate) fn capabilities<'a>(function: u32) -> ReplyView<'a>
         function,
         device: 0,
         requests: REQUESTS,
-        lock_flags: 0x0017,
+        lock_flags: 0x001f,
         width: 64,
         num_req_this: 1,
         num_req_all: 1,
@@ -72,6 +72,26 @@ pub(crate) fn started<'a>(function: u32, answer: Result<(), u32>) -> ReplyView<'
 {
     match answer {
         Ok(()) => ReplyView::StartInterface { function },
+        Err(code) => refused(function, code),
+    }
+}
+
+pub(crate) fn bound<'a>(function: u32, answer: Result<(), u32>) -> ReplyView<'a>
+    ensures reply { reply_shown result ≡ bind_reply function answer }
+    ensures short { IsShortReply (reply_shown result) }
+{
+    match answer {
+        Ok(()) => ReplyView::BindP2p { function },
+        Err(code) => refused(function, code),
+    }
+}
+
+pub(crate) fn unbound<'a>(function: u32, answer: Result<(), u32>) -> ReplyView<'a>
+    ensures reply { reply_shown result ≡ unbind_reply function answer }
+    ensures short { IsShortReply (reply_shown result) }
+{
+    match answer {
+        Ok(()) => ReplyView::UnbindP2p { function },
         Err(code) => refused(function, code),
     }
 }

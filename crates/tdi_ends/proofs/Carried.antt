@@ -1,5 +1,5 @@
 -- An exchange that is carried.
-use Rattle.std.proofs.Common.{◌≡◌, ℕ, Bool, List, length, Option, Some, None, refl, ap, sym, ◌∙◌}
+use Rattle.std.proofs.Common.{◌≡◌, ℕ, List, length, Option, Some, None, refl, ap, sym, ◌∙◌}
 use Rattle.std.specs.Prelude.{IfSome}
 use Rattle.link_events.specs.declared.event.Loss.{Loss}
 use Rattle.link_events.specs.declared.event.Lost.{Lost}
@@ -9,6 +9,7 @@ use Rattle.tdi_host.specs.declared.operation.Outcome.{Outcome}
 use Rattle.tdi_host.specs.Judging.{Judged, interface_reply_judged}
 use Rattle.tdi_host.specs.Managers.{InterfaceManagerView, CurrentInterface, current_exchange, interface_request}
 use Rattle.tdi_host.specs.Managers.{outcome_by, taken_interface_manager}
+use Rattle.tdi_device.specs.declared.said.StreamSaid.{StreamSaid}
 use Rattle.tdi_device.specs.Replies.{DeviceTdis, answered, answer_bytes}
 use Rattle.key_laws.specs.Due.{lost_in}
 use Rattle.tdi_walks.specs.Operations.{carried, reached}
@@ -33,24 +34,24 @@ ended_by m c d l j after = record {
 
 -- nothing is lost
 pub carried_whole : (x : Option CurrentInterface) (m after : InterfaceManagerView) (d device : DeviceTdis)
-    (secure : Bool)
+    (said : StreamSaid)
     (loss : Option Loss) (number : ℕ) (bytes : List ℕ) (o : Outcome)
     → IfSome x (λ c. number ≡ current_exchange m c) → lost_in loss number ≡ None
-    → IfSome x (λ c. device ≡ answered d (request_spelling (interface_request m c)) secure)
-    → IfSome x (λ c. bytes ≡ answer_bytes d (request_spelling (interface_request m c)) secure)
+    → IfSome x (λ c. device ≡ answered d (request_spelling (interface_request m c)) said)
+    → IfSome x (λ c. bytes ≡ answer_bytes d (request_spelling (interface_request m c)) said)
     → IfSome x (λ c. o ≡ outcome_by m c (judged_bytes m c bytes))
     → IfSome x (λ c. after ≡ taken_interface_manager m c (judged_bytes m c bytes))
-    → IfSome x (λ c. IsInterfaceExchanged secure loss m d c
+    → IfSome x (λ c. IsInterfaceExchanged said loss m d c
     (let e : Ended = record { outcome = o; manager = after; device = device } in e))
-carried_whole None m after d device secure loss number bytes o n l dev rep out man = tt
-carried_whole (Some c) m after d device secure loss number bytes o n l dev rep out man =
+carried_whole None m after d device said loss number bytes o n l dev rep out man = tt
+carried_whole (Some c) m after d device said loss number bytes o n l dev rep out man =
     let whole : lost_in loss (current_exchange m c) ≡ None = ap (lost_in loss) (sym n) ∙ l in
     let same : (let e : Ended = record { outcome = o; manager = after; device = device } in e)
-    ≡ ended_by m c d None (judged_bytes m c (answer_bytes d (request_spelling (interface_request m c)) secure))
-    (answered d (request_spelling (interface_request m c)) secure)
+    ≡ ended_by m c d None (judged_bytes m c (answer_bytes d (request_spelling (interface_request m c)) said))
+    (answered d (request_spelling (interface_request m c)) said)
     = rw (out, man, dev, rep) refl in
     record {
       ends = same ∙ ap
-          (λ k. ended_by m c d k (judged_bytes m c (answer_bytes d (request_spelling (interface_request m c)) secure))
-          (answered d (request_spelling (interface_request m c)) secure)) (sym whole);
+          (λ k. ended_by m c d k (judged_bytes m c (answer_bytes d (request_spelling (interface_request m c)) said))
+          (answered d (request_spelling (interface_request m c)) said)) (sym whole);
     }

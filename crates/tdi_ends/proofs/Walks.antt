@@ -1,5 +1,5 @@
 -- The exchanges that the manager carries are those of one interface.
-use Rattle.std.proofs.Common.{◌≡◌, ◌≢◌, ℕ, suc, zero, Bool, true, List, [], ◌∷◌, Option, Some, None, refl, ap, sym}
+use Rattle.std.proofs.Common.{◌≡◌, ◌≢◌, ℕ, suc, zero, true, List, [], ◌∷◌, Option, Some, None, refl, ap, sym}
 use Rattle.std.proofs.Common.{subst, ◌∙◌}
 use Rattle.std.specs.Prelude.{slice_set, slice_get, is_some, IfSome}
 use Rattle.link_events.specs.declared.event.Loss.{Loss}
@@ -10,6 +10,7 @@ use Rattle.tdi_host.specs.Steps.{next_step}
 use Rattle.tdi_host.specs.Views.{HostTdi}
 use Rattle.tdi_host.specs.Managers.{InterfaceManagerView, CurrentInterface, current_interface, current_interface_in}
 use Rattle.tdi_host.specs.Managers.{current_by, interface_asking_after}
+use Rattle.tdi_device.specs.declared.said.StreamSaid.{StreamSaid}
 use Rattle.tdi_device.specs.Replies.{DeviceTdis}
 use Rattle.tdi_walks.specs.Operations.{walked_once, walking_on, continued_walk, interface_walk}
 use Rattle.tdi_ends.specs.Keepers.{Ended, IsInterfaceExchanged, interface_exchanged, ended_if_over, by_current}
@@ -54,104 +55,104 @@ set_twice (z ∷ xs) (suc p) x y = ap (λ zs. z ∷ zs) (set_twice xs p x y)
 
 -- ---- the walk
 
-abbrev next_current : Bool → Option Loss → InterfaceManagerView → DeviceTdis → CurrentInterface → CurrentInterface
-next_current secure loss m d c = record {
-  interface = (walked_once m.portion c.asking.draws secure loss (walking_at m c d)).interface;
+abbrev next_current : StreamSaid → Option Loss → InterfaceManagerView → DeviceTdis → CurrentInterface → CurrentInterface
+next_current said loss m d c = record {
+  interface = (walked_once m.portion c.asking.draws said loss (walking_at m c d)).interface;
   asking = record c.asking { step = next_step c.asking.step };
 }
 
-moved : (secure : Bool) (loss : Option Loss) (m : InterfaceManagerView) (d : DeviceTdis) (c : CurrentInterface)
-    → Stands m.interfaces m.asking c → (interface_exchanged secure loss m d c).outcome ≡ outcome.Next
-    → current_interface (interface_exchanged secure loss m d c).manager ≡ Some (next_current secure loss m d c)
-moved secure loss m d c s next =
-    ap (λ o. current_interface_in (interface_exchanged secure loss m d c).manager.interfaces
+moved : (said : StreamSaid) (loss : Option Loss) (m : InterfaceManagerView) (d : DeviceTdis) (c : CurrentInterface)
+    → Stands m.interfaces m.asking c → (interface_exchanged said loss m d c).outcome ≡ outcome.Next
+    → current_interface (interface_exchanged said loss m d c).manager ≡ Some (next_current said loss m d c)
+moved said loss m d c s next =
+    ap (λ o. current_interface_in (interface_exchanged said loss m d c).manager.interfaces
     (interface_asking_after c.asking o)) next
-    ∙ ap (current_by (next_current secure loss m d c).asking)
+    ∙ ap (current_by (next_current said loss m d c).asking)
     (set_get m.interfaces c.asking.place c.interface _ s.there)
 
-goes_by : (more : ℕ) (secure : Bool) (loss : Option Loss) (m : InterfaceManagerView) (d : DeviceTdis)
+goes_by : (more : ℕ) (said : StreamSaid) (loss : Option Loss) (m : InterfaceManagerView) (d : DeviceTdis)
     (c : CurrentInterface) (o : Outcome)
-    → Stands m.interfaces m.asking c → (interface_exchanged secure loss m d c).outcome ≡ o
-    → ((k : CurrentInterface) → current_interface (interface_exchanged secure loss m d c).manager ≡ Some k
-    → IsInterfaceWalked (interface_exchanged secure loss m d c).manager k
-    (interface_walk more m.portion k.asking.draws secure loss
-    (walking_at (interface_exchanged secure loss m d c).manager k (interface_exchanged secure loss m d c).device))
-    (manager_walk more secure loss (interface_exchanged secure loss m d c).manager
-    (interface_exchanged secure loss m d c).device))
-    → IsInterfaceWalked m c (continued_walk o (walked_once m.portion c.asking.draws secure loss (walking_at m c d))
-    (interface_walk more m.portion c.asking.draws secure loss
-    (walking_on c.asking.step (walked_once m.portion c.asking.draws secure loss (walking_at m c d)))))
-    (ended_if_over o (interface_exchanged secure loss m d c)
-    (manager_walk more secure loss (interface_exchanged secure loss m d c).manager
-    (interface_exchanged secure loss m d c).device))
-goes_by more secure loss m d c outcome.Next s is rest =
-    let w = rest (next_current secure loss m d c) (moved secure loss m d c s is) in
+    → Stands m.interfaces m.asking c → (interface_exchanged said loss m d c).outcome ≡ o
+    → ((k : CurrentInterface) → current_interface (interface_exchanged said loss m d c).manager ≡ Some k
+    → IsInterfaceWalked (interface_exchanged said loss m d c).manager k
+    (interface_walk more m.portion k.asking.draws said loss
+    (walking_at (interface_exchanged said loss m d c).manager k (interface_exchanged said loss m d c).device))
+    (manager_walk more said loss (interface_exchanged said loss m d c).manager
+    (interface_exchanged said loss m d c).device))
+    → IsInterfaceWalked m c (continued_walk o (walked_once m.portion c.asking.draws said loss (walking_at m c d))
+    (interface_walk more m.portion c.asking.draws said loss
+    (walking_on c.asking.step (walked_once m.portion c.asking.draws said loss (walking_at m c d)))))
+    (ended_if_over o (interface_exchanged said loss m d c)
+    (manager_walk more said loss (interface_exchanged said loss m d c).manager
+    (interface_exchanged said loss m d c).device))
+goes_by more said loss m d c outcome.Next s is rest =
+    let w = rest (next_current said loss m d c) (moved said loss m d c s is) in
     record {
       outcome_is = w.outcome_is;
       interfaces_are = w.interfaces_are ∙ set_twice m.interfaces c.asking.place _ _;
       read_is = w.read_is;
       device_is = w.device_is;
     }
-goes_by more secure loss m d c (outcome.Done shown) s is rest = record
+goes_by more said loss m d c (outcome.Done shown) s is rest = record
     { outcome_is = refl; interfaces_are = refl; read_is = refl; device_is = refl }
-goes_by more secure loss m d c (outcome.Refused refusal) s is rest = record
+goes_by more said loss m d c (outcome.Refused refusal) s is rest = record
     { outcome_is = refl; interfaces_are = refl; read_is = refl; device_is = refl }
 
 -- a step of the manager's walk
-walk_step : (more : ℕ) (secure : Bool) (loss : Option Loss) (m : InterfaceManagerView) (d : DeviceTdis)
+walk_step : (more : ℕ) (said : StreamSaid) (loss : Option Loss) (m : InterfaceManagerView) (d : DeviceTdis)
     (c : CurrentInterface) → current_interface m
     ≡ Some c
-    → manager_walk (suc more) secure loss m d ≡ ended_if_over (interface_exchanged secure loss m d c).outcome
-    (interface_exchanged secure loss m d c)
-    (manager_walk more secure loss (interface_exchanged secure loss m d c).manager
-    (interface_exchanged secure loss m d c).device)
+    → manager_walk (suc more) said loss m d ≡ ended_if_over (interface_exchanged said loss m d c).outcome
+    (interface_exchanged said loss m d c)
+    (manager_walk more said loss (interface_exchanged said loss m d c).manager
+    (interface_exchanged said loss m d c).device)
 unfolding manager_walk
-walk_step more secure loss m d c is = ap
-    (λ k. by_current k (λ c. ended_if_over (interface_exchanged secure loss m d c).outcome
-    (interface_exchanged secure loss m d c)
-    (manager_walk more secure loss (interface_exchanged secure loss m d c).manager
-    (interface_exchanged secure loss m d c).device))
+walk_step more said loss m d c is = ap
+    (λ k. by_current k (λ c. ended_if_over (interface_exchanged said loss m d c).outcome
+    (interface_exchanged said loss m d c)
+    (manager_walk more said loss (interface_exchanged said loss m d c).manager
+    (interface_exchanged said loss m d c).device))
     (record { outcome = outcome.Next; manager = m; device = d })) is
 
-walk_none : (secure : Bool) (loss : Option Loss) (m : InterfaceManagerView) (d : DeviceTdis)
+walk_none : (said : StreamSaid) (loss : Option Loss) (m : InterfaceManagerView) (d : DeviceTdis)
     → (let e : Ended = record { outcome = outcome.Next; manager = m; device = d } in e)
-    ≡ manager_walk zero secure loss m d
+    ≡ manager_walk zero said loss m d
 unfolding manager_walk
-walk_none secure loss m d = refl
+walk_none said loss m d = refl
 
 pub keeper_walks : KeepersWalk
-keeper_walks zero secure loss m d c is =
+keeper_walks zero said loss m d c is =
     let s = stands m.interfaces m.asking c is in
-    subst (λ e. IsInterfaceWalked m c (interface_walk zero m.portion c.asking.draws secure loss (walking_at m c d)) e)
-    (walk_none secure loss m d)
+    subst (λ e. IsInterfaceWalked m c (interface_walk zero m.portion c.asking.draws said loss (walking_at m c d)) e)
+    (walk_none said loss m d)
     (record {
       outcome_is = refl;
       interfaces_are = sym (set_same m.interfaces c.asking.place c.interface s.there);
       read_is = refl;
       device_is = refl;
     })
-keeper_walks (suc more) secure loss m d c is =
+keeper_walks (suc more) said loss m d c is =
     let s = stands m.interfaces m.asking c is in
     subst (λ e. IsInterfaceWalked m c
-    (interface_walk (suc more) m.portion c.asking.draws secure loss (walking_at m c d)) e)
-    (sym (walk_step more secure loss m d c is))
-    (goes_by more secure loss m d c (interface_exchanged secure loss m d c).outcome s refl
-    (λ k now. keeper_walks more secure loss (interface_exchanged secure loss m d c).manager
-    (interface_exchanged secure loss m d c).device k now))
+    (interface_walk (suc more) m.portion c.asking.draws said loss (walking_at m c d)) e)
+    (sym (walk_step more said loss m d c is))
+    (goes_by more said loss m d c (interface_exchanged said loss m d c).outcome s refl
+    (λ k now. keeper_walks more said loss (interface_exchanged said loss m d c).manager
+    (interface_exchanged said loss m d c).device k now))
 
 -- ---- the code's walk
 
 -- an exchange after which the operation goes on
-pub walks_on : (more : ℕ) (secure : Bool) (loss : Option Loss) (m : InterfaceManagerView) (d : DeviceTdis)
+pub walks_on : (more : ℕ) (said : StreamSaid) (loss : Option Loss) (m : InterfaceManagerView) (d : DeviceTdis)
     (e rest : Ended)
     (x : Option CurrentInterface) → current_interface m ≡ x → is_some x ≡ true
-    → IfSome x (λ c. IsInterfaceExchanged secure loss m d c e) → e.outcome ≡ outcome.Next → rest
-    ≡ manager_walk more secure loss e.manager e.device → rest ≡ manager_walk (suc more) secure loss m d
-walks_on more secure loss m d e rest None is some came next goes = absurd cc
-walks_on more secure loss m d e rest (Some c) is some came next goes =
-    goes ∙ sym (ap (λ o. ended_if_over o e (manager_walk more secure loss e.manager e.device)) next)
-    ∙ ap (λ (k : Ended). ended_if_over k.outcome k (manager_walk more secure loss k.manager k.device)) came.ends ∙ sym
-    (walk_step more secure loss m d c is)
+    → IfSome x (λ c. IsInterfaceExchanged said loss m d c e) → e.outcome ≡ outcome.Next → rest
+    ≡ manager_walk more said loss e.manager e.device → rest ≡ manager_walk (suc more) said loss m d
+walks_on more said loss m d e rest None is some came next goes = absurd cc
+walks_on more said loss m d e rest (Some c) is some came next goes =
+    goes ∙ sym (ap (λ o. ended_if_over o e (manager_walk more said loss e.manager e.device)) next)
+    ∙ ap (λ (k : Ended). ended_if_over k.outcome k (manager_walk more said loss k.manager k.device)) came.ends ∙ sym
+    (walk_step more said loss m d c is)
 
 stops_at : (o : Outcome) (now rest : Ended) → o ≢ outcome.Next → ended_if_over o now rest ≡ now
 stops_at outcome.Next now rest other = absurd (other refl)
@@ -159,12 +160,13 @@ stops_at (outcome.Done shown) now rest other = refl
 stops_at (outcome.Refused refusal) now rest other = refl
 
 -- one after which it is over
-pub walks_out : (more : ℕ) (secure : Bool) (loss : Option Loss) (m : InterfaceManagerView) (d : DeviceTdis) (e : Ended)
+pub walks_out : (more : ℕ) (said : StreamSaid) (loss : Option Loss) (m : InterfaceManagerView) (d : DeviceTdis)
+    (e : Ended)
     (x : Option CurrentInterface) → current_interface m ≡ x → is_some x ≡ true
-    → IfSome x (λ c. IsInterfaceExchanged secure loss m d c e) → e.outcome ≢ outcome.Next → e
-    ≡ manager_walk (suc more) secure loss m d
-walks_out more secure loss m d e None is some came other = absurd cc
-walks_out more secure loss m d e (Some c) is some came other =
-    sym (stops_at e.outcome e (manager_walk more secure loss e.manager e.device) other)
-    ∙ ap (λ (k : Ended). ended_if_over k.outcome k (manager_walk more secure loss k.manager k.device)) came.ends ∙ sym
-    (walk_step more secure loss m d c is)
+    → IfSome x (λ c. IsInterfaceExchanged said loss m d c e) → e.outcome ≢ outcome.Next → e
+    ≡ manager_walk (suc more) said loss m d
+walks_out more said loss m d e None is some came other = absurd cc
+walks_out more said loss m d e (Some c) is some came other =
+    sym (stops_at e.outcome e (manager_walk more said loss e.manager e.device) other)
+    ∙ ap (λ (k : Ended). ended_if_over k.outcome k (manager_walk more said loss k.manager k.device)) came.ends ∙ sym
+    (walk_step more said loss m d c is)

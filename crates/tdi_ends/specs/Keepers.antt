@@ -1,5 +1,5 @@
 -- The manager with all its interfaces, and the device, after the exchanges of an operation.
-use Rattle.std.specs.Prelude.{ℕ, zero, suc, ◌≡◌, Bool, length, Option, Some, None, slice_set}
+use Rattle.std.specs.Prelude.{ℕ, zero, suc, ◌≡◌, length, Option, Some, None, slice_set}
 use Rattle.ide_types.specs.declared.status.StreamStatus.{StreamStatus}
 use Rattle.link_events.specs.declared.event.Loss.{Loss}
 use Rattle.link_events.specs.declared.event.Lost.{Lost}
@@ -11,6 +11,7 @@ use Rattle.tdi_host.specs.Judging.{Judged}
 use Rattle.tdi_host.specs.Views.{HostTdi, interface_refusal_of}
 use Rattle.tdi_host.specs.Managers.{InterfaceManagerView, CurrentInterface, current_interface, current_exchange}
 use Rattle.tdi_host.specs.Managers.{begun_interface_manager, outcome_by, taken_interface_manager}
+use Rattle.tdi_device.specs.declared.said.StreamSaid.{StreamSaid}
 use Rattle.tdi_device.specs.Replies.{DeviceTdis}
 use Rattle.tdi_walks.specs.Exchanges.{judged_by_manager, device_as}
 use Rattle.key_laws.specs.Due.{lost_in}
@@ -28,25 +29,25 @@ abbrev pub lost_of : Option Loss → InterfaceManagerView → CurrentInterface �
 lost_of loss m c = lost_in loss (current_exchange m c)
 
 -- the judgement of what is carried
-abbrev pub judged_of : Bool → Option Loss → InterfaceManagerView → DeviceTdis → CurrentInterface → Judged
-judged_of secure loss m d c =
-    carried (lost_of loss m c) (judged_by_manager c.asking.step m.portion (length m.read.bytes) c.interface d secure)
+abbrev pub judged_of : StreamSaid → Option Loss → InterfaceManagerView → DeviceTdis → CurrentInterface → Judged
+judged_of said loss m d c =
+    carried (lost_of loss m c) (judged_by_manager c.asking.step m.portion (length m.read.bytes) c.interface d said)
 
-abbrev pub device_of : Bool → Option Loss → InterfaceManagerView → DeviceTdis → CurrentInterface → DeviceTdis
-device_of secure loss m d c =
-    reached (lost_of loss m c) d (device_as c.asking.step m.portion (length m.read.bytes) c.interface d secure)
+abbrev pub device_of : StreamSaid → Option Loss → InterfaceManagerView → DeviceTdis → CurrentInterface → DeviceTdis
+device_of said loss m d c =
+    reached (lost_of loss m c) d (device_as c.asking.step m.portion (length m.read.bytes) c.interface d said)
 
-abbrev pub interface_exchanged : Bool → Option Loss → InterfaceManagerView → DeviceTdis → CurrentInterface → Ended
-interface_exchanged secure loss m d c = record {
-  outcome = outcome_by m c (judged_of secure loss m d c);
-  manager = taken_interface_manager m c (judged_of secure loss m d c);
-  device = device_of secure loss m d c;
+abbrev pub interface_exchanged : StreamSaid → Option Loss → InterfaceManagerView → DeviceTdis → CurrentInterface → Ended
+interface_exchanged said loss m d c = record {
+  outcome = outcome_by m c (judged_of said loss m d c);
+  manager = taken_interface_manager m c (judged_of said loss m d c);
+  device = device_of said loss m d c;
 }
 
-pub record IsInterfaceExchanged (secure : Bool) (loss : Option Loss) (m : InterfaceManagerView) (d : DeviceTdis)
+pub record IsInterfaceExchanged (said : StreamSaid) (loss : Option Loss) (m : InterfaceManagerView) (d : DeviceTdis)
     (c : CurrentInterface)
     (e : Ended) : Type 0 where
-  pub ends : e ≡ interface_exchanged secure loss m d c
+  pub ends : e ≡ interface_exchanged said loss m d c
 
 -- ---- exchange after exchange
 
@@ -58,13 +59,13 @@ abbrev pub by_current : Option CurrentInterface → (CurrentInterface → Ended)
 by_current None asked rest = rest
 by_current (Some c) asked rest = asked c
 
-unfoldable pub manager_walk : (more : ℕ) → Bool → Option Loss → InterfaceManagerView → DeviceTdis → Ended
-manager_walk zero secure loss m d = record { outcome = outcome.Next; manager = m; device = d }
-manager_walk (suc more) secure loss m d =
+unfoldable pub manager_walk : (more : ℕ) → StreamSaid → Option Loss → InterfaceManagerView → DeviceTdis → Ended
+manager_walk zero said loss m d = record { outcome = outcome.Next; manager = m; device = d }
+manager_walk (suc more) said loss m d =
     by_current (current_interface m)
-    (λ c. ended_if_over (interface_exchanged secure loss m d c).outcome (interface_exchanged secure loss m d c)
-    (manager_walk more secure loss (interface_exchanged secure loss m d c).manager
-    (interface_exchanged secure loss m d c).device))
+    (λ c. ended_if_over (interface_exchanged said loss m d c).outcome (interface_exchanged said loss m d c)
+    (manager_walk more said loss (interface_exchanged said loss m d c).manager
+    (interface_exchanged said loss m d c).device))
     (record { outcome = outcome.Next; manager = m; device = d })
 
 -- ---- an operation
@@ -74,12 +75,12 @@ unless_refused (Some refusal) m d e = record { outcome = outcome.Refused refusal
 unless_refused None m d e = e
 
 -- the interface at this place is this one
-abbrev pub interface_operated : ℕ → InterfaceOp → StreamStatus → ℕ → Bool → Option Loss → InterfaceManagerView
+abbrev pub interface_operated : ℕ → InterfaceOp → StreamStatus → ℕ → StreamSaid → Option Loss → InterfaceManagerView
     → DeviceTdis → HostTdi
     → Ended
-interface_operated place op status draws secure loss m d i =
+interface_operated place op status draws said loss m d i =
     unless_refused (interface_refusal_of op status i) m d
-    (manager_walk 1140 secure loss (begun_interface_manager m place op status draws i) d)
+    (manager_walk 1140 said loss (begun_interface_manager m place op status draws i) d)
 
 -- ---- the law
 
@@ -95,8 +96,8 @@ pub record IsInterfaceWalked (m : InterfaceManagerView) (c : CurrentInterface) (
   pub device_is : e.device ≡ w.device
 
 abbrev pub KeepersWalk : Type 0
-KeepersWalk = (more : ℕ) (secure : Bool) (loss : Option Loss) (m : InterfaceManagerView) (d : DeviceTdis)
+KeepersWalk = (more : ℕ) (said : StreamSaid) (loss : Option Loss) (m : InterfaceManagerView) (d : DeviceTdis)
     (c : CurrentInterface)
     → current_interface m ≡ Some c
-    → IsInterfaceWalked m c (interface_walk more m.portion c.asking.draws secure loss (walking_at m c d))
-    (manager_walk more secure loss m d)
+    → IsInterfaceWalked m c (interface_walk more m.portion c.asking.draws said loss (walking_at m c d))
+    (manager_walk more said loss m d)

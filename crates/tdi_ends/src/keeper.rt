@@ -19,7 +19,7 @@ use ide_types::{Items, Memory, StreamStatus};
 use link_events::{Loss, Lost};
 use std::alloc::Global;
 use std::marker::Model;
-use tdi_device::{DeviceInterfaces, TDISP_REPLY_ROOM};
+use tdi_device::{DeviceInterfaces, StreamSaid, TDISP_REPLY_ROOM};
 use tdi_host::{InterfaceOp, Interfaces, Outcome};
 use tsm_host::Carried;
 
@@ -62,7 +62,7 @@ fn lost_at(loss: Option<Loss>, exchange: u32) -> Option<Lost>
 fn deliver(
     manager: &Interfaces,
     device: &mut DeviceInterfaces,
-    secure: bool,
+    said: StreamSaid,
     request: &mut Vec<u8>,
     reply: &mut Vec<u8>,
 )
@@ -70,20 +70,20 @@ fn deliver(
     requires request_room { 49 ≤ vec_capacity request.old }
     requires reply_room { 1200 ≤ vec_capacity reply.old }
     ensures device { IfSome (current_interface manager.now) (λ c. device.new ≡ answered device.old
-        (request_spelling (interface_request manager.now c)) secure) }
+        (request_spelling (interface_request manager.now c)) said) }
     ensures reply { IfSome (current_interface manager.now) (λ c. reply.new.items ≡ answer_bytes device.old
-        (request_spelling (interface_request manager.now c)) secure) }
+        (request_spelling (interface_request manager.now c)) said) }
     ensures request_room { 49 ≤ vec_capacity request.new }
     ensures reply_room { 1200 ≤ vec_capacity reply.new }
 {
     request.clear();
     manager.ask(request);
     reply.clear();
-    device.answer(request, secure, reply);
+    device.answer(request, said, reply);
 }
 
 impl InterfaceKeeper {
-    ghost use Rattle.tdi_host.specs.Managers.{stop_begun, stream_keyed, reset_interface_manager};
+    ghost use Rattle.tdi_host.specs.Managers.{stop_begun, peer_stop, stream_keyed, reset_interface_manager};
 
     /// A manager of the interfaces of these links, which are asked for `portion` bytes of a report at a time.
     pub fn make(
@@ -118,6 +118,14 @@ impl InterfaceKeeper {
         self.interfaces.stop_begun(link, stream);
     }
 
+    /// Notes an event of a stop of the stream between devices of this number: views that are Locked, Running or Doubt
+    /// of interfaces of which BIND_P2P to it was asked since LOCK_INTERFACE was become Broken.
+    pub fn peer_stop(&mut self, number: u8)
+        ensures { self.new ≡ peer_stop number self.old }
+    {
+        self.interfaces.peer_stop(number);
+    }
+
     /// Notes that an establish of a stream began with this draw, or that a refresh ended with it.
     pub fn stream_keyed(&mut self, link: u8, stream: u8, draw: u32)
         ensures { self.new ≡ stream_keyed link stream draw self.old }
@@ -136,11 +144,11 @@ impl InterfaceKeeper {
     fn exchange(
         &mut self,
         device: &mut DeviceInterfaces,
-        secure: bool,
+        said: StreamSaid,
         loss: Option<Loss>,
     ) -> Outcome
         requires { IsSome (current_interface self.old) }
-        ensures { IfSome (current_interface self.old) (λ c. IsInterfaceExchanged secure loss self.old device.old c
+        ensures { IfSome (current_interface self.old) (λ c. IsInterfaceExchanged said loss self.old device.old c
             (let e : Ended = record { outcome = result; manager = self.new; device = device.new } in e)) }
     {
         match lost_at(loss, self.interfaces.exchange()) {
@@ -148,7 +156,7 @@ impl InterfaceKeeper {
                 deliver(
                     &self.interfaces,
                     device,
-                    secure,
+                    said,
                     &mut self.request,
                     &mut self.reply,
                 );
@@ -159,7 +167,7 @@ impl InterfaceKeeper {
                 deliver(
                     &self.interfaces,
                     device,
-                    secure,
+                    said,
                     &mut self.request,
                     &mut self.reply,
                 );
@@ -174,11 +182,11 @@ impl InterfaceKeeper {
         &mut self,
         more: u16,
         device: &mut DeviceInterfaces,
-        secure: bool,
+        said: StreamSaid,
         loss: Option<Loss>,
     ) -> Outcome
         ensures { (let e : Ended = record { outcome = result; manager = self.new; device = device.new } in e)
-            ≡ manager_walk more secure loss self.old device.old }
+            ≡ manager_walk more said loss self.old device.old }
     {
         if more == 0 {
             return Outcome::Next;
@@ -186,33 +194,34 @@ impl InterfaceKeeper {
         if !self.interfaces.is_asking() {
             return Outcome::Next;
         }
-        match self.exchange(device, secure, loss) {
-            Outcome::Next => self.walk(more - 1, device, secure, loss),
+        match self.exchange(device, said, loss) {
+            Outcome::Next => self.walk(more - 1, device, said, loss),
             outcome => outcome,
         }
     }
 
     /// Begins an operation on an interface of the link with this device, and carries its exchanges until it is over, or
-    /// `loss` loses one. `status` is that of its bound stream at the host's port, `secure` says that the stream is
-    /// Secure at the device's, and `draws` were made so far.
+    /// `loss` loses one. `status` is that of its bound stream at the host's port, or of bind and unbind that of
+    /// the stream between devices as the manager of keys has it; `said` is what the device says of the stream that a
+    /// request names, and `draws` were made so far.
     pub fn operate(
         &mut self,
         device: &mut DeviceInterfaces,
         interface: usize,
         op: InterfaceOp,
         status: StreamStatus,
-        secure: bool,
+        said: StreamSaid,
         draws: u32,
         loss: Option<Loss>,
     ) -> Outcome
         requires { interface < length self.old.interfaces }
         ensures { IfSome (slice_get self.old.interfaces interface) (λ i.
             (let e : Ended = record { outcome = result; manager = self.new; device = device.new } in e)
-            ≡ interface_operated interface op status draws secure loss self.old device.old i) }
+            ≡ interface_operated interface op status draws said loss self.old device.old i) }
     {
         match self.interfaces.begin(interface, op, status, draws) {
             Err(refusal) => Outcome::Refused(refusal),
-            Ok(()) => self.walk(MOST_EXCHANGES, device, secure, loss),
+            Ok(()) => self.walk(MOST_EXCHANGES, device, said, loss),
         }
     }
 }

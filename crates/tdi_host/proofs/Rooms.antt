@@ -3,11 +3,12 @@ use Rattle.std.proofs.Common.{◌≡◌, ℕ, Bool, true, false, ◌==◌, List,
 use Rattle.std.specs.Prelude.{if◌then◌else◌}
 use Rattle.tdisp_codec.specs.declared.fault.TdispFault.{TdispFault}
 use Rattle.tdisp_codec.specs.Replies.{Reply, Version, Capabilities, LockInterface, DeviceInterfaceReport}
-use Rattle.tdisp_codec.specs.Replies.{DeviceInterfaceState, StartInterface, StopInterface, Error}
+use Rattle.tdisp_codec.specs.Replies.{DeviceInterfaceState, StartInterface, StopInterface, BindP2p, UnbindP2p, Error}
 use Rattle.tdi_host.specs.declared.step.Step.{Step}
 use Rattle.tdi_host.specs.declared.step.Step.TheVariants as step
 use Rattle.tdi_host.specs.Judging.{Judged, Passed, Nonce, State, Bad, HasRoom, is_portion, if_portion, version_in}
-use Rattle.tdi_host.specs.Judging.{capabilities_in, nonce_in, portion_in, start_in, halt_in, state_in, judged_as}
+use Rattle.tdi_host.specs.Judging.{capabilities_in, nonce_in, portion_in, start_in, halt_in, state_in, bind_in}
+use Rattle.tdi_host.specs.Judging.{unbind_in, judged_as}
 use Rattle.tdi_host.specs.Judging.{interface_reply_judged}
 
 fitting : (asked read : ℕ) (bytes : List ℕ) (remainder : ℕ) (fits : Bool)
@@ -29,6 +30,8 @@ version_room read function (DeviceInterfaceReport back m b) = tt
 version_room read function (DeviceInterfaceState back s) = tt
 version_room read function (StartInterface back) = tt
 version_room read function (StopInterface back) = tt
+version_room read function (BindP2p back) = tt
+version_room read function (UnbindP2p back) = tt
 version_room read function (Error back code value) = tt
 
 capabilities_room : (read function : ℕ) (r : Reply) → HasRoom read (capabilities_in function r)
@@ -39,6 +42,8 @@ capabilities_room read function (DeviceInterfaceReport back m b) = tt
 capabilities_room read function (DeviceInterfaceState back s) = tt
 capabilities_room read function (StartInterface back) = tt
 capabilities_room read function (StopInterface back) = tt
+capabilities_room read function (BindP2p back) = tt
+capabilities_room read function (UnbindP2p back) = tt
 capabilities_room read function (Error back code value) = tt
 
 nonce_room : (read function : ℕ) (r : Reply) → HasRoom read (nonce_in function r)
@@ -49,6 +54,8 @@ nonce_room read function (DeviceInterfaceReport back m b) = tt
 nonce_room read function (DeviceInterfaceState back s) = tt
 nonce_room read function (StartInterface back) = tt
 nonce_room read function (StopInterface back) = tt
+nonce_room read function (BindP2p back) = tt
+nonce_room read function (UnbindP2p back) = tt
 nonce_room read function (Error back code value) = tt
 
 start_room : (read function : ℕ) (r : Reply) → HasRoom read (start_in function r)
@@ -59,6 +66,8 @@ start_room read function (DeviceInterfaceReport back m b) = tt
 start_room read function (DeviceInterfaceState back s) = tt
 start_room read function (StartInterface back) = chosen read (back == function) Passed tt
 start_room read function (StopInterface back) = tt
+start_room read function (BindP2p back) = tt
+start_room read function (UnbindP2p back) = tt
 start_room read function (Error back code value) = tt
 
 halt_room : (read function : ℕ) (r : Reply) → HasRoom read (halt_in function r)
@@ -69,6 +78,8 @@ halt_room read function (DeviceInterfaceReport back m b) = tt
 halt_room read function (DeviceInterfaceState back s) = tt
 halt_room read function (StartInterface back) = tt
 halt_room read function (StopInterface back) = chosen read (back == function) Passed tt
+halt_room read function (BindP2p back) = tt
+halt_room read function (UnbindP2p back) = tt
 halt_room read function (Error back code value) = tt
 
 state_room : (read function : ℕ) (r : Reply) → HasRoom read (state_in function r)
@@ -79,7 +90,33 @@ state_room read function (DeviceInterfaceReport back m b) = tt
 state_room read function (DeviceInterfaceState back s) = chosen read (back == function) (State s) tt
 state_room read function (StartInterface back) = tt
 state_room read function (StopInterface back) = tt
+state_room read function (BindP2p back) = tt
+state_room read function (UnbindP2p back) = tt
 state_room read function (Error back code value) = tt
+
+bind_room : (read function : ℕ) (r : Reply) → HasRoom read (bind_in function r)
+bind_room read function (Version back versions) = tt
+bind_room read function (Capabilities back d q l w t a) = tt
+bind_room read function (LockInterface back nonce) = tt
+bind_room read function (DeviceInterfaceReport back m b) = tt
+bind_room read function (DeviceInterfaceState back s) = tt
+bind_room read function (StartInterface back) = tt
+bind_room read function (StopInterface back) = tt
+bind_room read function (BindP2p back) = chosen read (back == function) Passed tt
+bind_room read function (UnbindP2p back) = tt
+bind_room read function (Error back code value) = tt
+
+unbind_room : (read function : ℕ) (r : Reply) → HasRoom read (unbind_in function r)
+unbind_room read function (Version back versions) = tt
+unbind_room read function (Capabilities back d q l w t a) = tt
+unbind_room read function (LockInterface back nonce) = tt
+unbind_room read function (DeviceInterfaceReport back m b) = tt
+unbind_room read function (DeviceInterfaceState back s) = tt
+unbind_room read function (StartInterface back) = tt
+unbind_room read function (StopInterface back) = tt
+unbind_room read function (BindP2p back) = tt
+unbind_room read function (UnbindP2p back) = chosen read (back == function) Passed tt
+unbind_room read function (Error back code value) = tt
 
 portion_room : (asked read function : ℕ) (r : Reply) → HasRoom read (portion_in asked read function r)
 portion_room asked read function (Version back versions) = tt
@@ -90,6 +127,8 @@ portion_room asked read function (DeviceInterfaceReport back m b) = chosen read 
 portion_room asked read function (DeviceInterfaceState back s) = tt
 portion_room asked read function (StartInterface back) = tt
 portion_room asked read function (StopInterface back) = tt
+portion_room asked read function (BindP2p back) = tt
+portion_room asked read function (UnbindP2p back) = tt
 portion_room asked read function (Error back code value) = tt
 
 step_room : (s : Step) (function asked read : ℕ) (r : Reply) → HasRoom read (judged_as s function asked read r)
@@ -100,6 +139,8 @@ step_room step.Report function asked read r = portion_room asked read function r
 step_room step.Start function asked read r = start_room read function r
 step_room step.Halt function asked read r = halt_room read function r
 step_room step.State function asked read r = state_room read function r
+step_room (step.Bind peer) function asked read r = bind_room read function r
+step_room (step.Unbind peer) function asked read r = unbind_room read function r
 
 -- of any bytes
 pub reply_room : (s : Step) (function asked read : ℕ) (r : Result Reply TdispFault)

@@ -4,7 +4,7 @@ use Rattle.std.specs.Prelude.{Ok, Err}
 use Rattle.tdisp_codec.specs.declared.fault.TdispFault.{TdispFault}
 use Rattle.tdisp_codec.specs.Replies.{Reply, reply_reading}
 use Rattle.tdisp_codec.specs.Replies.{Version, Capabilities, LockInterface, DeviceInterfaceReport, DeviceInterfaceState}
-use Rattle.tdisp_codec.specs.Replies.{StartInterface, StopInterface, Error}
+use Rattle.tdisp_codec.specs.Replies.{StartInterface, StopInterface, BindP2p, UnbindP2p, Error}
 use Rattle.tsm_host.specs.declared.operation.Carried.{Carried}
 use Rattle.tsm_host.specs.declared.operation.Carried.TheVariants as carried
 use Rattle.tdi_host.specs.declared.judge.Answer.{Answer}
@@ -79,6 +79,14 @@ abbrev pub state_in : ℕ → Reply → Judged
 state_in function (DeviceInterfaceState back state) = if_same function back (State state)
 state_in function reply = error_judged reply
 
+abbrev pub bind_in : ℕ → Reply → Judged
+bind_in function (BindP2p back) = if_same function back Passed
+bind_in function reply = error_judged reply
+
+abbrev pub unbind_in : ℕ → Reply → Judged
+unbind_in function (UnbindP2p back) = if_same function back Passed
+unbind_in function reply = error_judged reply
+
 -- of an exchange with the interface of this function ID, if so many bytes of a portion are asked, and so many of the
 -- report were read before
 abbrev pub judged_as : Step → ℕ → ℕ → ℕ → Reply → Judged
@@ -89,6 +97,8 @@ judged_as step.Report function asked read reply = portion_in asked read function
 judged_as step.Start function asked read reply = start_in function reply
 judged_as step.Halt function asked read reply = halt_in function reply
 judged_as step.State function asked read reply = state_in function reply
+judged_as (step.Bind peer) function asked read reply = bind_in function reply
+judged_as (step.Unbind peer) function asked read reply = unbind_in function reply
 
 abbrev pub interface_reply_judged : Step → ℕ → ℕ → ℕ → Result Reply TdispFault → Judged
 interface_reply_judged s function asked read (Err fault) = Bad

@@ -15,7 +15,8 @@ use Rattle.tdi_host.specs.Steps.{Read, first_step, next_step, exchange_number}
 use Rattle.tdi_host.specs.Judging.{Judged, Portion, interface_judged}
 use Rattle.tdi_host.specs.Views.{HostTdi, new_interface, interface_refusal_of, interface_unless, step_request}
 use Rattle.tdi_host.specs.Views.{taken_interface, interface_outcome}
-use Rattle.tdi_host.specs.Views.{left_by_stop, left_by_reset, keyed_by, is_requester, is_granted, interface_grant}
+use Rattle.tdi_host.specs.Views.{left_by_stop, left_by_peer_stop, left_by_reset, keyed_by, is_requester, is_granted}
+use Rattle.tdi_host.specs.Views.{interface_grant}
 
 -- The interfaces of all links, in the order of the links and of each link's interfaces; how many bytes of a report one
 -- portion asks for; the exchange that is to be asked and taken; what was read of a report.
@@ -114,6 +115,9 @@ all_interfaces f m = record m { interfaces = map f m.interfaces; asking = None }
 
 abbrev pub stop_begun : ℕ → ℕ → InterfaceManagerView → InterfaceManagerView
 stop_begun link stream m = all_interfaces (left_by_stop link stream) m
+
+abbrev pub peer_stop : ℕ → InterfaceManagerView → InterfaceManagerView
+peer_stop number m = all_interfaces (left_by_peer_stop number) m
 
 abbrev pub stream_keyed : ℕ → ℕ → ℕ → InterfaceManagerView → InterfaceManagerView
 stream_keyed link stream draw m = all_interfaces (keyed_by link stream draw) m

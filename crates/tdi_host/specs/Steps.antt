@@ -11,6 +11,8 @@ first_step op.Report = step.Report
 first_step op.Start = step.Start
 first_step op.Halt = step.Halt
 first_step op.State = step.State
+first_step (op.Bind peer) = step.Bind peer
+first_step (op.Unbind peer) = step.Unbind peer
 
 -- GET_VERSION, GET_CAPABILITIES and LOCK_INTERFACE in turn; portion after portion
 abbrev pub next_step : Step → Step

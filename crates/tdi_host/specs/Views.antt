@@ -1,5 +1,6 @@
 -- The manager's views of interfaces, and what moves them (this profile).
-use Rattle.std.specs.Prelude.{ℕ, Bool, true, false, ◌&&◌, nat_lt, ◌==◌, List, replicate, Option, Some, None, Result, Ok}
+use Rattle.std.specs.Prelude.{ℕ, Bool, true, false, ◌&&◌, nat_lt, ◌==◌, List, replicate, slice_get, slice_set}
+use Rattle.std.specs.Prelude.{unwrap_or, Option, Some, None, Result, Ok}
 use Rattle.std.specs.Prelude.{Err, if◌then◌else◌}
 use Rattle.ide_types.specs.declared.status.StreamStatus.{StreamStatus}
 use Rattle.ide_types.specs.declared.status.StreamStatus.TheVariants as status
@@ -59,7 +60,7 @@ floor_of s = None
 
 -- Its link's number, its requester ID, the ID of its bound stream, the flags and the offset of its lock requests; the
 -- draw of that stream; the least draw that a start wants; whether START_INTERFACE was asked since LOCK_INTERFACE was
--- asked last; the view.
+-- asked last; the view; of each stream between devices, whether BIND_P2P was asked since LOCK_INTERFACE was.
 pub record HostTdi : Type 0 where
   pub link : ℕ
   pub requester : ℕ
@@ -70,6 +71,7 @@ pub record HostTdi : Type 0 where
   pub needs : ℕ
   pub was_started : Bool
   pub seen : Seen
+  pub asked : List Bool
 
 abbrev pub new_interface : ℕ → InterfacePlan → HostTdi
 new_interface link plan = record {
@@ -82,6 +84,7 @@ new_interface link plan = record {
   needs = 0;
   was_started = false;
   seen = IsUnlocked;
+  asked = replicate 8 false;
 }
 
 -- ---- begin: refusals, in order
@@ -107,13 +110,21 @@ start_refusal s draw needs (IsLocked nonce is_reported) =
     if is_reported then interface_unless_secure s (key_refusal draw needs) else Some NotReported
 start_refusal s draw needs v = Some (WrongState (view_of v))
 
--- if its stream has this status at the host's port
+-- of a stream between devices with this status and draw
+abbrev pub bind_refusal : StreamStatus → ℕ → ℕ → Seen → Option Refusal
+bind_refusal s draw needs (IsLocked nonce is_reported) = interface_unless_secure s (key_refusal draw needs)
+bind_refusal s draw needs (IsRunning floor) = interface_unless_secure s (key_refusal draw needs)
+bind_refusal s draw needs v = Some (WrongState (view_of v))
+
+-- if its stream has this status at the host's port; of bind, if the manager of keys has the stream so
 abbrev pub interface_refusal_of : InterfaceOp → StreamStatus → HostTdi → Option Refusal
 interface_refusal_of op.Lock s i = lock_refusal s i.seen
 interface_refusal_of op.Report s i = report_refusal i.seen
 interface_refusal_of op.Start s i = start_refusal s i.draw i.needs i.seen
 interface_refusal_of op.Halt s i = None
 interface_refusal_of op.State s i = None
+interface_refusal_of (op.Bind peer) s i = bind_refusal s peer.draw i.needs i.seen
+interface_refusal_of (op.Unbind peer) s i = report_refusal i.seen
 
 abbrev pub interface_ok_unless : Option Refusal → Result (Unit {0}) Refusal
 interface_ok_unless None = Ok tt
@@ -136,6 +147,8 @@ step_request step.Report portion read i = request.GetDeviceInterfaceReport i.req
 step_request step.Start portion read i = request.StartInterface i.requester (nonce_of i.seen)
 step_request step.Halt portion read i = request.StopInterface i.requester
 step_request step.State portion read i = request.GetDeviceInterfaceState i.requester
+step_request (step.Bind peer) portion read i = request.BindP2p i.requester peer.id
+step_request (step.Unbind peer) portion read i = request.UnbindP2p i.requester peer.id
 
 -- ---- take: the view
 
@@ -190,6 +203,8 @@ seen_after step.Report draw judged v = after_report judged v
 seen_after step.Start draw judged v = seen_after_start draw judged v
 seen_after step.Halt draw judged v = after_halt judged v
 seen_after step.State draw judged v = after_state judged v
+seen_after (step.Bind peer) draw judged v = v
+seen_after (step.Unbind peer) draw judged v = v
 
 -- ---- take: the key that a start wants
 
@@ -204,11 +219,19 @@ abbrev pub needs_after : Step → ℕ → Judged → Bool → ℕ → ℕ
 needs_after step.Halt draws Passed was_started needs = if was_started then draws else needs
 needs_after s draws judged was_started needs = needs
 
+-- ---- take: the streams between devices whose BIND_P2P was asked since LOCK_INTERFACE was, after this exchange
+
+abbrev pub asked_after : Step → List Bool → List Bool
+asked_after step.Lock asked = replicate 8 false
+asked_after (step.Bind peer) asked = slice_set asked peer.number true
+asked_after s asked = asked
+
 abbrev pub taken_interface : Step → ℕ → Judged → HostTdi → HostTdi
 taken_interface s draws judged i = record i {
   needs = needs_after s draws judged i.was_started i.needs;
   was_started = was_started_after s i.was_started;
   seen = seen_after s i.draw judged i.seen;
+  asked = asked_after s i.asked;
 }
 
 -- ---- take: its outcome
@@ -244,6 +267,14 @@ abbrev pub state_outcome : ℕ → Judged → Outcome
 state_outcome exchange (State code) = outcome.Done (shown.State code)
 state_outcome exchange judged = cut_outcome exchange judged
 
+abbrev pub bind_outcome : ℕ → ℕ → Judged → Outcome
+bind_outcome exchange number Passed = outcome.Done (shown.Bound number)
+bind_outcome exchange number judged = cut_outcome exchange judged
+
+abbrev pub unbind_outcome : ℕ → ℕ → Judged → Outcome
+unbind_outcome exchange number Passed = outcome.Done (shown.Unbound number)
+unbind_outcome exchange number judged = cut_outcome exchange judged
+
 -- `after` is the interface after the exchange
 abbrev pub interface_outcome : Step → ℕ → Judged → HostTdi → Outcome
 interface_outcome step.Version exchange judged after = next_or_cut exchange judged
@@ -253,6 +284,8 @@ interface_outcome step.Report exchange judged after = report_outcome exchange ju
 interface_outcome step.Start exchange judged after = start_outcome exchange after.draw judged
 interface_outcome step.Halt exchange judged after = halt_outcome exchange after.needs judged
 interface_outcome step.State exchange judged after = state_outcome exchange judged
+interface_outcome (step.Bind peer) exchange judged after = bind_outcome exchange peer.number judged
+interface_outcome (step.Unbind peer) exchange judged after = unbind_outcome exchange peer.number judged
 
 -- ---- what breaks views
 
@@ -267,6 +300,13 @@ is_bound_to link stream i = (i.link == link) && (i.stream == stream)
 -- a stop of this stream began
 abbrev pub left_by_stop : ℕ → ℕ → HostTdi → HostTdi
 left_by_stop link stream i = if is_bound_to link stream i then record i { seen = broken i.seen } else i
+
+abbrev pub is_asked : ℕ → List Bool → Bool
+is_asked number asked = unwrap_or (slice_get asked number) false
+
+-- an event of a stop of the stream between devices of this number
+abbrev pub left_by_peer_stop : ℕ → HostTdi → HostTdi
+left_by_peer_stop number i = if is_asked number i.asked then record i { seen = broken i.seen } else i
 
 -- this is the stream's draw from now on
 abbrev pub keyed_by : ℕ → ℕ → ℕ → HostTdi → HostTdi

@@ -1,6 +1,6 @@
 //! An interface, for the manager.
 
-ghost use Rattle.std.specs.Prelude.{◌≡◌, Some, None};
+ghost use Rattle.std.specs.Prelude.{◌≡◌, Some, None, slice_set, true};
 ghost use Rattle.tdi_host.specs.Judging.{answer_shown};
 ghost use Rattle.tdi_host.specs.Views.{
   interface_unless_secure,
@@ -10,6 +10,7 @@ ghost use Rattle.tdi_host.specs.Views.{
   lock_outcome,
   report_outcome,
 };
+ghost use Rattle.tdi_host.specs.Views.{bind_outcome, unbind_outcome, asked_after};
 ghost use Rattle.tdi_host.specs.Views.{start_outcome, halt_outcome, state_outcome, was_started_after, needs_after};
 
 use crate::judge::Answer;
@@ -34,6 +35,7 @@ pub(crate) struct HostInterface {
     needs: u32,
     was_started: bool,
     standing: Standing,
+    asked: [bool; 8],
 }
 
 impl Model for HostInterface {
@@ -51,6 +53,7 @@ impl Model for HostInterface {
       needs = i.needs;
       was_started = i.was_started;
       seen = seen i.standing;
+      asked = i.asked;
     } };
 }
 
@@ -145,6 +148,44 @@ fn state_outcome(exchange: u32, answer: Answer) -> Outcome
     }
 }
 
+fn bind_outcome(exchange: u32, number: u8, answer: Answer) -> Outcome
+    ensures { result ≡ bind_outcome exchange number (answer_shown answer.entry) }
+{
+    match answer {
+        Answer::Passed => Outcome::Done(Shown::Bound(number)),
+        _ => cut(exchange, answer),
+    }
+}
+
+fn unbind_outcome(exchange: u32, number: u8, answer: Answer) -> Outcome
+    ensures { result ≡ unbind_outcome exchange number (answer_shown answer.entry) }
+{
+    match answer {
+        Answer::Passed => Outcome::Done(Shown::Unbound(number)),
+        _ => cut(exchange, answer),
+    }
+}
+
+// Notes that this one is true, if there is such a one.
+fn set(asked: &mut [bool; 8], number: u8)
+    ensures { asked.new ≡ slice_set asked.old number true }
+{
+    if (number as usize) < asked.len() {
+        asked[number as usize] = true;
+    }
+}
+
+// Of which streams between devices BIND_P2P was asked since LOCK_INTERFACE was, after this exchange.
+fn ask(step: Step, asked: &mut [bool; 8])
+    ensures { asked.new ≡ asked_after step asked.old }
+{
+    match step {
+        Step::Lock => *asked = [false; 8],
+        Step::Bind(peer) => set(asked, peer.number),
+        _ => {}
+    }
+}
+
 // Whether START_INTERFACE was asked since LOCK_INTERFACE was, after this exchange.
 fn was_started_after(step: Step, was_started: bool) -> bool
     ensures { result ≡ was_started_after step was_started }
@@ -172,6 +213,7 @@ impl HostInterface {
       lock_refusal,
       report_refusal,
       start_refusal,
+      bind_refusal,
       interface_refusal_of,
       step_request,
       taken_interface,
@@ -179,6 +221,8 @@ impl HostInterface {
       view_of,
       is_bound_to,
       left_by_stop,
+      left_by_peer_stop,
+      is_asked,
       keyed_by,
       left_by_reset,
       is_requester,
@@ -201,6 +245,7 @@ impl HostInterface {
             needs: 0,
             was_started: false,
             standing: Standing::new(),
+            asked: [false; 8],
         }
     }
 
@@ -257,6 +302,17 @@ impl HostInterface {
         }
     }
 
+    fn bind_refusal(&self, status: StreamStatus, draw: u32) -> Option<Refusal>
+        ensures { result ≡ bind_refusal status draw self.now.needs self.now.seen }
+    {
+        match &self.standing {
+            Standing::Locked(_) | Standing::Running(_) => {
+                unless_secure(status, key_refusal(draw, self.needs))
+            }
+            standing => Some(Refusal::WrongState(standing.view())),
+        }
+    }
+
     fn start_refusal(&self, status: StreamStatus) -> Option<Refusal>
         ensures { result ≡ start_refusal status self.now.draw self.now.needs self.now.seen }
     {
@@ -272,7 +328,8 @@ impl HostInterface {
         }
     }
 
-    /// Why an operation does not begin, if the bound stream has this status at the host's port; `None` if it begins.
+    /// Why an operation does not begin, if the bound stream has this status at the host's port, or of bind the stream
+    /// between devices as the manager of keys has it; `None` if it begins.
     pub(crate) fn refusal(&self, op: InterfaceOp, status: StreamStatus) -> Option<Refusal>
         ensures { result ≡ interface_refusal_of op status self.now }
     {
@@ -281,6 +338,8 @@ impl HostInterface {
             InterfaceOp::Report => self.report_refusal(),
             InterfaceOp::Start => self.start_refusal(status),
             InterfaceOp::Halt | InterfaceOp::State => None,
+            InterfaceOp::Bind(peer) => self.bind_refusal(status, peer.draw),
+            InterfaceOp::Unbind(_) => self.report_refusal(),
         }
     }
 
@@ -295,6 +354,8 @@ impl HostInterface {
             Step::Start => start_outcome(exchange, self.draw, answer),
             Step::Halt => halt_outcome(exchange, self.needs, answer),
             Step::State => state_outcome(exchange, answer),
+            Step::Bind(peer) => bind_outcome(exchange, peer.number, answer),
+            Step::Unbind(peer) => unbind_outcome(exchange, peer.number, answer),
         }
     }
 
@@ -306,6 +367,7 @@ impl HostInterface {
         self.standing = standing.after(step, self.draw, answer);
         self.needs = needs_after(step, draws, answer, self.was_started, self.needs);
         self.was_started = was_started_after(step, self.was_started);
+        ask(step, &mut self.asked);
     }
 
     fn is_bound(&self, link: u8, stream: u8) -> bool
@@ -326,6 +388,21 @@ impl HostInterface {
         ensures { self.new ≡ left_by_stop link stream self.old }
     {
         if self.is_bound(link, stream) {
+            self.leave();
+        }
+    }
+
+    fn is_asked(&self, number: u8) -> bool
+        ensures { result ≡ is_asked number self.now.asked }
+    {
+        self.asked.get(number as usize).copied().unwrap_or(false)
+    }
+
+    /// An event of a stop of the stream between devices of this number.
+    pub(crate) fn peer_stop(&mut self, number: u8)
+        ensures { self.new ≡ left_by_peer_stop number self.old }
+    {
+        if self.is_asked(number) {
             self.leave();
         }
     }
@@ -398,6 +475,14 @@ impl HostInterface {
             },
             Step::Halt => RequestView::StopInterface { function },
             Step::State => RequestView::GetDeviceInterfaceState { function },
+            Step::Bind(peer) => RequestView::BindP2p {
+                function,
+                stream: peer.id,
+            },
+            Step::Unbind(peer) => RequestView::UnbindP2p {
+                function,
+                stream: peer.id,
+            },
         }
     }
 }

@@ -8,6 +8,7 @@ ghost use Rattle.tdi_host.specs.Views.{
   interface_ok_unless,
   interface_refusal_of,
   left_by_stop,
+  left_by_peer_stop,
   keyed_by,
   left_by_reset,
 };
@@ -95,6 +96,14 @@ fn stop_all(interfaces: &mut Vec<HostInterface>, link: u8, stream: u8)
     }
 }
 
+fn stop_peer(interfaces: &mut Vec<HostInterface>, number: u8)
+    ensures { interfaces.new.items ≡ map (left_by_peer_stop number) interfaces.old.items }
+{
+    for interface in interfaces.iter_mut() {
+        interface.peer_stop(number);
+    }
+}
+
 fn key_all(interfaces: &mut Vec<HostInterface>, link: u8, stream: u8, draw: u32)
     ensures { interfaces.new.items ≡ map (keyed_by link stream draw) interfaces.old.items }
 {
@@ -123,6 +132,7 @@ impl Interfaces {
       outcome_by,
       taken_interface_manager,
       stop_begun,
+      peer_stop,
       stream_keyed,
       reset_interface_manager,
       granted,
@@ -229,9 +239,11 @@ impl Interfaces {
     }
 
     /// Begins an operation on an interface; `status` is that of its bound stream at the host's port of its link, Idle
-    /// if the port has no such stream, and `draws` were made so far. Refused, in this order: of lock WrongState unless
-    /// Unlocked, NotSecure; of report WrongState unless Locked or Running; of start WrongState unless Locked,
-    /// NotReported, NotSecure, RefreshFirst. A refusal changes nothing.
+    /// if the port has no such stream, or of bind and unbind that of the stream between devices, Secure if the manager
+    /// of keys has it up, Idle if it has no keys, else Partial; and `draws` were made so far. Refused, in this order:
+    /// of lock WrongState unless Unlocked, NotSecure; of report WrongState unless Locked or Running; of start
+    /// WrongState unless Locked, NotReported, NotSecure, RefreshFirst; of bind WrongState unless Locked or Running,
+    /// NotSecure, RefreshFirst; of unbind WrongState unless Locked or Running. A refusal changes nothing.
     pub fn begin(
         &mut self,
         interface: usize,
@@ -333,6 +345,15 @@ impl Interfaces {
         ensures { self.new ≡ stop_begun link stream self.old }
     {
         stop_all(&mut self.interfaces, link, stream);
+        self.asking = None;
+    }
+
+    /// Notes an event of a stop of the stream between devices of this number: views that are Locked, Running or Doubt
+    /// of interfaces of which BIND_P2P to it was asked since LOCK_INTERFACE was become Broken.
+    pub fn peer_stop(&mut self, number: u8)
+        ensures { self.new ≡ peer_stop number self.old }
+    {
+        stop_peer(&mut self.interfaces, number);
         self.asking = None;
     }
 

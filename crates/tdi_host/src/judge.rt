@@ -4,7 +4,7 @@ ghost use Rattle.std.specs.Prelude.{◌≡◌, ◌+◌, ◌≤◌, length};
 ghost use Rattle.tdisp_codec.specs.Replies.{reply_shown, reply_answer, reply_reading};
 ghost use Rattle.tdi_host.specs.Judging.{answer_shown, if_same, error_judged, version_in, capabilities_in, nonce_in};
 ghost use Rattle.tdi_host.specs.Judging.{is_portion, if_portion, portion_in, start_in, halt_in, state_in, judged_as};
-ghost use Rattle.tdi_host.specs.Judging.{interface_reply_judged, interface_judged, HasRoom};
+ghost use Rattle.tdi_host.specs.Judging.{bind_in, unbind_in, interface_reply_judged, interface_judged, HasRoom};
 
 use crate::step::Step;
 use tdisp_codec::{ReplyView, reply_read};
@@ -139,6 +139,24 @@ fn state<'a>(function: u32, reply: ReplyView<'a>) -> Answer<'a>
     }
 }
 
+fn bind<'a>(function: u32, reply: ReplyView<'a>) -> Answer<'a>
+    ensures { answer_shown result ≡ bind_in function (reply_shown reply.entry) }
+{
+    match reply {
+        ReplyView::BindP2p { function: back } => if_same(function, back, Answer::Passed),
+        _ => refusal(reply),
+    }
+}
+
+fn unbind<'a>(function: u32, reply: ReplyView<'a>) -> Answer<'a>
+    ensures { answer_shown result ≡ unbind_in function (reply_shown reply.entry) }
+{
+    match reply {
+        ReplyView::UnbindP2p { function: back } => if_same(function, back, Answer::Passed),
+        _ => refusal(reply),
+    }
+}
+
 fn of_step<'a>(
     step: Step,
     function: u32,
@@ -157,6 +175,8 @@ fn of_step<'a>(
         Step::Start => start(function, reply),
         Step::Halt => halt(function, reply),
         Step::State => state(function, reply),
+        Step::Bind(_) => bind(function, reply),
+        Step::Unbind(_) => unbind(function, reply),
     }
 }
 

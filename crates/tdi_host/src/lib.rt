@@ -1,5 +1,5 @@
-//! The host's manager of device interfaces: lock, report, start, halt and state, exchange by exchange (TDISP, PCI
-//! Express Base 6.0 with the ECN's chapter 11, in this profile).
+//! The host's manager of device interfaces: lock, report, start, halt, state, bind and unbind, exchange by exchange
+//! (TDISP, PCI Express Base 6.0 with the ECN's chapter 11, in this profile).
 //!
 //! One manager serves the interfaces of all links. An operation begins with `begin`; then each exchange is asked with
 //! `ask`, carried to the device or lost, and taken with `take`. Operations begin anew each time. Only
@@ -16,6 +16,6 @@ mod step;
 mod tdi;
 
 pub use interfaces::Interfaces;
-pub use operation::{InterfaceOp, Outcome, Refusal, Shown, View};
+pub use operation::{InterfaceOp, Outcome, PeerStream, Refusal, Shown, View};
 pub use step::Step;
 pub use tdi::{Broken, Doubt, Locked, Running, Tdi, Unlocked};

@@ -15,6 +15,21 @@ pub enum InterfaceOp {
     Halt,
     /// Asks for the state of the interface.
     State,
+    /// Binds the interface to a stream between its device and another.
+    Bind(PeerStream),
+    /// Ends that binding.
+    Unbind(PeerStream),
+}
+
+/// A stream between two devices, as the manager of keys has it (this profile).
+#[derive(Clone, Copy, PartialEq, Eq)]
+pub struct PeerStream {
+    /// Its number among those between devices, below 8.
+    pub number: u8,
+    /// Its ID.
+    pub id: u8,
+    /// Its draw.
+    pub draw: u32,
 }
 
 /// What the manager knows of an interface (this profile). The device may leave a lock by itself, so this is the
@@ -55,6 +70,10 @@ pub enum Shown {
     Needs(u32),
     /// Of state: the device's state, by its code.
     State(u8),
+    /// Of bind: the interface is bound to the stream between devices of this number.
+    Bound(u8),
+    /// Of unbind: it is no longer bound to it.
+    Unbound(u8),
 }
 
 /// Why an operation does not begin, or is over before its end (this profile). Exchanges are numbered from 1.
@@ -64,9 +83,10 @@ pub enum Refusal {
     WrongState(View),
     /// Of start: the report was not read since the lock.
     NotReported,
-    /// The bound stream is not Secure at the host's port, and what it is there.
+    /// The stream is not Secure, and what it is: the bound one at the host's port, one between devices as the manager
+    /// of keys has it.
     NotSecure(StreamStatus),
-    /// Of start: the draw of the bound stream, and the least one that is wanted.
+    /// Of start and bind: the draw of the stream, and the least one that is wanted.
     RefreshFirst(u32, u32),
     /// The request or the reply of this exchange was lost.
     SessionLost(u32),

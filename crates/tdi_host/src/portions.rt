@@ -99,7 +99,7 @@ impl Portions {
             Step::Capabilities => 2,
             Step::Lock => 3,
             Step::Report => self.count + 1,
-            Step::Start | Step::Halt | Step::State => 1,
+            Step::Start | Step::Halt | Step::State | Step::Bind(_) | Step::Unbind(_) => 1,
         }
     }
 }

@@ -185,7 +185,7 @@ impl Standing {
         ensures { seen result ≡ seen_after step draw (answer_shown answer.entry) (seen self) }
     {
         match step {
-            Step::Version | Step::Capabilities => self,
+            Step::Version | Step::Capabilities | Step::Bind(_) | Step::Unbind(_) => self,
             Step::Lock => self.after_lock(answer),
             Step::Report => self.after_report(answer),
             Step::Start => self.after_start(draw, answer),

@@ -3,7 +3,7 @@
 ghost use Rattle.std.specs.Prelude.{◌≡◌};
 ghost use Rattle.tdi_host.specs.Steps.{first_step, exchange_number};
 
-use crate::operation::InterfaceOp;
+use crate::operation::{InterfaceOp, PeerStream};
 
 /// An exchange with the device: lock has three, report as many as the report has portions, each other operation one
 /// (TDISP section 11.3).
@@ -16,6 +16,8 @@ pub enum Step {
     Start,
     Halt,
     State,
+    Bind(PeerStream),
+    Unbind(PeerStream),
 }
 
 /// The first exchange of an operation.
@@ -28,6 +30,8 @@ pub(crate) fn first_step(op: InterfaceOp) -> Step
         InterfaceOp::Start => Step::Start,
         InterfaceOp::Halt => Step::Halt,
         InterfaceOp::State => Step::State,
+        InterfaceOp::Bind(peer) => Step::Bind(peer),
+        InterfaceOp::Unbind(peer) => Step::Unbind(peer),
     }
 }
 

@@ -12,7 +12,9 @@ use Rattle.tdi_state.specs.Bars.{any_overlap, bars_of}
 use Rattle.tdi_state.specs.Machine.{lock_of, Tdi, is_unlocked, lock_flags, are_lock_flags, is_page, nonce_answer}
 use Rattle.tdi_state.specs.Machine.{lock_answer, new_lock, locked_with, after_start, after_change, LockInterface}
 use Rattle.tdi_state.specs.Machine.{StartInterface, StopInterface, WriteRegister, LevelReset, FirmwareUpdate}
-use Rattle.tdi_state.specs.Machine.{StreamLeft, LinkReset}
+use Rattle.tdi_state.specs.Machine.{StreamLeft, LinkReset, BindStream, UnbindStream, bind_answer}
+use Rattle.tdi_state.specs.Machine.{unbind_answer}
+use Rattle.tdi_state.proofs.Bound.{bound_state, unbound_state}
 use Rattle.tdi_state.specs.Laws.{EntersLock, LockIsEntered, EntersRun, RunIsEntered}
 
 is_unlocked-true : (state : TdiState) → is_unlocked state ≡ true → state ≡ ConfigUnlocked
@@ -68,12 +70,17 @@ enters tdi flags stream offset secure drawn lock nonce is new =
 -- call by call: no other call than LOCK_INTERFACE ends in CONFIG_LOCKED if it did not begin there
 pub lock_is_entered : LockIsEntered
 lock_is_entered tdi (LockInterface flags stream offset secure drawn) lock nonce e =
-    elim (locked_state tdi lock (new_lock tdi flags stream offset) nonce (lock_answer tdi flags offset secure drawn) e) [
+    elim (locked_state tdi lock (new_lock tdi flags stream offset) nonce
+    (lock_answer tdi flags offset secure drawn) e) [
       | inl stands ↦ inl stands
       | inr entered ↦ inr (enters tdi flags stream offset secure drawn lock nonce entered.0 entered.1)
     ]
 lock_is_entered tdi (StartInterface asked) lock nonce e = inl (started_locked tdi.state asked nonce lock e)
 lock_is_entered tdi StopInterface lock nonce e = cc
+lock_is_entered tdi (BindStream stream live) lock nonce e =
+    inl (sym (bound_state tdi stream (bind_answer tdi stream live)) ∙ e)
+lock_is_entered tdi (UnbindStream stream) lock nonce e =
+    inl (sym (unbound_state tdi stream (unbind_answer tdi stream)) ∙ e)
 lock_is_entered tdi (WriteRegister register value) lock nonce e =
     inl (stood (changes_listed (lock_flags tdi.state) tdi.registers register value) tdi.state (ConfigLocked lock nonce)
     lock refl e)
@@ -107,6 +114,10 @@ run_is_entered tdi (LockInterface flags stream offset secure drawn) lock e =
     inl (locked_run tdi lock (new_lock tdi flags stream offset) (lock_answer tdi flags offset secure drawn) e)
 run_is_entered tdi (StartInterface nonce) lock e = started_run tdi tdi.state nonce lock refl e
 run_is_entered tdi StopInterface lock e = cc
+run_is_entered tdi (BindStream stream live) lock e =
+    inl (sym (bound_state tdi stream (bind_answer tdi stream live)) ∙ e)
+run_is_entered tdi (UnbindStream stream) lock e =
+    inl (sym (unbound_state tdi stream (unbind_answer tdi stream)) ∙ e)
 run_is_entered tdi (WriteRegister register value) lock e =
     inl (stood (changes_listed (lock_flags tdi.state) tdi.registers register value) tdi.state (Run lock) lock refl e)
 run_is_entered tdi LevelReset lock e = inl (stood true tdi.state (Run lock) lock refl e)

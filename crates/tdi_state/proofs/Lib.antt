@@ -1,3 +1,4 @@
+pub mod Bound
 pub mod BarRanges
 pub mod KeptReports
 pub mod ListedParts

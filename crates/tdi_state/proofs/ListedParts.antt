@@ -14,7 +14,8 @@ use Rattle.tdi_state.specs.declared.states.TdiState.TheVariants.{ConfigUnlocked,
 use Rattle.tdi_state.specs.RegisterValues.{IsAmongSix, planned, with_value, has_bit, Listed, listed, changes_listed}
 use Rattle.tdi_state.specs.Machine.{Tdi, KeepsListed, lock_of, lock_flags, after_change, after_failure, after_start}
 use Rattle.tdi_state.specs.Machine.{lock_answer, new_lock, locked_with, LockInterface, StartInterface, StopInterface}
-use Rattle.tdi_state.specs.Machine.{WriteRegister, LevelReset, FirmwareUpdate, StreamLeft, LinkReset}
+use Rattle.tdi_state.specs.Machine.{WriteRegister, LevelReset, FirmwareUpdate, StreamLeft, LinkReset, BindStream}
+use Rattle.tdi_state.specs.Machine.{UnbindStream, bind_answer, bound_with, unbind_answer, unbound_with}
 use Rattle.tdi_state.specs.Laws.{ChangesAreListed, ChangeIsError, ListedIsKept}
 
 set_back : (bars : List ℕ) (n value : ℕ) → value ≡ slice_index bars n → slice_set bars n value ≡ bars
@@ -106,11 +107,23 @@ kept_changed : (registers : Registers) (state : TdiState) (b : Bool) → KeepsLi
 kept_changed registers state true kept = lost registers state
 kept_changed registers state false kept = kept
 
+kept_bound : (tdi : Tdi) (stream : ℕ) (answer : Result ℕ ℕ) → KeepsListed tdi.registers tdi.state
+    → KeepsListed (bound_with tdi stream answer).registers (bound_with tdi stream answer).state
+kept_bound tdi stream (Ok draw) kept = kept
+kept_bound tdi stream (Err code) kept = kept
+
+kept_unbound : (tdi : Tdi) (stream : ℕ) (answer : Result (Unit {0}) ℕ) → KeepsListed tdi.registers tdi.state
+    → KeepsListed (unbound_with tdi stream answer).registers (unbound_with tdi stream answer).state
+kept_unbound tdi stream (Ok done) kept = kept
+kept_unbound tdi stream (Err code) kept = kept
+
 pub listed_is_kept : ListedIsKept
 listed_is_kept tdi (LockInterface flags stream offset secure drawn) kept = kept_locked tdi
     (new_lock tdi flags stream offset) (lock_answer tdi flags offset secure drawn) refl kept
 listed_is_kept tdi (StartInterface nonce) kept = kept_started tdi.registers tdi.state nonce kept
 listed_is_kept tdi StopInterface kept = tt
+listed_is_kept tdi (BindStream stream live) kept = kept_bound tdi stream (bind_answer tdi stream live) kept
+listed_is_kept tdi (UnbindStream stream) kept = kept_unbound tdi stream (unbind_answer tdi stream) kept
 listed_is_kept tdi (WriteRegister register value) kept = kept_written tdi.registers tdi.state register value
     (changes_listed (lock_flags tdi.state) tdi.registers register value) refl kept
 listed_is_kept tdi LevelReset kept = lost (planned tdi.plan) tdi.state

@@ -1,8 +1,8 @@
 -- Registers keep their widths. A write changes one register, by a value that has room in it; a level reset and a reset
 -- of the link give the topology's values; a lock keeps the registers as they stand.
-use Rattle.std.proofs.Common.{◌≡◌, ◌<◌, ◌^◌, ℕ, Bool, true, false, List, length, refl, arith, Option, Some, None}
+use Rattle.std.proofs.Common.{◌<◌, ◌^◌, ℕ, Bool, true, false, List, arith}
 use Rattle.std.proofs.Common.{Result, Ok, Err, ◌∙◌}
-use Rattle.std.specs.Prelude.{IfSome, slice_set}
+use Rattle.std.specs.Prelude.{IfSome}
 use Rattle.std.proofs.lemmas.List.{length-set}
 use Rattle.interface_words.specs.declared.register.Register.{Register}
 use Rattle.interface_words.specs.declared.register.Register.TheVariants.{Command, CacheLine, Msix, Lnr, Tph, Pasid, Ats}
@@ -13,10 +13,10 @@ use Rattle.tdi_state.specs.declared.states.Lock.{Lock}
 use Rattle.tdi_state.specs.declared.states.TdiState.{TdiState}
 use Rattle.tdi_state.specs.declared.states.TdiState.TheVariants.{ConfigUnlocked, ConfigLocked, Run, Error}
 use Rattle.tdi_state.specs.RegisterValues.{with_value, planned}
-use Rattle.tdi_state.specs.Machine.{Tdi, lock_of, lock_answer, new_lock, locked_with, start_answer, after_start}
+use Rattle.tdi_state.specs.Machine.{Tdi, lock_of, lock_answer, new_lock, locked_with, after_start}
 use Rattle.tdi_state.specs.Machine.{after_failure, after_change, Call, LockInterface, StartInterface, StopInterface}
-use Rattle.tdi_state.specs.Machine.{WriteRegister, LevelReset, FirmwareUpdate, StreamLeft, LinkReset, tdi_after}
-use Rattle.tdi_state.specs.Held.{FitsShown}
+use Rattle.tdi_state.specs.Machine.{WriteRegister, LevelReset, FirmwareUpdate, StreamLeft, LinkReset, BindStream}
+use Rattle.tdi_state.specs.Machine.{UnbindStream, bind_answer, bound_with, unbind_answer, unbound_with, tdi_after}
 use Rattle.tdi_state.specs.Laws.{FitsRegisters, FitsWidths, FitsCall, WidthsAreKept}
 
 written_fits : (registers : Registers) (register : Register) (value : ℕ) → value < 2 ^ width_of register
@@ -67,6 +67,15 @@ locked_fits : (tdi : Tdi) (lock : Lock) (answer : Result (List ℕ) ℕ) → Fit
 locked_fits tdi lock (Ok nonce) fits kept = record { registers = fits.registers; locked = kept }
 locked_fits tdi lock (Err code) fits kept = fits
 
+bound_fits : (tdi : Tdi) (stream : ℕ) (answer : Result ℕ ℕ) → FitsWidths tdi → FitsWidths (bound_with tdi stream answer)
+bound_fits tdi stream (Ok draw) fits = record { registers = fits.registers; locked = fits.locked }
+bound_fits tdi stream (Err code) fits = fits
+
+unbound_fits : (tdi : Tdi) (stream : ℕ) (answer : Result (Unit {0}) ℕ) → FitsWidths tdi
+    → FitsWidths (unbound_with tdi stream answer)
+unbound_fits tdi stream (Ok done) fits = record { registers = fits.registers; locked = fits.locked }
+unbound_fits tdi stream (Err code) fits = fits
+
 later : (tdi : Tdi) (call : Call) → FitsRegisters (planned tdi.plan) → FitsWidths tdi → FitsCall call
     → FitsWidths (tdi_after tdi call)
 later tdi (LockInterface flags stream offset secure drawn) planned_fits fits room =
@@ -74,6 +83,8 @@ later tdi (LockInterface flags stream offset secure drawn) planned_fits fits roo
 later tdi (StartInterface nonce) planned_fits fits room =
     record { registers = fits.registers; locked = started_fits tdi.state nonce fits.locked }
 later tdi StopInterface planned_fits fits room = record { registers = fits.registers; locked = tt }
+later tdi (BindStream stream live) planned_fits fits room = bound_fits tdi stream (bind_answer tdi stream live) fits
+later tdi (UnbindStream stream) planned_fits fits room = unbound_fits tdi stream (unbind_answer tdi stream) fits
 later tdi (WriteRegister register value) planned_fits fits room = record {
   registers = written_fits tdi.registers register value room fits.registers;
   locked = changed_fits _ tdi.state fits.locked;

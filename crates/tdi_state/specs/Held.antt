@@ -1,11 +1,12 @@
 -- What always holds of a device interface.
-use Rattle.std.specs.Prelude.{ℕ, ◌≡◌, ◌<◌, ◌≤◌, ◌^◌, List, length, All, IfSome}
+use Rattle.std.specs.Prelude.{ℕ, ◌≡◌, ◌<◌, ◌≤◌, ◌^◌, false, List, [], length, All, IfSome}
 use Rattle.ide_plan.specs.declared.interface.InterfacePlan.{InterfacePlan}
 use Rattle.ide_plan.specs.Fits.{FitsBar}
 use Rattle.tdi_state.specs.declared.register_set.Registers.{Registers}
+use Rattle.tdi_state.specs.declared.bindings.Binding.{Binding}
 use Rattle.tdi_state.specs.declared.states.TdiState.{TdiState}
 use Rattle.tdi_state.specs.Kept.{kept_report}
-use Rattle.tdi_state.specs.Machine.{lock_of, KeepsListed}
+use Rattle.tdi_state.specs.Machine.{lock_of, is_locked, KeepsListed}
 
 -- up to six BARs within their bounds, and up to 1,024 bytes of device information
 pub record FitsTdi (plan : InterfacePlan) : Type 0 where
@@ -23,7 +24,14 @@ pub record FitsShown (registers : Registers) : Type 0 where
 abbrev pub HoldsReport : InterfacePlan → TdiState → List ℕ → Type 0
 HoldsReport plan state bytes = IfSome (lock_of state) (λ lock. bytes ≡ kept_report plan lock)
 
-pub record IsHeld (plan : InterfacePlan) (registers : Registers) (state : TdiState) (bytes : List ℕ) : Type 0 where
+-- without a lock it is bound to no stream between two devices, and there are at most eight of them
+pub record IsBound (state : TdiState) (bindings : List Binding) : Type 0 where
+  pub locked : is_locked state ≡ false → bindings ≡ []
+  pub few : length bindings ≤ 8
+
+pub record IsHeld (plan : InterfacePlan) (registers : Registers) (state : TdiState) (bindings : List Binding)
+    (bytes : List ℕ) : Type 0 where
   pub fits : FitsTdi plan
   pub listed : KeepsListed registers state
   pub report : HoldsReport plan state bytes
+  pub bound : IsBound state bindings

@@ -15,7 +15,7 @@ use Rattle.tdi_state.specs.Kept.{interface_report, kept_report, IsShortReport}
 use Rattle.tdi_state.specs.Machine.{Tdi, new_tdi, KeepsListed, lock_of, after_write, Call, LockInterface}
 use Rattle.tdi_state.specs.Machine.{StartInterface}
 use Rattle.tdi_state.specs.Machine.{WriteRegister, tdi_after}
-use Rattle.tdi_state.specs.Held.{FitsTdi, FitsShown}
+use Rattle.tdi_state.specs.Held.{FitsTdi, FitsShown, IsBound}
 
 -- a write changes the listed part exactly if it is a listed change
 abbrev pub ChangesAreListed : Type 0
@@ -70,6 +70,12 @@ OverlapsArePairs = (bars : List BarPlan) → (any_overlap bars ≡ false)
 abbrev pub ListedIsKept : Type 0
 ListedIsKept = (tdi : Tdi) (call : Call) → KeepsListed tdi.registers tdi.state
     → KeepsListed (tdi_after tdi call).registers (tdi_after tdi call).state
+
+-- an interface is bound to streams between two devices in CONFIG_LOCKED and RUN alone
+pub record BindingsEnd : Type 0 where
+  pub first : (plan : InterfacePlan) → IsBound (new_tdi plan).state (new_tdi plan).bindings
+  pub later : (tdi : Tdi) (call : Call) → IsBound tdi.state tdi.bindings
+      → IsBound (tdi_after tdi call).state (tdi_after tdi call).bindings
 
 -- CONFIG_LOCKED was just entered: from CONFIG_UNLOCKED, by a request with the lock's flags, stream and offset that was
 -- answered with this nonce; the lock kept the registers as they stood

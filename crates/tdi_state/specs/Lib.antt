@@ -1,6 +1,7 @@
 pub mod RegisterValues
 pub mod Bars
 pub mod Kept
+pub mod Bindings
 pub mod Machine
 pub mod Held
 pub mod Laws
@@ -8,6 +9,7 @@ pub mod Laws
 pub use Rattle.tdi_state.specs.declared.error_codes.ErrorCode.{ErrorCode}
 pub use Rattle.interface_words.specs.declared.register.Register.{Register}
 pub use Rattle.tdi_state.specs.declared.register_set.Registers.{Registers}
+pub use Rattle.tdi_state.specs.declared.bindings.Binding.{Binding}
 pub use Rattle.tdi_state.specs.declared.states.Lock.{Lock}
 pub use Rattle.tdi_state.specs.declared.states.TdiState.{TdiState}
 pub use Rattle.interface_words.specs.RegisterNames.{width_of, has_register}
@@ -23,8 +25,12 @@ pub use Rattle.tdi_state.specs.Machine.{lock_answer, new_lock, locked_with, lock
 pub use Rattle.tdi_state.specs.Machine.{portion_answer, start_answer, after_start, after_failure, after_change}
 pub use Rattle.tdi_state.specs.Machine.{after_write, level_reset, firmware_updated, Call, LockInterface, StartInterface}
 pub use Rattle.tdi_state.specs.Machine.{StopInterface, WriteRegister, LevelReset, FirmwareUpdate, StreamLeft, LinkReset}
-pub use Rattle.tdi_state.specs.Machine.{tdi_after}
-pub use Rattle.tdi_state.specs.Held.{FitsTdi, FitsShown}
+pub use Rattle.tdi_state.specs.Machine.{BindStream, UnbindStream, tdi_after, is_locked, bindings_left, draw_answer}
+pub use Rattle.tdi_state.specs.Machine.{bindings_after}
+pub use Rattle.tdi_state.specs.Machine.{bind_answer, is_answered, bound_with, bound, unbind_answer, unbound_with}
+pub use Rattle.tdi_state.specs.Machine.{unbound, own_binding, all_bindings, is_bound_to}
+pub use Rattle.tdi_state.specs.Bindings.{is_binding_on, binds, without, floor_on}
+pub use Rattle.tdi_state.specs.Held.{FitsTdi, FitsShown, IsBound}
 pub use Rattle.tdi_state.specs.Laws.{ChangesAreListed, ChangeIsError, HasByte, OverlapIsShared, OverlapsArePairs}
 pub use Rattle.tdi_state.specs.Laws.{ListedIsKept, EntersLock, LockIsEntered, EntersRun, RunIsEntered, ReportIsShort}
-pub use Rattle.tdi_state.specs.Laws.{ReportIsSpelled, FitsRegisters, FitsWidths, FitsCall, WidthsAreKept}
+pub use Rattle.tdi_state.specs.Laws.{ReportIsSpelled, FitsRegisters, FitsWidths, FitsCall, WidthsAreKept, BindingsEnd}

@@ -1,7 +1,8 @@
 -- A device interface as a machine: what it keeps, and what each call answers and makes of it (TDISP, PCI Express Base
 -- 6.0 chapter 11, in this profile).
-use Rattle.std.specs.Prelude.{ℕ, ◌≡◌, ◌+◌, ◌%◌, ◌==◌, ◌&&◌, ◌||◌, nat_le, bit_and, Bool, true, false, not, List, length}
-use Rattle.std.specs.Prelude.{take, drop, Option, Some, None, IfSome, Result, Ok, Err, if◌then◌else◌}
+use Rattle.std.specs.Prelude.{ℕ, ◌≡◌, ◌+◌, ◌%◌, ◌==◌, ◌&&◌, ◌||◌, nat_le, nat_lt, bit_and, Bool, true, false, not, List}
+use Rattle.std.specs.Prelude.{[], ◌∷◌, ◌++◌, length, take, drop, Option, Some, None, IfSome, is_some, Result, Ok, Err}
+use Rattle.std.specs.Prelude.{if◌then◌else◌}
 use Rattle.std.specs.Option.{option_map, option_map_or}
 use Rattle.std.specs.Str.{bytes_eq}
 use Rattle.std.specs.Borrow.{Bor}
@@ -13,12 +14,14 @@ use Rattle.tdi_state.specs.declared.error_codes.ErrorCode.TheVariants.{InvalidIn
 use Rattle.tdi_state.specs.declared.error_codes.ErrorCode.TheVariants.{InsufficientEntropy, InvalidDeviceConfiguration}
 use Rattle.interface_words.specs.declared.register.Register.{Register}
 use Rattle.tdi_state.specs.declared.register_set.Registers.{Registers}
+use Rattle.tdi_state.specs.declared.bindings.Binding.{Binding}
 use Rattle.tdi_state.specs.declared.states.Lock.{Lock}
 use Rattle.tdi_state.specs.declared.states.TdiState.{TdiState}
 use Rattle.tdi_state.specs.declared.states.TdiState.TheVariants.{ConfigUnlocked, ConfigLocked, Run, Error}
 use Rattle.tdi_state.specs.RegisterValues.{planned, with_value, has_bit, listed, changes_listed}
 use Rattle.tdi_state.specs.Bars.{bars_of, any_overlap}
 use Rattle.tdi_state.specs.Kept.{kept_report}
+use Rattle.tdi_state.specs.Bindings.{binds, without}
 
 -- ---- codes
 
@@ -41,17 +44,16 @@ state_code Error = 3
 
 -- ---- what is kept
 
--- the layout of the interface, its registers, and its state with what the lock that stands kept
+-- the layout of the interface, its registers, its state with what the lock that stands kept, and the streams between
+-- two devices that it is bound to
 pub record Tdi : Type 0 where
   pub plan : InterfacePlan
   pub registers : Registers
   pub state : TdiState
+  pub bindings : List Binding
 
 abbrev pub new_tdi : InterfacePlan → Tdi
-new_tdi plan = record { plan = plan; registers = planned plan; state = ConfigUnlocked }
-
-abbrev pub with_state : Tdi → TdiState → Tdi
-with_state tdi state = record { plan = tdi.plan; registers = tdi.registers; state = state }
+new_tdi plan = record { plan = plan; registers = planned plan; state = ConfigUnlocked; bindings = [] }
 
 abbrev pub is_unlocked : TdiState → Bool
 is_unlocked ConfigUnlocked = true
@@ -63,7 +65,21 @@ lock_of (ConfigLocked lock nonce) = Some lock
 lock_of (Run lock) = Some lock
 lock_of state = None
 
--- the stream that the interface is bound to
+abbrev pub is_locked : TdiState → Bool
+is_locked state = is_some (lock_of state)
+
+-- bindings end with the lock that stands
+abbrev pub bindings_left : TdiState → TdiState → List Binding → List Binding
+bindings_left state next bs = if not (is_locked next) && is_locked state then [] else bs
+
+abbrev pub bindings_after : Tdi → TdiState → List Binding
+bindings_after tdi next = bindings_left tdi.state next tdi.bindings
+
+abbrev pub with_state : Tdi → TdiState → Tdi
+with_state tdi state =
+    record { plan = tdi.plan; registers = tdi.registers; state = state; bindings = bindings_after tdi state }
+
+-- the stream of a link that the interface is bound to
 abbrev pub bound_stream : TdiState → Option ℕ
 bound_stream state = option_map (λ lock. lock.stream) (lock_of state)
 
@@ -78,9 +94,9 @@ KeepsListed registers state = IfSome (lock_of state) (λ lock. listed lock.flags
 
 -- ---- LOCK_INTERFACE
 
--- no flag but 0, 1, 2 and 4
+-- no flag but 0 to 4
 abbrev pub are_lock_flags : ℕ → Bool
-are_lock_flags flags = bit_and 0x0017 flags == flags
+are_lock_flags flags = bit_and 0x001f flags == flags
 
 -- a multiple of 4,096
 abbrev pub is_page : ℕ → Bool
@@ -161,15 +177,85 @@ after_write tdi register value = record {
   plan = tdi.plan;
   registers = with_value tdi.registers register value;
   state = after_change (changes_listed (lock_flags tdi.state) tdi.registers register value) tdi.state;
+  bindings =
+      bindings_after tdi
+      (after_change (changes_listed (lock_flags tdi.state) tdi.registers register value) tdi.state);
 }
 
 -- a function level reset
 abbrev pub level_reset : Tdi → Tdi
-level_reset tdi = record { plan = tdi.plan; registers = planned tdi.plan; state = after_failure tdi.state }
+level_reset tdi = record {
+  plan = tdi.plan;
+  registers = planned tdi.plan;
+  state = after_failure tdi.state;
+  bindings = bindings_after tdi (after_failure tdi.state);
+}
 
 -- a firmware update, which lock flag 0 forbids
 abbrev pub firmware_updated : TdiState → TdiState
 firmware_updated state = after_change (has_bit 0 (lock_flags state)) state
+
+-- ---- BIND_P2P and UNBIND_P2P
+
+-- the draw under which a stream is bound, and without one a refusal; as many bindings have room as a topology has
+-- streams between two devices
+abbrev pub draw_answer : List Binding → Option ℕ → Result ℕ ℕ
+draw_answer bs None = Err (error_code InvalidDeviceConfiguration)
+draw_answer bs (Some draw) =
+    if nat_lt (length bs) 8 then Ok draw else Err (error_code InvalidDeviceConfiguration)
+
+-- `live` is the draw that is Live where the device receives posted requests on the stream, if that is between this
+-- device and another, and Secure here
+abbrev pub bind_answer : Tdi → ℕ → Option ℕ → Result ℕ ℕ
+bind_answer tdi stream live =
+    if not (is_locked tdi.state) then Err (error_code InvalidInterfaceState)
+    else if not (has_bit 3 (lock_flags tdi.state) && not (binds stream tdi.bindings))
+    then Err (error_code InvalidRequest)
+    else draw_answer tdi.bindings live
+
+-- an answer without its value
+abbrev pub is_answered : Result ℕ ℕ → Result (Unit {0}) ℕ
+is_answered (Ok value) = Ok tt
+is_answered (Err code) = Err code
+
+abbrev pub with_bindings : Tdi → List Binding → Tdi
+with_bindings tdi bs = record { plan = tdi.plan; registers = tdi.registers; state = tdi.state; bindings = bs }
+
+abbrev pub bound_with : Tdi → ℕ → Result ℕ ℕ → Tdi
+bound_with tdi stream (Ok draw) =
+    with_bindings tdi (tdi.bindings ++ record { stream = stream; floor = draw } ∷ [])
+bound_with tdi stream (Err code) = tdi
+
+abbrev pub bound : Tdi → ℕ → Option ℕ → Tdi
+bound tdi stream live = bound_with tdi stream (bind_answer tdi stream live)
+
+abbrev pub unbind_answer : Tdi → ℕ → Result (Unit {0}) ℕ
+unbind_answer tdi stream =
+    if not (is_locked tdi.state) then Err (error_code InvalidInterfaceState)
+    else if binds stream tdi.bindings then Ok tt
+    else Err (error_code InvalidRequest)
+
+abbrev pub unbound_with : Tdi → ℕ → Result (Unit {0}) ℕ → Tdi
+unbound_with tdi stream (Ok done) = with_bindings tdi (without stream tdi.bindings)
+unbound_with tdi stream (Err code) = tdi
+
+abbrev pub unbound : Tdi → ℕ → Tdi
+unbound tdi stream = unbound_with tdi stream (unbind_answer tdi stream)
+
+-- ---- all streams that it is bound to
+
+-- to the stream of a link, with this floor
+abbrev pub own_binding : ℕ → Option ℕ → List Binding
+own_binding floor None = []
+own_binding floor (Some stream) = record { stream = stream; floor = floor } ∷ []
+
+-- first that of a link, with this floor; then those between two devices
+abbrev pub all_bindings : ℕ → Tdi → List Binding
+all_bindings floor tdi = own_binding floor (bound_stream tdi.state) ++ tdi.bindings
+
+-- the stream of a link or one between two devices
+abbrev pub is_bound_to : ℕ → Tdi → Bool
+is_bound_to stream tdi = binds stream (all_bindings 0 tdi)
 
 -- ---- all calls
 
@@ -177,6 +263,8 @@ pub data Call : Type 0 where
   LockInterface : ℕ → ℕ → ℕ → Bool → Option (List ℕ) → Call
   StartInterface : List ℕ → Call
   StopInterface : Call
+  BindStream : ℕ → Option ℕ → Call
+  UnbindStream : ℕ → Call
   WriteRegister : Register → ℕ → Call
   LevelReset : Call
   FirmwareUpdate : Call
@@ -187,6 +275,8 @@ abbrev pub tdi_after : Tdi → Call → Tdi
 tdi_after tdi (LockInterface flags stream offset secure drawn) = locked tdi flags stream offset secure drawn
 tdi_after tdi (StartInterface nonce) = with_state tdi (after_start tdi.state nonce)
 tdi_after tdi StopInterface = with_state tdi ConfigUnlocked
+tdi_after tdi (BindStream stream live) = bound tdi stream live
+tdi_after tdi (UnbindStream stream) = unbound tdi stream
 tdi_after tdi (WriteRegister register value) = after_write tdi register value
 tdi_after tdi LevelReset = level_reset tdi
 tdi_after tdi FirmwareUpdate = with_state tdi (firmware_updated tdi.state)

@@ -1,6 +1,6 @@
 //! A device interface and its calls.
 
-ghost use Rattle.std.specs.Prelude.{◌≡◌, ◌<◌, ◌≤◌, ◌^◌, ◌%◌, ◌&&◌, not, IfOk, IfSome, Some, length, true};
+ghost use Rattle.std.specs.Prelude.{◌≡◌, ◌<◌, ◌≤◌, ◌^◌, ◌%◌, ◌&&◌, not, IfOk, IfSome, Some, [], false, length, true};
 ghost use Rattle.std.specs.Option.{option_copied, option_map};
 ghost use Rattle.tdisp_codec.specs.Ranges.{ranges_in};
 ghost use Rattle.tdisp_codec.specs.Reports.{report_shown};
@@ -8,10 +8,11 @@ ghost use Rattle.interface_words.specs.RegisterNames.{has_register, width_of};
 ghost use Rattle.tdi_state.specs.RegisterValues.{value_in};
 ghost use Rattle.tdi_state.specs.Bars.{any_overlap, bars_of};
 ghost use Rattle.tdi_state.specs.Kept.{interface_info, kept_report, IsShortReport};
-ghost use Rattle.tdi_state.specs.Machine.{are_lock_flags, is_page, portion_of, portion_shown};
+ghost use Rattle.tdi_state.specs.Machine.{are_lock_flags, bindings_left, is_page, portion_of, portion_shown};
 ghost use Rattle.tdi_state.specs.Held.{FitsTdi};
 
 use crate::bars::{any_overlap, bars_of, reported_bytes};
+use crate::bindings::{Binding, Bindings};
 use crate::error_codes::ErrorCode;
 use crate::register_set::{Registers, has_bit};
 use crate::report_buffer::ReportBuffer;
@@ -23,17 +24,22 @@ use std::alloc::Global;
 use std::marker::Model;
 use tdisp_codec::{Ranges, ReportView};
 
-/// The flags that a lock may have in this profile: bits 0, 1, 2 and 4.
-const LOCK_FLAGS: u16 = 0x0017;
+/// The flags that a lock may have in this profile: bits 0 to 4.
+const LOCK_FLAGS: u16 = 0x001f;
 
-/// A device interface (TDISP, PCI Express Base 6.0 chapter 11, in this profile): its registers, its state, and the
-/// report of the lock that stands, for which it has room from the start. No call but `make` takes memory.
+/// How many streams between two devices an interface can be bound to, as many as a topology has.
+const MOST_BINDINGS: usize = 8;
+
+/// A device interface (TDISP, PCI Express Base 6.0 chapter 11, in this profile): its registers, its state, the report
+/// of the lock that stands, for which it has room from the start, and the streams between its device and others that it
+/// is bound to. No call but `make` takes memory.
 #[derive(Drop)]
 pub struct Interface {
     plan: InterfacePlan,
     registers: Registers,
     state: TdiState,
     report: ReportBuffer,
+    bindings: Bindings,
 }
 
 impl Model for Interface {
@@ -42,9 +48,14 @@ impl Model for Interface {
 
     ghost Value = { Tdi };
 
-    ghost view = { λ i. record { plan = i.plan; registers = i.registers; state = i.state } };
+    ghost view = { λ i. record {
+      plan = i.plan;
+      registers = i.registers;
+      state = i.state;
+      bindings = i.bindings;
+    } };
 
-    ghost invariant = { λ i. IsHeld i.plan i.registers i.state i.report };
+    ghost invariant = { λ i. IsHeld i.plan i.registers i.state i.bindings i.report };
 }
 
 fn copied(alloc: Global, plan: &InterfacePlan) -> Result<InterfacePlan, Memory>
@@ -117,6 +128,17 @@ fn write_report(buffer: &mut ReportBuffer, plan: &InterfacePlan, lock: &Lock)
     buffer.write(&view);
 }
 
+// Enters a state; bindings end with the lock that stands.
+fn enter(state: &mut TdiState, bindings: &mut Bindings, next: TdiState)
+    ensures state { state.new ≡ next }
+    ensures bindings { bindings.new ≡ bindings_left state.old next bindings.old }
+{
+    if !next.is_locked() && state.is_locked() {
+        bindings.clear();
+    }
+    *state = next;
+}
+
 // At most `size` bytes of a report from an offset on, and how many bytes follow them.
 fn portion(report: &[u8], offset: u16, size: u16) -> Result<(&[u8], u16), u32>
     requires { IsShortReport report.now }
@@ -147,6 +169,14 @@ impl Interface {
       locked,
       new_lock,
       portion_answer,
+      all_bindings,
+      bind_answer,
+      bound,
+      is_answered,
+      is_bound_to,
+      is_locked,
+      unbind_answer,
+      unbound,
       start_answer,
       after_start,
       after_failure,
@@ -169,6 +199,7 @@ impl Interface {
             registers,
             state: TdiState::ConfigUnlocked,
             report,
+            bindings: Bindings::new(),
         })
     }
 
@@ -219,7 +250,7 @@ impl Interface {
     /// LOCK_INTERFACE with these flags, default stream and MMIO reporting offset in bytes: the answer is the lock's
     /// nonce. `secure` says that the stream is known and Secure at the device; `nonce` is the next of the device's
     /// list, none if the list is used up. Refused, in this order: INVALID_INTERFACE_STATE unless in CONFIG_UNLOCKED;
-    /// INVALID_REQUEST at another flag than 0, 1, 2 and 4 or an offset that is no multiple of 4,096;
+    /// INVALID_REQUEST at another flag than 0 to 4 or an offset that is no multiple of 4,096;
     /// INVALID_DEVICE_CONFIGURATION if the stream is not Secure or the bytes of two BARs overlap; INSUFFICIENT_ENTROPY
     /// without a nonce. A refusal changes nothing.
     pub fn lock(
@@ -274,7 +305,8 @@ impl Interface {
         ensures interface { self.new ≡ with_state self.old (after_start self.old.state nonce.now) }
     {
         let answer = self.state.start_answer(nonce);
-        self.state = self.state.started(nonce);
+        let next = self.state.started(nonce);
+        enter(&mut self.state, &mut self.bindings, next);
         answer
     }
 
@@ -282,7 +314,73 @@ impl Interface {
     pub fn stop(&mut self)
         ensures { self.new ≡ with_state self.old ConfigUnlocked }
     {
-        self.state = TdiState::ConfigUnlocked;
+        enter(
+            &mut self.state,
+            &mut self.bindings,
+            TdiState::ConfigUnlocked,
+        );
+    }
+
+    // The draw under which a stream is bound.
+    fn bind_answer(&self, stream: u8, live: Option<u32>) -> Result<u32, u32>
+        ensures { result ≡ bind_answer self.now stream live }
+    {
+        if !self.state.is_locked() {
+            return Err(ErrorCode::InvalidInterfaceState.code());
+        }
+        if !(has_bit(3, self.state.flags()) && !self.bindings.binds(stream)) {
+            return Err(ErrorCode::InvalidRequest.code());
+        }
+        match live {
+            Some(draw) if self.bindings.len() < MOST_BINDINGS => Ok(draw),
+            _ => Err(ErrorCode::InvalidDeviceConfiguration.code()),
+        }
+    }
+
+    /// BIND_P2P with this stream: the interface is bound to it, and `live` is its floor. `live` is the draw that is
+    /// Live where the device receives posted requests on the stream, if that is between this device and another, and
+    /// Secure here. Refused, in this order: INVALID_INTERFACE_STATE unless in CONFIG_LOCKED or RUN; INVALID_REQUEST
+    /// without lock flag 3, or if it is bound to the stream already; INVALID_DEVICE_CONFIGURATION without a draw. It
+    /// has room for eight streams, as many as a topology has between devices. A refusal changes nothing.
+    pub fn bind(&mut self, stream: u8, live: Option<u32>) -> Result<(), u32>
+        ensures answer { result ≡ is_answered (bind_answer self.old stream live) }
+        ensures interface { self.new ≡ bound self.old stream live }
+    {
+        match self.bind_answer(stream, live) {
+            Ok(floor) => {
+                self.bindings.push(Binding { stream, floor });
+                Ok(())
+            }
+            Err(code) => Err(code),
+        }
+    }
+
+    fn unbind_answer(&self, stream: u8) -> Result<(), u32>
+        ensures { result ≡ unbind_answer self.now stream }
+    {
+        if !self.state.is_locked() {
+            return Err(ErrorCode::InvalidInterfaceState.code());
+        }
+        if !self.bindings.binds(stream) {
+            return Err(ErrorCode::InvalidRequest.code());
+        }
+        Ok(())
+    }
+
+    /// UNBIND_P2P with this stream: the interface is no longer bound to it. Refused, in this order:
+    /// INVALID_INTERFACE_STATE unless in CONFIG_LOCKED or RUN; INVALID_REQUEST if it is not bound to the stream. A
+    /// refusal changes nothing.
+    pub fn unbind(&mut self, stream: u8) -> Result<(), u32>
+        ensures answer { result ≡ unbind_answer self.old stream }
+        ensures interface { self.new ≡ unbound self.old stream }
+    {
+        match self.unbind_answer(stream) {
+            Ok(()) => {
+                self.bindings.remove(stream);
+                Ok(())
+            }
+            Err(code) => Err(code),
+        }
     }
 
     /// Writes a register that the interface has, with a value of its width. In CONFIG_LOCKED and RUN a listed change
@@ -297,7 +395,8 @@ impl Interface {
             .registers
             .changes_listed(self.state.flags(), register, value);
         self.registers.write(register, value);
-        self.state = self.state.after_change(is_listed);
+        let next = self.state.after_change(is_listed);
+        enter(&mut self.state, &mut self.bindings, next);
     }
 
     /// A function level reset: the registers have the topology's values again, and CONFIG_LOCKED and RUN go to ERROR.
@@ -305,7 +404,8 @@ impl Interface {
         ensures { self.new ≡ level_reset self.old }
     {
         self.registers = Registers::planned(&self.plan);
-        self.state = self.state.failed();
+        let next = self.state.failed();
+        enter(&mut self.state, &mut self.bindings, next);
     }
 
     /// A firmware update: CONFIG_LOCKED and RUN go to ERROR if lock flag 0 is set.
@@ -313,22 +413,25 @@ impl Interface {
         ensures { self.new ≡ with_state self.old (firmware_updated self.old.state) }
     {
         let is_forbidden = has_bit(0, self.state.flags());
-        self.state = self.state.after_change(is_forbidden);
+        let next = self.state.after_change(is_forbidden);
+        enter(&mut self.state, &mut self.bindings, next);
     }
 
-    /// Notes that the bound stream ceased to be Secure at the device: CONFIG_LOCKED and RUN go to ERROR.
+    /// Notes that a bound stream ceased to be Secure at the device: CONFIG_LOCKED and RUN go to ERROR.
     pub fn stream_left(&mut self)
         ensures { self.new ≡ with_state self.old (after_failure self.old.state) }
     {
-        self.state = self.state.failed();
+        let next = self.state.failed();
+        enter(&mut self.state, &mut self.bindings, next);
     }
 
     /// A reset of the link: CONFIG_UNLOCKED, with the topology's registers.
     pub fn reset(&mut self)
         ensures { self.new ≡ new_tdi self.old.plan }
     {
-        self.flr();
-        self.stop();
+        self.registers = Registers::planned(&self.plan);
+        self.state = TdiState::ConfigUnlocked;
+        self.bindings.clear();
     }
 
     /// The state's code: CONFIG_UNLOCKED 0, CONFIG_LOCKED 1, RUN 2, ERROR 3.
@@ -347,11 +450,40 @@ impl Interface {
         &self.state
     }
 
-    /// The ID of the stream that the interface is bound to; `None` unless in CONFIG_LOCKED or RUN.
+    /// The ID of the stream of its link that the interface is bound to; `None` unless in CONFIG_LOCKED or RUN.
     pub fn bound(&self) -> Option<u8>
         ensures { result ≡ bound_stream self.now.state }
     {
         self.state.bound()
+    }
+
+    /// The streams between its device and others that the interface is bound to.
+    pub fn peers(&self) -> &Bindings
+        ensures { result.now ≡ self.now.bindings }
+    {
+        &self.bindings
+    }
+
+    /// The streams that the interface is bound to: that of its link, with this floor, and then those between its device
+    /// and others.
+    pub fn bindings(&self, floor: u32) -> Bindings
+        ensures value { result ≡ all_bindings floor self.now }
+        // Without a lock there are none.
+        ensures locked { is_locked self.now.state ≡ false → result ≡ [] }
+    {
+        let mut bindings = Bindings::new();
+        if let Some(stream) = self.state.bound() {
+            bindings.push(Binding { stream, floor });
+        }
+        bindings.append(&self.bindings);
+        bindings
+    }
+
+    /// Whether the interface is bound to this stream, be it of its link or between its device and another.
+    pub fn is_bound_to(&self, stream: u8) -> bool
+        ensures { result ≡ is_bound_to stream self.now }
+    {
+        self.bindings(0).binds(stream)
     }
 
     /// The requester ID of the interface.

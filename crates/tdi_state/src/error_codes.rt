@@ -21,7 +21,7 @@ pub enum ErrorCode {
     InvalidNonce,
     /// There is no nonce to give.
     InsufficientEntropy,
-    /// The stream is not Secure, or the bytes of two BARs overlap.
+    /// The stream is not known or not Secure, or the bytes of two BARs overlap.
     InvalidDeviceConfiguration,
 }
 

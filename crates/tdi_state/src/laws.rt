@@ -2,7 +2,7 @@
 
 ghost use Rattle.tdi_state.specs.Laws.{ChangesAreListed, ChangeIsError, OverlapIsShared, OverlapsArePairs};
 ghost use Rattle.tdi_state.specs.Laws.{ListedIsKept, LockIsEntered, RunIsEntered, ReportIsShort, ReportIsSpelled};
-ghost use Rattle.tdi_state.specs.Laws.{WidthsAreKept};
+ghost use Rattle.tdi_state.specs.Laws.{BindingsEnd, WidthsAreKept};
 
 use tdisp_codec::report_read_again;
 
@@ -16,6 +16,11 @@ pub fn listed_changes()
 /// In CONFIG_LOCKED and RUN the listed registers are those that the lock kept: each call keeps that.
 pub fn listed_is_kept()
     ensures { ListedIsKept }
+{}
+
+/// In CONFIG_UNLOCKED and ERROR an interface is bound to no stream between two devices: each call keeps that.
+pub fn bindings_end()
+    ensures { BindingsEnd }
 {}
 
 /// Registers have their widths and there are six BARs, as the laws on reports and on listed changes suppose: of an

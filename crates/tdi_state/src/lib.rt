@@ -3,6 +3,7 @@
 #![tactic(auto)]
 
 mod bars;
+mod bindings;
 mod device_interface;
 mod error_codes;
 mod laws;
@@ -10,12 +11,13 @@ mod register_set;
 mod report_buffer;
 mod states;
 
+pub use bindings::{Binding, Bindings};
 pub use device_interface::Interface;
 pub use error_codes::ErrorCode;
 pub use interface_words::Register;
 pub use laws::{
-    listed_changes, listed_is_kept, overlaps_are_shared, reports_are_spelled, states_are_entered,
-    widths_are_kept,
+    bindings_end, listed_changes, listed_is_kept, overlaps_are_shared, reports_are_spelled,
+    states_are_entered, widths_are_kept,
 };
 pub use register_set::Registers;
 pub use report_buffer::REPORT_BYTES;

@@ -2,7 +2,8 @@
 
 ghost use Rattle.std.specs.Prelude.{◌≡◌};
 ghost use Rattle.std.specs.Str.{bytes_eq};
-ghost use Rattle.tdi_state.specs.Machine.{after_change, bound_stream, after_failure, is_unlocked, lock_flags};
+ghost use Rattle.tdi_state.specs.Machine.{after_change, bound_stream, after_failure, is_locked, is_unlocked};
+ghost use Rattle.tdi_state.specs.Machine.{lock_flags};
 ghost use Rattle.tdi_state.specs.Machine.{start_answer, after_start, state_code};
 
 use crate::error_codes::ErrorCode;
@@ -11,9 +12,10 @@ use crate::register_set::Registers;
 /// What an accepted LOCK_INTERFACE keeps (TDISP section 11.3).
 #[derive(Clone, Copy, PartialEq, Eq)]
 pub struct Lock {
-    /// Its flags: bit 0 no firmware update, 1 system cache line size, 2 lock MSI-X, 4 all request redirect.
+    /// Its flags: bit 0 no firmware update, 1 system cache line size, 2 lock MSI-X, 3
+    /// bind P2P, 4 all request redirect.
     pub flags: u16,
-    /// The stream that it binds the interface to.
+    /// The stream of the link that it binds the interface to.
     pub stream: u8,
     /// Its MMIO reporting offset in bytes, a multiple of 4,096.
     pub offset: u64,
@@ -60,7 +62,14 @@ impl TdiState {
         matches!(self, TdiState::ConfigUnlocked)
     }
 
-    /// The stream that the interface is bound to.
+    /// Whether a lock stands.
+    pub(crate) fn is_locked(&self) -> bool
+        ensures { result ≡ is_locked self.now }
+    {
+        matches!(self, TdiState::ConfigLocked { .. } | TdiState::Run { .. })
+    }
+
+    /// The stream of the link that the interface is bound to.
     pub(crate) fn bound(&self) -> Option<u8>
         ensures { result ≡ bound_stream self.now }
     {

@@ -7,14 +7,18 @@ use Rattle.key_laws.proofs.Tests.{le-true, same-true, neither-true, false-le}
 use Rattle.tdi_state.specs.declared.error_codes.ErrorCode.TheVariants.{InvalidRequest}
 use Rattle.tdi_state.specs.declared.states.Lock.{Lock}
 use Rattle.tdi_state.specs.Kept.{kept_report}
-use Rattle.tdi_state.specs.Machine.{Tdi, lock_of, error_code, portion_of}
+use Rattle.tdi_state.specs.Machine.{Tdi, lock_of, error_code, portion_of, is_answered}
 use Rattle.tdi_host.specs.declared.step.Step.{Step}
 use Rattle.tdi_host.specs.declared.step.Step.TheVariants as step
-use Rattle.tdi_host.specs.Judging.{Judged, if_same, is_portion, nonce_in, portion_in, start_in, judged_as}
+use Rattle.tdi_host.specs.Judging.{Judged, if_same, is_portion, nonce_in, portion_in, start_in, bind_in, unbind_in}
+use Rattle.tdi_host.specs.Judging.{judged_as}
 use Rattle.tdi_host.specs.Views.{HostTdi, step_request}
-use Rattle.tdi_device.specs.Replies.{DeviceTdis, NamedTdi, lock_reply, portion_reply, start_reply, tdi_reply}
+use Rattle.tdi_device.specs.declared.said.StreamSaid.{StreamSaid}
+use Rattle.tdi_device.specs.Replies.{DeviceTdis, NamedTdi, lock_reply, portion_reply, start_reply, bind_reply}
+use Rattle.tdi_device.specs.Replies.{unbind_reply, tdi_reply}
 use Rattle.tdi_device.specs.Replies.{next_nonce}
-use Rattle.tdi_walks.specs.Exchanges.{nonce_due, portion_due, start_judged, judged_due, IsReport, Meets}
+use Rattle.tdi_walks.specs.Exchanges.{nonce_due, portion_due, start_judged, bind_judged, unbind_judged, judged_due}
+use Rattle.tdi_walks.specs.Exchanges.{IsReport, Meets}
 
 -- a reply that gives back the function ID
 same_function : (f : ℕ) (j : Judged) → if_same f f j ≡ j
@@ -27,6 +31,14 @@ lock_read f (Err code) = refl
 start_read : (f : ℕ) (answer : Result (Unit {0}) ℕ) → start_in f (start_reply f answer) ≡ start_judged answer
 start_read f (Ok done) = same_function f _
 start_read f (Err code) = refl
+
+bind_read : (f : ℕ) (answer : Result ℕ ℕ) → bind_in f (bind_reply f (is_answered answer)) ≡ bind_judged answer
+bind_read f (Ok draw) = same_function f _
+bind_read f (Err code) = refl
+
+unbind_read : (f : ℕ) (answer : Result (Unit {0}) ℕ) → unbind_in f (unbind_reply f answer) ≡ unbind_judged answer
+unbind_read f (Ok done) = same_function f _
+unbind_read f (Err code) = refl
 
 -- ---- portions
 
@@ -74,15 +86,17 @@ kept_read : (f : ℕ) (tdi : Tdi) (lock : Option Lock) (offset size : ℕ)
 kept_read f tdi None offset size is some = refl
 kept_read f tdi (Some lock) offset size is some = report_read f (Some (kept_report tdi.plan lock)) offset size is some
 
-pub reply_due : (s : Step) (portion read : ℕ) (i : HostTdi) (d : DeviceTdis) (n : NamedTdi) (secure : Bool)
+pub reply_due : (s : Step) (portion read : ℕ) (i : HostTdi) (d : DeviceTdis) (n : NamedTdi) (said : StreamSaid)
     → Meets portion i d n
-    → judged_as s i.requester portion read (tdi_reply n.tdi (step_request s portion read i) secure (next_nonce d))
-    ≡ judged_due s portion read i n.tdi secure (next_nonce d)
-reply_due step.Version portion read i d n secure m = same_function i.requester _
-reply_due step.Capabilities portion read i d n secure m = same_function i.requester _
-reply_due step.Lock portion read i d n secure m = lock_read i.requester _
-reply_due step.Report portion read i d n secure m = kept_read i.requester n.tdi (lock_of n.tdi.state) read portion
+    → judged_as s i.requester portion read (tdi_reply n.tdi (step_request s portion read i) said (next_nonce d))
+    ≡ judged_due s portion read i n.tdi said (next_nonce d)
+reply_due step.Version portion read i d n said m = same_function i.requester _
+reply_due step.Capabilities portion read i d n said m = same_function i.requester _
+reply_due step.Lock portion read i d n said m = lock_read i.requester _
+reply_due step.Report portion read i d n said m = kept_read i.requester n.tdi (lock_of n.tdi.state) read portion
     m.report m.portion_least
-reply_due step.Start portion read i d n secure m = start_read i.requester _
-reply_due step.Halt portion read i d n secure m = same_function i.requester _
-reply_due step.State portion read i d n secure m = same_function i.requester _
+reply_due step.Start portion read i d n said m = start_read i.requester _
+reply_due step.Halt portion read i d n said m = same_function i.requester _
+reply_due step.State portion read i d n said m = same_function i.requester _
+reply_due (step.Bind peer) portion read i d n said m = bind_read i.requester _
+reply_due (step.Unbind peer) portion read i d n said m = unbind_read i.requester _

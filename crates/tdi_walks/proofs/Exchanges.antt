@@ -1,5 +1,5 @@
 -- One exchange of the manager with the device.
-use Rattle.std.proofs.Common.{◌≡◌, ◌≢◌, ℕ, ◌≤◌, Bool, List, length, Option, Some, Result, Ok, Err, refl, ap, sym, ◌∙◌}
+use Rattle.std.proofs.Common.{◌≡◌, ◌≢◌, ℕ, ◌≤◌, List, length, Option, Some, Result, Ok, Err, refl, ap, sym, ◌∙◌}
 use Rattle.std.proofs.Common.{arith, length-append}
 use Rattle.key_laws.proofs.Tests.{lt-false}
 use Rattle.tdisp_codec.specs.declared.request.RequestView.{RequestView}
@@ -11,11 +11,13 @@ use Rattle.tdi_host.specs.declared.step.Step.{Step}
 use Rattle.tdi_host.specs.declared.step.Step.TheVariants as step
 use Rattle.tdi_host.specs.Judging.{Bad, interface_reply_judged}
 use Rattle.tdi_host.specs.Views.{HostTdi, step_request}
+use Rattle.tdi_device.specs.declared.said.StreamSaid.{StreamSaid}
 use Rattle.tdi_device.specs.Replies.{DeviceTdis, NamedTdi, named_tdi, next_nonce, asked_at, tdis_asked_by, reply_by}
 use Rattle.tdi_device.specs.Replies.{request_checked}
 use Rattle.tdi_device.specs.Replies.{answered, tdi_answer, answer_bytes, tdi_reply, function_or_none, tdis_by}
 use Rattle.tdi_device.specs.Replies.{tdi_reply_from}
-use Rattle.tdi_walks.specs.Exchanges.{judged_due, nonce_due, portion_due, start_judged, ExchangesAreDue}
+use Rattle.tdi_walks.specs.Exchanges.{judged_due, nonce_due, portion_due, start_judged, bind_judged, unbind_judged}
+use Rattle.tdi_walks.specs.Exchanges.{ExchangesAreDue}
 use Rattle.tdi_walks.specs.Exchanges.{RepliesAreNeverBad}
 use Rattle.tdi_walks.proofs.Widths.{function_of, request_fits, reply_fits}
 use Rattle.tdi_walks.proofs.Due.{reply_due}
@@ -34,34 +36,34 @@ asked : RequestsRead → (r : RequestView) → FitsRequest r → request_checked
 asked reads r fits = rw
     (lt-false (length (request_spelling r)) 17 (long (request_type r) (request_function r) _), reads r fits) refl
 
-device : (d : DeviceTdis) (n : NamedTdi) (r : RequestView) (bytes : List ℕ) (secure : Bool) → request_checked bytes
+device : (d : DeviceTdis) (n : NamedTdi) (r : RequestView) (bytes : List ℕ) (said : StreamSaid) → request_checked bytes
     ≡ Ok r
     → named_tdi d (request_function r) ≡ Some n
-    → answered d bytes secure ≡ asked_at d n r secure
-device d n r bytes secure is found = ap (tdis_by d secure) is ∙ ap (tdis_asked_by d r secure) found
+    → answered d bytes said ≡ asked_at d n r said
+device d n r bytes said is found = ap (tdis_by d said) is ∙ ap (tdis_asked_by d r said) found
 
-replied : (d : DeviceTdis) (n : NamedTdi) (r : RequestView) (bytes : List ℕ) (secure : Bool) → request_checked bytes
+replied : (d : DeviceTdis) (n : NamedTdi) (r : RequestView) (bytes : List ℕ) (said : StreamSaid) → request_checked bytes
     ≡ Ok r
     → named_tdi d (request_function r) ≡ Some n
-    → tdi_answer d bytes secure ≡ tdi_reply n.tdi r secure (next_nonce d)
-replied d n r bytes secure is found = ap (tdi_reply_from d secure (function_or_none bytes)) is ∙ ap
-    (reply_by d r secure)
+    → tdi_answer d bytes said ≡ tdi_reply n.tdi r said (next_nonce d)
+replied d n r bytes said is found = ap (tdi_reply_from d said (function_or_none bytes)) is ∙ ap
+    (reply_by d r said)
     found
 
 pub exchange_due : RequestsRead → RepliesRead → ExchangesAreDue
-exchange_due requests replies s portion read i d n secure short m =
+exchange_due requests replies s portion read i d n said short id m =
     let r = step_request s portion read i in
     let is : request_checked (request_spelling r) ≡ Ok r = asked requests r
-    (request_fits s portion read i d n short m) in
+    (request_fits s portion read i d n short id m) in
     let found : named_tdi d (request_function r) ≡ Some n = ap (named_tdi d) (function_of s portion read i) ∙
     m.named_is in
-    let reply : tdi_answer d (request_spelling r) secure ≡ tdi_reply n.tdi r secure (next_nonce d) = replied d n r
-    (request_spelling r) secure is found in
-    let back : reply_reading (answer_bytes d (request_spelling r) secure) ≡ Ok (tdi_reply n.tdi r secure (next_nonce d))
-    = ap (λ x. reply_reading (reply_spelling x)) reply ∙ replies _ (reply_fits s portion read i d n secure m) in
+    let reply : tdi_answer d (request_spelling r) said ≡ tdi_reply n.tdi r said (next_nonce d) = replied d n r
+    (request_spelling r) said is found in
+    let back : reply_reading (answer_bytes d (request_spelling r) said) ≡ Ok (tdi_reply n.tdi r said (next_nonce d))
+    = ap (λ x. reply_reading (reply_spelling x)) reply ∙ replies _ (reply_fits s portion read i d n said m) in
     record {
-      judged = ap (interface_reply_judged s i.requester portion read) back ∙ reply_due s portion read i d n secure m;
-      device = device d n r (request_spelling r) secure is found;
+      judged = ap (interface_reply_judged s i.requester portion read) back ∙ reply_due s portion read i d n said m;
+      device = device d n r (request_spelling r) said is found;
     }
 
 -- ---- what is due is no bad reply
@@ -78,16 +80,26 @@ start_good : (answer : Result (Unit {0}) ℕ) → start_judged answer ≢ Bad
 start_good (Ok done) e = absurd cc
 start_good (Err code) e = absurd cc
 
-due_good : (s : Step) (portion read : ℕ) (i : HostTdi) (tdi : Tdi) (secure : Bool) (drawn : Option (List ℕ))
-    → judged_due s portion read i tdi secure drawn ≢ Bad
-due_good step.Version portion read i tdi secure drawn e = absurd cc
-due_good step.Capabilities portion read i tdi secure drawn e = absurd cc
-due_good step.Lock portion read i tdi secure drawn e = nonce_good _ e
-due_good step.Report portion read i tdi secure drawn e = portion_good _ e
-due_good step.Start portion read i tdi secure drawn e = start_good _ e
-due_good step.Halt portion read i tdi secure drawn e = absurd cc
-due_good step.State portion read i tdi secure drawn e = absurd cc
+bind_good : (answer : Result ℕ ℕ) → bind_judged answer ≢ Bad
+bind_good (Ok draw) e = absurd cc
+bind_good (Err code) e = absurd cc
+
+unbind_good : (answer : Result (Unit {0}) ℕ) → unbind_judged answer ≢ Bad
+unbind_good (Ok done) e = absurd cc
+unbind_good (Err code) e = absurd cc
+
+due_good : (s : Step) (portion read : ℕ) (i : HostTdi) (tdi : Tdi) (said : StreamSaid) (drawn : Option (List ℕ))
+    → judged_due s portion read i tdi said drawn ≢ Bad
+due_good step.Version portion read i tdi said drawn e = absurd cc
+due_good step.Capabilities portion read i tdi said drawn e = absurd cc
+due_good step.Lock portion read i tdi said drawn e = nonce_good _ e
+due_good step.Report portion read i tdi said drawn e = portion_good _ e
+due_good step.Start portion read i tdi said drawn e = start_good _ e
+due_good step.Halt portion read i tdi said drawn e = absurd cc
+due_good step.State portion read i tdi said drawn e = absurd cc
+due_good (step.Bind peer) portion read i tdi said drawn e = bind_good _ e
+due_good (step.Unbind peer) portion read i tdi said drawn e = unbind_good _ e
 
 pub never_bad : ExchangesAreDue → RepliesAreNeverBad
-never_bad due s portion read i d n secure short m e = due_good s portion read i n.tdi secure (next_nonce d)
-    (sym (due s portion read i d n secure short m).judged ∙ e)
+never_bad due s portion read i d n said short id m e = due_good s portion read i n.tdi said (next_nonce d)
+    (sym (due s portion read i d n said short id m).judged ∙ e)

@@ -1,5 +1,5 @@
 -- Operations of up to three exchanges.
-use Rattle.std.proofs.Common.{◌≡◌, ℕ, suc, zero, ◌≤◌, Bool, List, [], ◌∷◌, length, Option, Some, None, refl, ap, sym}
+use Rattle.std.proofs.Common.{◌≡◌, ℕ, suc, zero, ◌≤◌, List, [], ◌∷◌, length, Option, Some, None, refl, ap, sym}
 use Rattle.std.proofs.Common.{subst, ◌∙◌, arith}
 use Rattle.std.specs.Prelude.{slice_set, slice_get}
 use Rattle.link_events.specs.declared.event.Loss.{Loss}
@@ -12,9 +12,11 @@ use Rattle.tdi_host.specs.declared.operation.Outcome.TheVariants as outcome
 use Rattle.tdi_host.specs.declared.step.Step.{Step}
 use Rattle.tdi_host.specs.declared.step.Step.TheVariants as step
 use Rattle.tdi_host.specs.Judging.{Judged, Passed, Nonce, Portion, State, Refused, Lost as NotCarried, Bad}
-use Rattle.tdi_host.specs.Views.{HostTdi, start_outcome, halt_outcome, state_outcome, lock_outcome}
+use Rattle.tdi_host.specs.Views.{HostTdi, start_outcome, halt_outcome, state_outcome, lock_outcome, bind_outcome}
+use Rattle.tdi_host.specs.Views.{unbind_outcome}
+use Rattle.tdi_device.specs.declared.said.StreamSaid.{StreamSaid}
 use Rattle.tdi_device.specs.Replies.{DeviceTdis, NamedTdi, named_tdi, named_tdi_in, named_tdi_at, tdi_place, next_nonce}
-use Rattle.tdi_walks.specs.Exchanges.{device_as, judged_due, Meets, ExchangesAreDue}
+use Rattle.tdi_walks.specs.Exchanges.{device_as, judged_due, FitsStep, Meets, ExchangesAreDue}
 use Rattle.key_laws.specs.Due.{lost_in}
 use Rattle.tdi_walks.specs.Operations.{carried, reached, Walking, WalkedInterface, walked_by, walked_once, walking_on}
 use Rattle.tdi_walks.specs.Operations.{continued_walk, interface_walk, begun_at, walking_exchange, stated_once, at_step}
@@ -49,27 +51,27 @@ same_set d f n is = set_same d.interfaces n.place n.tdi (in_list d.interfaces (t
 
 -- ---- an exchange
 
-pub once_stated : ExchangesAreDue → (portion draws : ℕ) (secure : Bool) (loss : Option Loss) (n : NamedTdi)
+pub once_stated : ExchangesAreDue → (portion draws : ℕ) (said : StreamSaid) (loss : Option Loss) (n : NamedTdi)
     (w : Walking)
-    → length w.read.bytes ≤ 1140 → Meets portion w.interface w.device n
-    → walked_once portion draws secure loss w ≡ stated_once portion draws secure (lost_in loss (walking_exchange w)) n w
-once_stated due portion draws secure loss n w short m =
-    let e = due w.step portion (length w.read.bytes) w.interface w.device n secure short m in
+    → length w.read.bytes ≤ 1140 → FitsStep w.step → Meets portion w.interface w.device n
+    → walked_once portion draws said loss w ≡ stated_once portion draws said (lost_in loss (walking_exchange w)) n w
+once_stated due portion draws said loss n w short id m =
+    let e = due w.step portion (length w.read.bytes) w.interface w.device n said short id m in
     ap (λ j. walked_by draws w (carried (lost_in loss (walking_exchange w)) j)
     (reached (lost_in loss (walking_exchange w)) w.device
-    (device_as w.step portion (length w.read.bytes) w.interface w.device secure))) e.judged
+    (device_as w.step portion (length w.read.bytes) w.interface w.device said))) e.judged
     ∙ ap (λ x. walked_by draws w
     (carried (lost_in loss (walking_exchange w))
-    (judged_due w.step portion (length w.read.bytes) w.interface n.tdi secure (next_nonce w.device)))
+    (judged_due w.step portion (length w.read.bytes) w.interface n.tdi said (next_nonce w.device)))
     (reached (lost_in loss (walking_exchange w)) w.device x)) e.device
 
 -- an exchange and the rest
-pub goes : (more portion draws : ℕ) (secure : Bool) (loss : Option Loss) (w : Walking) (now : WalkedInterface)
-    → walked_once portion draws secure loss w ≡ now
-    → interface_walk (suc more) portion draws secure loss w ≡ continued_walk now.outcome now
-    (interface_walk more portion draws secure loss (walking_on w.step now))
-goes more portion draws secure loss w now is = ap
-    (λ x. continued_walk x.outcome x (interface_walk more portion draws secure loss (walking_on w.step x))) is
+pub goes : (more portion draws : ℕ) (said : StreamSaid) (loss : Option Loss) (w : Walking) (now : WalkedInterface)
+    → walked_once portion draws said loss w ≡ now
+    → interface_walk (suc more) portion draws said loss w ≡ continued_walk now.outcome now
+    (interface_walk more portion draws said loss (walking_on w.step now))
+goes more portion draws said loss w now is = ap
+    (λ x. continued_walk x.outcome x (interface_walk more portion draws said loss (walking_on w.step x))) is
 
 -- ---- what is over with its one exchange
 
@@ -118,81 +120,106 @@ state_over e (Refused code) = tt
 state_over e NotCarried = tt
 state_over e Bad = tt
 
-alone : ExchangesAreDue → (s : Step) (more portion draws : ℕ) (secure : Bool) (loss : Option Loss) (i : HostTdi)
-    (d : DeviceTdis) (n : NamedTdi) → Meets portion i d n
-    → ((now : WalkedInterface) → now ≡ stated_once portion draws secure
+bind_over : (e number : ℕ) (j : Judged) → IsOver (bind_outcome e number j)
+bind_over e number Passed = tt
+bind_over e number (Nonce nonce) = tt
+bind_over e number (Portion bytes remainder) = tt
+bind_over e number (State code) = tt
+bind_over e number (Refused code) = tt
+bind_over e number NotCarried = tt
+bind_over e number Bad = tt
+
+unbind_over : (e number : ℕ) (j : Judged) → IsOver (unbind_outcome e number j)
+unbind_over e number Passed = tt
+unbind_over e number (Nonce nonce) = tt
+unbind_over e number (Portion bytes remainder) = tt
+unbind_over e number (State code) = tt
+unbind_over e number (Refused code) = tt
+unbind_over e number NotCarried = tt
+unbind_over e number Bad = tt
+
+alone : ExchangesAreDue → (s : Step) (more portion draws : ℕ) (said : StreamSaid) (loss : Option Loss) (i : HostTdi)
+    (d : DeviceTdis) (n : NamedTdi) → FitsStep s → Meets portion i d n
+    → ((now : WalkedInterface) → now ≡ stated_once portion draws said
     (lost_in loss (walking_exchange (at_step s i d))) n
     (at_step s i d) → IsOver now.outcome)
-    → interface_walk (suc more) portion draws secure loss (at_step s i d)
-    ≡ stated_once portion draws secure (lost_in loss (walking_exchange (at_step s i d))) n (at_step s i d)
-alone due s more portion draws secure loss i d n m over =
-    let now = stated_once portion draws secure (lost_in loss (walking_exchange (at_step s i d))) n (at_step s i d) in
-    goes more portion draws secure loss (at_step s i d) now
-    (once_stated due portion draws secure loss n (at_step s i d) (omega arith) m)
+    → interface_walk (suc more) portion draws said loss (at_step s i d)
+    ≡ stated_once portion draws said (lost_in loss (walking_exchange (at_step s i d))) n (at_step s i d)
+alone due s more portion draws said loss i d n id m over =
+    let now = stated_once portion draws said (lost_in loss (walking_exchange (at_step s i d))) n (at_step s i d) in
+    goes more portion draws said loss (at_step s i d) now
+    (once_stated due portion draws said loss n (at_step s i d) (omega arith) id m)
     ∙ stops now.outcome now _ (over now refl)
 
 -- ---- lock
 
 -- GET_VERSION, and GET_CAPABILITIES, leave both ends
-quiet_version : (portion draws : ℕ) (secure : Bool) (loss : Option Loss) (i : HostTdi) (d : DeviceTdis) (n : NamedTdi)
-    → named_tdi d i.requester ≡ Some n
-    → (l : Option Lost) (more : ℕ) (rest : WalkedInterface) → interface_walk more portion draws secure loss
-    (at_step step.Capabilities i d)
-    ≡ rest
-    → continued_walk (stated_once portion draws secure l n (at_step step.Version i d)).outcome
-    (stated_once portion draws secure l n (at_step step.Version i d))
-    (interface_walk more portion draws secure loss
-    (walking_on step.Version (stated_once portion draws secure l n (at_step step.Version i d))))
-    ≡ walked_unless_lost l (lost_early 1 i d) rest
-quiet_version portion draws secure loss i d n is None more rest e =
-    ap (λ xs. interface_walk more portion draws secure loss
-    (at_step step.Capabilities i (record d { interfaces = xs })))
-    (same_set d i.requester n is) ∙ e
-quiet_version portion draws secure loss i d n is (Some Request) more rest e = refl
-quiet_version portion draws secure loss i d n is (Some Reply) more rest e = ap
-    (λ xs. lost_early 1 i (record d { interfaces = xs })) (same_set d i.requester n is)
-
-quiet_capabilities : (portion draws : ℕ) (secure : Bool) (loss : Option Loss) (i : HostTdi) (d : DeviceTdis)
+quiet_version : (portion draws : ℕ) (said : StreamSaid) (loss : Option Loss) (i : HostTdi) (d : DeviceTdis)
     (n : NamedTdi)
     → named_tdi d i.requester ≡ Some n
-    → (l : Option Lost) (more : ℕ) (rest : WalkedInterface) → interface_walk more portion draws secure loss
-    (at_step step.Lock i d) ≡ rest
-    → continued_walk (stated_once portion draws secure l n (at_step step.Capabilities i d)).outcome
-    (stated_once portion draws secure l n (at_step step.Capabilities i d))
-    (interface_walk more portion draws secure loss
-    (walking_on step.Capabilities (stated_once portion draws secure l n (at_step step.Capabilities i d))))
-    ≡ walked_unless_lost l (lost_early 2 i d) rest
-quiet_capabilities portion draws secure loss i d n is None more rest e =
-    ap (λ xs. interface_walk more portion draws secure loss (at_step step.Lock i (record d { interfaces = xs })))
+    → (l : Option Lost) (more : ℕ) (rest : WalkedInterface) → interface_walk more portion draws said loss
+    (at_step step.Capabilities i d)
+    ≡ rest
+    → continued_walk (stated_once portion draws said l n (at_step step.Version i d)).outcome
+    (stated_once portion draws said l n (at_step step.Version i d))
+    (interface_walk more portion draws said loss
+    (walking_on step.Version (stated_once portion draws said l n (at_step step.Version i d))))
+    ≡ walked_unless_lost l (lost_early 1 i d) rest
+quiet_version portion draws said loss i d n is None more rest e =
+    ap (λ xs. interface_walk more portion draws said loss
+    (at_step step.Capabilities i (record d { interfaces = xs })))
     (same_set d i.requester n is) ∙ e
-quiet_capabilities portion draws secure loss i d n is (Some Request) more rest e = refl
-quiet_capabilities portion draws secure loss i d n is (Some Reply) more rest e = ap
+quiet_version portion draws said loss i d n is (Some Request) more rest e = refl
+quiet_version portion draws said loss i d n is (Some Reply) more rest e = ap
+    (λ xs. lost_early 1 i (record d { interfaces = xs })) (same_set d i.requester n is)
+
+quiet_capabilities : (portion draws : ℕ) (said : StreamSaid) (loss : Option Loss) (i : HostTdi) (d : DeviceTdis)
+    (n : NamedTdi)
+    → named_tdi d i.requester ≡ Some n
+    → (l : Option Lost) (more : ℕ) (rest : WalkedInterface) → interface_walk more portion draws said loss
+    (at_step step.Lock i d) ≡ rest
+    → continued_walk (stated_once portion draws said l n (at_step step.Capabilities i d)).outcome
+    (stated_once portion draws said l n (at_step step.Capabilities i d))
+    (interface_walk more portion draws said loss
+    (walking_on step.Capabilities (stated_once portion draws said l n (at_step step.Capabilities i d))))
+    ≡ walked_unless_lost l (lost_early 2 i d) rest
+quiet_capabilities portion draws said loss i d n is None more rest e =
+    ap (λ xs. interface_walk more portion draws said loss (at_step step.Lock i (record d { interfaces = xs })))
+    (same_set d i.requester n is) ∙ e
+quiet_capabilities portion draws said loss i d n is (Some Request) more rest e = refl
+quiet_capabilities portion draws said loss i d n is (Some Reply) more rest e = ap
     (λ xs. lost_early 2 i (record d { interfaces = xs })) (same_set d i.requester n is)
 
-lock_stated : ExchangesAreDue → (more portion draws : ℕ) (secure : Bool) (loss : Option Loss) (i : HostTdi)
+lock_stated : ExchangesAreDue → (more portion draws : ℕ) (said : StreamSaid) (loss : Option Loss) (i : HostTdi)
     (d : DeviceTdis) (n : NamedTdi) → Meets portion i d n
-    → interface_walk (suc (suc (suc more))) portion draws secure loss (begun_at op.Lock i d)
-    ≡ stated_lock portion draws secure loss i d n
-lock_stated due more portion draws secure loss i d n m =
-    let third = alone due step.Lock more portion draws secure loss i d n m
+    → interface_walk (suc (suc (suc more))) portion draws said loss (begun_at op.Lock i d)
+    ≡ stated_lock portion draws said loss i d n
+lock_stated due more portion draws said loss i d n m =
+    let third = alone due step.Lock more portion draws said loss i d n tt m
     (λ now e. subst (λ x. IsOver x.outcome) (sym e) (lock_over 3 _)) in
-    let second = goes (suc more) portion draws secure loss (at_step step.Capabilities i d) _
-    (once_stated due portion draws secure loss n (at_step step.Capabilities i d) (omega arith) m)
-    ∙ quiet_capabilities portion draws secure loss i d n m.named_is (lost_in loss 2) (suc more) _ third in
-    goes (suc (suc more)) portion draws secure loss (at_step step.Version i d) _
-    (once_stated due portion draws secure loss n (at_step step.Version i d) (omega arith) m)
-    ∙ quiet_version portion draws secure loss i d n m.named_is (lost_in loss 1) (suc (suc more)) _ second
+    let second = goes (suc more) portion draws said loss (at_step step.Capabilities i d) _
+    (once_stated due portion draws said loss n (at_step step.Capabilities i d) (omega arith) tt m)
+    ∙ quiet_capabilities portion draws said loss i d n m.named_is (lost_in loss 2) (suc more) _ third in
+    goes (suc (suc more)) portion draws said loss (at_step step.Version i d) _
+    (once_stated due portion draws said loss n (at_step step.Version i d) (omega arith) tt m)
+    ∙ quiet_version portion draws said loss i d n m.named_is (lost_in loss 1) (suc (suc more)) _ second
 
 pub operations_stated : ExchangesAreDue → OperationsAreStated
-operations_stated due op.Lock more portion draws secure loss i d n short m = lock_stated due more portion draws secure
+operations_stated due op.Lock more portion draws said loss i d n short m = lock_stated due more portion draws said
     loss i d n m
-operations_stated due op.Report more portion draws secure loss i d n short m = absurd short
-operations_stated due op.Start more portion draws secure loss i d n short m =
-    alone due step.Start (suc (suc more)) portion draws secure loss i d n m
+operations_stated due op.Report more portion draws said loss i d n short m = absurd short
+operations_stated due op.Start more portion draws said loss i d n short m =
+    alone due step.Start (suc (suc more)) portion draws said loss i d n tt m
     (λ now e. subst (λ x. IsOver x.outcome) (sym e) (start_over 1 _ _))
-operations_stated due op.Halt more portion draws secure loss i d n short m =
-    alone due step.Halt (suc (suc more)) portion draws secure loss i d n m
+operations_stated due op.Halt more portion draws said loss i d n short m =
+    alone due step.Halt (suc (suc more)) portion draws said loss i d n tt m
     (λ now e. subst (λ x. IsOver x.outcome) (sym e) (halt_over 1 _ _))
-operations_stated due op.State more portion draws secure loss i d n short m =
-    alone due step.State (suc (suc more)) portion draws secure loss i d n m
+operations_stated due op.State more portion draws said loss i d n short m =
+    alone due step.State (suc (suc more)) portion draws said loss i d n tt m
     (λ now e. subst (λ x. IsOver x.outcome) (sym e) (state_over 1 _))
+operations_stated due (op.Bind peer) more portion draws said loss i d n short m =
+    alone due (step.Bind peer) (suc (suc more)) portion draws said loss i d n short m
+    (λ now e. subst (λ x. IsOver x.outcome) (sym e) (bind_over 1 _ _))
+operations_stated due (op.Unbind peer) more portion draws said loss i d n short m =
+    alone due (step.Unbind peer) (suc (suc more)) portion draws said loss i d n short m
+    (λ now e. subst (λ x. IsOver x.outcome) (sym e) (unbind_over 1 _ _))

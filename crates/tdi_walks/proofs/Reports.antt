@@ -16,6 +16,7 @@ use Rattle.tdi_host.specs.declared.operation.InterfaceOp.TheVariants as op
 use Rattle.tdi_host.specs.declared.step.Step.TheVariants as step
 use Rattle.tdi_host.specs.Judging.{Portion}
 use Rattle.tdi_host.specs.Views.{HostTdi, step_request, report_outcome}
+use Rattle.tdi_device.specs.declared.said.StreamSaid.{StreamSaid}
 use Rattle.tdi_device.specs.Replies.{DeviceTdis, NamedTdi, asked_at}
 use Rattle.tdi_walks.specs.Exchanges.{portion_due, Meets, IsReport, ExchangesAreDue}
 use Rattle.key_laws.specs.Due.{lost_in}
@@ -93,13 +94,13 @@ answered tdi lock l portion off is some lt =
     (tested (kept_report tdi.plan l) portion off some lt)
 
 -- the device is as before, whatever is lost
-unmoved : (d : DeviceTdis) (n : NamedTdi) (i : HostTdi) (portion read : ℕ) (secure : Bool) (l : Option Lost)
+unmoved : (d : DeviceTdis) (n : NamedTdi) (i : HostTdi) (portion read : ℕ) (said : StreamSaid) (l : Option Lost)
     → slice_set d.interfaces n.place n.tdi ≡ d.interfaces
-    → reached l d (asked_at d n (step_request step.Report portion read i) secure) ≡ d
-unmoved d n i portion read secure None same = ap
+    → reached l d (asked_at d n (step_request step.Report portion read i) said) ≡ d
+unmoved d n i portion read said None same = ap
     (λ xs. (let k : DeviceTdis = record { interfaces = xs; nonces = d.nonces; used = d.used } in k)) same
-unmoved d n i portion read secure (Some Request) same = refl
-unmoved d n i portion read secure (Some Reply) same = ap
+unmoved d n i portion read said (Some Request) same = refl
+unmoved d n i portion read said (Some Reply) same = ap
     (λ xs. (let k : DeviceTdis = record { interfaces = xs; nonces = d.nonces; used = d.used } in k)) same
 
 -- a portion that is read, or lost
@@ -107,22 +108,22 @@ abbrev now_at : ℕ → Option Lost → HostTdi → DeviceTdis → List ℕ → 
 now_at draws l i d r bytes q portion off = walked_by draws (at_portion i d bytes q)
     (carried l (Portion (part r portion off) (behind r portion off))) d
 
-once : ExchangesAreDue → (portion draws : ℕ) (secure : Bool) (loss : Option Loss) (i : HostTdi) (d : DeviceTdis)
+once : ExchangesAreDue → (portion draws : ℕ) (said : StreamSaid) (loss : Option Loss) (i : HostTdi) (d : DeviceTdis)
     (n : NamedTdi) (lock : Lock) (off q : ℕ) (bytes : List ℕ)
     → Meets portion i d n → lock_of n.tdi.state ≡ Some lock → length bytes ≡ off
     → off < length (kept_report n.tdi.plan lock) → off ≤ 1140
-    → stated_once portion draws secure (lost_in loss (q + 1)) n (at_portion i d bytes q)
+    → stated_once portion draws said (lost_in loss (q + 1)) n (at_portion i d bytes q)
     ≡ now_at draws (lost_in loss (q + 1)) i d (kept_report n.tdi.plan lock) bytes q portion off
-once due portion draws secure loss i d n lock off q bytes m is long lt short =
+once due portion draws said loss i d n lock off q bytes m is long lt short =
     ap (λ j. walked_by draws (at_portion i d bytes q) (carried (lost_in loss (q + 1)) j)
-    (reached (lost_in loss (q + 1)) d (asked_at d n (step_request step.Report portion (length bytes) i) secure)))
+    (reached (lost_in loss (q + 1)) d (asked_at d n (step_request step.Report portion (length bytes) i) said)))
     (ap (λ k. portion_due (portion_of (option_map (kept_report n.tdi.plan) (lock_of n.tdi.state)) k portion)) long ∙
     answered n.tdi (lock_of n.tdi.state) lock portion off is m.portion_least lt)
     ∙ ap (λ x. walked_by draws (at_portion i d bytes q)
     (carried (lost_in loss (q + 1))
     (Portion (part (kept_report n.tdi.plan lock) portion off) (behind (kept_report n.tdi.plan lock) portion off)))
     x)
-    (unmoved d n i portion (length bytes) secure (lost_in loss (q + 1)) (same_set d i.requester n m.named_is))
+    (unmoved d n i portion (length bytes) said (lost_in loss (q + 1)) (same_set d i.requester n m.named_is))
 
 -- ---- all portions
 
@@ -137,10 +138,10 @@ taken_on (suc n) k (x ∷ xs) = ap (λ ys. x ∷ ys) (taken_on n k xs) ∙ ap (�
     (let e : suc (n + k) ≡ suc n + k = omega arith in e)
 
 -- what a report gives from this portion on
-abbrev Reads : ℕ → ℕ → ℕ → Bool → Option Loss → HostTdi → DeviceTdis → List ℕ → ℕ → ℕ → Type 0
-Reads more portion draws secure loss i d r off q =
+abbrev Reads : ℕ → ℕ → ℕ → StreamSaid → Option Loss → HostTdi → DeviceTdis → List ℕ → ℕ → ℕ → Type 0
+Reads more portion draws said loss i d r off q =
     ReportIsRead (lost_within loss (q + 1) (portion_count more portion (length r - off))) r i d
-    (interface_walk more portion draws secure loss (at_portion i d (take off r) q))
+    (interface_walk more portion draws said loss (at_portion i d (take off r) q))
 
 -- a portion that is lost
 cut_short : (more portion draws : ℕ) (loss : Option Loss) (i : HostTdi) (d : DeviceTdis) (r : List ℕ) (off q : ℕ)
@@ -179,13 +180,13 @@ ended more portion draws loss i d r off q w is short comes last one =
     }
 
 -- one portion of several
-later : (more portion draws : ℕ) (secure : Bool) (loss : Option Loss) (i : HostTdi) (d : DeviceTdis) (r : List ℕ)
+later : (more portion draws : ℕ) (said : StreamSaid) (loss : Option Loss) (i : HostTdi) (d : DeviceTdis) (r : List ℕ)
     (off q : ℕ) (w : WalkedInterface)
     → lost_in loss (q + 1) ≡ None → nat_le (length r - off) portion ≡ false
-    → Reads more portion draws secure loss i d r (off + portion) (q + 1)
-    → w ≡ interface_walk more portion draws secure loss (at_portion i d (take (off + portion) r) (q + 1))
+    → Reads more portion draws said loss i d r (off + portion) (q + 1)
+    → w ≡ interface_walk more portion draws said loss (at_portion i d (take (off + portion) r) (q + 1))
     → ReportIsRead (lost_within loss (q + 1) (portion_count (suc more) portion (length r - off))) r i d w
-later more portion draws secure loss i d r off q w is several rest comes =
+later more portion draws said loss i d r off q w is several rest comes =
     let left : length r - off - portion ≡ length r - (off + portion) = omega arith in
     let lost : lost_within loss (q + 1 + 1) (portion_count more portion (length r - (off + portion)))
     ≡ lost_within loss (q + 1) (portion_count (suc more) portion (length r - off))
@@ -196,22 +197,22 @@ later more portion draws secure loss i d r off q w is several rest comes =
     subst (λ x. ReportIsRead (lost_within loss (q + 1) (portion_count (suc more) portion (length r - off))) r i d x)
     (sym comes)
     (subst (λ l. ReportIsRead l r i d
-    (interface_walk more portion draws secure loss (at_portion i d (take (off + portion) r) (q + 1)))) lost rest)
+    (interface_walk more portion draws said loss (at_portion i d (take (off + portion) r) (q + 1)))) lost rest)
 
 positive : (k : ℕ) → 1 ≤ k → (k == 0) ≡ false
 positive k some = grind (arith, nat_tests)
 
 -- a portion with a remainder goes on
-goes_on : (more portion draws : ℕ) (secure : Bool) (loss : Option Loss) (i : HostTdi) (d : DeviceTdis)
+goes_on : (more portion draws : ℕ) (said : StreamSaid) (loss : Option Loss) (i : HostTdi) (d : DeviceTdis)
     (r bytes : List ℕ) (q off : ℕ) → 1 ≤ behind r portion off
     → continued_walk (now_at draws None i d r bytes q portion off).outcome (now_at draws None i d r bytes q portion off)
-    (interface_walk more portion draws secure loss
+    (interface_walk more portion draws said loss
     (walking_on step.Report (now_at draws None i d r bytes q portion off)))
-    ≡ interface_walk more portion draws secure loss (at_portion i d (bytes ++ part r portion off) (q + 1))
-goes_on more portion draws secure loss i d r bytes q off some = rw (positive (behind r portion off) some) refl
+    ≡ interface_walk more portion draws said loss (at_portion i d (bytes ++ part r portion off) (q + 1))
+goes_on more portion draws said loss i d r bytes q off some = rw (positive (behind r portion off) some) refl
 
 -- from the exchange that is lost, or not
-reads_by : ExchangesAreDue → (more portion draws : ℕ) (secure : Bool) (loss : Option Loss) (i : HostTdi)
+reads_by : ExchangesAreDue → (more portion draws : ℕ) (said : StreamSaid) (loss : Option Loss) (i : HostTdi)
     (d : DeviceTdis) (n : NamedTdi) (lock : Lock) (off q : ℕ) (l : Option Lost) (b : Bool) (w : WalkedInterface)
     → Meets portion i d n → off < length (kept_report n.tdi.plan lock) → lost_in loss (q + 1) ≡ l
     → nat_le (length (kept_report n.tdi.plan lock) - off) portion ≡ b
@@ -219,16 +220,16 @@ reads_by : ExchangesAreDue → (more portion draws : ℕ) (secure : Bool) (loss 
     portion
     off).outcome
     (now_at draws l i d (kept_report n.tdi.plan lock) (take off (kept_report n.tdi.plan lock)) q portion off)
-    (interface_walk more portion draws secure loss
+    (interface_walk more portion draws said loss
     (walking_on step.Report
     (now_at draws l i d (kept_report n.tdi.plan lock) (take off (kept_report n.tdi.plan lock)) q portion off)))
-    → (b ≡ false → Reads more portion draws secure loss i d (kept_report n.tdi.plan lock) (off + portion) (q + 1))
+    → (b ≡ false → Reads more portion draws said loss i d (kept_report n.tdi.plan lock) (off + portion) (q + 1))
     → ReportIsRead (lost_within loss (q + 1)
     (portion_count (suc more) portion (length (kept_report n.tdi.plan lock) - off))) (kept_report n.tdi.plan lock) i
     d w
-reads_by due more portion draws secure loss i d n lock off q (Some x) b w m lt is test comes rest = cut_short more
+reads_by due more portion draws said loss i d n lock off q (Some x) b w m lt is test comes rest = cut_short more
     portion draws loss i d (kept_report n.tdi.plan lock) off q x w is comes
-reads_by due more portion draws secure loss i d n lock off q None true w m lt is test comes rest =
+reads_by due more portion draws said loss i d n lock off q None true w m lt is test comes rest =
     let r = kept_report n.tdi.plan lock in
     let few : length r - off ≤ portion = true-le (length r - off) portion test in
     let last : behind r portion off ≡ 0 = omega (arith, length-drop (off + portion) r) in
@@ -236,34 +237,35 @@ reads_by due more portion draws secure loss i d n lock off q None true w m lt is
     (λ k. IsOver (report_outcome (q + 1) (Portion (part r portion off) k))) (sym last) tt in
     ended more portion draws loss i d r off q w is (omega arith)
     (comes ∙ stops _ (now_at draws None i d r (take off r) q portion off) _ over) last test
-reads_by due more portion draws secure loss i d n lock off q None false w m lt is test comes rest =
+reads_by due more portion draws said loss i d n lock off q None false w m lt is test comes rest =
     let r = kept_report n.tdi.plan lock in
     let many : portion < length r - off = false-le (length r - off) portion test in
     let some : 1 ≤ behind r portion off = omega (arith, length-drop (off + portion) r) in
-    later more portion draws secure loss i d r off q w is test (rest refl)
-    (comes ∙ goes_on more portion draws secure loss i d r (take off r) q off some
-    ∙ ap (λ bytes. interface_walk more portion draws secure loss (at_portion i d bytes (q + 1)))
+    later more portion draws said loss i d r off q w is test (rest refl)
+    (comes ∙ goes_on more portion draws said loss i d r (take off r) q off some
+    ∙ ap (λ bytes. interface_walk more portion draws said loss (at_portion i d bytes (q + 1)))
     (taken_on off portion r))
 
-reads : ExchangesAreDue → (more portion draws : ℕ) (secure : Bool) (loss : Option Loss) (i : HostTdi) (d : DeviceTdis)
+reads : ExchangesAreDue → (more portion draws : ℕ) (said : StreamSaid) (loss : Option Loss) (i : HostTdi)
+    (d : DeviceTdis)
     (n : NamedTdi) (lock : Lock) (off q : ℕ)
     → Meets portion i d n → lock_of n.tdi.state ≡ Some lock → IsReport (kept_report n.tdi.plan lock)
     → off < length (kept_report n.tdi.plan lock) → length (kept_report n.tdi.plan lock) ≤ off + more
-    → Reads more portion draws secure loss i d (kept_report n.tdi.plan lock) off q
-reads due zero portion draws secure loss i d n lock off q m is report lt fuel = absurd (omega arith)
-reads due (suc more) portion draws secure loss i d n lock off q m is report lt fuel =
+    → Reads more portion draws said loss i d (kept_report n.tdi.plan lock) off q
+reads due zero portion draws said loss i d n lock off q m is report lt fuel = absurd (omega arith)
+reads due (suc more) portion draws said loss i d n lock off q m is report lt fuel =
     let r = kept_report n.tdi.plan lock in
     let short = report.short in
     let least = m.portion_least in
     let long : length (take off r) ≡ off = omega (arith, length-take off r) in
-    let now = once_stated due portion draws secure loss n (at_portion i d (take off r) q) (omega arith) m
-    ∙ once due portion draws secure loss i d n lock off q (take off r) m is long lt (omega arith) in
-    reads_by due more portion draws secure loss i d n lock off q (lost_in loss (q + 1))
+    let now = once_stated due portion draws said loss n (at_portion i d (take off r) q) (omega arith) tt m
+    ∙ once due portion draws said loss i d n lock off q (take off r) m is long lt (omega arith) in
+    reads_by due more portion draws said loss i d n lock off q (lost_in loss (q + 1))
     (nat_le (length r - off) portion) _ m lt refl refl
-    (goes more portion draws secure loss (at_portion i d (take off r) q) _ now)
+    (goes more portion draws said loss (at_portion i d (take off r) q) _ now)
     (λ several.
     let many : portion < length r - off = false-le (length r - off) portion several in
-    reads due more portion draws secure loss i d n lock (off + portion) (q + 1) m is report (omega arith) (omega arith))
+    reads due more portion draws said loss i d n lock (off + portion) (q + 1) m is report (omega arith) (omega arith))
 
 kept : (tdi : Tdi) (lock : Option Lock) (l : Lock) → lock ≡ Some l
     → Rattle.std.specs.Prelude.IfSome lock (λ k. IsReport (kept_report tdi.plan k)) → IsReport (kept_report tdi.plan l)
@@ -271,13 +273,13 @@ kept tdi lock l is report = subst (λ o. Rattle.std.specs.Prelude.IfSome o (λ k
     report
 
 pub reports_read : ExchangesAreDue → ReportsAreRead
-reports_read due more portion draws secure loss i d n lock m is fuel =
+reports_read due more portion draws said loss i d n lock m is fuel =
     let report = kept n.tdi (lock_of n.tdi.state) lock is m.report in
     let some = report.some in
     let whole : length (kept_report n.tdi.plan lock) - 0 ≡ length (kept_report n.tdi.plan lock) = omega arith in
     subst (λ k. ReportIsRead (lost_within loss 1 (portion_count more portion k)) (kept_report n.tdi.plan lock) i d
-    (interface_walk more portion draws secure loss (begun_at op.Report i d))) whole
-    (reads due more portion draws secure loss i d n lock 0 0 m is report (omega arith) (omega arith))
+    (interface_walk more portion draws said loss (begun_at op.Report i d))) whole
+    (reads due more portion draws said loss i d n lock 0 0 m is report (omega arith) (omega arith))
 
 -- ---- no report
 
@@ -290,8 +292,8 @@ refused_over tdi lock loss None off portion is = subst
 refused_over tdi lock loss (Some x) off portion is = tt
 
 pub reports_refused : ExchangesAreDue → ReportsAreRefused
-reports_refused due more portion draws secure loss i d n m is =
-    let now = stated_once portion draws secure (lost_in loss 1) n (at_step step.Report i d) in
-    goes more portion draws secure loss (at_step step.Report i d) now
-    (once_stated due portion draws secure loss n (at_step step.Report i d) (omega arith) m)
+reports_refused due more portion draws said loss i d n m is =
+    let now = stated_once portion draws said (lost_in loss 1) n (at_step step.Report i d) in
+    goes more portion draws said loss (at_step step.Report i d) now
+    (once_stated due portion draws said loss n (at_step step.Report i d) (omega arith) tt m)
     ∙ stops now.outcome now _ (refused_over n.tdi (lock_of n.tdi.state) loss (lost_in loss 1) 0 portion is)

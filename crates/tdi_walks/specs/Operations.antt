@@ -1,6 +1,6 @@
 -- An operation on an interface at one event: the manager begins it, and its exchanges are carried one after another.
 -- The session may lose each of them.
-use Rattle.std.specs.Prelude.{ℕ, zero, suc, ◌≡◌, Bool, length, Option, Some, None}
+use Rattle.std.specs.Prelude.{ℕ, zero, suc, ◌≡◌, ◌<◌, length, Option, Some, None}
 use Rattle.link_events.specs.declared.event.Loss.{Loss}
 use Rattle.link_events.specs.declared.event.Lost.{Lost}
 use Rattle.link_events.specs.declared.event.Lost.TheVariants.{Request}
@@ -16,6 +16,7 @@ use Rattle.tdi_host.specs.Steps.{Read, first_step, next_step, exchange_number}
 use Rattle.tdi_host.specs.Judging.{Judged, Lost as NotCarried}
 use Rattle.tdi_host.specs.Views.{HostTdi, step_request, taken_interface, interface_outcome}
 use Rattle.tdi_host.specs.Managers.{nothing_read, read_after}
+use Rattle.tdi_device.specs.declared.said.StreamSaid.{StreamSaid}
 use Rattle.tdi_device.specs.Replies.{DeviceTdis, NamedTdi, next_nonce, asked_at}
 use Rattle.tdi_walks.specs.Exchanges.{judged_by_manager, device_as, judged_due, Meets}
 
@@ -49,13 +50,13 @@ pub record WalkedInterface : Type 0 where
 abbrev pub walking_exchange : Walking → ℕ
 walking_exchange w = exchange_number w.step w.read
 
-abbrev pub judged_in : ℕ → Bool → Option Loss → Walking → Judged
-judged_in portion secure loss w = carried (lost_in loss (walking_exchange w))
-    (judged_by_manager w.step portion (length w.read.bytes) w.interface w.device secure)
+abbrev pub judged_in : ℕ → StreamSaid → Option Loss → Walking → Judged
+judged_in portion said loss w = carried (lost_in loss (walking_exchange w))
+    (judged_by_manager w.step portion (length w.read.bytes) w.interface w.device said)
 
-abbrev pub device_in : ℕ → Bool → Option Loss → Walking → DeviceTdis
-device_in portion secure loss w = reached (lost_in loss (walking_exchange w)) w.device
-    (device_as w.step portion (length w.read.bytes) w.interface w.device secure)
+abbrev pub device_in : ℕ → StreamSaid → Option Loss → Walking → DeviceTdis
+device_in portion said loss w = reached (lost_in loss (walking_exchange w)) w.device
+    (device_as w.step portion (length w.read.bytes) w.interface w.device said)
 
 -- both ends after an exchange whose reply is judged so
 abbrev pub walked_by : ℕ → Walking → Judged → DeviceTdis → WalkedInterface
@@ -68,9 +69,9 @@ walked_by draws w judged device =
       device = device;
     }
 
-abbrev pub walked_once : ℕ → ℕ → Bool → Option Loss → Walking → WalkedInterface
-walked_once portion draws secure loss w =
-    walked_by draws w (judged_in portion secure loss w) (device_in portion secure loss w)
+abbrev pub walked_once : ℕ → ℕ → StreamSaid → Option Loss → Walking → WalkedInterface
+walked_once portion draws said loss w =
+    walked_by draws w (judged_in portion said loss w) (device_in portion said loss w)
 
 -- at the next exchange
 abbrev pub walking_on : Step → WalkedInterface → Walking
@@ -81,12 +82,12 @@ continued_walk outcome.Next now rest = rest
 continued_walk o now rest = now
 
 -- exchange after exchange, up to so many
-abbrev pub interface_walk : (more : ℕ) → ℕ → ℕ → Bool → Option Loss → Walking → WalkedInterface
-interface_walk zero portion draws secure loss w =
+abbrev pub interface_walk : (more : ℕ) → ℕ → ℕ → StreamSaid → Option Loss → Walking → WalkedInterface
+interface_walk zero portion draws said loss w =
     record { outcome = outcome.Next; interface = w.interface; read = w.read; device = w.device }
-interface_walk (suc more) portion draws secure loss w =
-    continued_walk (walked_once portion draws secure loss w).outcome (walked_once portion draws secure loss w)
-    (interface_walk more portion draws secure loss (walking_on w.step (walked_once portion draws secure loss w)))
+interface_walk (suc more) portion draws said loss w =
+    continued_walk (walked_once portion draws said loss w).outcome (walked_once portion draws said loss w)
+    (interface_walk more portion draws said loss (walking_on w.step (walked_once portion draws said loss w)))
 
 abbrev pub begun_at : InterfaceOp → HostTdi → DeviceTdis → Walking
 begun_at op i d = record { interface = i; step = first_step op; read = nothing_read; device = d }
@@ -94,18 +95,18 @@ begun_at op i d = record { interface = i; step = first_step op; read = nothing_r
 -- ---- the stated step of an operation that is not refused at its beginning
 
 -- an exchange with these ends, if this is lost of it
-abbrev pub stated_once : ℕ → ℕ → Bool → Option Lost → NamedTdi → Walking → WalkedInterface
-stated_once portion draws secure lost n w =
+abbrev pub stated_once : ℕ → ℕ → StreamSaid → Option Lost → NamedTdi → Walking → WalkedInterface
+stated_once portion draws said lost n w =
     walked_by draws w
-    (carried lost (judged_due w.step portion (length w.read.bytes) w.interface n.tdi secure (next_nonce w.device)))
-    (reached lost w.device (asked_at w.device n (step_request w.step portion (length w.read.bytes) w.interface) secure))
+    (carried lost (judged_due w.step portion (length w.read.bytes) w.interface n.tdi said (next_nonce w.device)))
+    (reached lost w.device (asked_at w.device n (step_request w.step portion (length w.read.bytes) w.interface) said))
 
 abbrev pub at_step : Step → HostTdi → DeviceTdis → Walking
 at_step s i d = record { interface = i; step = s; read = nothing_read; device = d }
 
 -- an operation of one exchange
-abbrev pub stated_alone : Step → ℕ → ℕ → Bool → Option Loss → HostTdi → DeviceTdis → NamedTdi → WalkedInterface
-stated_alone s portion draws secure loss i d n = stated_once portion draws secure (lost_in loss 1) n (at_step s i d)
+abbrev pub stated_alone : Step → ℕ → ℕ → StreamSaid → Option Loss → HostTdi → DeviceTdis → NamedTdi → WalkedInterface
+stated_alone s portion draws said loss i d n = stated_once portion draws said (lost_in loss 1) n (at_step s i d)
 
 -- a loss before the exchange that changes something leaves both ends
 abbrev pub lost_early : ℕ → HostTdi → DeviceTdis → WalkedInterface
@@ -117,30 +118,35 @@ walked_unless_lost None lost rest = rest
 walked_unless_lost (Some l) lost rest = lost
 
 -- GET_VERSION and GET_CAPABILITIES change nothing; LOCK_INTERFACE is exchange 3
-abbrev pub stated_lock : ℕ → ℕ → Bool → Option Loss → HostTdi → DeviceTdis → NamedTdi → WalkedInterface
-stated_lock portion draws secure loss i d n =
+abbrev pub stated_lock : ℕ → ℕ → StreamSaid → Option Loss → HostTdi → DeviceTdis → NamedTdi → WalkedInterface
+stated_lock portion draws said loss i d n =
     walked_unless_lost (lost_in loss 1) (lost_early 1 i d)
     (walked_unless_lost (lost_in loss 2) (lost_early 2 i d)
-    (stated_once portion draws secure (lost_in loss 3) n (at_step step.Lock i d)))
+    (stated_once portion draws said (lost_in loss 3) n (at_step step.Lock i d)))
 
-abbrev pub stated : InterfaceOp → ℕ → ℕ → Bool → Option Loss → HostTdi → DeviceTdis → NamedTdi → WalkedInterface
-stated op.Lock portion draws secure loss i d n = stated_lock portion draws secure loss i d n
-stated op.Report portion draws secure loss i d n = stated_alone step.Report portion draws secure loss i d n
-stated op.Start portion draws secure loss i d n = stated_alone step.Start portion draws secure loss i d n
-stated op.Halt portion draws secure loss i d n = stated_alone step.Halt portion draws secure loss i d n
-stated op.State portion draws secure loss i d n = stated_alone step.State portion draws secure loss i d n
+abbrev pub stated : InterfaceOp → ℕ → ℕ → StreamSaid → Option Loss → HostTdi → DeviceTdis → NamedTdi → WalkedInterface
+stated op.Lock portion draws said loss i d n = stated_lock portion draws said loss i d n
+stated op.Report portion draws said loss i d n = stated_alone step.Report portion draws said loss i d n
+stated op.Start portion draws said loss i d n = stated_alone step.Start portion draws said loss i d n
+stated op.Halt portion draws said loss i d n = stated_alone step.Halt portion draws said loss i d n
+stated op.State portion draws said loss i d n = stated_alone step.State portion draws said loss i d n
+stated (op.Bind peer) portion draws said loss i d n = stated_alone (step.Bind peer) portion draws said loss i d n
+stated (op.Unbind peer) portion draws said loss i d n = stated_alone (step.Unbind peer) portion draws said loss i d n
 
 -- ---- the law
 
+-- no report; the stream that it names has an ID
 abbrev pub IsShortOp : InterfaceOp → Type 0
 IsShortOp op.Report = ⊥
+IsShortOp (op.Bind peer) = peer.id < 256
+IsShortOp (op.Unbind peer) = peer.id < 256
 IsShortOp op = Unit {0}
 
 -- up to three exchanges
 abbrev pub OperationsAreStated : Type 0
 OperationsAreStated =
-    (o : InterfaceOp) (more portion draws : ℕ) (secure : Bool) (loss : Option Loss) (i : HostTdi) (d : DeviceTdis)
+    (o : InterfaceOp) (more portion draws : ℕ) (said : StreamSaid) (loss : Option Loss) (i : HostTdi) (d : DeviceTdis)
     (n : NamedTdi)
     → IsShortOp o → Meets portion i d n
-    → interface_walk (suc (suc (suc more))) portion draws secure loss (begun_at o i d)
-    ≡ stated o portion draws secure loss i d n
+    → interface_walk (suc (suc (suc more))) portion draws said loss (begun_at o i d)
+    ≡ stated o portion draws said loss i d n

@@ -1,5 +1,5 @@
 -- A report, read portion by portion at one event.
-use Rattle.std.specs.Prelude.{ℕ, zero, suc, ◌+◌, ◌-◌, ◌≡◌, ◌≤◌, Bool, ◌&&◌, nat_le, nat_lt, List, length, Option, Some}
+use Rattle.std.specs.Prelude.{ℕ, zero, suc, ◌+◌, ◌-◌, ◌≡◌, ◌≤◌, ◌&&◌, nat_le, nat_lt, List, length, Option, Some}
 use Rattle.std.specs.Prelude.{None, if◌then◌else◌}
 use Rattle.link_events.specs.declared.event.Loss.{Loss}
 use Rattle.tdi_state.specs.declared.states.Lock.{Lock}
@@ -12,6 +12,7 @@ use Rattle.tdi_host.specs.declared.operation.Refusal.TheVariants.{SessionLost}
 use Rattle.tdi_host.specs.declared.operation.Shown.TheVariants as shown
 use Rattle.tdi_host.specs.declared.step.Step.TheVariants as step
 use Rattle.tdi_host.specs.Views.{HostTdi, reported}
+use Rattle.tdi_device.specs.declared.said.StreamSaid.{StreamSaid}
 use Rattle.tdi_device.specs.Replies.{DeviceTdis, NamedTdi}
 use Rattle.tdi_walks.specs.Exchanges.{Meets}
 use Rattle.tdi_walks.specs.Operations.{WalkedInterface, interface_walk, begun_at, stated_alone}
@@ -48,16 +49,16 @@ pub record ReportIsRead (lost : Option ℕ) (report : List ℕ) (i : HostTdi) (d
 -- the device's interface is in CONFIG_LOCKED or RUN
 abbrev pub ReportsAreRead : Type 0
 ReportsAreRead =
-    (more portion draws : ℕ) (secure : Bool) (loss : Option Loss) (i : HostTdi) (d : DeviceTdis) (n : NamedTdi)
+    (more portion draws : ℕ) (said : StreamSaid) (loss : Option Loss) (i : HostTdi) (d : DeviceTdis) (n : NamedTdi)
     (lock : Lock)
     → Meets portion i d n → lock_of n.tdi.state ≡ Some lock → length (kept_report n.tdi.plan lock) ≤ more
     → ReportIsRead (lost_within loss 1 (portion_count more portion (length (kept_report n.tdi.plan lock))))
-    (kept_report n.tdi.plan lock) i d (interface_walk more portion draws secure loss (begun_at op.Report i d))
+    (kept_report n.tdi.plan lock) i d (interface_walk more portion draws said loss (begun_at op.Report i d))
 
 -- the device's interface is in no lock: its first exchange is refused, or lost
 abbrev pub ReportsAreRefused : Type 0
 ReportsAreRefused =
-    (more portion draws : ℕ) (secure : Bool) (loss : Option Loss) (i : HostTdi) (d : DeviceTdis) (n : NamedTdi)
+    (more portion draws : ℕ) (said : StreamSaid) (loss : Option Loss) (i : HostTdi) (d : DeviceTdis) (n : NamedTdi)
     → Meets portion i d n → lock_of n.tdi.state ≡ None
-    → interface_walk (suc more) portion draws secure loss (begun_at op.Report i d)
-    ≡ stated_alone step.Report portion draws secure loss i d n
+    → interface_walk (suc more) portion draws said loss (begun_at op.Report i d)
+    ≡ stated_alone step.Report portion draws said loss i d n

@@ -10,8 +10,9 @@ use Rattle.byteorder.specs.Numbers.{little_number-reads_back}
 use Rattle.first_fault.proofs.Cells.{IsBytes, cells}
 use Rattle.tdisp_codec.specs.Messages.{Ignored}
 use Rattle.tdisp_codec.specs.Replies.{Reply, Version, Capabilities, LockInterface, DeviceInterfaceReport}
-use Rattle.tdisp_codec.specs.Replies.{DeviceInterfaceState, StartInterface, StopInterface, Error, reply_type}
-use Rattle.tdisp_codec.specs.Replies.{reply_function, reply_reserved, reply_body, reply_spelling, IsCountedReply}
+use Rattle.tdisp_codec.specs.Replies.{DeviceInterfaceState, StartInterface, StopInterface, BindP2p, UnbindP2p, Error}
+use Rattle.tdisp_codec.specs.Replies.{reply_type, reply_function, reply_reserved, reply_body, reply_spelling}
+use Rattle.tdisp_codec.specs.Replies.{IsCountedReply}
 use Rattle.tdisp_codec.specs.Replies.{FitsReplyBody, FitsReply, SpellsReply, is_reply, reply_size, reply_of_type}
 use Rattle.tdisp_codec.proofs.Octets.{octets, joins, leads, at_value, take_long, nonce_fits, IsByte, list_cells}
 use Rattle.tdisp_codec.proofs.Octets.{drop_split_cells, take_cells, drop_octets, all_of, number_2, number_4, below_2}
@@ -89,6 +90,8 @@ written (DeviceInterfaceState function state) x c f = record
     { known = refl; octets = leads state f no_bytes; size = refl; again = refl }
 written (StartInterface function) x c f = record { known = refl; octets = no_bytes; size = refl; again = refl }
 written (StopInterface function) x c f = record { known = refl; octets = no_bytes; size = refl; again = refl }
+written (BindP2p function) x c f = record { known = refl; octets = no_bytes; size = refl; again = refl }
+written (UnbindP2p function) x c f = record { known = refl; octets = no_bytes; size = refl; again = refl }
 written (Error function code value) x c f = record {
   known = refl;
   octets = joins (four_bytes code) (four_bytes value);
@@ -156,7 +159,7 @@ portion_back function b f long =
       body_is = drop_split_cells 4 0 b (omega arith) ∙ whole;
     }
 
-reply_among : (type : ℕ) → is_reply type ≡ true → (1 ≤ type) × (type ≤ 0x7f) × ((type ≤ 7) ⊎ (type ≡ 0x7f))
+reply_among : (type : ℕ) → is_reply type ≡ true → (1 ≤ type) × (type ≤ 0x7f) × ((type ≤ 9) ⊎ (type ≡ 0x7f))
 reply_among type known = grind (arith, nat_tests)
 
 -- type by type: a body of the length that the type asks for is the spelling of what is read of it
@@ -184,6 +187,12 @@ back type function b known f =
     at 0x07 (λ long. record
     { fits = (tt, tt); reserved = zeros 0; type_is = refl; function_is = refl; body_is = list_cells 0 b long })
     (λ n7.
+    at 0x08 (λ long. record
+    { fits = (tt, tt); reserved = zeros 0; type_is = refl; function_is = refl; body_is = list_cells 0 b long })
+    (λ n8.
+    at 0x09 (λ long. record
+    { fits = (tt, tt); reserved = zeros 0; type_is = refl; function_is = refl; body_is = list_cells 0 b long })
+    (λ n9.
     at 0x7f (λ long.
     record {
       fits = (tt, (below_4 0 b f, below_4 4 b f));
@@ -191,8 +200,8 @@ back type function b known f =
       type_is = refl;
       function_is = refl;
       body_is = list_cells 8 b long ∙ cc (number_4 0 b f, number_4 4 b f);
-    }) (λ n8.
-    let among = reply_among type known in absurd (omega arith)))))))))
+    }) (λ n10.
+    let among = reply_among type known in absurd (omega arith)))))))))))
 
 -- the length of a body is said by its first bytes
 says : SaysItsSize reply_size

@@ -9,7 +9,7 @@ use Rattle.tdisp_codec.specs.declared.request.RequestView.{RequestView}
 use Rattle.tdisp_codec.specs.declared.request.RequestView.TheVariants.{GetVersion, GetCapabilities, LockInterface}
 use Rattle.tdisp_codec.specs.declared.request.RequestView.TheVariants.{GetDeviceInterfaceReport}
 use Rattle.tdisp_codec.specs.declared.request.RequestView.TheVariants.{GetDeviceInterfaceState, StartInterface}
-use Rattle.tdisp_codec.specs.declared.request.RequestView.TheVariants.{StopInterface}
+use Rattle.tdisp_codec.specs.declared.request.RequestView.TheVariants.{StopInterface, BindP2p, UnbindP2p}
 use Rattle.tdisp_codec.specs.Messages.{Ignored}
 use Rattle.tdisp_codec.specs.Requests.{request_type, request_function, request_reserved, request_body, request_spelling}
 use Rattle.tdisp_codec.specs.Requests.{FitsRequestBody, FitsRequest, SpellsRequest, is_request, request_size}
@@ -74,6 +74,10 @@ written (StartInterface function nonce) x f = record {
   again = ap (StartInterface function) (take_long 32 nonce f.0);
 }
 written (StopInterface function) x f = record { known = refl; octets = no_bytes; size = refl; again = refl }
+written (BindP2p function stream) x f = record
+    { known = refl; octets = leads stream f no_bytes; size = refl; again = refl }
+written (UnbindP2p function stream) x f = record
+    { known = refl; octets = leads stream f no_bytes; size = refl; again = refl }
 
 abbrev Back : ℕ → ℕ → List ℕ → Type 0
 Back type function body = IsBack requests type function body (request_from type function body)
@@ -93,7 +97,7 @@ lock_back function b f long =
       body_is = list_cells 20 b long ∙ whole;
     }
 
-request_among : (type : ℕ) → is_request type ≡ true → (0x81 ≤ type) × (type ≤ 0x87)
+request_among : (type : ℕ) → is_request type ≡ true → (0x81 ≤ type) × (type ≤ 0x89)
 request_among type known = grind (arith, nat_tests)
 
 -- type by type: a body of the length of the type is the spelling of what is read of it
@@ -133,7 +137,11 @@ back type function b known f =
     }) (λ n6.
     at 0x87 (λ long. record
     { fits = tt; reserved = zeros 0; type_is = refl; function_is = refl; body_is = list_cells 0 b long }) (λ n7.
-    let small = request_among type known in absurd (omega arith))))))))
+    at 0x88 (λ long. record
+    { fits = f 0; reserved = zeros 0; type_is = refl; function_is = refl; body_is = list_cells 1 b long }) (λ n8.
+    at 0x89 (λ long. record
+    { fits = f 0; reserved = zeros 0; type_is = refl; function_is = refl; body_is = list_cells 1 b long }) (λ n9.
+    let small = request_among type known in absurd (omega arith))))))))))
 
 -- ---- the grammar
 

@@ -17,6 +17,8 @@ pub data Reply : Type 0 where
   DeviceInterfaceState : ℕ → ℕ → Reply
   StartInterface : ℕ → Reply
   StopInterface : ℕ → Reply
+  BindP2p : ℕ → Reply
+  UnbindP2p : ℕ → Reply
   Error : ℕ → ℕ → ℕ → Reply
 
 abbrev pub reply_shown : ReplyView → Reply
@@ -29,6 +31,8 @@ reply_shown (views.DeviceInterfaceReport function remainder portion) = DeviceInt
 reply_shown (views.DeviceInterfaceState function state) = DeviceInterfaceState function state
 reply_shown (views.StartInterface function) = StartInterface function
 reply_shown (views.StopInterface function) = StopInterface function
+reply_shown (views.BindP2p function) = BindP2p function
+reply_shown (views.UnbindP2p function) = UnbindP2p function
 reply_shown (views.Error function code value) = Error function code value
 
 -- what `reply_read` answers, with the value in the view's place
@@ -44,6 +48,8 @@ reply_type (DeviceInterfaceReport function remainder portion) = 0x04
 reply_type (DeviceInterfaceState function state) = 0x05
 reply_type (StartInterface function) = 0x06
 reply_type (StopInterface function) = 0x07
+reply_type (BindP2p function) = 0x08
+reply_type (UnbindP2p function) = 0x09
 reply_type (Error function code value) = 0x7f
 
 abbrev pub reply_function : Reply → ℕ
@@ -54,6 +60,8 @@ reply_function (DeviceInterfaceReport function remainder portion) = function
 reply_function (DeviceInterfaceState function state) = function
 reply_function (StartInterface function) = function
 reply_function (StopInterface function) = function
+reply_function (BindP2p function) = function
+reply_function (UnbindP2p function) = function
 reply_function (Error function code value) = function
 
 -- how many bytes of its body are reserved
@@ -108,7 +116,7 @@ pub record SpellsReply (reply : Reply) (bytes : List ℕ) : Type 0 where
 -- ---- reading
 
 abbrev pub is_reply : ℕ → Bool
-is_reply type = (nat_le 0x01 type && nat_le type 0x07) || (type == 0x7f)
+is_reply type = (nat_le 0x01 type && nat_le type 0x09) || (type == 0x7f)
 
 -- how long the body is, by the type and its own first bytes, which count as 0 if they are missing
 abbrev pub reply_size : ℕ → List ℕ → ℕ
@@ -135,6 +143,8 @@ reply_of_type type function body =
     else if type == 0x04 then DeviceInterfaceReport function (little_number 2 (drop 2 body)) (drop 4 body)
     else if type == 0x05 then DeviceInterfaceState function (slice_index body 0)
     else if type == 0x06 then StartInterface function
+    else if type == 0x08 then BindP2p function
+    else if type == 0x09 then UnbindP2p function
     else if type == 0x7f then Error function (little_number 4 body) (little_number 4 (drop 4 body))
     else StopInterface function
 

@@ -7,7 +7,7 @@ use Rattle.tdisp_codec.specs.declared.request.RequestView.{RequestView}
 use Rattle.tdisp_codec.specs.declared.request.RequestView.TheVariants.{GetVersion, GetCapabilities, LockInterface}
 use Rattle.tdisp_codec.specs.declared.request.RequestView.TheVariants.{GetDeviceInterfaceReport}
 use Rattle.tdisp_codec.specs.declared.request.RequestView.TheVariants.{GetDeviceInterfaceState, StartInterface}
-use Rattle.tdisp_codec.specs.declared.request.RequestView.TheVariants.{StopInterface}
+use Rattle.tdisp_codec.specs.declared.request.RequestView.TheVariants.{StopInterface, BindP2p, UnbindP2p}
 use Rattle.tdisp_codec.specs.Messages.{Ignored, SpellsMessage, message_spelling, type_in, function_in, body_in}
 use Rattle.tdisp_codec.specs.Messages.{message_fault, read_or}
 
@@ -19,6 +19,8 @@ request_type (GetDeviceInterfaceReport function offset count) = 0x84
 request_type (GetDeviceInterfaceState function) = 0x85
 request_type (StartInterface function nonce) = 0x86
 request_type (StopInterface function) = 0x87
+request_type (BindP2p function stream) = 0x88
+request_type (UnbindP2p function stream) = 0x89
 
 abbrev pub request_function : RequestView → ℕ
 request_function (GetVersion function) = function
@@ -28,6 +30,8 @@ request_function (GetDeviceInterfaceReport function offset count) = function
 request_function (GetDeviceInterfaceState function) = function
 request_function (StartInterface function nonce) = function
 request_function (StopInterface function) = function
+request_function (BindP2p function stream) = function
+request_function (UnbindP2p function stream) = function
 
 -- how many bytes of its body are reserved
 abbrev pub request_reserved : RequestView → ℕ
@@ -42,6 +46,8 @@ request_body (LockInterface function flags stream offset mask) reserved =
     little_bytes 2 flags ++ (stream ∷ (reserved ++ (little_bytes 8 offset ++ little_bytes 8 mask)))
 request_body (GetDeviceInterfaceReport function offset count) reserved = little_bytes 2 offset ++ little_bytes 2 count
 request_body (StartInterface function nonce) reserved = nonce
+request_body (BindP2p function stream) reserved = stream ∷ []
+request_body (UnbindP2p function stream) reserved = stream ∷ []
 request_body request reserved = []
 
 -- as it is written, with 0 in the reserved bytes
@@ -56,6 +62,8 @@ FitsRequestBody (LockInterface function flags stream offset mask) =
     (flags < 2 ^ 16) × (stream < 256) × (offset < 2 ^ 64) × (mask < 2 ^ 64)
 FitsRequestBody (GetDeviceInterfaceReport function offset count) = (offset < 2 ^ 16) × (count < 2 ^ 16)
 FitsRequestBody (StartInterface function nonce) = (length nonce ≡ 32) × All (λ b. b < 256) nonce
+FitsRequestBody (BindP2p function stream) = stream < 256
+FitsRequestBody (UnbindP2p function stream) = stream < 256
 FitsRequestBody request = Unit {0}
 
 abbrev pub FitsRequest : RequestView → Type 0
@@ -71,7 +79,7 @@ pub record SpellsRequest (request : RequestView) (bytes : List ℕ) : Type 0 whe
 -- ---- reading
 
 abbrev pub is_request : ℕ → Bool
-is_request type = nat_le 0x81 type && nat_le type 0x87
+is_request type = nat_le 0x81 type && nat_le type 0x89
 
 -- how long the body is, by the type
 abbrev pub request_size : ℕ → ℕ
@@ -80,6 +88,8 @@ request_size type =
     else if type == 0x83 then 20
     else if type == 0x84 then 4
     else if type == 0x86 then 32
+    else if type == 0x88 then 1
+    else if type == 0x89 then 1
     else 0
 
 abbrev pub request_from : ℕ → ℕ → List ℕ → RequestView
@@ -92,6 +102,8 @@ request_from type function body =
     else if type == 0x84 then GetDeviceInterfaceReport function (little_number 2 body) (little_number 2 (drop 2 body))
     else if type == 0x85 then GetDeviceInterfaceState function
     else if type == 0x86 then StartInterface function (take 32 body)
+    else if type == 0x88 then BindP2p function (slice_index body 0)
+    else if type == 0x89 then UnbindP2p function (slice_index body 0)
     else StopInterface function
 
 abbrev pub request_in : List ℕ → RequestView

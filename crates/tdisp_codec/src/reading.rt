@@ -71,7 +71,7 @@ fn message_fault(bytes: &[u8], known: bool, size: usize) -> Option<TdispFault>
 fn is_request(kind: u8) -> bool
     ensures { result ≡ is_request_type kind }
 {
-    matches!(kind, 0x81..=0x87)
+    matches!(kind, 0x81..=0x89)
 }
 
 /// The length of a request's body, by its type.
@@ -84,6 +84,8 @@ fn request_size(kind: u8) -> usize
         0x83 => 20,
         0x84 => 4,
         0x86 => 32,
+        0x88 => 1,
+        0x89 => 1,
         _ => 0,
     }
 }
@@ -123,6 +125,14 @@ fn request(kind: u8, function: u32, body: &[u8]) -> RequestView
             function,
             nonce: nonce(body),
         },
+        0x88 => RequestView::BindP2p {
+            function,
+            stream: body[0],
+        },
+        0x89 => RequestView::UnbindP2p {
+            function,
+            stream: body[0],
+        },
         _ => RequestView::StopInterface { function },
     }
 }
@@ -142,7 +152,7 @@ pub fn request_read(bytes: &[u8]) -> Result<RequestView, TdispFault>
 fn is_reply(kind: u8) -> bool
     ensures { result ≡ is_reply_type kind }
 {
-    matches!(kind, 0x01..=0x07 | 0x7f)
+    matches!(kind, 0x01..=0x09 | 0x7f)
 }
 
 /// The length of a reply's body, by its type and its own first bytes.
@@ -212,6 +222,8 @@ fn reply<'a>(kind: u8, function: u32, body: &'a [u8]) -> ReplyView<'a>
             state: body[0],
         },
         0x06 => ReplyView::StartInterface { function },
+        0x08 => ReplyView::BindP2p { function },
+        0x09 => ReplyView::UnbindP2p { function },
         0x7f => ReplyView::Error {
             function,
             code: LittleEndian::read_u32(body),

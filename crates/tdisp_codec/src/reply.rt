@@ -44,6 +44,14 @@ pub enum ReplyView<'a> {
     StopInterface {
         function: u32,
     },
+    /// 0x08: bound to the stream.
+    BindP2p {
+        function: u32,
+    },
+    /// 0x09: no longer bound to the stream.
+    UnbindP2p {
+        function: u32,
+    },
     /// 0x7f: refused, for the cause that the code says.
     Error {
         function: u32,

@@ -42,4 +42,14 @@ pub enum RequestView {
     StopInterface {
         function: u32,
     },
+    /// 0x88: binds the interface to the stream of this ID between its device and another.
+    BindP2p {
+        function: u32,
+        stream: u8,
+    },
+    /// 0x89: ends that binding.
+    UnbindP2p {
+        function: u32,
+        stream: u8,
+    },
 }

@@ -84,6 +84,14 @@ pub fn request_write(request: &RequestView, out: &mut Vec<u8>)
             append_nonce(out, nonce);
         }
         RequestView::StopInterface { function } => append_header(out, 0x87, function),
+        RequestView::BindP2p { function, stream } => {
+            append_header(out, 0x88, function);
+            append(out, &[stream]);
+        }
+        RequestView::UnbindP2p { function, stream } => {
+            append_header(out, 0x89, function);
+            append(out, &[stream]);
+        }
     }
 }
 
@@ -167,6 +175,8 @@ pub fn reply_write(reply: &ReplyView<'_>, out: &mut Vec<u8>)
         }
         ReplyView::StartInterface { function } => append_header(out, 0x06, function),
         ReplyView::StopInterface { function } => append_header(out, 0x07, function),
+        ReplyView::BindP2p { function } => append_header(out, 0x08, function),
+        ReplyView::UnbindP2p { function } => append_header(out, 0x09, function),
         ReplyView::Error {
             function,
             code,

@@ -9,7 +9,7 @@ use Rattle.key_slots.specs.{Pool}
 use Rattle.key_laws.specs.Operations.{work_of}
 use Rattle.tsm_host.specs.declared.operation.Refusal.{Refusal}
 use Rattle.tsm_host.specs.Streams.{StreamView, new_stream, HostView, is_named, unless, ok_unless, refusal_of}
-use Rattle.tsm_host.specs.Streams.{begun_stream}
+use Rattle.tsm_host.specs.Streams.{begun_stream, has_host}
 use Rattle.tsm_host.specs.Managers.{ManagerView, Named, named, named_at, named_in, stream_place, asking_begun}
 use Rattle.tsm_host.specs.Managers.{begun_manager}
 use Rattle.tsm_host.proofs.Lists.{get_at}
@@ -45,13 +45,14 @@ pub begun_by : (streams : List StreamView) (asking : Option ℕ) (m : ManagerVie
     (host : HostView) (pool : Pool) (o operation : Operation) (answer : Result (Unit {0}) Refusal) (asked : Option ℕ)
     → (let inside : ManagerView = record { streams = streams; asking = asking } in inside) ≡ m → s
     ≡ get_or streams place s → o ≡ operation
-    → new ≡ unless (refusal_of o s.op host pool) s (begun_stream (work_of o s.op pool.draws) pool s) → answer
+    → new ≡ unless (refusal_of o s.op host pool) s (begun_stream (has_host s) (work_of o s.op pool.draws) pool s)
+    → answer
     ≡ ok_unless (refusal_of o s.op host pool)
     → asked ≡ asking_begun asking place answer
     → (let kept : ManagerView = record { streams = slice_set streams place new; asking = asked } in kept)
     ≡ begun_manager m operation host pool (named_as place s)
 begun_by streams asking m place s new host pool o operation answer asked view is same stream result next =
-    rw (← same) (begun_as streams asking m place s new (begun_stream (work_of o s.op pool.draws) pool s)
+    rw (← same) (begun_as streams asking m place s new (begun_stream (has_host s) (work_of o s.op pool.draws) pool s)
     (refusal_of o s.op host pool) answer asked view is stream result next)
 
 -- a place that was found has a stream

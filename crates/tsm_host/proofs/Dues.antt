@@ -13,6 +13,7 @@ use Rattle.key_slots.specs.{Pool, draws_in}
 use Rattle.key_laws.specs.Places.{KeyPlan}
 use Rattle.key_laws.specs.Operations.{Op, Idle, Establishing, Up, Refreshing, Stopping, Work, work, last_exchange_of}
 use Rattle.key_laws.specs.Operations.{reach_of}
+use Rattle.ide_types.specs.Lines.{is_hosted}
 use Rattle.key_laws.specs.Operations.{op_standing}
 use Rattle.key_laws.specs.Due.{PortView, refusal_at, performed, is_live_sender}
 use Rattle.tsm_host.specs.declared.operation.Refusal.{Refusal}
@@ -27,7 +28,7 @@ use Rattle.tsm_host.proofs.Walks.{WorkFits, walk_comes}
 record Both (o : Operation) (w : Work) (link id : ℕ) (loss : Option Loss) (before : Op) (x : Walked) (due : Verdict) :
     Type 0 where
   verdict_is : verdict_of o link id loss x.outcome ≡ Some due
-  op_is : x.stream.op ≡ op_by before w (reach_of o due)
+  op_is : x.stream.op ≡ op_by (is_hosted link) before w (reach_of o due)
 
 -- an empty pool
 pooled : (o : Operation) (w : Work) (link id : ℕ) (loss : Option Loss) (s : StreamView) (x : Walked) (due : Verdict)
@@ -56,43 +57,52 @@ at_op link id o keys = record { link = link; id = id; op = o; keys = keys }
 
 -- the walk of an operation that begins or goes on
 performs : (o : Operation) (set : Bool) (draw f : ℕ) (b : Bool) → WorkFits o set draw
-    → (ports : PortView) (link id : ℕ) (loss : Option Loss) (before : Op) (s : StreamView) → f ≤ last_exchange_of o
+    → (ports : PortView) (link id : ℕ) (loss : Option Loss) (before : Op) (s : StreamView)
+    → f ≤ last_exchange_of (is_hosted link) o
     → s.op ≡ op_standing (work o set draw f b) f
     → Both o (work o set draw f b) link id loss before
-    (walk (last_exchange_of o + 1 - f) (answers loss (refusal_at ports o set link id)) s)
+    (walk (is_hosted link) (last_exchange_of (is_hosted link) o + 1 - f) (answers loss (refusal_at ports o set link id))
+    s)
     (performed ports link id loss (work o set draw f b))
 performs o set draw f b fits ports link id loss before s le at =
     let comes = walk_comes o set draw f b fits ports link id loss before s le at in
     record { verdict_is = comes.verdict_is; op_is = comes.op_is }
 
+one_least : (hosted : Bool) (o : Operation) → 1 ≤ last_exchange_of hosted o
+one_least hosted o = grind arith
+
 -- by the state of the stream: if the operation is refused the cause is the one that is due, and else its walk is
-establishes : (plan : KeyPlan) (ports : PortView) (st : StreamStatus) (host : HostView) (pool : Pool)
-    (loss : Option Loss) (link id : ℕ) (keys : WireKeys) (o : Op) → IsAsked (asked_in o)
-    → Reads plan ports link id st host pool → WalkIsDue op.Establish plan ports st host pool loss (at_op link id o keys)
+pub establishes : (plan : KeyPlan) (ports : PortView) (st : StreamStatus) (host : HostView) (pool : Pool)
+    (loss : Option Loss) (link id : ℕ) (keys : WireKeys) (o : Op) → IsAsked (is_hosted link) (asked_in o)
+    → plan.pool ≡ draws_in pool.keys → WalkIsDue (is_hosted link) op.Establish plan ports st host pool loss
+    (at_op link id o keys)
 unfolding WorkFits
-establishes plan ports st host pool loss link id keys Idle asked reads =
+establishes plan ports st host pool loss link id keys Idle asked pool_is =
     let w = work op.Establish false pool.draws 1 true in
     let s = at_op link id Idle keys in
-    let both = performs op.Establish false pool.draws 1 true refl ports link id loss Idle (begun_stream w pool s)
-    (omega arith) refl in
+    let both = performs op.Establish false pool.draws 1 true refl ports link id loss Idle
+    (begun_stream (is_hosted link) w pool s)
+    (one_least (is_hosted link) op.Establish) refl in
     let all = pooled op.Establish w link id loss s
-    (walk 13 (answers loss (refusal_at ports op.Establish false link id)) (begun_stream w pool s))
+    (walk (is_hosted link) (last_exchange_of (is_hosted link) op.Establish + 1 - 1)
+    (answers loss (refusal_at ports op.Establish false link id)) (begun_stream (is_hosted link) w pool s))
     (performed ports link id loss w) pool.draws both (nat_lt pool.draws (draws_in pool.keys)) in
-    rw reads.pool_is (record { verdict_is = all.verdict_is; op_is = all.op_is })
-establishes plan ports st host pool loss link id keys (Establishing j n) asked reads =
+    rw pool_is (record { verdict_is = all.verdict_is; op_is = all.op_is })
+establishes plan ports st host pool loss link id keys (Establishing j n) asked pool_is =
     let both = performs op.Establish false j n false refl ports link id loss (Establishing j n)
     (at_op link id (Establishing j n) keys) asked.1 refl in
     record { verdict_is = both.verdict_is; op_is = both.op_is }
-establishes plan ports st host pool loss link id keys (Up k j) asked reads = record { verdict_is = refl; op_is = refl }
-establishes plan ports st host pool loss link id keys (Refreshing k j n) asked reads = record
+establishes plan ports st host pool loss link id keys (Up k j) asked pool_is = record
     { verdict_is = refl; op_is = refl }
-establishes plan ports st host pool loss link id keys (Stopping n) asked reads = record
+establishes plan ports st host pool loss link id keys (Refreshing k j n) asked pool_is = record
+    { verdict_is = refl; op_is = refl }
+establishes plan ports st host pool loss link id keys (Stopping n) asked pool_is = record
     { verdict_is = refl; op_is = refl }
 
 -- by the state of the stream: a stop begins in each but its own, in which it goes on, and its walk gives what is due
-stops : (plan : KeyPlan) (ports : PortView) (st : StreamStatus) (host : HostView) (pool : Pool) (loss : Option Loss)
-    (link id : ℕ) (keys : WireKeys) (o : Op) → IsAsked (asked_in o)
-    → WalkIsDue op.Stop plan ports st host pool loss (at_op link id o keys)
+pub stops : (plan : KeyPlan) (ports : PortView) (st : StreamStatus) (host : HostView) (pool : Pool) (loss : Option Loss)
+    (link id : ℕ) (keys : WireKeys) (o : Op) → IsAsked (is_hosted link) (asked_in o)
+    → WalkIsDue (is_hosted link) op.Stop plan ports st host pool loss (at_op link id o keys)
 unfolding WorkFits
 stops plan ports st host pool loss link id keys (Stopping n) asked =
     let both = performs op.Stop false 0 n false (refl, refl) ports link id loss (Stopping n)
@@ -100,25 +110,30 @@ stops plan ports st host pool loss link id keys (Stopping n) asked =
     record { verdict_is = both.verdict_is; op_is = both.op_is }
 stops plan ports st host pool loss link id keys Idle asked =
     let both = performs op.Stop false 0 1 true (refl, refl) ports link id loss Idle
-    (begun_stream (work op.Stop false 0 1 true) pool (at_op link id Idle keys)) (omega arith) refl in
+    (begun_stream (is_hosted link) (work op.Stop false 0 1 true) pool (at_op link id Idle keys))
+    (one_least (is_hosted link) op.Stop) refl in
     record { verdict_is = both.verdict_is; op_is = both.op_is }
 stops plan ports st host pool loss link id keys (Establishing j n) asked =
     let both = performs op.Stop false 0 1 true (refl, refl) ports link id loss (Establishing j n)
-    (begun_stream (work op.Stop false 0 1 true) pool (at_op link id (Establishing j n) keys)) (omega arith) refl in
+    (begun_stream (is_hosted link) (work op.Stop false 0 1 true) pool (at_op link id (Establishing j n) keys))
+    (one_least (is_hosted link) op.Stop) refl in
     record { verdict_is = both.verdict_is; op_is = both.op_is }
 stops plan ports st host pool loss link id keys (Up k j) asked =
     let both = performs op.Stop false 0 1 true (refl, refl) ports link id loss (Up k j)
-    (begun_stream (work op.Stop false 0 1 true) pool (at_op link id (Up k j) keys)) (omega arith) refl in
+    (begun_stream (is_hosted link) (work op.Stop false 0 1 true) pool (at_op link id (Up k j) keys))
+    (one_least (is_hosted link) op.Stop) refl in
     record { verdict_is = both.verdict_is; op_is = both.op_is }
 stops plan ports st host pool loss link id keys (Refreshing k j n) asked =
     let both = performs op.Stop false 0 1 true (refl, refl) ports link id loss (Refreshing k j n)
-    (begun_stream (work op.Stop false 0 1 true) pool (at_op link id (Refreshing k j n) keys)) (omega arith) refl in
+    (begun_stream (is_hosted link) (work op.Stop false 0 1 true) pool (at_op link id (Refreshing k j n) keys))
+    (one_least (is_hosted link) op.Stop) refl in
     record { verdict_is = both.verdict_is; op_is = both.op_is }
 
 -- by the state of the stream: if the operation is refused the cause is the one that is due, and else its walk is
 refreshes : (plan : KeyPlan) (ports : PortView) (st : StreamStatus) (host : HostView) (pool : Pool) (loss : Option Loss)
-    (link id : ℕ) (keys : WireKeys) (o : Op) → IsAsked (asked_in o)
-    → Reads plan ports link id st host pool → WalkIsDue op.Refresh plan ports st host pool loss (at_op link id o keys)
+    (link id : ℕ) (keys : WireKeys) (o : Op) → IsAsked (is_hosted link) (asked_in o)
+    → Reads plan ports link id st host pool → WalkIsDue (is_hosted link) op.Refresh plan ports st host pool loss
+    (at_op link id o keys)
 unfolding WorkFits
 refreshes plan ports st host pool loss link id keys Idle asked reads = rw reads.status_is
     (record { verdict_is = refl; op_is = refl })
@@ -133,10 +148,12 @@ refreshes plan ports status.Insecure host pool loss link id keys (Up k j) asked 
 refreshes plan ports status.Secure host pool loss link id keys (Up k j) asked reads =
     let w = work op.Refresh (not k) pool.draws 1 true in
     let s = at_op link id (Up k j) keys in
-    let x = walk 12 (answers loss (refusal_at ports op.Refresh (not k) link id)) (begun_stream w pool s) in
+    let x = walk (is_hosted link) (last_exchange_of (is_hosted link) op.Refresh + 1 - 1)
+    (answers loss (refusal_at ports op.Refresh (not k) link id)) (begun_stream (is_hosted link) w pool s) in
     let t = nat_lt pool.draws (draws_in pool.keys) in
-    let both = performs op.Refresh (not k) pool.draws 1 true tt ports link id loss (Up k j) (begun_stream w pool s)
-    (omega arith) refl in
+    let both = performs op.Refresh (not k) pool.draws 1 true tt ports link id loss (Up k j)
+    (begun_stream (is_hosted link) w pool s)
+    (one_least (is_hosted link) op.Refresh) refl in
     let empty = pooled op.Refresh w link id loss s x (performed ports link id loss w) pool.draws both t in
     let all = opened op.Refresh w link id loss s x
     (if t then performed ports link id loss w else v.RefusedPoolEmpty pool.draws)
@@ -157,7 +174,7 @@ refreshes plan ports st host pool loss link id keys (Stopping n) asked reads = r
 
 pub all_due : WalksAreDue
 all_due op.Establish plan ports st host pool loss s asked reads = establishes plan ports st host pool loss s.link s.id
-    s.keys s.op asked reads
+    s.keys s.op asked reads.pool_is
 all_due op.Refresh plan ports st host pool loss s asked reads = refreshes plan ports st host pool loss s.link s.id
     s.keys s.op asked reads
 all_due op.Stop plan ports st host pool loss s asked reads = stops plan ports st host pool loss s.link s.id s.keys s.op

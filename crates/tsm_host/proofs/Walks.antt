@@ -11,8 +11,20 @@ use Rattle.link_verdicts.specs.declared.verdict.Operation.TheVariants as op
 use Rattle.link_verdicts.specs.declared.verdict.Verdict.{Verdict}
 use Rattle.link_verdicts.specs.declared.verdict.Verdict.TheVariants as v
 use Rattle.ide_types.proofs.KeySets.{one_of_set}
-use Rattle.key_laws.specs.Operations.{Op, Up, Refreshing, Work, work, last_exchange_of, reach, reach_of, op_standing}
+use Rattle.key_laws.specs.Operations.{
+  Op,
+  Up,
+  Refreshing,
+  Work,
+  work,
+  last_exchange_of,
+  reach,
+  reach_of,
+  whole,
+  op_standing,
+}
 use Rattle.key_laws.specs.Operations.{op_ended}
+use Rattle.ide_types.specs.Lines.{is_hosted}
 use Rattle.key_laws.specs.Due.{PortView, refusal_at, lost_in, lost_at, cut_at, first_from, done, stays}
 use Rattle.key_laws.proofs.Tests.{lt-true, lt-false, same-true, different-false}
 use Rattle.tsm_host.specs.declared.judge.Judged.{Judged}
@@ -49,7 +61,8 @@ ends_as link id w rest = unwrap_or rest (done link id w)
 pub record Comes (o : Operation) (set : Bool) (draw f : ℕ) (b : Bool) (link id : ℕ) (loss : Option Loss) (before : Op)
     (rest : Option Verdict) (x : Walked) : Type 0 where
   pub verdict_is : verdict_of o link id loss x.outcome ≡ Some (ends_as link id (work o set draw f b) rest)
-  pub op_is : x.stream.op ≡ op_by before (work o set draw f b) (reach_of o (ends_as link id (work o set draw f b) rest))
+  pub op_is : x.stream.op ≡ op_by (is_hosted link) before (work o set draw f b)
+      (reach_of o (ends_as link id (work o set draw f b) rest))
 
 -- how an exchange is cut off
 record CutShort (o : Operation) (verdict : Verdict) (n : ℕ) : Type 0 where
@@ -72,13 +85,14 @@ not_taken true x y e = absurd cc
 not_taken false x y e = refl
 
 -- if it is cut off, the operation stays
-stays_there : (o : Operation) (set : Bool) (draw f : ℕ) (b : Bool) (verdict : Verdict) (before : Op) (n : ℕ)
-    → n ≤ last_exchange_of o → CutShort o verdict n
-    → op_by before (work o set draw f b) (reach_of o verdict) ≡ op_standing (work o set draw f b) n
-stays_there o set draw f b verdict before n le cut =
-    ap (op_by before (work o set draw f b)) cut.says
-    ∙ not_taken (nat_lt (last_exchange_of o) n) (op_ended (work o set draw f b)) (op_standing (work o set draw f b) n)
-    (lt-false (last_exchange_of o) n le)
+stays_there : (link : ℕ) (o : Operation) (set : Bool) (draw f : ℕ) (b : Bool) (verdict : Verdict) (before : Op) (n : ℕ)
+    → n ≤ last_exchange_of (is_hosted link) o → CutShort o verdict n
+    → op_by (is_hosted link) before (work o set draw f b) (reach_of o verdict) ≡ op_standing (work o set draw f b) n
+stays_there link o set draw f b verdict before n le cut =
+    ap (op_by (is_hosted link) before (work o set draw f b)) cut.says
+    ∙ not_taken (nat_lt (last_exchange_of (is_hosted link) o) n) (op_ended (work o set draw f b))
+    (op_standing (work o set draw f b) n)
+    (lt-false (last_exchange_of (is_hosted link) o) n le)
 
 ended_as : (o : Operation) (set : Bool) (draw n f : ℕ) (b : Bool) → op_ended (work_asked (asked_exchange o set draw n))
     ≡ op_ended (work o set draw f b)
@@ -100,106 +114,121 @@ shows_done op.Refresh set draw n f b link id loss = refl
 shows_done op.Stop set draw n f b link id loss = refl
 
 done_says : (o : Operation) (set : Bool) (draw f : ℕ) (b : Bool) (link id : ℕ)
-    → reach_of o (done link id (work o set draw f b)) ≡ Some (reach (last_exchange_of o + 1) (last_exchange_of o + 1))
+    → reach_of o (done link id (work o set draw f b)) ≡ Some (whole link o)
 done_says op.Establish set draw f b link id = refl
 done_says op.Refresh set draw f b link id = refl
 done_says op.Stop set draw f b link id = refl
 
 -- what an answer makes of the walk
-abbrev answered_by : Asked → Judged → (ℕ → Judged) → ℕ → StreamView → Walked
-answered_by a j carried more s = continued (outcome_of a j) (taken_stream a j s)
-    (walk more carried (taken_stream a j s))
+abbrev answered_by : ℕ → Asked → Judged → (ℕ → Judged) → ℕ → StreamView → Walked
+answered_by link a j carried more s = continued (outcome_of (is_hosted link) a j) (taken_stream (is_hosted link) a j s)
+    (walk (is_hosted link) more carried (taken_stream (is_hosted link) a j s))
 
 -- an exchange that is lost or refused, or else what is given
 cuts : (o : Operation) (set : Bool) (draw f : ℕ) (b : Bool) (link id : ℕ) (loss : Option Loss) (before : Op)
     (carried : ℕ → Judged) (more n : ℕ) (s : StreamView) (rest : Option Verdict)
-    → n ≤ last_exchange_of o → s.op ≡ op_standing (work o set draw f b) n
-    → Comes o set draw f b link id loss before rest (answered_by (asked_exchange o set draw n) Expected carried more s)
+    → n ≤ last_exchange_of (is_hosted link) o → s.op ≡ op_standing (work o set draw f b) n
+    → Comes o set draw f b link id loss before rest
+    (answered_by link (asked_exchange o set draw n) Expected carried more s)
     → (lost : Option LostPart) (status : Option ℕ) → lost_in loss n ≡ lost
     → Comes o set draw f b link id loss before (option_or (cut_at lost status n) rest)
-    (answered_by (asked_exchange o set draw n) (carried_as lost status) carried more s)
+    (answered_by link (asked_exchange o set draw n) (carried_as lost status) carried more s)
 cuts o set draw f b link id loss before carried more n s rest le at goes (Some lost) status e = record {
   verdict_is = ap (option_map (λ (l : LostPart). lost_at l n)) e;
-  op_is = at ∙ sym (stays_there o set draw f b (lost_at lost n) before n le (cut_lost o lost n));
+  op_is = at ∙ sym (stays_there link o set draw f b (lost_at lost n) before n le (cut_lost o lost n));
 }
 cuts o set draw f b link id loss before carried more n s rest le at goes None (Some status) e = record {
   verdict_is = refl;
-  op_is = at ∙ sym (stays_there o set draw f b (v.RefusedDevice n status) before n le (cut_refused o status n));
+  op_is = at ∙ sym (stays_there link o set draw f b (v.RefusedDevice n status) before n le (cut_refused o status n));
 }
 cuts o set draw f b link id loss before carried more n s rest le at goes None None e = goes
 
 -- after the last exchange
 ends : (o : Operation) (set : Bool) (draw f : ℕ) (b : Bool) (link id : ℕ) (loss : Option Loss) (before : Op)
-    (carried : ℕ → Judged) (n : ℕ) (s : StreamView) → n ≡ last_exchange_of o
-    → Comes o set draw f b link id loss before None (answered_by (asked_exchange o set draw n) Expected carried zero s)
+    (carried : ℕ → Judged) (n : ℕ) (s : StreamView) → n ≡ last_exchange_of (is_hosted link) o
+    → Comes o set draw f b link id loss before None
+    (answered_by link (asked_exchange o set draw n) Expected carried zero s)
 ends o set draw f b link id loss before carried n s same =
-    let test : (n == last_exchange_of o) ≡ true = subst (λ (z : ℕ). (n == z) ≡ true) same (same-true n) in
-    let less : nat_lt (last_exchange_of o) (n + 1) ≡ true = lt-true (last_exchange_of o) (n + 1)
+    let test : (n == last_exchange_of (is_hosted link) o) ≡ true = subst (λ (z : ℕ). (n == z) ≡ true) same (same-true n)
+    in
+    let less : nat_lt (last_exchange_of (is_hosted link) o) (n + 1)
+    ≡ true = lt-true (last_exchange_of (is_hosted link) o) (n + 1)
     (omega (arith, same)) in
-    let end : nat_lt (last_exchange_of o) (last_exchange_of o + 1)
-    ≡ true = lt-true (last_exchange_of o) (last_exchange_of o + 1) (omega arith) in
-    let by_end : op_by before (work o set draw f b) (reach_of o (done link id (work o set draw f b)))
+    let end : nat_lt (last_exchange_of (is_hosted link) o) (last_exchange_of (is_hosted link) o + 1)
+    ≡ true = lt-true (last_exchange_of (is_hosted link) o) (last_exchange_of (is_hosted link) o + 1) (omega arith) in
+    let by_end : op_by (is_hosted link) before (work o set draw f b) (reach_of o (done link id (work o set draw f b)))
     ≡ op_ended (work o set draw f b) =
-    ap (op_by before (work o set draw f b)) (done_says o set draw f b link id) ∙ taken
-    (nat_lt (last_exchange_of o) (last_exchange_of o + 1)) (op_ended (work o set draw f b))
-    (op_standing (work o set draw f b) (last_exchange_of o + 1)) end in
-    let now : (acknowledged (asked_exchange o set draw n) s).op ≡ op_ended (work o set draw f b) =
-    taken (nat_lt (last_exchange_of o) (n + 1)) (op_ended (work_asked (asked_exchange o set draw n)))
+    ap (op_by (is_hosted link) before (work o set draw f b)) (done_says o set draw f b link id) ∙ taken
+    (nat_lt (last_exchange_of (is_hosted link) o) (last_exchange_of (is_hosted link) o + 1))
+    (op_ended (work o set draw f b))
+    (op_standing (work o set draw f b) (last_exchange_of (is_hosted link) o + 1)) end in
+    let now : (acknowledged (is_hosted link) (asked_exchange o set draw n) s).op ≡ op_ended (work o set draw f b) =
+    taken (nat_lt (last_exchange_of (is_hosted link) o) (n + 1)) (op_ended (work_asked (asked_exchange o set draw n)))
     (op_standing (work_asked (asked_exchange o set draw n)) (n + 1)) less ∙ ended_as o set draw n f b in
     subst (λ (t : Bool). Comes o set draw f b link id loss before None
     (continued (if t then outcome.Done (shown_at_end (asked_exchange o set draw n)) else outcome.Next)
-    (acknowledged (asked_exchange o set draw n) s)
-    (walk zero carried (acknowledged (asked_exchange o set draw n) s)))) (sym test)
+    (acknowledged (is_hosted link) (asked_exchange o set draw n) s)
+    (walk (is_hosted link) zero carried (acknowledged (is_hosted link) (asked_exchange o set draw n) s)))) (sym test)
     (record { verdict_is = shows_done o set draw n f b link id loss; op_is = now ∙ sym by_end })
 
 -- after another one the walk goes on
 goes_on : (o : Operation) (set : Bool) (draw f : ℕ) (b : Bool) (link id : ℕ) (loss : Option Loss) (before : Op)
-    (carried : ℕ → Judged) (more n : ℕ) (s : StreamView) (rest : Option Verdict) → n < last_exchange_of o
-    → Comes o set draw f b link id loss before rest (walk more carried (acknowledged (asked_exchange o set draw n) s))
-    → Comes o set draw f b link id loss before rest (answered_by (asked_exchange o set draw n) Expected carried more s)
+    (carried : ℕ → Judged) (more n : ℕ) (s : StreamView) (rest : Option Verdict)
+    → n < last_exchange_of (is_hosted link) o
+    → Comes o set draw f b link id loss before rest
+    (walk (is_hosted link) more carried (acknowledged (is_hosted link) (asked_exchange o set draw n) s))
+    → Comes o set draw f b link id loss before rest
+    (answered_by link (asked_exchange o set draw n) Expected carried more s)
 goes_on o set draw f b link id loss before carried more n s rest lt comes =
-    let test : (n == last_exchange_of o) ≡ false = different-false n (last_exchange_of o) lt in
+    let test : (n == last_exchange_of (is_hosted link) o) ≡ false = different-false n
+    (last_exchange_of (is_hosted link) o) lt in
     subst (λ (t : Bool). Comes o set draw f b link id loss before rest
     (continued (if t then outcome.Done (shown_at_end (asked_exchange o set draw n)) else outcome.Next)
-    (acknowledged (asked_exchange o set draw n) s)
-    (walk more carried (acknowledged (asked_exchange o set draw n) s)))) (sym test) comes
+    (acknowledged (is_hosted link) (asked_exchange o set draw n) s)
+    (walk (is_hosted link) more carried (acknowledged (is_hosted link) (asked_exchange o set draw n) s)))) (sym test)
+    comes
 
-next_standing : (o : Operation) (set : Bool) (draw f : ℕ) (b : Bool) (n : ℕ) (s : StreamView) → n < last_exchange_of o
-    → (acknowledged (asked_exchange o set draw n) s).op ≡ op_standing (work o set draw f b) (n + 1)
-next_standing o set draw f b n s lt =
-    not_taken (nat_lt (last_exchange_of o) (n + 1)) (op_ended (work_asked (asked_exchange o set draw n)))
+next_standing : (link : ℕ) (o : Operation) (set : Bool) (draw f : ℕ) (b : Bool) (n : ℕ) (s : StreamView)
+    → n < last_exchange_of (is_hosted link) o
+    → (acknowledged (is_hosted link) (asked_exchange o set draw n) s).op ≡ op_standing (work o set draw f b) (n + 1)
+next_standing link o set draw f b n s lt =
+    not_taken (nat_lt (last_exchange_of (is_hosted link) o) (n + 1))
+    (op_ended (work_asked (asked_exchange o set draw n)))
     (op_standing (work_asked (asked_exchange o set draw n)) (n + 1))
-    (lt-false (last_exchange_of o) (n + 1) (omega (arith, lt)))
+    (lt-false (last_exchange_of (is_hosted link) o) (n + 1) (omega (arith, lt)))
     ∙ standing_as o set draw n f b (n + 1)
 
 -- by how many exchanges are left: at each the walk ends in a loss or a refusal or goes on to the next, and the last
 -- ends it
 walk_is : (o : Operation) (set : Bool) (draw f : ℕ) (b : Bool) → WorkFits o set draw
     → (link id : ℕ) (loss : Option Loss) (refusal : ℕ → Option ℕ) (before : Op) (more n : ℕ) (s : StreamView) → n + more
-    ≡ last_exchange_of o
+    ≡ last_exchange_of (is_hosted link) o
     → s.op ≡ op_standing (work o set draw f b) n
     → Comes o set draw f b link id loss before (first_from (λ x. cut_at (lost_in loss x) (refusal x) x) n (suc more))
-    (walk (suc more) (answers loss refusal) s)
+    (walk (is_hosted link) (suc more) (answers loss refusal) s)
 walk_is o set draw f b fits link id loss refusal before zero n s count at =
-    let le : n ≤ last_exchange_of o = omega (arith, count) in
-    let same : n ≡ last_exchange_of o = omega (arith, count) in
+    let le : n ≤ last_exchange_of (is_hosted link) o = omega (arith, count) in
+    let same : n ≡ last_exchange_of (is_hosted link) o = omega (arith, count) in
     subst (λ (q : Option Asked). Comes o set draw f b link id loss before
     (first_from (λ x. cut_at (lost_in loss x) (refusal x) x) n (suc zero))
-    (continued (outcome_at q (answers loss refusal)) (stream_after q (answers loss refusal) s)
-    (walk zero (answers loss refusal) (stream_after q (answers loss refusal) s))))
+    (continued (outcome_at (is_hosted link) q (answers loss refusal))
+    (stream_after (is_hosted link) q (answers loss refusal) s)
+    (walk (is_hosted link) zero (answers loss refusal) (stream_after (is_hosted link) q (answers loss refusal) s))))
     (sym (ap asked_in at ∙ standing_asked o set draw f b n fits))
     (cuts o set draw f b link id loss before (answers loss refusal) zero n s None le at
     (ends o set draw f b link id loss before (answers loss refusal) n s same) (lost_in loss n) (refusal n) refl)
 walk_is o set draw f b fits link id loss refusal before (suc more) n s count at =
-    let lt : n < last_exchange_of o = omega (arith, count) in
-    let le : n ≤ last_exchange_of o = omega (arith, count) in
-    let on : (n + 1) + more ≡ last_exchange_of o = omega (arith, count) in
+    let lt : n < last_exchange_of (is_hosted link) o = omega (arith, count) in
+    let le : n ≤ last_exchange_of (is_hosted link) o = omega (arith, count) in
+    let on : (n + 1) + more ≡ last_exchange_of (is_hosted link) o = omega (arith, count) in
     let rest = walk_is o set draw f b fits link id loss refusal before more (n + 1)
-    (acknowledged (asked_exchange o set draw n) s) on (next_standing o set draw f b n s lt) in
+    (acknowledged (is_hosted link) (asked_exchange o set draw n) s) on (next_standing link o set draw f b n s lt) in
     subst (λ (q : Option Asked). Comes o set draw f b link id loss before
     (first_from (λ x. cut_at (lost_in loss x) (refusal x) x) n (suc (suc more)))
-    (continued (outcome_at q (answers loss refusal)) (stream_after q (answers loss refusal) s)
-    (walk (suc more) (answers loss refusal) (stream_after q (answers loss refusal) s))))
+    (continued (outcome_at (is_hosted link) q (answers loss refusal))
+    (stream_after (is_hosted link) q (answers loss refusal) s)
+    (walk (is_hosted link) (suc more) (answers loss refusal)
+    (stream_after (is_hosted link) q (answers loss refusal) s))))
     (sym (ap asked_in at ∙ standing_asked o set draw f b n fits))
     (cuts o set draw f b link id loss before (answers loss refusal) (suc more) n s
     (first_from (λ x. cut_at (lost_in loss x) (refusal x) x) (n + 1) (suc more)) le at
@@ -209,18 +238,23 @@ walk_is o set draw f b fits link id loss refusal before (suc more) n s count at 
 
 -- from the first exchange of an event on
 pub walk_comes : (o : Operation) (set : Bool) (draw f : ℕ) (b : Bool) → WorkFits o set draw
-    → (ports : PortView) (link id : ℕ) (loss : Option Loss) (before : Op) (s : StreamView) → f ≤ last_exchange_of o
+    → (ports : PortView) (link id : ℕ) (loss : Option Loss) (before : Op) (s : StreamView)
+    → f ≤ last_exchange_of (is_hosted link) o
     → s.op
     ≡ op_standing (work o set draw f b) f
     → Comes o set draw f b link id loss before (stays ports link id loss (work o set draw f b))
-    (walk (last_exchange_of o + 1 - f) (answers loss (refusal_at ports o set link id)) s)
+    (walk (is_hosted link) (last_exchange_of (is_hosted link) o + 1 - f) (answers loss (refusal_at ports o set link id))
+    s)
 walk_comes o set draw f b fits ports link id loss before s le at =
-    let count : f + (last_exchange_of o - f) ≡ last_exchange_of o = omega (arith, le) in
-    let more : suc (last_exchange_of o - f) ≡ last_exchange_of o + 1 - f = omega (arith, le) in
+    let count : f + (last_exchange_of (is_hosted link) o - f)
+    ≡ last_exchange_of (is_hosted link) o = omega (arith, le) in
+    let more : suc (last_exchange_of (is_hosted link) o - f) ≡ last_exchange_of (is_hosted link) o + 1 - f = omega
+    (arith, le) in
     subst (λ (k : ℕ). Comes o set draw f b link id loss before
     (first_from (λ x. cut_at (lost_in loss x) (refusal_at ports o set link id x) x) f k)
-    (walk k (answers loss (refusal_at ports o set link id)) s)) more
-    (walk_is o set draw f b fits link id loss (refusal_at ports o set link id) before (last_exchange_of o - f) f s count
+    (walk (is_hosted link) k (answers loss (refusal_at ports o set link id)) s)) more
+    (walk_is o set draw f b fits link id loss (refusal_at ports o set link id) before
+    (last_exchange_of (is_hosted link) o - f) f s count
     at)
 
 -- ---- an outcome with a verdict

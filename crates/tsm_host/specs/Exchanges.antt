@@ -1,7 +1,10 @@
 -- The exchanges of each operation, in order, and their requests (this profile).
-use Rattle.std.specs.Prelude.{ℕ, ◌+◌, ◌-◌, ◌*◌, ◌/◌, ◌%◌, ◌==◌, nat_lt, Bool, false, if◌then◌else◌, Option, Some}
+use Rattle.std.specs.Prelude.{ℕ, ◌+◌, ◌-◌, ◌*◌, ◌/◌, ◌%◌, ◌==◌, ◌++◌, nat_lt, Bool, true, false, if◌then◌else◌, Option}
+use Rattle.std.specs.Prelude.{Some}
 use Rattle.std.specs.Prelude.{None, List, [], slice_index_or}
-use Rattle.key_slots.specs.{KeySet, set_number}
+use Rattle.key_slots.specs.{KeySet, set_number, unspent, near_six}
+use Rattle.ide_types.specs.declared.port.Side.{Side}
+use Rattle.ide_types.specs.declared.port.Side.TheVariants.{Host, Device}
 use Rattle.ide_types.specs.declared.key_set.KeySet.TheVariants.{Zero, One}
 use Rattle.ide_km.specs.declared.object.KmView.{KmView}
 use Rattle.ide_km.specs.declared.object.KmView.TheVariants as km
@@ -10,13 +13,30 @@ use Rattle.link_verdicts.specs.declared.verdict.Operation.TheVariants as op
 use Rattle.tsm_host.specs.declared.exchange.Exchange.{Exchange}
 use Rattle.tsm_host.specs.declared.exchange.Exchange.TheVariants.{Query, Program, Go, Stop}
 
--- Exchange n of an operation, from 1. Lanes 0 to 2 are the device's receivers of posted requests, non-posted requests
--- and completions, lanes 3 to 5 its senders of the same; so 2 to 7 of establish are KEY_PROG of the receivers and then
--- of the senders.
-abbrev pub exchange_of : Operation → KeySet → ℕ → Exchange
-exchange_of op.Establish set n = if n == 1 then Query else if nat_lt n 8 then Program set (n - 2) else Go set (n - 8)
-exchange_of op.Refresh set n = if nat_lt n 7 then Program set (n - 1) else Go set (n - 7)
-exchange_of op.Stop set n = if nat_lt n 7 then Stop Zero (n - 1) else Stop One (n - 7)
+-- Exchange n of an operation, from 1. Lanes 0 to 2 are the receivers of posted requests, non-posted requests and
+-- completions at the end that it is carried to, lanes 3 to 5 that end's senders of the same. With a host's port at the
+-- near end all are carried to the far end; so 2 to 7 of establish are KEY_PROG of its receivers and then of its
+-- senders.
+-- Else both ends get their keys, the near one first, then all receivers their GOs, and then all senders.
+abbrev pub exchange_of : (hosted : Bool) → Operation → KeySet → ℕ → Exchange
+exchange_of true op.Establish set n =
+    if n == 1 then Query else if nat_lt n 8 then Program set (n - 2) else Go set (n - 8)
+exchange_of true op.Refresh set n = if nat_lt n 7 then Program set (n - 1) else Go set (n - 7)
+exchange_of true op.Stop set n = if nat_lt n 7 then Stop Zero (n - 1) else Stop One (n - 7)
+exchange_of false op.Stop set n =
+    if nat_lt n 7 then Stop Zero (n - 1) else if nat_lt n 13 then Stop One (n - 7)
+    else if nat_lt n 19 then Stop Zero (n - 13) else Stop One (n - 19)
+exchange_of false _ set n =
+    if nat_lt n 7 then Program set (n - 1) else if nat_lt n 13 then Program set (n - 7)
+    else if nat_lt n 16 then Go set (n - 13) else if nat_lt n 22 then Go set (n - 16) else Go set (n - 19)
+
+-- the end of the line that it is carried to
+abbrev pub end_of : (hosted : Bool) → Operation → ℕ → Side
+end_of true o n = Device
+end_of false op.Stop n = if nat_lt n 13 then Host else Device
+end_of false _ n =
+    if nat_lt n 7 then Host else if nat_lt n 13 then Device else if nat_lt n 16 then Host
+    else if nat_lt n 19 then Device else if nat_lt n 22 then Host else Device
 
 -- 0 if the exchange speaks of no slot
 abbrev pub exchange_lane : Exchange → ℕ
@@ -25,18 +45,18 @@ exchange_lane (Program set lane) = lane
 exchange_lane (Go set lane) = lane
 exchange_lane (Stop set lane) = lane
 
--- whether it is the GO of the last of the device's three receivers
+-- whether it is the GO of the last of its end's three receivers
 abbrev pub is_last_receiver_go : Exchange → Bool
 is_last_receiver_go (Go set lane) = lane == 2
 is_last_receiver_go exchange = false
 
 -- ---- requests
 
--- bit 0 is the key set, bit 1 the direction at the device, bits 7 to 4 the sub-stream
+-- bit 0 is the key set, bit 1 is 0 for what the end receives and 1 for what it sends, bits 7 to 4 are the sub-stream
 abbrev pub selector_of : KeySet → ℕ → ℕ
 selector_of set lane = set_number set + 2 * (lane / 3) + 16 * (lane % 3)
 
--- keys by lane, each there until its KEY_PROG is acknowledged
+-- keys in the order of their KEY_PROGs, each there until its own is acknowledged: by lane, those of a near end first
 abbrev pub WireKeys : Type 0
 WireKeys = List (Option (List ℕ))
 
@@ -45,12 +65,22 @@ key_or_none None = []
 key_or_none (Some key) = key
 
 abbrev pub kept_key : WireKeys → ℕ → Option (List ℕ)
-kept_key keys lane = slice_index_or keys lane None
+kept_key keys i = slice_index_or keys i None
 
--- the request of an exchange: port index 0, and initial counter 1
-abbrev pub request_of : ℕ → WireKeys → Exchange → KmView
-request_of stream keys Query = km.Query 0
-request_of stream keys (Program set lane) = km.KeyProg stream (selector_of set lane) 0
-    (key_or_none (kept_key keys lane)) 1
-request_of stream keys (Go set lane) = km.SetGo stream (selector_of set lane) 0
-request_of stream keys (Stop set lane) = km.SetStop stream (selector_of set lane) 0
+-- the number of a lane's key
+abbrev pub wire_number : (hosted : Bool) → Side → ℕ → ℕ
+wire_number false Device lane = 6 + lane
+wire_number hosted end lane = lane
+
+-- the keys of a draw, of which none was acknowledged
+abbrev pub wire_keys : (hosted : Bool) → List (List ℕ) → WireKeys
+wire_keys true six = unspent six
+wire_keys false six = unspent (near_six six) ++ unspent six
+
+-- the request of an exchange: port index 0, and initial counter 1; i is the number of its lane's key
+abbrev pub request_of : ℕ → WireKeys → ℕ → Exchange → KmView
+request_of stream keys i Query = km.Query 0
+request_of stream keys i (Program set lane) = km.KeyProg stream (selector_of set lane) 0
+    (key_or_none (kept_key keys i)) 1
+request_of stream keys i (Go set lane) = km.SetGo stream (selector_of set lane) 0
+request_of stream keys i (Stop set lane) = km.SetStop stream (selector_of set lane) 0

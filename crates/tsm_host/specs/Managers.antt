@@ -2,6 +2,9 @@
 use Rattle.std.specs.Prelude.{ℕ, ◌+◌, Option, Some, None, List, [], ◌∷◌, ◌++◌, map, Result, Ok, Err, position}
 use Rattle.std.specs.Prelude.{slice_get, slice_set}
 use Rattle.ide_plan.specs.declared.plan.LinkPlan.{LinkPlan}
+use Rattle.ide_plan.specs.declared.plan.HopPlan.{HopPlan}
+use Rattle.ide_plan.specs.declared.plan.PeerPlan.{PeerPlan}
+use Rattle.ide_types.specs.declared.port.PortName.{PortName}
 use Rattle.ide_plan.specs.declared.stream.StreamPlan.{StreamPlan}
 use Rattle.key_slots.specs.{Pool}
 use Rattle.ide_km.specs.{PlaceCall}
@@ -13,11 +16,14 @@ use Rattle.tsm_host.specs.declared.operation.Outcome.TheVariants.{Next}
 use Rattle.tsm_host.specs.declared.operation.Refusal.{Refusal}
 use Rattle.tsm_host.specs.declared.stage.Asked.{Asked}
 use Rattle.tsm_host.specs.Judging.{judged}
+use Rattle.tsm_host.specs.Streams.{has_host, key_status}
+use Rattle.ide_types.specs.declared.status.StreamStatus.{StreamStatus}
+use Rattle.ide_types.specs.declared.status.StreamStatus.TheVariants as status
 use Rattle.tsm_host.specs.Streams.{StreamView, new_stream, is_named, reset_stream, asked_in, request_asked, HostView}
 use Rattle.tsm_host.specs.Streams.{refusal_of, unless, begun_stream, begun_pool, begun_calls, outcome_of, taken_stream}
 use Rattle.tsm_host.specs.Streams.{taken_calls}
 
--- The streams of all links, in the order of the links and of each link's streams, and the place of the one whose
+-- The streams of all lines, in the order of the lines and of each link's streams, and the place of the one whose
 -- exchange is to be asked and taken.
 pub record ManagerView : Type 0 where
   pub streams : List StreamView
@@ -26,15 +32,32 @@ pub record ManagerView : Type 0 where
 -- ---- make
 
 abbrev pub new_streams : ℕ → List StreamPlan → List StreamView
-new_streams link streams = map (λ s. new_stream link s.id) streams
+new_streams line streams = map (λ s. new_stream line s.id) streams
 
 -- of the links from this number on
 abbrev pub streams_from : ℕ → List LinkPlan → List StreamView
-streams_from link [] = []
-streams_from link (l ∷ ls) = new_streams link l.streams ++ streams_from (link + 1) ls
+streams_from line [] = []
+streams_from line (l ∷ ls) = new_streams line l.streams ++ streams_from (line + 1) ls
 
-abbrev pub new_manager : List LinkPlan → ManagerView
-new_manager links = record { streams = streams_from 0 links; asking = None }
+-- of the hops of links, one segment of each, from this line on
+abbrev pub new_hop : ℕ → Option HopPlan → List StreamView
+new_hop line None = []
+new_hop line (Some o) = new_stream line o.id ∷ []
+
+abbrev pub hops_from : ℕ → List LinkPlan → List StreamView
+hops_from line [] = []
+hops_from line (l ∷ ls) = new_hop line l.hop ++ hops_from (line + 1) ls
+
+-- of streams between devices, from this line on
+abbrev pub peers_from : ℕ → List PeerPlan → List StreamView
+peers_from line [] = []
+peers_from line (p ∷ ps) = new_stream line p.id ∷ peers_from (line + 1) ps
+
+abbrev pub new_manager : List LinkPlan → List PeerPlan → ManagerView
+new_manager links peers = record {
+  streams = ((streams_from 0 links ++ hops_from 8 links) ++ hops_from 16 links) ++ peers_from 24 peers;
+  asking = None;
+}
 
 -- ---- streams by name
 
@@ -60,6 +83,11 @@ named m link id = named_in m.streams (stream_place m link id)
 abbrev pub op_named : Option Named → Option Op
 op_named None = None
 op_named (Some n) = Some n.stream.op
+
+-- by its operations alone
+abbrev pub status_named : Option Named → StreamStatus
+status_named None = status.Idle
+status_named (Some n) = key_status n.stream.op
 
 -- ---- the stream whose exchange is to be asked and taken
 
@@ -100,7 +128,8 @@ abbrev pub begun_manager : ManagerView → Operation → HostView → Pool → N
 begun_manager m operation host pool n =
     unless (begin_refusal operation host pool n) m
     (record {
-      streams = slice_set m.streams n.place (begun_stream (begin_work operation pool n) pool n.stream);
+      streams = slice_set m.streams n.place
+          (begun_stream (has_host n.stream) (begin_work operation pool n) pool n.stream);
       asking = Some n.place;
     })
 
@@ -110,7 +139,8 @@ pool_begun operation host pool n =
 
 abbrev pub calls_begun : Operation → HostView → Pool → Named → List PlaceCall
 calls_begun operation host pool n =
-    unless (begin_refusal operation host pool n) [] (begun_calls (begin_work operation pool n) pool n.stream.id)
+    unless (begin_refusal operation host pool n) []
+    (begun_calls (has_host n.stream) (begin_work operation pool n) pool n.stream.id)
 
 abbrev pub asking_begun : Option ℕ → ℕ → Result (Unit {0}) Refusal → Option ℕ
 asking_begun asking place (Ok done) = Some place
@@ -124,20 +154,24 @@ asking_after place Next = Some place
 asking_after place outcome = None
 
 abbrev pub outcome_now : Current → Carried → Outcome
-outcome_now c carried = outcome_of c.asked (judged (request_asked c.asked c.stream) carried)
+outcome_now c carried = outcome_of (has_host c.stream) c.asked
+    (judged (request_asked (has_host c.stream) c.asked c.stream) carried)
 
 abbrev pub taken : ManagerView → Current → Carried → ManagerView
 taken m c carried = record {
   streams = slice_set m.streams c.place
-      (taken_stream c.asked (judged (request_asked c.asked c.stream) carried) c.stream);
+      (taken_stream (has_host c.stream) c.asked (judged (request_asked (has_host c.stream) c.asked c.stream) carried)
+      c.stream);
   asking = asking_after c.place (outcome_now c carried);
 }
 
 abbrev pub calls_taken : Current → Carried → List PlaceCall
-calls_taken c carried = taken_calls c.asked (judged (request_asked c.asked c.stream) carried) c.stream.id
+calls_taken c carried = taken_calls (has_host c.stream) c.asked
+    (judged (request_asked (has_host c.stream) c.asked c.stream) carried)
+    c.stream.id
 
--- ---- link_reset
+-- ---- reset
 
--- the streams of the link are as they were made, and nothing is asked
-abbrev pub reset_manager : ℕ → ManagerView → ManagerView
-reset_manager link m = record { streams = map (reset_stream link) m.streams; asking = None }
+-- the streams of lines that are cut have no keys on their way, and nothing is asked
+abbrev pub reset_manager : List PortName → ManagerView → ManagerView
+reset_manager ends m = record { streams = map (reset_stream ends) m.streams; asking = None }

@@ -1,5 +1,20 @@
 -- What the manager keeps of a stream, and what each call makes of it (this profile).
-use Rattle.std.specs.Prelude.{ℕ, ◌+◌, ◌<◌, ◌≤◌, ◌==◌, nat_lt, Bool, false, not, ◌&&◌, if◌then◌else◌, IsSome, Option}
+use Rattle.std.specs.Prelude.{
+  ℕ,
+  ◌+◌,
+  ◌<◌,
+  ◌≤◌,
+  ◌==◌,
+  nat_lt,
+  Bool,
+  true,
+  false,
+  not,
+  ◌&&◌,
+  if◌then◌else◌,
+  IsSome,
+  Option,
+}
 use Rattle.std.specs.Prelude.{Some, None, List, [], Result, Ok, Err, slice_set}
 use Rattle.ide_types.specs.declared.sub.SubKind.{SubKind}
 use Rattle.ide_types.specs.declared.sub.SubKind.TheVariants.{Pr, Npr, Cpl}
@@ -7,10 +22,10 @@ use Rattle.ide_types.specs.declared.status.StreamStatus.{StreamStatus}
 use Rattle.ide_types.specs.declared.status.StreamStatus.TheVariants as status
 use Rattle.link_verdicts.specs.declared.verdict.Operation.{Operation}
 use Rattle.link_verdicts.specs.declared.verdict.Operation.TheVariants as op
-use Rattle.key_slots.specs.{KeySet, is_one, key_set, Pool, draws_in, six_keys, pool_after, unspent}
+use Rattle.key_slots.specs.{KeySet, is_one, key_set, Pool, draws_in, six_keys, pool_after}
 use Rattle.key_laws.specs.Operations.{Op, Idle, Establishing, Up, Refreshing, Stopping, Work, work, work_of}
 use Rattle.key_laws.specs.Operations.{last_exchange_of}
-use Rattle.key_laws.specs.Operations.{makes_draw, reach, op_after, op_standing}
+use Rattle.key_laws.specs.Operations.{makes_draw, reach, op_after, op_cut, op_standing}
 use Rattle.ide_km.specs.declared.object.KmView.{KmView}
 use Rattle.ide_km.specs.{PlaceCall}
 use Rattle.tsm_host.specs.declared.exchange.Exchange.{Exchange}
@@ -27,11 +42,16 @@ use Rattle.tsm_host.specs.declared.operation.Shown.TheVariants as shown
 use Rattle.tsm_host.specs.declared.stage.Asked.{Asked}
 use Rattle.tsm_host.specs.declared.stage.Stage.{Stage}
 use Rattle.tsm_host.specs.declared.stage.Stage.TheVariants as stage
-use Rattle.tsm_host.specs.Exchanges.{exchange_of, is_last_receiver_go, WireKeys, kept_key, request_of}
+use Rattle.tsm_host.specs.Exchanges.{exchange_of, end_of, exchange_lane, is_last_receiver_go, WireKeys, kept_key}
+use Rattle.tsm_host.specs.Exchanges.{wire_number, wire_keys, request_of}
+use Rattle.ide_types.specs.Lines.{is_hosted}
+use Rattle.ide_types.specs.declared.port.Side.{Side}
+use Rattle.ide_types.specs.declared.port.PortName.{PortName}
+use Rattle.key_laws.specs.Places.{is_cut}
 use Rattle.tsm_host.specs.Local.{programs, goes, halts}
 
--- A stream of a link, with the state of its operations, and the keys of an establish or refresh that is unfinished, by
--- lane: each is kept until its KEY_PROG is acknowledged. There are no others.
+-- A stream of a line, with the state of its operations, and the keys of an establish or refresh that is unfinished, in
+-- the order of their KEY_PROGs: each is kept until its own is acknowledged. There are no others.
 pub record StreamView : Type 0 where
   pub link : ℕ
   pub id : ℕ
@@ -44,9 +64,16 @@ new_stream link id = record { link = link; id = id; op = Idle; keys = [] }
 abbrev pub is_named : ℕ → ℕ → StreamView → Bool
 is_named link id s = (s.link == link) && (s.id == id)
 
--- as it was made, if it is of this link
-abbrev pub reset_stream : ℕ → StreamView → StreamView
-reset_stream link s = if s.link == link then new_stream s.link s.id else s
+-- after a reset that clears these ends: of a line that is cut no keys are on their way
+abbrev pub reset_stream : List PortName → StreamView → StreamView
+reset_stream ends s = record s {
+  op = op_cut ends s.link s.op;
+  keys = if is_cut ends s.link then [] else s.keys;
+}
+
+-- whether a host's port is at the near end of its line
+abbrev pub has_host : StreamView → Bool
+has_host s = is_hosted s.link
 
 -- ---- as it is kept
 
@@ -81,15 +108,36 @@ abbrev pub keyed_stage : Operation → KeySet → ℕ → WireKeys → Stage
 keyed_stage op.Refresh set draw keys = stage.Refreshing set draw 1 keys
 keyed_stage operation set draw keys = stage.Establishing draw 1 keys
 
--- each key whose KEY_PROG is not acknowledged is kept; the first KEY_PROG is exchange `first`, the next exchange `next`
-abbrev pub KeysLeft : ℕ → ℕ → WireKeys → Type 0
-KeysLeft first next keys = (lane : ℕ) → lane < 6 → next ≤ first + lane → IsSome (kept_key keys lane)
+-- the first KEY_PROG of an operation, and how many it has
+abbrev pub first_program : (hosted : Bool) → Operation → ℕ
+first_program true op.Establish = 2
+first_program _ o = 1
 
-abbrev pub StageHolds : Stage → Type 0
-StageHolds (stage.Establishing draw next keys) = (1 ≤ next) × (next ≤ 13) × KeysLeft 2 next keys
-StageHolds (stage.Refreshing set draw next keys) = (1 ≤ next) × (next ≤ 12) × KeysLeft 1 next keys
-StageHolds (stage.Stopping next) = (1 ≤ next) × (next ≤ 12)
-StageHolds s = Unit {0}
+abbrev pub key_count : (hosted : Bool) → ℕ
+key_count true = 6
+key_count false = 12
+
+-- each key whose KEY_PROG is not acknowledged is kept; the first of so many is exchange `first`, the next `next`
+abbrev pub KeysLeft : ℕ → ℕ → ℕ → WireKeys → Type 0
+KeysLeft count first next keys = (i : ℕ) → i < count → next ≤ first + i → IsSome (kept_key keys i)
+
+-- an unfinished operation is at one of its exchanges
+abbrev pub IsWithin : (hosted : Bool) → Operation → ℕ → Type 0
+IsWithin hosted o next = (1 ≤ next) × (next ≤ last_exchange_of hosted o)
+
+abbrev pub StageHolds : (hosted : Bool) → Stage → Type 0
+StageHolds hosted (stage.Establishing draw next keys) =
+    IsWithin hosted op.Establish next × KeysLeft (key_count hosted) (first_program hosted op.Establish) next keys
+StageHolds hosted (stage.Refreshing set draw next keys) =
+    IsWithin hosted op.Refresh next × KeysLeft (key_count hosted) (first_program hosted op.Refresh) next keys
+StageHolds hosted (stage.Stopping next) = IsWithin hosted op.Stop next
+StageHolds hosted s = Unit {0}
+
+-- what the manager says of a stream by its operations alone: it has keys, or none, or some
+abbrev pub key_status : Op → StreamStatus
+key_status (Up set draw) = status.Secure
+key_status Idle = status.Idle
+key_status o = status.Partial
 
 -- ---- the exchange that is next
 
@@ -103,15 +151,23 @@ asked_in (Refreshing set draw next) = Some (asked_exchange op.Refresh set draw n
 asked_in (Stopping next) = Some (asked_exchange op.Stop false 0 next)
 asked_in o = None
 
-abbrev pub exchange_asked : Asked → Exchange
-exchange_asked a = exchange_of a.operation a.set a.exchange
+abbrev pub exchange_asked : (hosted : Bool) → Asked → Exchange
+exchange_asked hosted a = exchange_of hosted a.operation a.set a.exchange
+
+-- the end that it is carried to
+abbrev pub end_asked : (hosted : Bool) → Asked → Side
+end_asked hosted a = end_of hosted a.operation a.exchange
+
+-- the number of its key, if it brings one
+abbrev pub wire_asked : (hosted : Bool) → Asked → ℕ
+wire_asked hosted a = wire_number hosted (end_asked hosted a) (exchange_lane (exchange_asked hosted a))
 
 abbrev pub work_asked : Asked → Work
 work_asked a = work a.operation (is_one a.set) a.draw a.exchange false
 
 -- its request
-abbrev pub request_asked : Asked → StreamView → KmView
-request_asked a s = request_of s.id s.keys (exchange_asked a)
+abbrev pub request_asked : (hosted : Bool) → Asked → StreamView → KmView
+request_asked hosted a s = request_of s.id s.keys (wire_asked hosted a) (exchange_asked hosted a)
 
 -- ---- begin: refusals
 
@@ -198,54 +254,59 @@ unless None old new = new
 unless (Some refusal) old new = old
 
 -- the operation stands at its first exchange, with the six keys of its draw; one that goes on is as it was
-abbrev pub begun_stream : Work → Pool → StreamView → StreamView
-begun_stream w pool s =
+abbrev pub begun_stream : (hosted : Bool) → Work → Pool → StreamView → StreamView
+begun_stream hosted w pool s =
     if w.begins then
-    record s { op = op_standing w 1; keys = if makes_draw w.operation then unspent (six_keys pool.keys w.draw) else [] }
+    record s {
+      op = op_standing w 1;
+      keys = if makes_draw w.operation then wire_keys hosted (six_keys pool.keys w.draw) else [];
+    }
     else s
 
 abbrev pub begun_pool : Work → Pool → Pool
 begun_pool w pool = if draws_now w then pool_after pool else pool
 
--- the host's slots of the set are programmed with the same keys; of a stop all are emptied
-abbrev pub begun_calls : Work → Pool → ℕ → List PlaceCall
-begun_calls w pool stream =
+-- a host's slots of the set are programmed with the same keys; of a stop all are emptied
+abbrev pub begun_calls : (hosted : Bool) → Work → Pool → ℕ → List PlaceCall
+begun_calls true w pool stream =
     if w.begins then (if makes_draw w.operation then programs stream w.set (six_keys pool.keys w.draw) w.draw
     else halts stream)
     else []
+begun_calls false w pool stream = []
 
 -- ---- take
 
-abbrev pub is_last : Asked → Bool
-is_last a = a.exchange == last_exchange_of a.operation
+abbrev pub is_last : (hosted : Bool) → Asked → Bool
+is_last hosted a = a.exchange == last_exchange_of hosted a.operation
 
 abbrev pub shown_at_end : Asked → Shown
 shown_at_end a = if makes_draw a.operation then shown.Draw a.draw else shown.Stopped
 
-abbrev pub outcome_of : Asked → Judged → Outcome
-outcome_of a Expected = if is_last a then outcome.Done (shown_at_end a) else outcome.Next
-outcome_of a Lost = outcome.Refused (SessionLost a.exchange)
-outcome_of a (Refused code) = outcome.Refused (DeviceRefused a.exchange code)
-outcome_of a Bad = outcome.Refused (BadReply a.exchange)
+abbrev pub outcome_of : (hosted : Bool) → Asked → Judged → Outcome
+outcome_of hosted a Expected = if is_last hosted a then outcome.Done (shown_at_end a) else outcome.Next
+outcome_of hosted a Lost = outcome.Refused (SessionLost a.exchange)
+outcome_of hosted a (Refused code) = outcome.Refused (DeviceRefused a.exchange code)
+outcome_of hosted a Bad = outcome.Refused (BadReply a.exchange)
 
 -- a key goes if its KEY_PROG is acknowledged
-abbrev pub keys_after : Exchange → WireKeys → WireKeys
-keys_after (exchange.Program set lane) keys = slice_set keys lane None
-keys_after e keys = keys
+abbrev pub keys_after : Exchange → ℕ → WireKeys → WireKeys
+keys_after (exchange.Program set lane) i keys = slice_set keys i None
+keys_after e i keys = keys
 
 -- the exchange is acknowledged
-abbrev pub acknowledged : Asked → StreamView → StreamView
-acknowledged a s = record s {
-  op = op_after (work_asked a) (reach (a.exchange + 1) (a.exchange + 1));
-  keys = if is_last a then [] else keys_after (exchange_asked a) s.keys;
+abbrev pub acknowledged : (hosted : Bool) → Asked → StreamView → StreamView
+acknowledged hosted a s = record s {
+  op = op_after hosted (work_asked a) (reach (a.exchange + 1) (a.exchange + 1));
+  keys = if is_last hosted a then [] else keys_after (exchange_asked hosted a) (wire_asked hosted a) s.keys;
 }
 
 -- only an expected reply goes on
-abbrev pub taken_stream : Asked → Judged → StreamView → StreamView
-taken_stream a Expected s = acknowledged a s
-taken_stream a judged s = s
+abbrev pub taken_stream : (hosted : Bool) → Asked → Judged → StreamView → StreamView
+taken_stream hosted a Expected s = acknowledged hosted a s
+taken_stream hosted a judged s = s
 
--- the host's port goes on if the last of the device's receivers did
-abbrev pub taken_calls : Asked → Judged → ℕ → List PlaceCall
-taken_calls a Expected stream = if is_last_receiver_go (exchange_asked a) then goes stream (is_one a.set) else []
-taken_calls a judged stream = []
+-- a host's port goes on if the last of the device's receivers did
+abbrev pub taken_calls : (hosted : Bool) → Asked → Judged → ℕ → List PlaceCall
+taken_calls true a Expected stream =
+    if is_last_receiver_go (exchange_asked true a) then goes stream (is_one a.set) else []
+taken_calls hosted a judged stream = []

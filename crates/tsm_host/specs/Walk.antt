@@ -1,6 +1,7 @@
 -- An operation at one event: it begins or goes on, and its exchanges are taken one after another.
 use Rattle.std.specs.Prelude.{ℕ, ◌≡◌, ◌+◌, ◌-◌, ◌≤◌, zero, suc, Bool, Option, Some, None, IsSome}
 use Rattle.std.specs.Option.{option_map}
+use Rattle.ide_types.specs.Lines.{line_kind}
 use Rattle.ide_types.specs.declared.sub.SubKind.{SubKind}
 use Rattle.ide_types.specs.declared.status.StreamStatus.{StreamStatus}
 use Rattle.link_events.specs.declared.event.Loss.{Loss}
@@ -24,7 +25,16 @@ use Rattle.tsm_host.specs.declared.operation.Refusal.TheVariants.{DeviceRefused,
 use Rattle.tsm_host.specs.declared.operation.Shown.{Shown}
 use Rattle.tsm_host.specs.declared.operation.Shown.TheVariants as shown
 use Rattle.tsm_host.specs.declared.stage.Asked.{Asked}
-use Rattle.tsm_host.specs.Streams.{StreamView, HostView, asked_in, is_set, refusal_of, begun_stream, outcome_of}
+use Rattle.tsm_host.specs.Streams.{
+  StreamView,
+  has_host,
+  HostView,
+  asked_in,
+  is_set,
+  refusal_of,
+  begun_stream,
+  outcome_of,
+}
 use Rattle.tsm_host.specs.Streams.{taken_stream}
 
 -- ---- the walk
@@ -44,35 +54,35 @@ pub record Walked : Type 0 where
   pub outcome : Outcome
   pub stream : StreamView
 
-abbrev pub outcome_at : Option Asked → (ℕ → Judged) → Outcome
-outcome_at None carried = outcome.Next
-outcome_at (Some a) carried = outcome_of a (carried a.exchange)
+abbrev pub outcome_at : (hosted : Bool) → Option Asked → (ℕ → Judged) → Outcome
+outcome_at hosted None carried = outcome.Next
+outcome_at hosted (Some a) carried = outcome_of hosted a (carried a.exchange)
 
-abbrev pub stream_after : Option Asked → (ℕ → Judged) → StreamView → StreamView
-stream_after None carried s = s
-stream_after (Some a) carried s = taken_stream a (carried a.exchange) s
+abbrev pub stream_after : (hosted : Bool) → Option Asked → (ℕ → Judged) → StreamView → StreamView
+stream_after hosted None carried s = s
+stream_after hosted (Some a) carried s = taken_stream hosted a (carried a.exchange) s
 
 abbrev pub continued : Outcome → StreamView → Walked → Walked
 continued outcome.Next s rest = rest
 continued o s rest = record { outcome = o; stream = s }
 
 -- `take` after `take`, up to so many
-abbrev pub walk : (more : ℕ) → (ℕ → Judged) → StreamView → Walked
-walk zero carried s = record { outcome = outcome.Next; stream = s }
-walk (suc more) carried s =
-    continued (outcome_at (asked_in s.op) carried) (stream_after (asked_in s.op) carried s)
-    (walk more carried (stream_after (asked_in s.op) carried s))
+abbrev pub walk : (hosted : Bool) (more : ℕ) → (ℕ → Judged) → StreamView → Walked
+walk hosted zero carried s = record { outcome = outcome.Next; stream = s }
+walk hosted (suc more) carried s =
+    continued (outcome_at hosted (asked_in s.op) carried) (stream_after hosted (asked_in s.op) carried s)
+    (walk hosted more carried (stream_after hosted (asked_in s.op) carried s))
 
 -- `begin`, and then the walk
 abbrev pub walked_unless : Option Refusal → StreamView → Walked → Walked
 walked_unless (Some refusal) s walked = record { outcome = outcome.Refused refusal; stream = s }
 walked_unless None s walked = walked
 
-abbrev pub walked : Operation → HostView → Pool → (ℕ → Judged) → StreamView → Walked
-walked operation host pool carried s =
+abbrev pub walked : (hosted : Bool) → Operation → HostView → Pool → (ℕ → Judged) → StreamView → Walked
+walked hosted operation host pool carried s =
     let w = work_of operation s.op pool.draws in
-    walked_unless (refusal_of operation s.op host pool) s (walk (last_exchange_of operation + 1 - w.first) carried
-    (begun_stream w pool s))
+    walked_unless (refusal_of operation s.op host pool) s
+    (walk hosted (last_exchange_of hosted operation + 1 - w.first) carried (begun_stream hosted w pool s))
 
 -- ---- the verdict that it is
 
@@ -82,23 +92,23 @@ shown_verdict op.Refresh link stream (shown.Draw j) = Some (v.Refreshed link str
 shown_verdict op.Stop link stream shown.Stopped = Some (v.Stopped link stream)
 shown_verdict o link stream s = None
 
--- A lost exchange has the verdict of the message that was lost there. If none was, it has no verdict, nor has a bad
--- reply.
-abbrev pub key_refusal_verdict : Option Loss → Refusal → Option Verdict
-key_refusal_verdict loss NotIdle = Some v.RefusedNotIdle
-key_refusal_verdict loss (NotSecure s) = Some (v.RefusedNotSecure s)
-key_refusal_verdict loss (PoolEmpty draws) = Some (v.RefusedPoolEmpty draws)
-key_refusal_verdict loss (SessionLost n) = option_map (λ lost. lost_at lost n) (lost_in loss n)
-key_refusal_verdict loss (DeviceRefused n status) = Some (v.RefusedDevice n status)
-key_refusal_verdict loss (BadReply n) = None
-key_refusal_verdict loss (Busy o) = Some (v.RefusedBusy o)
-key_refusal_verdict loss (UnitOpen u) = Some (v.RefusedUnitOpen u)
+-- of a stream on a line: a lost exchange has the verdict of the message that was lost there. If none was, it has no
+-- verdict, nor has a bad reply.
+abbrev pub key_refusal_verdict : ℕ → Option Loss → Refusal → Option Verdict
+key_refusal_verdict line loss NotIdle = Some v.RefusedNotIdle
+key_refusal_verdict line loss (NotSecure s) = Some (v.RefusedNotSecure s)
+key_refusal_verdict line loss (PoolEmpty draws) = Some (v.RefusedPoolEmpty draws)
+key_refusal_verdict line loss (SessionLost n) = option_map (λ lost. lost_at lost n) (lost_in loss n)
+key_refusal_verdict line loss (DeviceRefused n status) = Some (v.RefusedDevice n status)
+key_refusal_verdict line loss (BadReply n) = None
+key_refusal_verdict line loss (Busy o) = Some (v.RefusedBusy (line_kind line) o)
+key_refusal_verdict line loss (UnitOpen u) = Some (v.RefusedUnitOpen u)
 
 -- nor has an operation that is not at its end
 abbrev pub verdict_of : Operation → ℕ → ℕ → Option Loss → Outcome → Option Verdict
 verdict_of o link stream loss outcome.Next = None
 verdict_of o link stream loss (outcome.Done s) = shown_verdict o link stream s
-verdict_of o link stream loss (outcome.Refused refusal) = key_refusal_verdict loss refusal
+verdict_of o link stream loss (outcome.Refused refusal) = key_refusal_verdict link loss refusal
 
 -- No reply was bad, and no exchange was lost but one whose message is lost.
 abbrev pub NoBadReply : Option Loss → Outcome → Type 0
@@ -109,9 +119,9 @@ NoBadReply loss o = Unit {0}
 -- ---- the law
 
 -- an unfinished operation is at one of its exchanges
-abbrev pub IsAsked : Option Asked → Type 0
-IsAsked None = Unit {0}
-IsAsked (Some a) = (1 ≤ a.exchange) × (a.exchange ≤ last_exchange_of a.operation)
+abbrev pub IsAsked : (hosted : Bool) → Option Asked → Type 0
+IsAsked hosted None = Unit {0}
+IsAsked hosted (Some a) = (1 ≤ a.exchange) × (a.exchange ≤ last_exchange_of hosted a.operation)
 
 -- what the host's port and the pool show is what the definitions read of them
 pub record Reads (plan : KeyPlan) (ports : PortView) (link stream : ℕ) (status : StreamStatus) (host : HostView)
@@ -126,26 +136,26 @@ due_on op.Refresh plan o next ports status link stream loss = refresh_on plan o 
 due_on op.Stop plan o next ports status link stream loss = stop_on o next ports link stream loss
 
 -- the operations of the stream after its verdict
-abbrev pub op_by : Op → Work → Option Reach → Op
-op_by o w None = o
-op_by o w (Some reached) = op_after w reached
+abbrev pub op_by : (hosted : Bool) → Op → Work → Option Reach → Op
+op_by hosted o w None = o
+op_by hosted o w (Some reached) = op_after hosted w reached
 
 -- If each exchange is lost or refused as the definitions say, an event gives the verdict that is due, and leaves the
 -- operations as the verdict says.
-pub record WalkIsDue (operation : Operation) (plan : KeyPlan) (ports : PortView) (status : StreamStatus)
-    (host : HostView) (pool : Pool) (loss : Option Loss) (s : StreamView) : Type 0 where
+pub record WalkIsDue (hosted : Bool) (operation : Operation) (plan : KeyPlan) (ports : PortView)
+    (status : StreamStatus) (host : HostView) (pool : Pool) (loss : Option Loss) (s : StreamView) : Type 0 where
   pub verdict_is : verdict_of operation s.link s.id loss
-      (walked operation host pool (answers loss (refusal_at ports operation (work_of operation s.op pool.draws).set
-      s.link s.id)) s).outcome
+      (walked hosted operation host pool (answers loss (refusal_at ports operation
+      (work_of operation s.op pool.draws).set s.link s.id)) s).outcome
       ≡ Some (due_on operation plan s.op pool.draws ports status s.link s.id loss)
-  pub op_is : (walked operation host pool
+  pub op_is : (walked hosted operation host pool
       (answers loss (refusal_at ports operation (work_of operation s.op pool.draws).set s.link s.id)) s).stream.op
-      ≡ op_by s.op (work_of operation s.op pool.draws)
+      ≡ op_by hosted s.op (work_of operation s.op pool.draws)
       (reach_of operation (due_on operation plan s.op pool.draws ports status s.link s.id loss))
 
 abbrev pub WalksAreDue : Type 0
 WalksAreDue =
     (operation : Operation) (plan : KeyPlan) (ports : PortView) (status : StreamStatus) (host : HostView) (pool : Pool)
     (loss : Option Loss) (s : StreamView)
-    → IsAsked (asked_in s.op) → Reads plan ports s.link s.id status host pool → WalkIsDue operation plan ports status
-    host pool loss s
+    → IsAsked (has_host s) (asked_in s.op) → Reads plan ports s.link s.id status host pool
+    → WalkIsDue (has_host s) operation plan ports status host pool loss s

@@ -14,6 +14,7 @@ mod operation;
 mod port;
 mod stage;
 mod stream;
+mod wires;
 
 pub use laws::{pairs_fit, walks_are_due};
 pub use link_verdicts::Operation;

@@ -1,4 +1,4 @@
-//! The manager of all links.
+//! The manager of all lines.
 
 ghost use Rattle.std.specs.Prelude.{◌≡◌, ℕ, ◌+◌, ◌++◌, ◌≤◌, ◌<◌, IsSome, IfSome, IfOk, is_some, Some, [], length, map};
 ghost use Rattle.std.specs.Prelude.{slice_get, vec_len, vec_capacity};
@@ -6,21 +6,22 @@ ghost use Rattle.ide_km.specs.{spelling};
 ghost use Rattle.key_laws.specs.Operations.{work_of};
 ghost use Rattle.tsm_host.specs.Local.{CallsMove};
 ghost use Rattle.tsm_host.specs.Operations.{op_name};
-ghost use Rattle.tsm_host.specs.Streams.{reset_stream, request_asked, host_view, ok_unless};
-ghost use Rattle.tsm_host.specs.Managers.{new_streams, asking_begun, asking_after};
+ghost use Rattle.tsm_host.specs.Streams.{reset_stream, has_host, end_asked, request_asked, host_view, ok_unless};
+ghost use Rattle.tsm_host.specs.Managers.{new_streams, streams_from, new_hop, hops_from, peers_from, asking_begun};
+ghost use Rattle.tsm_host.specs.Managers.{asking_after};
 
 use crate::operation::{Carried, Op, Outcome, Refusal};
 use crate::port::HostPort;
 use crate::stage::Asked;
 use crate::stream::StreamKeys;
 use ide_km::km_write;
-use ide_plan::{LinkPlan, StreamPlan};
-use ide_types::{Items, Memory};
+use ide_plan::{HopPlan, LinkPlan, PeerPlan, StreamPlan};
+use ide_types::{Items, Memory, PortName, Side, StreamStatus};
 use key_slots::KeyPool;
 use std::alloc::Global;
 use std::marker::Model;
 
-/// The host's manager of key management, for all links (PCI Express Base 6.0 section 6.33, in this profile). It has at
+/// The host's manager of key management, for all lines (PCI Express Base 6.0 section 6.33, in this profile). It has at
 /// most one exchange under way: that of the operation which `begin` began last or went on with.
 #[derive(Drop)]
 pub struct Manager {
@@ -46,11 +47,65 @@ fn add_streams(streams: &mut Vec<StreamKeys>, link: u8, plans: &[StreamPlan]) ->
     Ok(())
 }
 
+/// Adds the streams of links.
+fn add_links(streams: &mut Vec<StreamKeys>, links: &[LinkPlan]) -> Result<(), Memory>
+    requires { length links.now ≤ 8 }
+    ensures { IfOk result (λ _. streams.new.items ≡ streams.old.items ++ streams_from 0 links.now) }
+{
+    let mut line = 0;
+    for link in links {
+        add_streams(streams, line, link.streams.as_slice())?;
+        line += 1;
+    }
+    Ok(())
+}
+
+/// Adds the stream of a hop, if there is one.
+fn add_hop(streams: &mut Vec<StreamKeys>, line: u8, hop: &Option<HopPlan>) -> Result<(), Memory>
+    ensures { IfOk result (λ _. streams.new.items ≡ streams.old.items ++ new_hop line hop.now) }
+{
+    match hop {
+        None => Ok(()),
+        Some(plan) => {
+            streams.push(StreamKeys::new(line, plan.id))?;
+            Ok(())
+        }
+    }
+}
+
+/// Adds the streams of the hops of links, one segment of each, from this line on.
+fn add_hops(streams: &mut Vec<StreamKeys>, first: u8, links: &[LinkPlan]) -> Result<(), Memory>
+    requires links { length links.now ≤ 8 }
+    requires first { first ≤ 16 }
+    ensures { IfOk result (λ _. streams.new.items ≡ streams.old.items ++ hops_from first links.now) }
+{
+    let mut line = first;
+    for link in links {
+        add_hop(streams, line, &link.hop)?;
+        line += 1;
+    }
+    Ok(())
+}
+
+/// Adds the streams between devices.
+fn add_peers(streams: &mut Vec<StreamKeys>, peers: &[PeerPlan]) -> Result<(), Memory>
+    requires { length peers.now ≤ 8 }
+    ensures { IfOk result (λ _. streams.new.items ≡ streams.old.items ++ peers_from 24 peers.now) }
+{
+    let mut line = 24;
+    for plan in peers {
+        streams.push(StreamKeys::new(line, plan.id))?;
+        line += 1;
+    }
+    Ok(())
+}
+
 impl Manager {
     ghost use Rattle.tsm_host.specs.Managers.{
       new_manager,
       stream_place,
       named,
+      status_named,
       current,
       begin_refusal,
       begun_manager,
@@ -63,17 +118,22 @@ impl Manager {
       asked_now,
     };
 
-    /// A manager of these links, up to 8 of them; no stream has keys. Returns `Memory` for want of memory.
-    pub fn make(alloc: Global, links: &Items<LinkPlan>) -> Result<Manager, Memory>
-        requires { length links.now ≤ 8 }
-        ensures { IfOk result (λ m. m ≡ new_manager links.now) }
+    /// A manager of all lines of these links, up to 8 of them, and of up to 8 streams between their devices; no stream
+    /// has keys. Returns `Memory` for want of memory.
+    pub fn make(
+        alloc: Global,
+        links: &Items<LinkPlan>,
+        peers: &Items<PeerPlan>,
+    ) -> Result<Manager, Memory>
+        requires links { length links.now ≤ 8 }
+        requires peers { length peers.now ≤ 8 }
+        ensures { IfOk result (λ m. m ≡ new_manager links.now peers.now) }
     {
         let mut streams = Vec::new(alloc);
-        let mut number = 0;
-        for link in links.as_slice() {
-            add_streams(&mut streams, number, link.streams.as_slice())?;
-            number += 1;
-        }
+        add_links(&mut streams, links.as_slice())?;
+        add_hops(&mut streams, 8, links.as_slice())?;
+        add_hops(&mut streams, 16, links.as_slice())?;
+        add_peers(&mut streams, peers.as_slice())?;
         Ok(Manager {
             streams,
             asking: None,
@@ -91,6 +151,17 @@ impl Manager {
         ensures { result ≡ is_some (named self.now link stream) }
     {
         self.place(link, stream).is_some()
+    }
+
+    /// What it says of a stream by its operations alone: Secure if the stream has keys, Idle if it has none or the line
+    /// has no such stream, Partial while an operation is unfinished.
+    pub fn status(&self, line: u8, stream: u8) -> StreamStatus
+        ensures { result ≡ status_named (named self.now line stream) }
+    {
+        match self.place(line, stream) {
+            None => StreamStatus::Idle,
+            Some(place) => self.streams[place].status(),
+        }
     }
 
     /// Whether an operation on a stream that its link has would begin, and not go on.
@@ -173,13 +244,28 @@ impl Manager {
         u32::from(asked.exchange)
     }
 
+    /// The end of the line that it is carried to.
+    pub fn end(&self) -> Side
+        requires { IsSome (current self.now) }
+        ensures { IfSome (current self.now) (λ c. result ≡ end_asked (has_host c.stream) c.asked) }
+    {
+        let Some(place) = self.asking else {
+            unreachable!()
+        };
+        let stream = &self.streams[place];
+        let Some(asked) = stream.asked() else {
+            unreachable!()
+        };
+        stream.end(asked)
+    }
+
     /// Appends the request of the exchange that is next, for which `out` has 49 bytes of room, and answers the
     /// operation's draw, 0 if it has none. It takes no memory.
     pub fn ask(&self, out: &mut Vec<u8>) -> u32
         requires asking { IsSome (current self.now) }
         requires room { vec_len out.old + 49 ≤ vec_capacity out.old }
         ensures items { IfSome (current self.now) (λ c. out.new.items ≡ out.old.items
-            ++ spelling (request_asked c.asked c.stream)) }
+            ++ spelling (request_asked (has_host c.stream) c.asked c.stream)) }
         ensures draw { IfSome (current self.now) (λ c. result ≡ c.asked.draw) }
         ensures capacity { vec_capacity out.old ≤ vec_capacity out.new }
     {
@@ -217,12 +303,12 @@ impl Manager {
         outcome
     }
 
-    /// Notes a reset of a link: its streams are without keys again, and their operations are dropped; no exchange is
-    /// under way.
-    pub fn link_reset(&mut self, link: u8)
-        ensures { self.new ≡ reset_manager link self.old }
+    /// Notes a reset that clears these ends: the streams of their lines are without keys again, and their operations
+    /// are dropped; those between devices are to be stopped. No exchange is under way.
+    pub fn reset(&mut self, ends: &[PortName])
+        ensures { self.new ≡ reset_manager ends.now self.old }
     {
-        reset_streams(&mut self.streams, link);
+        reset_streams(&mut self.streams, ends);
         self.asking = None;
     }
 }
@@ -247,10 +333,10 @@ fn still_asking(place: usize, outcome: Outcome) -> Option<usize>
     }
 }
 
-fn reset_streams(streams: &mut Vec<StreamKeys>, link: u8)
-    ensures { streams.new.items ≡ map (reset_stream link) streams.old.items }
+fn reset_streams(streams: &mut Vec<StreamKeys>, ends: &[PortName])
+    ensures { streams.new.items ≡ map (reset_stream ends.now) streams.old.items }
 {
     for stream in streams.iter_mut() {
-        stream.reset(link);
+        stream.reset(ends);
     }
 }

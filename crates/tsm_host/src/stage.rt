@@ -16,11 +16,11 @@ ghost use Rattle.tsm_host.specs.Streams.{
 ghost use Rattle.tsm_host.specs.Streams.{keys_after, establish_refusal, refresh_refusal, current_set, next_in};
 ghost use Rattle.tsm_host.specs.Streams.{op_advanced};
 
-use crate::exchange::{Exchange, exchange_at, last};
+use crate::exchange::{Exchange, end_at, exchange_at, last, wire_number};
 use crate::operation::{Refusal, Shown};
 use crate::port::HostPort;
-use ide_types::{KeySet, StreamStatus, SubKind};
-use key_slots::WireSix;
+use crate::wires::Wires;
+use ide_types::{KeySet, Side, StreamStatus, SubKind};
 use link_verdicts::Operation;
 
 /// The state of a stream for the manager. `next` is the number of the exchange that is to be asked next, from 1; the
@@ -31,7 +31,7 @@ pub enum Stage {
     Establishing {
         draw: u32,
         next: u8,
-        keys: WireSix,
+        keys: Wires,
     },
     Up {
         set: KeySet,
@@ -41,7 +41,7 @@ pub enum Stage {
         set: KeySet,
         draw: u32,
         next: u8,
-        keys: WireSix,
+        keys: Wires,
     },
     Stopping {
         next: u8,
@@ -59,23 +59,39 @@ pub struct Asked {
 }
 
 impl Asked {
-    ghost use Rattle.tsm_host.specs.Streams.{exchange_asked, is_last, shown_at_end};
+    ghost use Rattle.tsm_host.specs.Streams.{exchange_asked, end_asked, wire_asked, is_last, shown_at_end};
 
-    /// The exchange.
-    pub fn exchange(&self) -> Exchange
+    /// The exchange, on a line with a host's port at its near end or with none.
+    pub fn exchange(&self, hosted: bool) -> Exchange
         requires first { 1 ≤ self.now.exchange }
-        requires last { self.now.exchange ≤ last_exchange_of self.now.operation }
-        ensures exchange { result ≡ exchange_asked self.now }
+        requires last { self.now.exchange ≤ last_exchange_of hosted self.now.operation }
+        ensures exchange { result ≡ exchange_asked hosted self.now }
         ensures lane { exchange_lane result < 6 }
     {
-        exchange_at(self.operation, self.set, self.exchange)
+        exchange_at(hosted, self.operation, self.set, self.exchange)
+    }
+
+    /// The end of the line that it is carried to.
+    pub fn end(&self, hosted: bool) -> Side
+        ensures { result ≡ end_asked hosted self.now }
+    {
+        end_at(hosted, self.operation, self.exchange)
+    }
+
+    /// The number of the key that it brings, if it brings one.
+    pub fn wire(&self, hosted: bool) -> u8
+        requires first { 1 ≤ self.now.exchange }
+        requires last { self.now.exchange ≤ last_exchange_of hosted self.now.operation }
+        ensures { result ≡ wire_asked hosted self.now }
+    {
+        wire_number(hosted, self.end(hosted), self.exchange(hosted).lane())
     }
 
     /// Whether it is the operation's last.
-    pub fn is_last(&self) -> bool
-        ensures { result ≡ is_last self.now }
+    pub fn is_last(&self, hosted: bool) -> bool
+        ensures { result ≡ is_last hosted self.now }
     {
-        self.exchange == last(self.operation)
+        self.exchange == last(hosted, self.operation)
     }
 
     /// What the operation shows at its end.
@@ -125,13 +141,12 @@ fn not_ready<P: HostPort>(port: &P, stream: u8, set: KeySet) -> Option<Refusal>
     }
 }
 
-/// The keys without the one that the exchange brought.
-fn spent(mut keys: WireSix, exchange: Exchange) -> WireSix
-    requires { exchange_lane exchange < 6 }
-    ensures { result ≡ keys_after exchange keys }
+/// The keys without the one that the exchange brought, which has this number.
+fn spent(mut keys: Wires, exchange: Exchange, wire: u8) -> Wires
+    ensures { result ≡ keys_after exchange wire keys }
 {
-    if let Exchange::Program { lane, .. } = exchange {
-        keys.spend(lane);
+    if let Exchange::Program { .. } = exchange {
+        keys.spend(wire);
     }
     keys
 }
@@ -242,15 +257,14 @@ impl Stage {
         }
     }
 
-    /// The bytes of a key that the device has not acknowledged yet.
-    pub fn key(&self, lane: u8) -> [u8; 32]
-        requires lane { lane < 6 }
-        requires kept { IsSome (kept_key (stage_keys self.now) lane) }
-        ensures { result ≡ key_or_none (kept_key (stage_keys self.now) lane) }
+    /// The bytes of the key of this number, which is not acknowledged yet.
+    pub fn key(&self, wire: u8) -> [u8; 32]
+        requires { IsSome (kept_key (stage_keys self.now) wire) }
+        ensures { result ≡ key_or_none (kept_key (stage_keys self.now) wire) }
     {
         match self {
             Stage::Establishing { keys, .. } | Stage::Refreshing { keys, .. } => {
-                match keys.key(lane) {
+                match keys.key(wire) {
                     Some(key) => *key.bytes(),
                     None => unreachable!(),
                 }
@@ -260,17 +274,16 @@ impl Stage {
     }
 
     /// The state after the exchange that is next was acknowledged, which is not the last.
-    pub fn advanced(self, exchange: Exchange) -> Stage
-        requires lane { exchange_lane exchange < 6 }
-        requires early { next_in self < 13 }
+    pub fn advanced(self, exchange: Exchange, wire: u8) -> Stage
+        requires { next_in self < 24 }
         ensures op { op_in result ≡ op_advanced (op_in self) }
-        ensures keys { stage_keys result ≡ keys_after exchange (stage_keys self) }
+        ensures keys { stage_keys result ≡ keys_after exchange wire (stage_keys self) }
     {
         match self {
             Stage::Establishing { draw, next, keys } => Stage::Establishing {
                 draw,
                 next: next + 1,
-                keys: spent(keys, exchange),
+                keys: spent(keys, exchange, wire),
             },
             Stage::Refreshing {
                 set,
@@ -281,7 +294,7 @@ impl Stage {
                 set,
                 draw,
                 next: next + 1,
-                keys: spent(keys, exchange),
+                keys: spent(keys, exchange, wire),
             },
             Stage::Stopping { next } => Stage::Stopping { next: next + 1 },
             stage => stage,

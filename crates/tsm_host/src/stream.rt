@@ -1,10 +1,15 @@
-//! A stream of a link.
+//! A stream of a line.
 
-ghost use Rattle.std.specs.Prelude.{◌≡◌, ◌≤◌, true, [], Some};
-ghost use Rattle.key_laws.specs.Operations.{work_of, last_exchange_of, makes_draw, op_ended};
+ghost use Rattle.std.specs.Prelude.{◌≡◌, ◌≤◌, true, [], Some, if◌then◌else◌};
+ghost use Rattle.ide_types.specs.{is_one};
+ghost use Rattle.key_laws.specs.Operations.{work_of, last_exchange_of, makes_draw, op_ended, Idle, Stopping};
+ghost use Rattle.key_laws.specs.Places.{is_cut, is_peer};
 ghost use Rattle.tsm_host.specs.declared.judge.Judged.TheVariants.{Expected};
-ghost use Rattle.tsm_host.specs.Local.{CallsMove};
-ghost use Rattle.tsm_host.specs.Streams.{op_in, stage_keys, work_asked, StageHolds, keyed_stage, taken_calls};
+ghost use Rattle.ide_types.specs.Lines.{is_hosted};
+ghost use Rattle.tsm_host.specs.Exchanges.{wire_keys};
+ghost use Rattle.tsm_host.specs.Local.{CallsMove, programs, halts};
+ghost use Rattle.tsm_host.specs.Streams.{key_status, op_in, stage_keys, work_asked, StageHolds, keyed_stage};
+ghost use Rattle.tsm_host.specs.Streams.{taken_calls};
 
 use crate::exchange::{Exchange, selector};
 use crate::judge::{Judged, judge};
@@ -12,14 +17,15 @@ use crate::local::{go_six, halt_all, program_six};
 use crate::operation::{Carried, Outcome, Refusal};
 use crate::port::HostPort;
 use crate::stage::{Asked, Stage};
+use crate::wires::Wires;
 use ide_km::{KmView, km_write};
-use ide_types::KeySet;
-use key_slots::{KeyPool, PoolEmpty, WireSix};
+use ide_types::{KeySet, PortName, Side, StreamStatus};
+use key_slots::{KeyPool, KeySix, PoolEmpty};
 use link_verdicts::Operation;
 use std::marker::Model;
 use std::mem;
 
-/// A stream of a link, and its operations.
+/// A stream of a line, and its operations.
 #[derive(Drop)]
 pub struct StreamKeys {
     link: u8,
@@ -28,13 +34,21 @@ pub struct StreamKeys {
 }
 
 impl Model for StreamKeys {
+    ghost use Rattle.ide_types.specs.Lines.{is_hosted};
     ghost use Rattle.tsm_host.specs.Streams.{StreamView, op_in, stage_keys, StageHolds};
 
     ghost Value = { StreamView };
 
     ghost view = { λ s. record { link = s.link; id = s.id; op = op_in s.stage; keys = stage_keys s.stage } };
 
-    ghost invariant = { λ s. StageHolds s.stage };
+    ghost invariant = { λ s. StageHolds (is_hosted s.link) s.stage };
+}
+
+/// Whether a host's port is at the near end of a line.
+fn is_hosted(line: u8) -> bool
+    ensures { result ≡ is_hosted line }
+{
+    line < 16
 }
 
 impl StreamKeys {
@@ -42,6 +56,7 @@ impl StreamKeys {
     ghost use Rattle.tsm_host.specs.Judging.{judged};
     ghost use Rattle.tsm_host.specs.Streams.{
       new_stream,
+      has_host,
       is_named,
       reset_stream,
       asked_in,
@@ -56,6 +71,7 @@ impl StreamKeys {
       outcome_of,
       taken_stream,
       acknowledged,
+      end_asked,
       request_asked,
       pool_refusal,
     };
@@ -78,12 +94,13 @@ impl StreamKeys {
         self.link == link && self.id == id
     }
 
-    /// A stream of this link is as it was made, without keys.
-    pub fn reset(&mut self, link: u8)
-        ensures { self.new ≡ reset_stream link self.old }
+    /// After a reset that clears these ends, a stream of their lines has no keys on their way; one between devices is
+    /// to be stopped.
+    pub fn reset(&mut self, ends: &[PortName])
+        ensures { self.new ≡ reset_stream ends.now self.old }
     {
-        if self.link == link {
-            self.stage = Stage::Idle;
+        if is_cut(ends, self.link) {
+            self.stage = cut(self.link);
         }
     }
 
@@ -92,6 +109,13 @@ impl StreamKeys {
         ensures { result ≡ asked_in self.now.op }
     {
         self.stage.asked()
+    }
+
+    /// Whether it has keys, or none, or some.
+    pub fn status(&self) -> StreamStatus
+        ensures { result ≡ key_status self.now.op }
+    {
+        key_status(&self.stage)
     }
 
     /// Whether an operation would begin, and not go on.
@@ -113,14 +137,14 @@ impl StreamKeys {
         ensures stream { let host = host_view P.status_of P.live_of port.old self.old.id in
             let w = work_of operation self.old.op pool.old.draws in
             self.new ≡ unless (refusal_of operation self.old.op host pool.old) self.old
-            (begun_stream w pool.old self.old) }
+            (begun_stream (has_host self.old) w pool.old self.old) }
         ensures pool { let host = host_view P.status_of P.live_of port.old self.old.id in
             let w = work_of operation self.old.op pool.old.draws in
             pool.new ≡ unless (refusal_of operation self.old.op host pool.old) pool.old (begun_pool w pool.old) }
         ensures calls { let host = host_view P.status_of P.live_of port.old self.old.id in
             let w = work_of operation self.old.op pool.old.draws in
             let refusal = refusal_of operation self.old.op host pool.old in
-            let calls = unless refusal [] (begun_calls w pool.old self.old.id) in
+            let calls = unless refusal [] (begun_calls (has_host self.old) w pool.old self.old.id) in
             CallsMove P.slots P.unfinished P.moves port.old calls port.new }
     {
         if let Some(refusal) = self.stage.refusal(port, self.id, operation) {
@@ -132,7 +156,7 @@ impl StreamKeys {
         match operation {
             Operation::Establish | Operation::Refresh => self.give_keys(port, pool, operation),
             Operation::Stop => {
-                halt_all(port, self.id);
+                empty_host(port, is_hosted(self.link), self.id);
                 self.stage = Stage::Stopping { next: 1 };
                 Ok(())
             }
@@ -151,11 +175,12 @@ impl StreamKeys {
         ensures answer { let w = work_of operation self.old.op pool.old.draws in
             result ≡ ok_unless (pool_refusal w pool.old) }
         ensures stream { let w = work_of operation self.old.op pool.old.draws in
-            self.new ≡ unless (pool_refusal w pool.old) self.old (begun_stream w pool.old self.old) }
+            self.new ≡ unless (pool_refusal w pool.old) self.old (begun_stream
+            (has_host self.old) w pool.old self.old) }
         ensures pool { let w = work_of operation self.old.op pool.old.draws in
             pool.new ≡ unless (pool_refusal w pool.old) pool.old (begun_pool w pool.old) }
         ensures calls { let w = work_of operation self.old.op pool.old.draws in
-            let calls = unless (pool_refusal w pool.old) [] (begun_calls w pool.old self.old.id) in
+            let calls = unless (pool_refusal w pool.old) [] (begun_calls (has_host self.old) w pool.old self.old.id) in
             CallsMove P.slots P.unfinished P.moves port.old calls port.new }
     {
         let set = self.stage.next_set(operation);
@@ -164,25 +189,32 @@ impl StreamKeys {
             Err(PoolEmpty { draws }) => return Err(Refusal::PoolEmpty(draws)),
         };
         let draw = six.draw();
-        let (host, wire) = six.split();
-        program_six(port, self.id, set, host, draw);
-        self.stage = keyed(operation, set, draw, wire);
+        let keys = split_keys(port, is_hosted(self.link), self.id, set, six);
+        self.stage = keyed(operation, set, draw, keys);
         Ok(())
+    }
+
+    /// The end of the line that the exchange is carried to.
+    pub fn end(&self, asked: Asked) -> Side
+        ensures { result ≡ end_asked (has_host self.now) asked }
+    {
+        asked.end(is_hosted(self.link))
     }
 
     /// The request of the exchange that is next.
     pub fn request(&self, asked: Asked) -> KmView
         requires { asked_in self.now.op ≡ Some asked }
-        ensures { result ≡ request_asked asked self.now }
+        ensures { result ≡ request_asked (has_host self.now) asked self.now }
     {
         let stream = self.id;
-        match asked.exchange() {
+        let hosted = is_hosted(self.link);
+        match asked.exchange(hosted) {
             Exchange::Query => KmView::Query { port: 0 },
             Exchange::Program { set, lane } => KmView::KeyProg {
                 stream,
                 selector: selector(set, lane),
                 port: 0,
-                key: self.stage.key(lane),
+                key: self.stage.key(asked.wire(hosted)),
                 counter: 1,
             },
             Exchange::Go { set, lane } => KmView::SetGo {
@@ -201,9 +233,12 @@ impl StreamKeys {
     /// Takes what was carried in answer to the request of the exchange that is next.
     pub fn take<P: HostPort>(&mut self, port: &mut P, asked: Asked, carried: Carried) -> Outcome
         requires { asked_in self.old.op ≡ Some asked }
-        ensures outcome { result ≡ outcome_of asked (judged (request_asked asked self.old) carried.entry) }
-        ensures stream { self.new ≡ taken_stream asked (judged (request_asked asked self.old) carried.entry) self.old }
-        ensures calls { let calls = taken_calls asked (judged (request_asked asked self.old) carried.entry)
+        ensures outcome { result ≡ outcome_of (has_host self.old) asked (judged (request_asked
+            (has_host self.old) asked self.old) carried.entry) }
+        ensures stream { self.new ≡ taken_stream (has_host self.old) asked (judged (request_asked
+            (has_host self.old) asked self.old) carried.entry) self.old }
+        ensures calls { let calls = taken_calls (has_host self.old) asked (judged (request_asked
+            (has_host self.old) asked self.old) carried.entry)
             self.old.id in
             CallsMove P.slots P.unfinished P.moves port.old calls port.new }
     {
@@ -221,14 +256,14 @@ impl StreamKeys {
     // Goes on after an exchange that was acknowledged.
     fn acknowledge<P: HostPort>(&mut self, port: &mut P, asked: Asked) -> Outcome
         requires { asked_in self.old.op ≡ Some asked }
-        ensures outcome { result ≡ outcome_of asked Expected }
-        ensures stream { self.new ≡ acknowledged asked self.old }
+        ensures outcome { result ≡ outcome_of (has_host self.old) asked Expected }
+        ensures stream { self.new ≡ acknowledged (has_host self.old) asked self.old }
         ensures calls { CallsMove P.slots P.unfinished P.moves port.old
-            (taken_calls asked Expected self.old.id) port.new }
+            (taken_calls (has_host self.old) asked Expected self.old.id) port.new }
     {
-        go_on(port, self.id, asked);
+        go_on(port, is_hosted(self.link), self.id, asked);
         self.advance(asked);
-        if asked.is_last() {
+        if asked.is_last(is_hosted(self.link)) {
             Outcome::Done(asked.shown())
         } else {
             Outcome::Next
@@ -237,30 +272,96 @@ impl StreamKeys {
 
     fn advance(&mut self, asked: Asked)
         requires { asked_in self.old.op ≡ Some asked }
-        ensures { self.new ≡ acknowledged asked self.old }
+        ensures { self.new ≡ acknowledged (has_host self.old) asked self.old }
     {
         let stage = mem::replace(&mut self.stage, Stage::Idle);
-        self.stage = if asked.is_last() {
-            ended(asked)
+        let hosted = is_hosted(self.link);
+        self.stage = if asked.is_last(hosted) {
+            ended(hosted, asked)
         } else {
-            stage.advanced(asked.exchange())
+            stage.advanced(asked.exchange(hosted), asked.wire(hosted))
         };
     }
 }
 
-/// Gives the host's port its GOs, if the last of the device's receivers acknowledged its own.
-fn go_on<P: HostPort>(port: &mut P, stream: u8, asked: Asked)
-    requires first { 1 ≤ asked.exchange }
-    requires last { asked.exchange ≤ last_exchange_of asked.operation }
-    ensures { CallsMove P.slots P.unfinished P.moves port.old (taken_calls asked Expected stream) port.new }
+/// What a state says of a stream's keys.
+fn key_status(stage: &Stage) -> StreamStatus
+    ensures { result ≡ key_status (op_in stage.now) }
 {
-    if asked.exchange().is_last_receiver_go() {
+    match stage {
+        Stage::Idle => StreamStatus::Idle,
+        Stage::Up { .. } => StreamStatus::Secure,
+        Stage::Establishing { .. } | Stage::Refreshing { .. } | Stage::Stopping { .. } => {
+            StreamStatus::Partial
+        }
+    }
+}
+
+/// Whether one of the ends is on the line.
+fn is_cut(ends: &[PortName], line: u8) -> bool
+    ensures { result ≡ is_cut ends.now line }
+{
+    ends.iter().any(|end| end.link == line)
+}
+
+/// The state of a stream of a line that a reset cut.
+fn cut(line: u8) -> Stage
+    ensures op { op_in result ≡ (if is_peer line then Stopping 1 else Idle) }
+    ensures keys { stage_keys result ≡ [] }
+    ensures holds { StageHolds (is_hosted line) result }
+{
+    if line < 24 {
+        Stage::Idle
+    } else {
+        Stage::Stopping { next: 1 }
+    }
+}
+
+/// Splits the keys of a draw: a host's port at the near end is programmed with them.
+fn split_keys<P: HostPort>(
+    port: &mut P,
+    hosted: bool,
+    stream: u8,
+    set: KeySet,
+    six: KeySix,
+) -> Wires
+    ensures keys { result ≡ wire_keys hosted six.keys }
+    ensures calls { CallsMove P.slots P.unfinished P.moves port.old
+        (if hosted then programs stream (is_one set) six.keys six.draw else []) port.new }
+{
+    let draw = six.draw();
+    if hosted {
+        let (host, wire) = six.split();
+        program_six(port, stream, set, host, draw);
+        Wires::far(wire)
+    } else {
+        let (near, far) = six.split_wire();
+        Wires::both(near, far)
+    }
+}
+
+/// Empties all slots of a stream at a host's port.
+fn empty_host<P: HostPort>(port: &mut P, hosted: bool, stream: u8)
+    ensures { CallsMove P.slots P.unfinished P.moves port.old (if hosted then halts stream else []) port.new }
+{
+    if hosted {
+        halt_all(port, stream);
+    }
+}
+
+/// Gives a host's port its GOs, if the last of the device's receivers acknowledged its own.
+fn go_on<P: HostPort>(port: &mut P, hosted: bool, stream: u8, asked: Asked)
+    requires first { 1 ≤ asked.exchange }
+    requires last { asked.exchange ≤ last_exchange_of hosted asked.operation }
+    ensures { CallsMove P.slots P.unfinished P.moves port.old (taken_calls hosted asked Expected stream) port.new }
+{
+    if hosted && asked.exchange(hosted).is_last_receiver_go() {
         go_six(port, stream, asked.set);
     }
 }
 
 /// The state at the first exchange of an operation that gives keys.
-fn keyed(operation: Operation, set: KeySet, draw: u32, keys: WireSix) -> Stage
+fn keyed(operation: Operation, set: KeySet, draw: u32, keys: Wires) -> Stage
     ensures { result ≡ keyed_stage operation set draw keys }
 {
     match operation {
@@ -279,10 +380,10 @@ fn keyed(operation: Operation, set: KeySet, draw: u32, keys: WireSix) -> Stage
 }
 
 /// The state at the end of an operation.
-fn ended(asked: Asked) -> Stage
+fn ended(hosted: bool, asked: Asked) -> Stage
     ensures op { op_in result ≡ op_ended (work_asked asked) }
     ensures keys { stage_keys result ≡ [] }
-    ensures holds { StageHolds result }
+    ensures holds { StageHolds hosted result }
 {
     match asked.operation {
         Operation::Establish | Operation::Refresh => Stage::Up {

@@ -1,47 +1,82 @@
 -- An answer to the oldest read of a link, as the machine has it: a verdict ahead of the ports, a refusal for an older
 -- draw, or the send of the completion.
-use Rattle.std.proofs.Common.{◌≡◌, ℕ, zero, suc, ◌+◌, ◌<◌, true, false, [], length, refl, ap, sym, subst, ◌∙◌, arith}
+use Rattle.std.proofs.Common.{
+  ◌≡◌,
+  ℕ,
+  zero,
+  suc,
+  ◌+◌,
+  ◌<◌,
+  ◌≤◌,
+  true,
+  false,
+  [],
+  length,
+  refl,
+  ap,
+  sym,
+  subst,
+  ◌∙◌,
+  arith,
+}
+use Rattle.std.proofs.Common.{Bool}
 use Rattle.std.proofs.lemmas.Bool.Decides.{nat_tests}
-use Rattle.std.specs.Prelude.{Option, Some, None, Result, Ok, Err, unwrap_or, slice_get, nat_lt, if◌then◌else◌}
+use Rattle.std.specs.Prelude.{Option, Some, None, Result, Ok, Err, unwrap_or, slice_get, nat_lt, if◌then◌else◌, ◌||◌}
 use Rattle.std.specs.Option.{option_map, option_map_or, option_and_then}
 use Rattle.std.proofs.lemmas.Option.{none-some, slice_get_within}
 use Rattle.key_laws.specs.Keys.{is_below}
+use Rattle.key_laws.specs.History.{History}
 use Rattle.ide_types.specs.declared.memory.Memory.{Memory}
 use Rattle.ide_types.specs.declared.port.Side.TheVariants.{Host}
 use Rattle.ide_types.specs.declared.sub.SubKind.{SubKind}
 use Rattle.ide_types.specs.declared.sub.SubKind.TheVariants.{Pr, Npr, Cpl}
 use Rattle.ide_plan.specs.declared.plan.Plan.{Plan}
 use Rattle.interface_words.specs.declared.verdict.InterfaceVerdict.TheVariants as iv
-use Rattle.link_events.specs.declared.event.Event.TheVariants.{Send, Access}
+use Rattle.link_events.specs.declared.event.Event.TheVariants.{Access}
 use Rattle.link_events.specs.declared.event.AccessEvent.TheVariants as ae
 use Rattle.link_verdicts.specs.declared.verdict.Verdict.{Verdict}
 use Rattle.link_verdicts.specs.declared.verdict.Verdict.TheVariants as v
-use Rattle.key_laws.proofs.Tests.{lt-true}
 use Rattle.association.specs.Outgoing.{outgoing_of}
-use Rattle.link_history.specs.Plan.{streams_of}
+use Rattle.link_history.specs.Plan.{has_link, has_port, streams_of}
 use Rattle.stream_rules.specs.Stream.{StreamState, at_sub}
 use Rattle.stream_rules.specs.Slots.{sealing_draw}
 use Rattle.link_ports.specs.Replies.{BoundCompletion}
+use Rattle.link_ports.specs.Stands.{PortsStandFor}
 use Rattle.link_ports.specs.Machine.{Beside, LinkState, Stepped, port_at, sealing_draw_at, stepped_completion}
 use Rattle.link_ports.specs.Machine.{stepped_reply, stepped_send}
 unfoldable use Rattle.link_ports.specs.Machine.{find, step_of}
-use Rattle.ide_port.specs.{Found, found, sealing_draw_in}
-use Rattle.all_links.specs.{LinkEnds, AreLinks}
-use Rattle.all_links.proofs.{find_at, port_is}
+use Rattle.ide_port.specs.{Found, PortEnd, found, sealing_draw_in}
+use Rattle.all_links.specs.{port_in}
+use Rattle.all_links.proofs.{find_at, port_is, wired}
+use Rattle.all_links.specs.{LinkEnds, EndsView, AreLinks, port_on}
 use Rattle.all_links.specs.declared.links.Links.{Links}
 use Rattle.all_links.specs.States.{links_state}
-use Rattle.all_links.specs.Links.{Ends, EndsIf, EndsWith, EndsOr}
+use Rattle.all_links.specs.Links.{Ends, EndsIf, EndsSending, EndsSendingOr}
 use Rattle.all_links.specs.Accesses.{reads_at, sizes_at, mmio_at}
 use Rattle.trusted_memory.specs.{bytes_from}
 use Rattle.guarded_memory.specs.Contents.{has_bytes}
 use Rattle.all_links.specs.Besides.{beside_in}
 use Rattle.all_links.proofs.Finds.{nothing_changes}
-use Rattle.all_links.proofs.Sends.{given}
 use Rattle.whole_links.specs.declared.whole.WholeLinks.{WholeLinks}
 use Rattle.whole_links.specs.Besides.{reply_at_ends, reply_on, draw_below, shown_in, place_named, has_shown}
 use Rattle.whole_links.specs.Besides.{bytes_shown}
 use Rattle.whole_links.specs.Whole.{IsBoundedWhole, WholeEnds, WholeEndsOr}
 use Rattle.whole_links.proofs.Ends.{ends_if, stays_with}
+
+-- ---- the host's end of a link
+
+-- it is what stands at the host's port
+pub host_on : (v : EndsView) (link : ℕ) (l : LinkEnds) → length v.links ≤ 8 → slice_get v.links link ≡ Some l
+    → port_on v (port_at Host link) ≡ Some l.host
+host_on v link l few is =
+    let within = slice_get_within v.links link l is in
+    let low : nat_lt link 8 ≡ true = grind (arith, nat_tests, within, few) in
+    rw low (ap (λ (o : Option LinkEnds). option_map (λ (x : LinkEnds). port_in Host x) o) is)
+
+-- what is read there
+pub read_on : {A : Type 0} (f : PortEnd → Option A) (v : EndsView) (link : ℕ) (l : LinkEnds) → length v.links ≤ 8
+    → slice_get v.links link ≡ Some l → option_and_then f (port_on v (port_at Host link)) ≡ f l.host
+read_on f v link l few is = ap (λ (o : Option PortEnd). option_and_then f o) (host_on v link l few is)
 
 -- ---- the machine's step
 
@@ -64,25 +99,27 @@ found_draw None = refl
 found_draw (Some f) = found_at f.state Cpl
 
 draw_same : (s : Links) (plan : Plan) (link : ℕ) (l : LinkEnds) (stream : ℕ) → AreLinks plan s.ends s.keeper.keys
-    → slice_get s.ends link ≡ Some l
+    → slice_get s.ends.links link ≡ Some l
     → sealing_draw_at Cpl (find plan (links_state plan s) (port_at Host link) stream)
     ≡ sealing_draw_in l.host stream Cpl
 draw_same s plan link l stream links is =
+    let w = wired plan s.ends s.keeper.keys links in
+    let on : port_on s.ends (port_at Host link) ≡ Some l.host = host_on s.ends link l w.few is in
     ap (λ (o : Option StreamState). sealing_draw_at Cpl o)
-    (find_at plan s.ends s.keeper.keys s.packets.packets (port_at Host link) l stream is
-    (port_is plan s.ends s.keeper.keys (port_at Host link) l links is))
+    (find_at plan s.ends s.keeper.keys s.packets.packets w (port_at Host link) l.host on stream
+    (port_is plan s.ends s.keeper.keys links (port_at Host link) l.host on))
     ∙ found_draw (found l.host.plans l.host.states stream)
 
 -- ---- a verdict ahead of the ports
 
-pub answer_only : {verdict w : Verdict} {old new : WholeLinks} (link : ℕ) → reply_on old link ≡ Err w → verdict ≡ w
-    → new.links ≡ record old.links { steps = old.links.steps + 1 } → new.accesses ≡ old.accesses → IsBoundedWhole old
-    → WholeEnds verdict old new (Access (ae.Answer link))
-answer_only {verdict} {w} {old} {new} link due says is same bounded =
-    ends_if
-    (nothing_changes {IsSo = λ plan b. b.reply link ≡ Err w} says is bounded.bounded
-    (λ b plan so h links stands. answer_step plan (beside_in old.links b) (links_state plan old.links) link (Err w) so))
-    bounded.whole (ap length same) (λ answer by plan regions. due)
+pub answer_only : {verdict w : Verdict} {old new : WholeLinks} (plan : Plan) (link : ℕ) → reply_on old link ≡ Err w
+    → verdict ≡ w → new.links ≡ record old.links { steps = old.links.steps + 1 } → new.accesses ≡ old.accesses
+    → IsBoundedWhole old → WholeEnds plan verdict old new (Access (ae.Answer link))
+answer_only {verdict} {w} {old} {new} plan link due says is same bounded =
+    ends_if plan
+    (nothing_changes {IsSo = λ b. b.reply link ≡ Err w} plan (Access (ae.Answer link)) says is bounded.bounded
+    (λ b so h links stands. answer_step plan (beside_in old.links b) (links_state plan old.links) link (Err w) so))
+    bounded.whole (ap length same) (λ answer by regions. due)
 
 -- ---- a refusal for an older draw
 
@@ -110,82 +147,81 @@ module _ (plan : Plan) (b : Beside) (st : LinkState) (link : ℕ) (r : BoundComp
       let none : is_below o r.floor ≡ false = not_below o r.floor below in
       (λ i. if none i then (v.Interface (iv.RefusedRefreshFirst (unwrap_or o 0) r.floor), st) else sends)
 
-pub answer_older : {verdict : Verdict} {old new : WholeLinks} (link : ℕ) (r : BoundCompletion) (l : LinkEnds) (draw : ℕ)
-    → reply_on old link ≡ Ok r → slice_get old.links.ends link ≡ Some l
+pub answer_older : {verdict : Verdict} {old new : WholeLinks} (plan : Plan) (link : ℕ) (r : BoundCompletion)
+    (l : LinkEnds) (draw : ℕ) → reply_on old link ≡ Ok r → slice_get old.links.ends.links link ≡ Some l
     → draw_below (sealing_draw_in l.host r.stream Cpl) r.floor ≡ Some draw
     → verdict ≡ v.Interface (iv.RefusedRefreshFirst draw r.floor)
     → new.links ≡ record old.links { steps = old.links.steps + 1 } → new.accesses ≡ old.accesses → IsBoundedWhole old
-    → WholeEnds verdict old new (Access (ae.Answer link))
-answer_older {verdict} {old} {new} link r l draw due l_is below says is same bounded =
-    ends_if
-    (nothing_changes {IsSo = λ plan b. b.reply link ≡ Ok r} says is bounded.bounded
-    (λ b plan so h links stands.
+    → WholeEnds plan verdict old new (Access (ae.Answer link))
+answer_older {verdict} {old} {new} plan link r l draw due l_is below says is same bounded =
+    ends_if plan
+    (nothing_changes {IsSo = λ b. b.reply link ≡ Ok r} plan (Access (ae.Answer link)) says is bounded.bounded
+    (λ b so h links stands.
     let st : LinkState = links_state plan old.links in
     let beside : Beside = beside_in old.links b in
     answer_step plan beside st link (Ok r) so
     ∙ ap (λ (o : Option ℕ). stepped_completion plan beside st (port_at Host link) r o)
     (draw_same old.links plan link l r.stream links l_is)
     ∙ older plan beside st link r (sealing_draw_in l.host r.stream Cpl) draw below))
-    bounded.whole (ap length same) (λ answer by plan regions. due)
+    bounded.whole (ap length same) (λ answer by regions. due)
 
 -- ---- the send
 
-sent_as_answer : {verdict : Verdict} (old new : WholeLinks) (link : ℕ) (r : BoundCompletion) (l : LinkEnds)
-    → slice_get old.links.ends link ≡ Some l → link < length old.links.ends
+-- a link's end is there
+host_there : (plan : Plan) (link : ℕ) → link < length plan.links → has_port plan (port_at Host link) ≡ true
+host_there plan link less =
+    let there : has_link plan link ≡ true = grind (arith, nat_tests, less) in
+    ap (λ (b : Bool). b || nat_lt 0 (length (streams_of plan link))) there
+
+sent_as_answer : {verdict : Verdict} (plan : Plan) (old new : WholeLinks) (link : ℕ) (r : BoundCompletion)
+    (l : LinkEnds) → slice_get old.links.ends.links link ≡ Some l
     → draw_below (sealing_draw_in l.host r.stream Cpl) r.floor ≡ None
-    → EndsWith verdict old.links new.links (Send (port_at Host link) r.bytes false true)
-    → EndsIf (λ plan b. b.reply link ≡ Ok r) verdict old.links new.links (Access (ae.Answer link))
-sent_as_answer {verdict} old new link r l l_is here below x = record {
+    → EndsSending plan verdict old.links new.links (port_at Host link) r.bytes false true
+    → EndsIf (λ b. b.reply link ≡ Ok r) plan verdict old.links new.links (Access (ae.Answer link))
+sent_as_answer {verdict} plan old new link r l l_is below x = record {
   counted = x.counted;
   bounded = x.bounded;
   many = x.many;
   regions = x.regions;
-  ends = λ b plan so h links stands.
+  ends = λ b so h links stands.
       let st : LinkState = links_state plan old.links in
       let beside : Beside = beside_in old.links b in
+      let here : link < length plan.links =
+      subst (λ (n : ℕ). link < n) links.many (slice_get_within old.links.ends.links link l l_is) in
       subst (λ (s : Stepped). Ends plan new.links verdict s)
-      (given beside old.links plan (port_at Host link) r.bytes false true true links
-      (sym (lt-true link (length old.links.ends) here))
-      ∙ sym (answer_step plan beside st link (Ok r) so
+      (sym (answer_step plan beside st link (Ok r) so
       ∙ ap (λ (o : Option ℕ). stepped_completion plan beside st (port_at Host link) r o)
       (draw_same old.links plan link l r.stream links l_is)
       ∙ newer plan beside st link r (sealing_draw_in l.host r.stream Cpl) below))
-      (x.ends b plan (λ f on. absurd cc) h links stands);
+      (x.ends b (host_there plan link here) h links stands);
 }
 
-pub answer_sent : {verdict : Verdict} (old new : WholeLinks) (link : ℕ) (r : BoundCompletion) (l : LinkEnds)
-    → reply_on old link ≡ Ok r → slice_get old.links.ends link ≡ Some l → link < length old.links.ends
-    → draw_below (sealing_draw_in l.host r.stream Cpl) r.floor ≡ None
-    → EndsWith verdict old.links new.links (Send (port_at Host link) r.bytes false true)
-    → new.accesses ≡ old.accesses → IsBoundedWhole old → WholeEnds verdict old new (Access (ae.Answer link))
-answer_sent {verdict} old new link r l due l_is here below x same bounded =
-    ends_if (sent_as_answer old new link r l l_is here below x) bounded.whole (ap length same)
-    (λ answer by plan regions. due)
-
-pub answer_sent_or : (r : Result Verdict Memory) (old new : WholeLinks) (link : ℕ) (reply : BoundCompletion)
-    (l : LinkEnds)
-    → reply_on old link ≡ Ok reply → slice_get old.links.ends link ≡ Some l → link < length old.links.ends
+pub answer_sent_or : (plan : Plan) (r : Result Verdict Memory) (old new : WholeLinks) (link : ℕ)
+    (reply : BoundCompletion) (l : LinkEnds)
+    → reply_on old link ≡ Ok reply → slice_get old.links.ends.links link ≡ Some l
     → draw_below (sealing_draw_in l.host reply.stream Cpl) reply.floor ≡ None
-    → EndsOr r old.links new.links (Send (port_at Host link) reply.bytes false true)
-    → new.accesses ≡ old.accesses → IsBoundedWhole old → WholeEndsOr r old new (Access (ae.Answer link))
-answer_sent_or (Ok verdict) old new link reply l due l_is here below x same bounded =
-    answer_sent old new link reply l due l_is here below x same bounded
-answer_sent_or (Err e) old new link reply l due l_is here below x same bounded = stays_with x same
+    → EndsSendingOr plan r old.links new.links (port_at Host link) reply.bytes false true
+    → new.accesses ≡ old.accesses → IsBoundedWhole old → WholeEndsOr plan r old new (Access (ae.Answer link))
+answer_sent_or plan (Ok verdict) old new link reply l due l_is below x same bounded =
+    ends_if plan (sent_as_answer plan old new link reply l l_is below x) bounded.whole (ap length same)
+    (λ answer by regions. due)
+answer_sent_or plan (Err e) old new link reply l due l_is below x same bounded = stays_with x same
 
 -- ---- on no link
 
-pub answer_nowhere : {verdict : Verdict} {old new : WholeLinks} (link : ℕ) → false ≡ nat_lt link (length old.links.ends)
-    → verdict ≡ v.Nothing → new.links ≡ record old.links { steps = old.links.steps + 1 }
-    → new.accesses ≡ old.accesses → IsBoundedWhole old → WholeEnds verdict old new (Access (ae.Answer link))
-answer_nowhere {verdict} {old} {new} link nowhere says is same bounded =
-    answer_only link (by_ends (slice_get old.links.ends link) refl) says is same bounded
+pub answer_nowhere : {verdict : Verdict} {old new : WholeLinks} (plan : Plan) (link : ℕ)
+    → false ≡ nat_lt link (length old.links.ends.links) → verdict ≡ v.Nothing
+    → new.links ≡ record old.links { steps = old.links.steps + 1 }
+    → new.accesses ≡ old.accesses → IsBoundedWhole old → WholeEnds plan verdict old new (Access (ae.Answer link))
+answer_nowhere {verdict} {old} {new} plan link nowhere says is same bounded =
+    answer_only plan link (by_ends (slice_get old.links.ends.links link) refl) says is same bounded
   where
-    by_ends : (o : Option LinkEnds) → slice_get old.links.ends link ≡ o → reply_on old link ≡ Err v.Nothing
+    by_ends : (o : Option LinkEnds) → slice_get old.links.ends.links link ≡ o → reply_on old link ≡ Err v.Nothing
     by_ends None at =
         ap (λ (p : Option LinkEnds). reply_at_ends old.links.keeper.interfaces p link old.links.trusted.contents
         (reads_at old.accesses link)) at
     by_ends (Some l) at =
-        let within : link < length old.links.ends = slice_get_within old.links.ends link l at in
+        let within : link < length old.links.ends.links = slice_get_within old.links.ends.links link l at in
         absurd (grind (arith, nat_tests, nowhere, within))
 
 -- ---- the memory of devices
@@ -195,16 +231,17 @@ shows_step : (plan : Plan) (b : Beside) (st : LinkState) (i bar offset len : ℕ
 unfolding step_of
 shows_step plan b st i bar offset len w is = ap (λ (x : Verdict). (x, st)) is
 
-pub mmio_only : {verdict w : Verdict} {old new : WholeLinks} (i bar offset len : ℕ)
+pub mmio_only : {verdict w : Verdict} {old new : WholeLinks} (plan : Plan) (i bar offset len : ℕ)
     → shown_in old i bar offset len ≡ w → verdict ≡ w
     → new.links ≡ record old.links { steps = old.links.steps + 1 } → new.accesses ≡ old.accesses → IsBoundedWhole old
-    → WholeEnds verdict old new (Access (ae.Mmio i bar offset len))
-mmio_only {verdict} {w} {old} {new} i bar offset len due says is same bounded =
-    ends_if
-    (nothing_changes {IsSo = λ plan b. b.shows i bar offset len ≡ w} says is bounded.bounded
-    (λ b plan so h links stands.
+    → WholeEnds plan verdict old new (Access (ae.Mmio i bar offset len))
+mmio_only {verdict} {w} {old} {new} plan i bar offset len due says is same bounded =
+    ends_if plan
+    (nothing_changes {IsSo = λ b. b.shows i bar offset len ≡ w} plan (Access (ae.Mmio i bar offset len)) says is
+    bounded.bounded
+    (λ b so h links stands.
     shows_step plan (beside_in old.links b) (links_state plan old.links) i bar offset len w so))
-    bounded.whole (ap length same) (λ answer by plan regions. due)
+    bounded.whole (ap length same) (λ answer by regions. due)
 
 length-bytes : (f : ℕ → ℕ) (at n : ℕ) → length (bytes_from f at n) ≡ n
 length-bytes f at zero = refl

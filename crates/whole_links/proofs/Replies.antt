@@ -11,7 +11,8 @@ use Rattle.accesses.specs.declared.link.LinkAccesses.{LinkAccesses}
 use Rattle.whole_links.specs.declared.whole.WholeLinks.{WholeLinks}
 use Rattle.whole_links.specs.Besides.{reply_at_ends, reply_oldest, reply_numbered, reader_of, reply_on}
 
-module _ (s : WholeLinks) (link : ℕ) (l : LinkEnds) (a : LinkAccesses) (l_is : slice_get s.links.ends link ≡ Some l)
+module _ (s : WholeLinks) (link : ℕ) (l : LinkEnds) (a : LinkAccesses)
+    (l_is : slice_get s.links.ends.links link ≡ Some l)
     (a_is : slice_get s.accesses link ≡ Some a) where
   here : reply_on s link
       ≡ reply_oldest s.links.keeper.interfaces l link s.links.trusted.contents a.reads

@@ -2,7 +2,9 @@
 use Rattle.std.specs.Prelude.{ℕ, ◌≡◌, ◌==◌, ◌&&◌, not, Bool, true, false, if◌then◌else◌, List, [], ◌∷◌}
 use Rattle.std.specs.Prelude.{slice_set, Option, Some, None}
 use Rattle.std.specs.Option.{option_map_or}
+use Rattle.ide_types.specs.declared.direction.Direction.{Direction}
 use Rattle.ide_plan.specs.declared.interface.BarPlan.{BarPlan}
+use Rattle.ide_plan.specs.declared.plan.Plan.{Plan}
 use Rattle.link_events.specs.declared.event.Event.{Event}
 use Rattle.link_events.specs.declared.event.Event.TheVariants as event
 use Rattle.link_events.specs.declared.event.AccessEvent.TheVariants as ae
@@ -13,10 +15,12 @@ use Rattle.link_verdicts.specs.declared.verdict.Verdict.TheVariants as v
 use Rattle.link_verdicts.specs.declared.access.AccessVerdict.TheVariants as av
 use Rattle.interface_states.specs.Exchanges.{carries, changes_device}
 use Rattle.guarded_memory.specs.Happenings.{Happened, InterfaceReset, AllReset, InterfaceStopped}
+use Rattle.link_history.specs.Hops.{HopTlp}
+use Rattle.access_turns.specs.{waiting_next}
 use Rattle.all_links.specs.{waiting_reads_after}
 use Rattle.tdi_state.specs.Machine.{Tdi}
-use Rattle.all_links.specs.Accesses.{runs_in, device_draw, same_reads, same_floors, nothing_happens, AccessesTurn}
-use Rattle.all_links.specs.Accesses.{AccessesArrive}
+use Rattle.all_links.specs.Accesses.{runs_in, device_draw, same_reads, same_floors, nothing_happens, same_carried}
+use Rattle.all_links.specs.Accesses.{AccessesTurn, AccessesArrive}
 use Rattle.all_links.specs.Interfaces.{interface_named, tdi_named}
 use Rattle.all_links.specs.Sides.{arrival_at}
 use Rattle.all_links.specs.declared.links.Links.{Links}
@@ -40,7 +44,7 @@ floors_set s i (Some at) link floors =
 -- of an interface that came into RUN
 abbrev pub floors_if : Bool → Links → ℕ → ℕ → List ℕ → List ℕ
 floors_if came s i link floors =
-    if came then floors_set s i (interface_named s.keeper.interfaces s.ends i) link floors else floors
+    if came then floors_set s i (interface_named s.keeper.interfaces s.ends.links i) link floors else floors
 
 abbrev pub floors_started : Links → Links → ℕ → ℕ → List ℕ → List ℕ
 floors_started old new i = floors_if (not (runs_in old i) && runs_in new i) new i
@@ -53,45 +57,73 @@ happens_at happens None which link = []
 happens_at happens (Some at) which link = if happens && (at.0 == link) then Some (which at.1) ∷ [] else []
 
 abbrev pub bars_named : Links → ℕ → List BarPlan
-bars_named s i = option_map_or (λ (t : Tdi). t.plan.bars) (tdi_named s.keeper.interfaces s.ends i) []
+bars_named s i = option_map_or (λ (t : Tdi). t.plan.bars) (tdi_named s.keeper.interfaces s.ends.links i) []
 
 abbrev pub halted_in : Links → ℕ → Verdict → ℕ → List (Option Happened)
 halted_in s i verdict link =
-    happens_at (carries verdict 1) (interface_named s.keeper.interfaces s.ends i)
+    happens_at (carries verdict 1) (interface_named s.keeper.interfaces s.ends.links i)
     (λ place. InterfaceStopped place (bars_named s i)) link
 
 abbrev pub flr_at : Links → ℕ → Verdict → ℕ → List (Option Happened)
 flr_at s i verdict link =
-    happens_at (changes_device verdict) (interface_named s.keeper.interfaces s.ends i) InterfaceReset link
+    happens_at (changes_device verdict) (interface_named s.keeper.interfaces s.ends.links i) InterfaceReset link
 
 abbrev pub reset_happens : Verdict → ℕ → List (Option Happened)
 reset_happens (v.Reset reset) link = if reset == link then Some AllReset ∷ [] else []
 reset_happens verdict link = []
 
+-- ---- TLPs at switches
+
+-- a TLP was sealed
+abbrev pub is_sealed : Verdict → Bool
+is_sealed (v.Sealed ds) = true
+is_sealed verdict = false
+
+-- those that wait after an event that ends no unit had this verdict
+abbrev pub carried_by : Event → Verdict → ℕ → Direction → List HopTlp → List HopTlp
+carried_by e verdict link d = waiting_next [] link d e verdict
+
 -- ---- by events
 
 abbrev pub AccessesInterface : InterfaceEvent → Verdict → WholeLinks → WholeLinks → Type 0
 AccessesInterface (ie.Start i loss) verdict old new =
-    AccessesTurn same_reads (floors_started old.links new.links i) nothing_happens old.accesses new.accesses
+    AccessesTurn same_reads (floors_started old.links new.links i) nothing_happens same_carried old.accesses
+    new.accesses
 AccessesInterface (ie.Halt i loss) verdict old new =
-    AccessesTurn same_reads same_floors (halted_in new.links i verdict) old.accesses new.accesses
+    AccessesTurn same_reads same_floors (halted_in new.links i verdict) same_carried old.accesses new.accesses
 AccessesInterface (ie.Flr i) verdict old new =
-    AccessesTurn same_reads same_floors (flr_at new.links i verdict) old.accesses new.accesses
+    AccessesTurn same_reads same_floors (flr_at new.links i verdict) same_carried old.accesses new.accesses
 AccessesInterface e verdict old new = new.accesses ≡ old.accesses
 
-abbrev pub AccessesArriveAt : Event → Verdict → WholeLinks → WholeLinks → Type 0
-AccessesArriveAt e verdict old new = AccessesArrive (arrival_at e) e verdict old.links old.accesses new.accesses
+abbrev pub AccessesArriveAt : Plan → Event → Verdict → WholeLinks → WholeLinks → Type 0
+AccessesArriveAt plan e verdict old new =
+    AccessesArrive plan (arrival_at plan e) e verdict old.links old.accesses new.accesses
 
-abbrev pub AccessesAfter : Event → Verdict → WholeLinks → WholeLinks → Type 0
-AccessesAfter (event.Pass n) verdict old new = AccessesArriveAt (event.Pass n) verdict old new
-AccessesAfter (event.Alter n at mask) verdict old new = AccessesArriveAt (event.Alter n at mask) verdict old new
-AccessesAfter (event.Cut n len) verdict old new = AccessesArriveAt (event.Cut n len) verdict old new
-AccessesAfter (event.Arrive port bytes) verdict old new = AccessesArriveAt (event.Arrive port bytes) verdict old new
-AccessesAfter (event.Reset link) verdict old new =
-    AccessesTurn (waiting_reads_after [] (event.Reset link) verdict) same_floors (reset_happens verdict) old.accesses
+-- an answer to a read
+abbrev pub AccessesAnswer : Plan → Event → Verdict → WholeLinks → WholeLinks → Type 0
+AccessesAnswer plan e verdict old new =
+    AccessesTurn (waiting_reads_after plan [] e verdict) same_floors nothing_happens same_carried old.accesses
     new.accesses
-AccessesAfter (event.Interface e) verdict old new = AccessesInterface e verdict old new
-AccessesAfter (event.Access (ae.Answer link)) verdict old new =
-    AccessesTurn (waiting_reads_after [] (event.Access (ae.Answer link)) verdict) same_floors nothing_happens
+
+abbrev pub AccessesReset : Plan → Event → Verdict → WholeLinks → WholeLinks → Type 0
+AccessesReset plan e verdict old new =
+    AccessesTurn (waiting_reads_after plan [] e verdict) same_floors (reset_happens verdict) (carried_by e verdict)
     old.accesses new.accesses
-AccessesAfter e verdict old new = new.accesses ≡ old.accesses
+
+abbrev pub AccessesForward : Event → Verdict → WholeLinks → WholeLinks → Type 0
+AccessesForward e verdict old new =
+    AccessesTurn same_reads same_floors nothing_happens (carried_by e verdict) old.accesses new.accesses
+
+abbrev pub AccessesAfter : Plan → Event → Verdict → WholeLinks → WholeLinks → Type 0
+AccessesAfter plan (event.Pass n) verdict old new = AccessesArriveAt plan (event.Pass n) verdict old new
+AccessesAfter plan (event.Alter n at mask) verdict old new = AccessesArriveAt plan (event.Alter n at mask) verdict old
+    new
+AccessesAfter plan (event.Cut n len) verdict old new = AccessesArriveAt plan (event.Cut n len) verdict old new
+AccessesAfter plan (event.Arrive port bytes) verdict old new =
+    AccessesArriveAt plan (event.Arrive port bytes) verdict old new
+AccessesAfter plan (event.Reset link ends) verdict old new = AccessesReset plan (event.Reset link ends) verdict old new
+AccessesAfter plan (event.Interface e) verdict old new = AccessesInterface e verdict old new
+AccessesAfter plan (event.Access (ae.Answer link)) verdict old new =
+    AccessesAnswer plan (event.Access (ae.Answer link)) verdict old new
+AccessesAfter plan (event.Forward link d) verdict old new = AccessesForward (event.Forward link d) verdict old new
+AccessesAfter plan e verdict old new = new.accesses ≡ old.accesses

@@ -1,8 +1,9 @@
--- What all links say beside their ports: also the effects of accepted units, the answers to reads that wait, and what
--- is shown of the memory of devices.
+-- What all links say beside their ports: also the effects of accepted units, the answers to reads that wait, what is
+-- shown of the memory of devices, and what the first TLP comes to that waits at a switch.
 use Rattle.std.specs.Prelude.{ℕ, nat_lt, nat_le, not, Bool, false, if◌then◌else◌, List, [], ◌∷◌, Option, Some, None}
 use Rattle.std.specs.Prelude.{Result}
 use Rattle.std.specs.Prelude.{Ok, Err, slice_get}
+use Rattle.ide_types.specs.declared.direction.Direction.{Direction}
 use Rattle.ide_plan.specs.declared.plan.Plan.{Plan}
 use Rattle.link_events.specs.declared.event.InterfaceEvent.{InterfaceEvent}
 use Rattle.link_verdicts.specs.declared.verdict.BlockCause.TheVariants as cause
@@ -17,13 +18,16 @@ use Rattle.guarded_memory.specs.Contents.{has_bytes}
 use Rattle.tdi_host.specs.Managers.{granted, interface_of_requester}
 use Rattle.all_links.specs.{LinkEnds, InterfacesView}
 use Rattle.link_history.specs.Memory.{effects_by}
+use Rattle.link_history.specs.Hops.{HopTlp}
+use Rattle.link_history.specs.Ports.{port_of}
 use Rattle.link_history.specs.Due.{is_stream}
 use Rattle.link_history.specs.Guarded.{mmio_if}
 use Rattle.link_ports.specs.Machine.{Beside}
+use Rattle.link_ports.specs.Forwards.{forward_of}
 use Rattle.link_ports.specs.Replies.{BoundCompletion}
 use Rattle.std.specs.Option.{option_map_or, option_and_then}
 use Rattle.key_laws.specs.Keys.{is_below}
-use Rattle.all_links.specs.Accesses.{reads_at, sizes_at, mmio_at, policy_in}
+use Rattle.all_links.specs.Accesses.{reads_at, sizes_at, mmio_at, carried_at, policy_in}
 use Rattle.all_links.specs.Besides.{beside_in}
 use Rattle.all_links.specs.Interfaces.{interface_named}
 use Rattle.whole_links.specs.declared.whole.WholeLinks.{WholeLinks}
@@ -75,7 +79,7 @@ reply_at_ends m (Some l) link memory reads = reply_oldest m l link memory reads
 
 abbrev pub reply_on : WholeLinks → ℕ → Result BoundCompletion Verdict
 reply_on s link =
-    reply_at_ends s.links.keeper.interfaces (slice_get s.links.ends link) link s.links.trusted.contents
+    reply_at_ends s.links.keeper.interfaces (slice_get s.links.ends.links link) link s.links.trusted.contents
     (reads_at s.accesses link)
 
 -- the draw, if it is less than a floor
@@ -85,7 +89,7 @@ draw_below draw floor = if is_below draw floor then draw else None
 -- ---- the memory of devices
 
 abbrev pub place_named : WholeLinks → ℕ → Option (ℕ × ℕ)
-place_named s i = interface_named s.links.keeper.interfaces s.links.ends i
+place_named s i = interface_named s.links.keeper.interfaces s.links.ends.links i
 
 -- the range of a BAR of an interface has all these bytes
 abbrev pub has_shown : WholeLinks → ℕ → ℕ → ℕ → ℕ → Bool
@@ -99,6 +103,12 @@ bytes_shown s i bar offset len =
 abbrev pub shown_in : WholeLinks → ℕ → ℕ → ℕ → ℕ → Verdict
 shown_in s i bar offset len = mmio_if (has_shown s i bar offset len) (bytes_shown s i bar offset len)
 
+-- ---- what waits at switches
+
+-- what the first TLP comes to that waits in a direction of a link's hop
+abbrev pub forward_in : Plan → WholeLinks → ℕ → Direction → Result HopTlp Verdict
+forward_in plan s link d = forward_of plan link (carried_at s.accesses link d)
+
 -- ---- all of it
 
 -- events on interfaces have these answers
@@ -106,8 +116,10 @@ abbrev pub beside_whole : Plan → WholeLinks → (InterfaceEvent → Verdict) �
 beside_whole plan s answer =
     beside_in s.links (record {
       t = λ port head stream trusted. trusted;
-      effects = effects_by plan (policy_in s.links.keeper.interfaces s.links.ends s.accesses);
+      effects = λ port.
+          effects_by plan (policy_in s.links.keeper.interfaces s.links.ends s.accesses) (port_of plan port);
       answer = answer;
       reply = reply_on s;
       shows = shown_in s;
+      forward = forward_in plan s;
     })

@@ -20,7 +20,7 @@ use Rattle.whole_links.specs.Besides.{beside_whole}
 
 -- each link has its accesses
 abbrev pub IsWhole : WholeLinks → Type 0
-IsWhole s = length s.accesses ≡ length s.links.ends
+IsWhole s = length s.accesses ≡ length s.links.ends.links
 
 -- what always holds
 pub record IsBoundedWhole (s : WholeLinks) : Type 0 where
@@ -36,13 +36,14 @@ pub record IsFirstWhole (plan : Plan) (s : WholeLinks) : Type 0 where
 abbrev pub IsSaid : (InterfaceEvent → Verdict) → WholeLinks → Event → Type 0
 IsSaid answer old event = (e : InterfaceEvent) → event ≡ Interface e → answer_of_links old.links e ≡ Some (answer e)
 
--- An event with this verdict: if the links are those of a plan, and stand for some history, they are then in the state
+-- An event with this verdict: if the links are those of the plan, and stand for some history, they are then in the
+-- state
 -- after it, whatever is said of other events on interfaces.
-pub record WholeEnds (verdict : Verdict) (old new : WholeLinks) (event : Event) : Type 0 where
+pub record WholeEnds (plan : Plan) (verdict : Verdict) (old new : WholeLinks) (event : Event) : Type 0 where
   pub counted : new.links.steps ≡ old.links.steps + 1
   pub bounded : IsBoundedWhole new
   pub regions : new.links.trusted.contents.regions ≡ old.links.trusted.contents.regions
-  pub ends : (answer : InterfaceEvent → Verdict) → IsSaid answer old event → (plan : Plan)
+  pub ends : (answer : InterfaceEvent → Verdict) → IsSaid answer old event
       → old.links.trusted.contents.regions ≡ plan.memory → (h : History)
       → AreLinks plan old.links.ends old.links.keeper.keys → PortsStandFor plan (links_state plan old.links) h
       → Ends plan new.links verdict (step_of plan (beside_whole plan old answer) (links_state plan old.links) event)
@@ -53,14 +54,14 @@ pub record WholeStays (old new : WholeLinks) : Type 0 where
   pub accesses : AccessesStay old.accesses new.accesses
 
 -- an event with a verdict, or one that has none
-abbrev pub WholeEndsAs : Option Verdict → WholeLinks → WholeLinks → Event → Type 0
-WholeEndsAs (Some verdict) old new event = WholeEnds verdict old new event
-WholeEndsAs None old new event = HasNoVerdict old.links event
+abbrev pub WholeEndsAs : Plan → Option Verdict → WholeLinks → WholeLinks → Event → Type 0
+WholeEndsAs plan (Some verdict) old new event = WholeEnds plan verdict old new event
+WholeEndsAs plan None old new event = HasNoVerdict plan old.links event
 
-abbrev pub WholeEndsOr : Result Verdict Memory → WholeLinks → WholeLinks → Event → Type 0
-WholeEndsOr (Ok verdict) old new event = WholeEnds verdict old new event
-WholeEndsOr (Err e) old new event = WholeStays old new
+abbrev pub WholeEndsOr : Plan → Result Verdict Memory → WholeLinks → WholeLinks → Event → Type 0
+WholeEndsOr plan (Ok verdict) old new event = WholeEnds plan verdict old new event
+WholeEndsOr plan (Err e) old new event = WholeStays old new
 
-abbrev pub WholeEndsAsOr : Result (Option Verdict) Memory → WholeLinks → WholeLinks → Event → Type 0
-WholeEndsAsOr (Ok verdict) old new event = WholeEndsAs verdict old new event
-WholeEndsAsOr (Err e) old new event = WholeStays old new
+abbrev pub WholeEndsAsOr : Plan → Result (Option Verdict) Memory → WholeLinks → WholeLinks → Event → Type 0
+WholeEndsAsOr plan (Ok verdict) old new event = WholeEndsAs plan verdict old new event
+WholeEndsAsOr plan (Err e) old new event = WholeStays old new

@@ -1,5 +1,5 @@
-//! All links of a topology as they run, with the reads that wait for their answer and the memory of their devices,
-//! event by event (PCI Express Base 6.0 section 6.33 and chapter 11, in this profile).
+//! All links of a topology as they run, with the reads that wait for their answer, the memory of their devices and the
+//! TLPs that wait at switches, event by event (PCI Express Base 6.0 section 6.33 and chapter 11, in this profile).
 #![tactic(auto)]
 
 mod reply;

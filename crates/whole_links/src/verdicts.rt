@@ -2,7 +2,7 @@
 
 ghost use Rattle.std.specs.Prelude.{◌≡◌};
 ghost use Rattle.interface_states.specs.Exchanges.{carries, changes_device, is_interface_done};
-ghost use Rattle.whole_links.specs.Accesses.{takes_read};
+ghost use Rattle.whole_links.specs.Accesses.{is_sealed, takes_read};
 
 use interface_words::InterfaceVerdict;
 use link_verdicts::{AccessVerdict, BlockCause, Verdict};
@@ -17,6 +17,25 @@ pub fn takes_read(verdict: &Verdict) -> bool
             verdict: AccessVerdict::Dropped { .. },
         } => true,
         _ => false,
+    }
+}
+
+/// Whether a verdict says that a TLP was sealed.
+pub fn is_sealed(verdict: &Verdict) -> bool
+    ensures { result ≡ is_sealed verdict.now }
+{
+    match verdict {
+        Verdict::Sealed { .. } => true,
+        _ => false,
+    }
+}
+
+/// The verdict of an event on a link that takes what waits there, where nothing waits.
+pub fn empty(link: u8) -> Verdict
+    ensures { result ≡ Verdict.Access (AccessVerdict.Empty link) }
+{
+    Verdict::Access {
+        verdict: AccessVerdict::Empty { link },
     }
 }
 
@@ -39,6 +58,8 @@ fn is_done(verdict: &InterfaceVerdict) -> bool
         InterfaceVerdict::Started { .. } => true,
         InterfaceVerdict::Halted { .. } => true,
         InterfaceVerdict::State { .. } => true,
+        InterfaceVerdict::Bound { .. } => true,
+        InterfaceVerdict::Unbound { .. } => true,
         _ => false,
     }
 }

@@ -13,25 +13,28 @@ ghost use Rattle.all_links.specs.{LinkEnds};
 ghost use Rattle.all_links.specs.Events.{operation_event};
 ghost use Rattle.whole_links.specs.Besides.{draw_below};
 ghost use Rattle.all_links.specs.Accesses.{is_sending, reads_at, runs_in, same_reads, same_floors, nothing_happens};
-ghost use Rattle.all_links.specs.Accesses.{AccessesTurn};
-ghost use Rattle.all_links.specs.Sides.{SidesKeep, SidesOperate, SidesInterface, Sides};
+ghost use Rattle.all_links.specs.Accesses.{AccessesTurn, carried_at, same_carried};
+ghost use Rattle.all_links.specs.Sides.{SidesKeep, SidesOperate, SidesReset, SidesInterface, Sides};
+ghost use Rattle.link_history.specs.Hops.{has_hop as has_hop_in};
 
 use crate::reply::{draw_below, judged, small_number};
-use crate::verdicts::{changes_device, dropped, reaches, takes_read};
+use crate::verdicts::{changes_device, dropped, empty, is_sealed, reaches, takes_read};
+use access_turns::clear_hops;
 use accesses::Accesses;
 use all_links::Links;
 use ide_plan::Plan;
-use ide_types::{Bytes, Memory, PortName, Side, SubKind};
+use ide_types::{Bytes, Direction, Memory, PortName, Side, SubKind};
 use interface_words::InterfaceVerdict;
+use line_routes::{has_hop, leaving_end};
 use link_events::{AccessEvent, Event, InterfaceEvent, Loss};
 use link_verdicts::{AccessVerdict, BlockCause, Operation, Verdict};
 use std::alloc::Global;
 use tdi_host::InterfaceOp;
 use waiting_reads::{COMPLETION_BYTES, WaitingRead, complete};
 
-/// All links of a topology, the trusted reads of each that wait for their answer, and the memory of each device's
-/// interfaces with the least draws that they take trusted writes under (PCI Express Base 6.0 section 6.33 and chapter
-/// 11, in this profile).
+/// All links of a topology, the trusted reads of each that wait for their answer, the memory of each device's
+/// interfaces with the least draws that they take trusted writes under, and the TLPs that wait at the switches of hops
+/// (PCI Express Base 6.0 section 6.33 and chapter 11, in this profile).
 #[derive(Drop)]
 pub struct WholeLinks {
     pub links: Links,
@@ -39,15 +42,17 @@ pub struct WholeLinks {
 }
 
 impl WholeLinks {
+    ghost use Rattle.ide_plan.specs.declared.plan.Plan.{Plan as PlanView};
     ghost use Rattle.whole_links.specs.Besides.{replied, reply_numbered, reply_on};
     ghost use Rattle.whole_links.specs.Besides.{reader_of};
     ghost use Rattle.whole_links.specs.Besides.{has_shown, bytes_shown};
-    ghost use Rattle.whole_links.specs.Whole.{IsFirstWhole, IsWhole, IsBoundedWhole, WholeEnds, WholeEndsAs};
+    ghost use Rattle.whole_links.specs.Whole.{IsFirstWhole, IsBoundedWhole, WholeEnds, WholeEndsAs};
     ghost use Rattle.whole_links.specs.Whole.{WholeEndsOr, WholeEndsAsOr};
-    ghost use Rattle.whole_links.specs.Accesses.{takes_read, floors_if, halted_in, flr_at};
-    ghost use Rattle.whole_links.specs.Accesses.{AccessesInterface, AccessesAfter};
+    ghost use Rattle.whole_links.specs.Accesses.{takes_read, is_sealed, floors_if, halted_in, flr_at};
+    ghost use Rattle.whole_links.specs.Accesses.{AccessesInterface, AccessesForward, AccessesAfter};
 
-    /// The links of the plan before the first event, with no read that waits, and 0 in all ranges of its devices.
+    /// The links of the plan before the first event, with no read and no TLP that waits, and 0 in all ranges of its
+    /// devices.
     /// Returns `Memory` for want of memory.
     pub fn make(alloc: Global, plan: &Plan) -> Result<WholeLinks, Memory>
         requires { FitsPlan plan.now }
@@ -69,11 +74,12 @@ impl WholeLinks {
         waiting: &WaitingRead,
         bytes: &mut Vec<u8>,
     ) -> Result<(u8, u32), Verdict>
-        requires here { link < length self.now.links.ends }
+        requires here { link < length self.now.links.ends.links }
+        requires few { length self.now.links.ends.links ≤ 8 }
         requires fits { FitsRead waiting.now.read }
         requires empty { bytes.old.items ≡ [] }
         requires room { vec_len bytes.old + 4108 ≤ vec_capacity bytes.old }
-        ensures { (l : LinkEnds) → slice_get self.now.links.ends link ≡ Some l → replied result bytes.new.items
+        ensures { (l : LinkEnds) → slice_get self.now.links.ends.links link ≡ Some l → replied result bytes.new.items
             ≡ reply_numbered self.now.links.keeper.interfaces l link self.now.links.trusted.contents waiting.now
             (Some interface) }
     {
@@ -116,16 +122,14 @@ impl WholeLinks {
 
     // Appends the completion of the oldest read of the link, or gives the verdict without one. There is room for it.
     fn reply(&self, link: u8, bytes: &mut Vec<u8>) -> Result<(u8, u32), Verdict>
-        requires here { link < length self.now.links.ends }
-        requires whole { IsWhole self.now }
+        requires here { link < length self.now.links.ends.links }
+        requires bounded { IsBoundedWhole self.now }
         requires empty { bytes.old.items ≡ [] }
         requires room { vec_len bytes.old + 4108 ≤ vec_capacity bytes.old }
         ensures { replied result bytes.new.items ≡ reply_on self.now link }
     {
         match self.accesses.at(link).reads.first() {
-            None => Err(Verdict::Access {
-                verdict: AccessVerdict::Empty { link },
-            }),
+            None => Err(empty(link)),
             Some(waiting) => match self.reader(link, waiting.read.requester) {
                 None => Err(Verdict::Nothing),
                 Some(interface) => self.granted(link, interface, &waiting, bytes),
@@ -135,8 +139,9 @@ impl WholeLinks {
 
     // The draw that completions of the stream are sealed under at the host's port, if it is less than the floor.
     fn older_draw(&self, link: u8, bound: (u8, u32)) -> Option<u32>
-        requires { link < length self.now.links.ends }
-        ensures { (l : LinkEnds) → slice_get self.now.links.ends link ≡ Some l → result
+        requires here { link < length self.now.links.ends.links }
+        requires few { length self.now.links.ends.links ≤ 8 }
+        ensures { (l : LinkEnds) → slice_get self.now.links.ends.links link ≡ Some l → result
             ≡ draw_below (sealing_draw_in l.host bound.0 SubKind.Cpl) bound.1 }
     {
         let side = Side::Host;
@@ -146,12 +151,18 @@ impl WholeLinks {
     }
 
     // Sends the completion as any TLP is sent, with T, unless that would be under too old a draw.
-    fn send_reply(&mut self, link: u8, bound: (u8, u32), bytes: &[u8]) -> Result<Verdict, Memory>
+    fn send_reply(
+        &mut self,
+        plan: &Plan,
+        link: u8,
+        bound: (u8, u32),
+        bytes: &[u8],
+    ) -> Result<Verdict, Memory>
         requires steps { self.old.links.steps < 2 ^ 28 }
         requires bounded { IsBoundedWhole self.old }
-        requires here { link < length self.old.links.ends }
+        requires here { link < length self.old.links.ends.links }
         requires due { reply_on self.old link ≡ replied (Ok bound) bytes.now }
-        ensures ends { WholeEndsOr result self.old self.new (Event.Access (AccessEvent.Answer link)) }
+        ensures ends { WholeEndsOr plan.now result self.old self.new (Event.Access (AccessEvent.Answer link)) }
         ensures sides { IfOk result (λ v. SidesKeep self.old.links self.new.links) }
         ensures accesses { self.new.accesses ≡ self.old.accesses }
         ensures kind { IfOk result (λ v. is_sending v ≡ true) }
@@ -164,17 +175,18 @@ impl WholeLinks {
             }
             None => {
                 let side = Side::Host;
-                self.links.send(PortName { side, link }, bytes, false, true)
+                self.links
+                    .send_at(plan, PortName { side, link }, bytes, false, true)
             }
         }
     }
 
     // The answer to the oldest read of a link that exists.
-    fn answered(&mut self, alloc: Global, link: u8) -> Result<Verdict, Memory>
+    fn answered(&mut self, alloc: Global, plan: &Plan, link: u8) -> Result<Verdict, Memory>
         requires steps { self.old.links.steps < 2 ^ 28 }
         requires bounded { IsBoundedWhole self.old }
-        requires here { link < length self.old.links.ends }
-        ensures ends { WholeEndsOr result self.old self.new (Event.Access (AccessEvent.Answer link)) }
+        requires here { link < length self.old.links.ends.links }
+        ensures ends { WholeEndsOr plan.now result self.old self.new (Event.Access (AccessEvent.Answer link)) }
         ensures sides { IfOk result (λ v. SidesKeep self.old.links self.new.links) }
         ensures accesses { self.new.accesses ≡ self.old.accesses }
         ensures kind { IfOk result (λ v. is_sending v ≡ true) }
@@ -183,24 +195,24 @@ impl WholeLinks {
         let mut bytes = Vec::with_capacity(alloc, COMPLETION_BYTES)?;
         match self.reply(link, &mut bytes) {
             Err(verdict) => Ok(self.links.only(verdict)),
-            Ok(bound) => self.send_reply(link, bound, &bytes),
+            Ok(bound) => self.send_reply(plan, link, bound, &bytes),
         }
     }
 
     // Answers the oldest read of a link that waits. Once its completion is sealed, or it is dropped, it waits no more.
-    fn answer_read(&mut self, alloc: Global, link: u64) -> Result<Verdict, Memory>
+    fn answer_read(&mut self, alloc: Global, plan: &Plan, link: u64) -> Result<Verdict, Memory>
         requires steps { self.old.links.steps < 2 ^ 28 }
         requires bounded { IsBoundedWhole self.old }
-        ensures ends { WholeEndsOr result self.old self.new (Event.Access (AccessEvent.Answer link)) }
+        ensures ends { WholeEndsOr plan.now result self.old self.new (Event.Access (AccessEvent.Answer link)) }
         ensures sides { IfOk result (λ v. SidesKeep self.old.links self.new.links) }
-        ensures accesses { IfOk result (λ v. AccessesAfter (Event.Access (AccessEvent.Answer link)) v self.old
+        ensures accesses { IfOk result (λ v. AccessesAfter plan.now (Event.Access (AccessEvent.Answer link)) v self.old
             self.new) }
     {
         if !self.links.has_link(link) {
             return Ok(self.links.only(Verdict::Nothing));
         }
         let link = link as u8;
-        let verdict = self.answered(alloc, link)?;
+        let verdict = self.answered(alloc, plan, link)?;
         if takes_read(&verdict) {
             self.accesses.at_mut(link).reads.remove_first();
         }
@@ -236,11 +248,10 @@ impl WholeLinks {
     ) -> Result<Verdict, Memory>
         requires steps { self.old.links.steps < 2 ^ 28 }
         requires bounded { IsBoundedWhole self.old }
-        ensures ends { WholeEndsOr result self.old self.new
+        ensures ends { (plan : PlanView) → WholeEndsOr plan result self.old self.new
             (Event.Access (AccessEvent.Mmio interface bar offset length)) }
         ensures sides { IfOk result (λ v. SidesKeep self.old.links self.new.links) }
-        ensures accesses { IfOk result (λ v. AccessesAfter (Event.Access (AccessEvent.Mmio interface bar offset length))
-            v self.old self.new) }
+        ensures accesses { IfOk result (λ v. self.new.accesses ≡ self.old.accesses) }
     {
         let mut bytes = vec![in alloc; 0; length as usize]?;
         if self.peek(interface, bar, offset, &mut bytes) {
@@ -263,7 +274,7 @@ impl WholeLinks {
         requires bounded { IsBoundedWhole self.old }
         ensures links { self.new.links ≡ self.old.links }
         ensures accesses { AccessesTurn same_reads (floors_if (not ran && runs_in self.old.links interface)
-            self.old.links interface) nothing_happens self.old.accesses self.new.accesses }
+            self.old.links interface) nothing_happens same_carried self.old.accesses self.new.accesses }
     {
         if ran || !self.links.runs(interface) {
             return;
@@ -280,7 +291,8 @@ impl WholeLinks {
     fn start(&mut self, alloc: Global, interface: u64, loss: Option<Loss>) -> Option<Verdict>
         requires steps { self.old.links.steps < 2 ^ 28 }
         requires bounded { IsBoundedWhole self.old }
-        ensures ends { WholeEndsAs result self.old self.new (Event.Interface (InterfaceEvent.Start interface loss)) }
+        ensures ends { (plan : PlanView) → WholeEndsAs plan result self.old self.new
+            (Event.Interface (InterfaceEvent.Start interface loss)) }
         ensures sides { IfSome result (λ v. SidesInterface (InterfaceEvent.Start interface loss) self.old.links
             self.new.links) }
         ensures accesses { IfSome result (λ v. AccessesInterface (InterfaceEvent.Start interface loss)
@@ -300,7 +312,7 @@ impl WholeLinks {
         requires bounded { IsBoundedWhole self.old }
         ensures links { self.new.links ≡ self.old.links }
         ensures accesses { AccessesTurn same_reads same_floors (halted_in self.old.links interface verdict.now)
-            self.old.accesses self.new.accesses }
+            same_carried self.old.accesses self.new.accesses }
     {
         if !reaches(verdict) {
             return;
@@ -317,7 +329,8 @@ impl WholeLinks {
     fn halt(&mut self, alloc: Global, interface: u64, loss: Option<Loss>) -> Option<Verdict>
         requires steps { self.old.links.steps < 2 ^ 28 }
         requires bounded { IsBoundedWhole self.old }
-        ensures ends { WholeEndsAs result self.old self.new (Event.Interface (InterfaceEvent.Halt interface loss)) }
+        ensures ends { (plan : PlanView) → WholeEndsAs plan result self.old self.new
+            (Event.Interface (InterfaceEvent.Halt interface loss)) }
         ensures sides { IfSome result (λ v. SidesInterface (InterfaceEvent.Halt interface loss) self.old.links
             self.new.links) }
         ensures accesses { IfSome result (λ v. AccessesInterface (InterfaceEvent.Halt interface loss)
@@ -335,7 +348,7 @@ impl WholeLinks {
         requires bounded { IsBoundedWhole self.old }
         ensures links { self.new.links ≡ self.old.links }
         ensures accesses { AccessesTurn same_reads same_floors (flr_at self.old.links interface verdict.now)
-            self.old.accesses self.new.accesses }
+            same_carried self.old.accesses self.new.accesses }
     {
         if !changes_device(verdict) {
             return;
@@ -349,7 +362,8 @@ impl WholeLinks {
     fn flr(&mut self, interface: u64) -> Verdict
         requires steps { self.old.links.steps < 2 ^ 28 }
         requires bounded { IsBoundedWhole self.old }
-        ensures ends { WholeEnds result self.old self.new (Event.Interface (InterfaceEvent.Flr interface)) }
+        ensures ends { (plan : PlanView) → WholeEnds plan result self.old self.new
+            (Event.Interface (InterfaceEvent.Flr interface)) }
         ensures sides { SidesInterface (InterfaceEvent.Flr interface) self.old.links self.new.links }
         ensures accesses { AccessesInterface (InterfaceEvent.Flr interface) result self.old self.new }
     {
@@ -362,7 +376,7 @@ impl WholeLinks {
         requires steps { self.old.links.steps < 2 ^ 28 }
         requires bounded { IsBoundedWhole self.old }
         requires allowed { IsAllowedInterface event.now }
-        ensures ends { WholeEndsAsOr result self.old self.new (Event.Interface event.now) }
+        ensures ends { (plan : PlanView) → WholeEndsAsOr plan result self.old self.new (Event.Interface event.now) }
         ensures sides { IfOk result (λ o. IfSome o (λ v. SidesInterface event.now self.old.links self.new.links)) }
         ensures accesses { IfOk result (λ o. IfSome o (λ v. AccessesInterface event.now v self.old self.new)) }
     {
@@ -376,32 +390,81 @@ impl WholeLinks {
 
     // ---- a reset
 
-    fn reset(&mut self, link: u64) -> Verdict
+    fn reset(&mut self, link: u64, ends: &[PortName]) -> Verdict
         requires steps { self.old.links.steps < 2 ^ 28 }
         requires bounded { IsBoundedWhole self.old }
-        ensures ends { WholeEnds result self.old self.new (Event.Reset link) }
-        ensures sides { Sides (Event.Reset link) result self.old.links self.new.links }
-        ensures accesses { AccessesAfter (Event.Reset link) result self.old self.new }
+        ensures ends { (plan : PlanView) → WholeEnds plan result self.old self.new (Event.Reset link ends.now) }
+        ensures sides { SidesReset link self.old.links self.new.links }
+        ensures accesses { (plan : PlanView) → AccessesAfter plan (Event.Reset link ends.now) result self.old self.new }
     {
-        let verdict = self.links.reset(link);
-        if link < self.links.ends.count() as u64 {
+        let verdict = self.links.reset(link, ends);
+        if self.links.has_link(link) {
             self.accesses.at_mut(link as u8).reset();
+            let count = self.links.ends.count();
+            clear_hops(&mut self.accesses, ends, count);
         }
         verdict
     }
 
+    // ---- what waits at switches
+
+    // Seals the first TLP that waits in a direction at the switch of a link behind it, as it came.
+    fn forwarded(&mut self, plan: &Plan, link: u8, direction: Direction) -> Result<Verdict, Memory>
+        requires steps { self.old.links.steps < 2 ^ 28 }
+        requires bounded { IsBoundedWhole self.old }
+        requires here { link < length self.old.links.ends.links }
+        requires hop { has_hop_in plan.now link ≡ true }
+        ensures ends { WholeEndsOr plan.now result self.old self.new (Event.Forward link direction) }
+        ensures sides { IfOk result (λ v. SidesKeep self.old.links self.new.links) }
+        ensures accesses { self.new.accesses ≡ self.old.accesses }
+        ensures kind { IfOk result (λ v. is_sending v ≡ true) }
+        ensures waits { IfOk result (λ v. is_sealed v ≡ true
+            → 1 ≤ length (carried_at self.old.accesses link direction)) }
+    {
+        match self.accesses.at(link).carried.first(direction) {
+            None => Ok(self.links.only(empty(link))),
+            Some(tlp) => {
+                let end = leaving_end(link, direction);
+                self.links
+                    .send_at(plan, end, tlp.bytes.as_slice(), false, tlp.t)
+            }
+        }
+    }
+
+    // Forwards the first TLP that waits in a direction at the switch of a link. Once it is sealed it waits no more.
+    fn forward(&mut self, plan: &Plan, link: u64, direction: Direction) -> Result<Verdict, Memory>
+        requires steps { self.old.links.steps < 2 ^ 28 }
+        requires bounded { IsBoundedWhole self.old }
+        ensures ends { WholeEndsOr plan.now result self.old self.new (Event.Forward link direction) }
+        ensures sides { IfOk result (λ v. SidesKeep self.old.links self.new.links) }
+        ensures accesses { IfOk result (λ v. AccessesForward (Event.Forward link direction) v self.old self.new) }
+    {
+        if !has_hop(plan, link) {
+            return Ok(self.links.only(Verdict::Nothing));
+        }
+        if !self.links.has_link(link) {
+            return Ok(self.links.only(Verdict::Nothing));
+        }
+        let link = link as u8;
+        let verdict = self.forwarded(plan, link, direction)?;
+        if is_sealed(&verdict) {
+            self.accesses.at_mut(link).carried.remove_first(direction);
+        }
+        Ok(verdict)
+    }
+
     // ---- all events
 
-    fn access(&mut self, alloc: Global, event: &AccessEvent) -> Result<Verdict, Memory>
+    fn access(&mut self, alloc: Global, plan: &Plan, event: &AccessEvent) -> Result<Verdict, Memory>
         requires steps { self.old.links.steps < 2 ^ 28 }
         requires bounded { IsBoundedWhole self.old }
         requires allowed { IsAllowedAccess event.now }
-        ensures ends { WholeEndsOr result self.old self.new (Event.Access event.now) }
+        ensures ends { WholeEndsOr plan.now result self.old self.new (Event.Access event.now) }
         ensures sides { IfOk result (λ v. SidesKeep self.old.links self.new.links) }
-        ensures accesses { IfOk result (λ v. AccessesAfter (Event.Access event.now) v self.old self.new) }
+        ensures accesses { IfOk result (λ v. AccessesAfter plan.now (Event.Access event.now) v self.old self.new) }
     {
         match event {
-            AccessEvent::Answer { link } => self.answer_read(alloc, *link),
+            AccessEvent::Answer { link } => self.answer_read(alloc, plan, *link),
             AccessEvent::Mmio {
                 interface,
                 bar,
@@ -420,7 +483,8 @@ impl WholeLinks {
     ) -> Option<Verdict>
         requires steps { self.old.links.steps < 2 ^ 28 }
         requires bounded { IsBoundedWhole self.old }
-        ensures ends { WholeEndsAs result self.old self.new (operation_event operation link stream loss) }
+        ensures ends { (plan : PlanView) → WholeEndsAs plan result self.old self.new
+            (operation_event operation link stream loss) }
         ensures sides { IfSome result (λ v. SidesOperate operation link stream v self.old.links self.new.links) }
         ensures accesses { self.new.accesses ≡ self.old.accesses }
     {
@@ -432,13 +496,19 @@ impl WholeLinks {
     /// An operation has no verdict if a reply is bad, or if an exchange is lost none of whose messages is lost, and
     /// none is made up for it. `ends` says that this does not come while the links stand for some history, and, on an
     /// interface, while its device answers as the machine does; `World` shows both of every event.
-    pub fn answer(&mut self, alloc: Global, event: &Event) -> Result<Option<Verdict>, Memory>
+    pub fn answer(
+        &mut self,
+        alloc: Global,
+        plan: &Plan,
+        event: &Event,
+    ) -> Result<Option<Verdict>, Memory>
+        requires fits { FitsPlan plan.now }
         requires steps { self.old.links.steps < 2 ^ 28 }
         requires bounded { IsBoundedWhole self.old }
         requires allowed { IsAllowed event.now }
-        ensures ends { WholeEndsAsOr result self.old self.new event.now }
-        ensures sides { IfOk result (λ o. IfSome o (λ v. Sides event.now v self.old.links self.new.links)) }
-        ensures accesses { IfOk result (λ o. IfSome o (λ v. AccessesAfter event.now v self.old self.new)) }
+        ensures ends { WholeEndsAsOr plan.now result self.old self.new event.now }
+        ensures sides { IfOk result (λ o. IfSome o (λ v. Sides plan.now event.now v self.old.links self.new.links)) }
+        ensures accesses { IfOk result (λ o. IfSome o (λ v. AccessesAfter plan.now event.now v self.old self.new)) }
     {
         match event {
             Event::Establish { link, stream, lose } => {
@@ -451,28 +521,43 @@ impl WholeLinks {
                 Ok(self.operate(Operation::Stop, *link, *stream, *lose))
             }
             Event::Interface { event } => self.ask(alloc, event),
-            Event::Access { event } => Ok(Some(self.access(alloc, event)?)),
+            Event::Access { event } => Ok(Some(self.access(alloc, plan, event)?)),
+            Event::Reset { link, ends } => Ok(Some(self.reset(*link, ends.as_slice()))),
+            Event::Forward { link, direction } => Ok(Some(self.forward(plan, *link, *direction)?)),
             Event::Send {
                 port,
                 bytes,
                 more,
                 trusted,
-            } => Ok(Some(self.links.send(*port, bytes.as_slice(), *more, *trusted)?)),
-            Event::Pass { packet } => Ok(Some(self.links.pass(*packet, &mut self.accesses)?)),
+            } => {
+                let bytes = bytes.as_slice();
+                Ok(Some(self.links.send(plan, *port, bytes, *more, *trusted)?))
+            }
+            Event::Pass { packet } => {
+                let accesses = &mut self.accesses;
+                Ok(Some(self.links.pass(alloc, plan, *packet, accesses)?))
+            }
             Event::Alter { packet, at, mask } => {
                 let accesses = &mut self.accesses;
-                Ok(Some(self.links.alter(alloc, *packet, *at, *mask, accesses)?))
+                Ok(Some(
+                    self.links
+                        .alter(alloc, plan, *packet, *at, *mask, accesses)?,
+                ))
             }
             Event::Cut { packet, length } => {
-                Ok(Some(self.links.cut(*packet, *length, &mut self.accesses)?))
+                let accesses = &mut self.accesses;
+                Ok(Some(self.links.cut(alloc, plan, *packet, *length, accesses)?))
             }
             Event::Arrive { port, bytes } => {
                 let accesses = &mut self.accesses;
-                Ok(Some(self.links.arrive(*port, bytes.as_slice(), accesses)?))
+                Ok(Some(
+                    self.links
+                        .arrive(alloc, plan, *port, bytes.as_slice(), accesses)?,
+                ))
             }
             Event::Dump { packet } => Ok(Some(self.links.dump(alloc, *packet)?)),
-            Event::Reset { link } => Ok(Some(self.reset(*link))),
             Event::Status { link, stream } => Ok(Some(self.links.status(*link, *stream))),
+            Event::Absent => Ok(Some(self.links.only(Verdict::Nothing))),
         }
     }
 }

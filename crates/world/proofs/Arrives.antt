@@ -1,6 +1,6 @@
--- What stands beside the ports after bytes came to one of them. Each device followed its port, and the manager is as it
--- was. Memory is what the writes of the unit left, by what the manager says of requesters, which is what the machine
--- says of them.
+-- What stands beside the ports after bytes came to one of them. Each device followed the ends of its streams, and the
+-- manager is as it was. Memory is what the writes of the unit left, by what the manager says of requesters, which is
+-- what the machine says of them.
 use Rattle.std.proofs.Common.{◌≡◌, ℕ, true, Some, ap, sym, ◌∙◌, subst}
 use Rattle.std.specs.Prelude.{length, slice_get}
 use Rattle.ide_plan.specs.declared.plan.Plan.{Plan}
@@ -12,17 +12,16 @@ use Rattle.interface_states.specs.Sites.{Site}
 use Rattle.interface_machine.specs.Machine.{Face, around_of, grant_of}
 use Rattle.link_ports.specs.Machine.{LinkState}
 use Rattle.link_ports.specs.Stands.{PortsStandFor}
-use Rattle.whole_machine.specs.Machine.{Whole, secure_in, whole_streams, arrival_of, written_after, whole_after}
-use Rattle.world_states.specs.{AllFollow, arrival_at, grants_in, InterfacesView, LinkEnds, Links, links_state}
-use Rattle.world_states.specs.{SidesArrive, writes_by}
-use Rattle.world_states.specs.Whole.{IsBeside}
-use Rattle.world_states.proofs.Statuses.{secure_is}
-use Rattle.world_states.proofs.Rests.{is_of_ports, is_of_packets, of_ports, next_of_ports, none_of_ports}
-use Rattle.world_states.proofs.Rests.{managed_of_packets, draw_of_packets}
-use Rattle.world_states.proofs.Follows.{IsLed, OnlyLeaves, led_follows, beside_led}
-use Rattle.world_states.proofs.Kept.{AreBoth, managed_kept, written_is}
+use Rattle.whole_machine.specs.Machine.{Whole, whole_streams, arrival_of, written_after, whole_after}
+use Rattle.access_states.specs.{AllFollow, arrival_at, grants_in, InterfacesView, LinkEnds, Links, links_state}
+use Rattle.access_states.specs.{SidesArrive, writes_by}
+use Rattle.access_states.specs.{IsBeside}
+use Rattle.access_states.proofs.{is_of_ports, is_of_packets, of_ports, next_of_ports, none_of_ports}
+use Rattle.access_states.proofs.{managed_of_packets, draw_of_packets}
+use Rattle.access_states.proofs.{IsLed, OnlyLeaves, all_led, beside_led}
+use Rattle.access_states.proofs.{AreBoth, managed_kept, written_is}
 
--- an event on ports alone makes no more of an interface than that its stream leaves Secure
+-- an event on ports alone makes no more of an interface than that a stream that it is bound to leaves Secure
 pub only_leaves : (plan : Plan) (w : Whole) (e : Event) (verdict : Verdict) (new : LinkState) (x : Site) (f : Face)
     → is_of_ports e verdict ≡ true → OnlyLeaves plan w e verdict new x f
 only_leaves plan w e verdict new x f is =
@@ -32,23 +31,21 @@ only_leaves plan w e verdict new x f is =
       none = none_of_ports a x e verdict f.tdi is;
     }
 
--- if all devices follow their ports, each is led by what the machine says of them
-pub all_led : (plan : Plan) (old new : Links) (w : Whole) → AreBoth plan old new w → AllFollow old.ends new.ends
-    → (link : ℕ) (l l' : LinkEnds) → slice_get old.ends link ≡ Some l → slice_get new.ends link ≡ Some l'
+-- if all devices follow the ends of their streams, each is led by what the machine says of them
+pub each_led : (plan : Plan) (old new : Links) (w : Whole) → AreBoth plan old new w → AllFollow old.ends new.ends
+    → (link : ℕ) (l l' : LinkEnds) → slice_get old.ends.links link ≡ Some l → slice_get new.ends.links link ≡ Some l'
     → IsLed plan w.links (links_state plan new) link l l'
-all_led plan old new w both follows link l l' at at' =
-    led_follows plan w.links (links_state plan new) link l l'
-    (λ stream. ap (λ (st : LinkState). secure_in plan st link stream) both.whole.links
-    ∙ sym (secure_is plan old.ends old.keeper.keys old.packets.packets link stream l both.links at))
-    (λ stream. sym (secure_is plan new.ends new.keeper.keys new.packets.packets link stream l' both.links_after at'))
-    (follows link l l' at at')
+each_led plan old new w both follows link l l' at at' =
+    subst (λ (st : LinkState). IsLed plan st (links_state plan new) link l l') (sym both.whole.links)
+    (all_led plan old.ends new.ends old.keeper.keys new.keeper.keys old.packets.packets new.packets.packets both.links
+    both.links_after follows link l l' at at')
 
 left_by : (plan : Plan) (old new : Links) (w : Whole) (h : History) (e : Event) (verdict : Verdict)
     → AreBoth plan old new w → PortsStandFor plan (links_state plan old) h
-    → grants_in old.keeper.interfaces ≡ grant_of plan w.faces → SidesArrive (arrival_at e) verdict old new
+    → grants_in old.keeper.interfaces ≡ grant_of plan w.faces → SidesArrive plan (arrival_at plan e) verdict old new
     → IsLeftBy new.trusted.contents (written_after plan w e verdict)
 left_by plan old new w h e verdict both stands grants sides =
-    let led = sides.contents plan h both.links stands both.whole.beside.regions w.written both.whole.beside.written in
+    let led = sides.contents h both.links stands both.whole.beside.regions w.written both.whole.beside.written in
     let same : newest_first
     (writes_by plan (grants_in old.keeper.interfaces) (links_state plan old)
     (arrival_of plan (links_state plan old) e) verdict) w.written
@@ -61,14 +58,14 @@ left_by plan old new w h e verdict both stands grants sides =
 pub arrives_beside : (plan : Plan) (old new : Links) (w : Whole) (h : History) (e : Event) (verdict : Verdict)
     → is_of_packets e verdict ≡ true → AreBoth plan old new w → PortsStandFor plan (links_state plan old) h
     → grants_in old.keeper.interfaces ≡ grant_of plan w.faces
-    → new.trusted.contents.regions ≡ old.trusted.contents.regions → SidesArrive (arrival_at e) verdict old new
-    → IsBeside plan new.ends new.keeper.interfaces new.trusted.contents
+    → new.trusted.contents.regions ≡ old.trusted.contents.regions → SidesArrive plan (arrival_at plan e) verdict old new
+    → IsBeside plan new.ends.links new.keeper.interfaces new.trusted.contents
     (whole_after plan w e verdict (links_state plan new))
 arrives_beside plan old new w h e verdict is both stands grants regions sides =
-    beside_led plan w e verdict (links_state plan new) old.ends new.ends old.keeper.interfaces new.keeper.interfaces
-    old.trusted.contents new.trusted.contents both.whole.beside (record {
+    beside_led plan w e verdict (links_state plan new) old.ends.links new.ends.links old.keeper.interfaces
+    new.keeper.interfaces old.trusted.contents new.trusted.contents both.links.fits both.whole.beside (record {
       many = both.links_after.many ∙ sym both.links.many;
-      led = all_led plan old new w both sides.devices;
+      led = each_led plan old new w both (sides.devices h both.links stands);
       only = λ i x f at there. only_leaves plan w e verdict (links_state plan new) x f (of_ports e verdict is);
       portion = ap (λ (m : InterfacesView). m.portion) sides.keeper;
       interfaces = ap (λ (m : InterfacesView). length m.interfaces) sides.keeper;

@@ -1,37 +1,60 @@
 -- An operation of the manager on an interface changes that one alone, as the machine does: exchange by exchange it is
--- the machine's step (`InterfaceOperationsJoin`), with what the ports show of its stream. If no interface has the
--- number, none is asked.
-use Rattle.std.proofs.Common.{◌≡◌, ℕ, length, refl, ap, sym, ◌∙◌, ◌+◌, subst, Option, Some, ⊎_elim}
-use Rattle.std.specs.Prelude.{slice_get, slice_set}
-use Rattle.std.proofs.lemmas.Bool.{cases_lt}
-use Rattle.ide_types.specs.declared.port.Side.TheVariants.{Host}
+-- the machine's step, with what the ends show of the streams that it names (`joined_is`). If no interface has the
+-- number,
+-- or its device has no such stream, none is asked.
+use Rattle.std.proofs.Common.{
+  ◌≡◌,
+  ℕ,
+  ◌≤◌,
+  List,
+  length,
+  refl,
+  ap,
+  sym,
+  ◌∙◌,
+  ◌+◌,
+  subst,
+  Option,
+  Some,
+  ⊎_elim,
+  Bool,
+  true,
+}
+use Rattle.std.proofs.Common.{false}
+use Rattle.std.specs.Prelude.{slice_get, slice_set, if◌then◌else◌}
+use Rattle.std.specs.Prelude.{◌<◌}
+use Rattle.std.proofs.lemmas.Bool.{cases_Bool, cases_lt}
+use Rattle.ide_types.specs.Lines.{peer_line}
 use Rattle.ide_plan.specs.declared.plan.Plan.{Plan}
+use Rattle.ide_plan.specs.declared.plan.PeerPlan.{PeerPlan}
 use Rattle.link_events.specs.declared.event.Event.TheVariants as event
+use Rattle.link_events.specs.declared.event.InterfaceEvent.{InterfaceEvent}
+use Rattle.link_events.specs.declared.event.InterfaceEvent.TheVariants as ie
 use Rattle.link_events.specs.declared.event.Loss.{Loss}
 use Rattle.link_verdicts.specs.declared.verdict.Verdict.{Verdict}
+use Rattle.link_verdicts.specs.declared.verdict.Verdict.TheVariants as v
+use Rattle.interface_states.specs.Peers.{has_peer}
 use Rattle.interface_states.specs.Sites.{Site, sites}
-use Rattle.interface_states.specs.Views.{number_in}
+use Rattle.interface_states.specs.Views.{number_in, peer_of}
 use Rattle.interface_states.specs.Devices.{accepts_lock, one_if}
 use Rattle.interface_machine.specs.Machine.{around_of, face_after}
-use Rattle.tsm_host.specs.Streams.{status_or_idle}
 use Rattle.tdi_host.specs.declared.operation.InterfaceOp.{InterfaceOp}
 use Rattle.tdi_host.specs.declared.operation.InterfaceOp.TheVariants as op
 use Rattle.tdi_device.specs.Replies.{DeviceTdis}
-use Rattle.tdi_ends.specs.Keepers.{Ended, interface_operated}
-use Rattle.ide_port.specs.{status_in}
-use Rattle.device_side.specs.Ends.{secure_at}
-use Rattle.link_ports.specs.Machine.{LinkState, Stepped, step_of, status_at}
+use Rattle.link_ports.specs.Machine.{Stepped, step_of}
 use Rattle.interface_joins.specs.Faces.{IsFace}
-use Rattle.interface_joins.specs.Joined.{IsInterfaceJoined, InterfaceOperationsJoin}
+use Rattle.interface_joins.specs.Joined.{InterfaceOperationsJoin}
 use Rattle.interface_joins.specs.Verdicts.{op_event}
-use Rattle.world_states.specs.{InterfacesView, Links, links_state, operated_on, SidesAsk}
-use Rattle.whole_machine.specs.Machine.{Whole, secure_in, whole_streams, beside_of, whole_after}
-use Rattle.world_states.specs.Whole.{IsPlaced, IsBeside}
-use Rattle.world_states.proofs.Places.{get_there}
-use Rattle.world_states.proofs.Sites.{is_at, interface_there, interface_absent}
-use Rattle.world_states.proofs.Statuses.{host_status_is, secure_is}
+use Rattle.access_states.specs.{EndsView, has_peer_at, has_peer_in, InterfacesView, Links, links_state, peer_stream}
+use Rattle.access_states.specs.{SidesAsk, SidesPeer}
+use Rattle.whole_machine.specs.Machine.{Whole, ends_in, whole_streams, beside_of, whole_after}
+use Rattle.access_states.specs.{IsPlaced, IsBeside}
+use Rattle.access_states.proofs.{PeerFits, joined_is, peer_fits}
+use Rattle.access_states.proofs.{get_there}
+use Rattle.access_states.proofs.{interface_there, interface_absent}
 use Rattle.world.proofs.Calls.{IsOne, there_beside, nowhere_beside, answer_there}
-use Rattle.world_states.proofs.Kept.{AreBoth, interface_step}
+use Rattle.access_states.proofs.{AreBoth, interface_step, unasked_beside}
+use Rattle.access_states.proofs.{is_of_peer}
 
 op_number : (o : InterfaceOp) (i : ℕ) (loss : Option Loss) → number_in (op_event o i loss) ≡ Some i
 op_number op.Lock i loss = refl
@@ -39,54 +62,34 @@ op_number op.Report i loss = refl
 op_number op.Start i loss = refl
 op_number op.Halt i loss = refl
 op_number op.State i loss = refl
+op_number (op.Bind peer) i loss = refl
+op_number (op.Unbind peer) i loss = refl
 
 module _ (plan : Plan) (old new : Links) (w : Whole) (verdict : Verdict) (both : AreBoth plan old new w)
     (join : InterfaceOperationsJoin) where
-  -- the operation reads of the ports and of the draws what the machine has
-  operated_is : (i : ℕ) (x : Site) (o : InterfaceOp) (loss : Option Loss)
-      (p : IsPlaced plan old.ends old.keeper.interfaces w i x)
-      → interface_operated i o ((whole_streams plan w).host x.link x.plan.stream) (whole_streams plan w).drawn
-      ((whole_streams plan w).secure x.link x.plan.stream) loss old.keeper.interfaces p.link_ends.device.interfaces
-      p.interface
-      ≡ operated_on i o loss old.keeper.keys.pool.draws old.keeper.interfaces p.link_ends p.interface
-  operated_is i x o loss p =
-      let stream = sym p.keeps.managed.laid_out.stream in
-      let host = ap (λ (st : LinkState). status_at plan st Host x.link x.plan.stream) both.whole.links
-      ∙ (sym (host_status_is plan old.ends old.keeper.keys old.packets.packets x.link x.plan.stream p.link_ends
-      both.links p.ends_are)
-      ∙ ap (λ (s : ℕ). status_or_idle (status_in p.link_ends.host s)) stream) in
-      let secure = ap (λ (st : LinkState). secure_in plan st x.link x.plan.stream) both.whole.links
-      ∙ (sym (secure_is plan old.ends old.keeper.keys old.packets.packets x.link x.plan.stream p.link_ends both.links
-      p.ends_are)
-      ∙ ap (secure_at p.link_ends.device.port) stream) in
-      let drawn = ap (λ (st : LinkState). st.draws) both.whole.links in
-      λ n. interface_operated i o (host n) (drawn n) (secure n) loss old.keeper.interfaces p.link_ends.device.interfaces
-      p.interface
+  -- of a stream between devices that the operation names, all is as the machine has it
+  abbrev Fits : Site → InterfaceOp → Type 0
+  Fits x o = PeerFits plan old.ends old.keeper old.packets.packets old.trusted.contents w join both.links
+      both.whole.beside both.whole.drawn both.whole.links x o
 
-  -- what the operation on the interface of this number gave
-  joined_there : (i : ℕ) (x : Site) (o : InterfaceOp) (loss : Option Loss) → slice_get (sites plan) i ≡ Some x
-      → (p : IsPlaced plan old.ends old.keeper.interfaces w i x)
-      → IsInterfaceJoined plan (whole_streams plan w) w.faces.used x p.face i p.place o loss old.keeper.interfaces
-      p.link_ends.device.interfaces
-      (operated_on i o loss old.keeper.keys.pool.draws old.keeper.interfaces p.link_ends p.interface)
-  joined_there i x o loss at p =
-      subst (λ (e : Ended). IsInterfaceJoined plan (whole_streams plan w) w.faces.used x p.face i p.place o loss
-      old.keeper.interfaces p.link_ends.device.interfaces e) (operated_is i x o loss p)
-      (join plan (whole_streams plan w) w.faces.used x p.face i p.place o loss old.keeper.interfaces
-      p.link_ends.device.interfaces p.interface p.tdi
-      (is_at plan old.ends old.keeper.interfaces old.trusted.contents w i x p both.whole.beside both.links.fits at))
+  abbrev IsAsked : InterfaceEvent → Type 0
+  IsAsked e =
+      ◌≡◌ {A = Stepped} (verdict, links_state plan new) (step_of plan (beside_of plan w) w.links (event.Interface e))
+      → IsBeside plan new.ends.links new.keeper.interfaces new.trusted.contents
+      (whole_after plan w (event.Interface e) verdict (links_state plan new))
 
   asked_there : (i : ℕ) (x : Site) (o : InterfaceOp) (loss : Option Loss) → SidesAsk i o loss old new
-      → slice_get (sites plan) i ≡ Some x → verdict ≡ (beside_of plan w).answer (op_event o i loss)
-      → (p : IsPlaced plan old.ends old.keeper.interfaces w i x)
-      → IsOne plan old.ends old.keeper.interfaces w i x p (op_event o i loss) verdict new.ends new.keeper.interfaces
-  asked_there i x o loss sides at verdict_is p =
-      let e = operated_on i o loss old.keeper.keys.pool.draws old.keeper.interfaces p.link_ends p.interface in
-      let j = joined_there i x o loss at p in
+      → slice_get (sites plan) i ≡ Some x → Fits x o → verdict ≡ (beside_of plan w).answer (op_event o i loss)
+      → (p : IsPlaced plan old.ends.links old.keeper.interfaces w i x)
+      → IsOne plan old.ends.links old.keeper.interfaces w i x p (op_event o i loss) verdict new.ends.links
+      new.keeper.interfaces
+  asked_there i x o loss sides at fits verdict_is p =
+      let j = joined_is plan old.ends old.keeper old.packets.packets old.trusted.contents w join both.links
+      both.whole.beside both.whole.drawn both.whole.links i o loss x p at fits in
       let due = verdict_is ∙ answer_there plan w (op_event o i loss) i x p.face (op_number o i loss) at p.face_is in
       let same : j.verdict ≡ verdict = j.verdict_is ∙ sym due in
       let ended = sides.asked (x.link, p.place) p.link_ends p.interface
-      (interface_there plan old.ends old.keeper.interfaces old.trusted.contents w i x p both.whole.beside
+      (interface_there plan old.ends.links old.keeper.interfaces old.trusted.contents w i x p both.whole.beside
       both.links.fits at)
       p.ends_are p.interface_is in
       record {
@@ -94,8 +97,8 @@ module _ (plan : Plan) (old new : Links) (w : Whole) (verdict : Verdict) (both :
         interface = j.interface;
         portion = ap (λ (m : InterfacesView). m.portion) ended.0 ∙ j.portion_is;
         manager = ap (λ (m : InterfacesView). m.interfaces) ended.0 ∙ j.manager_is;
-        ends_are = ended.1
-            ∙ ap (λ (d : DeviceTdis). slice_set old.ends x.link
+        ends_are = ap (λ (e : EndsView). e.links) ended.1
+            ∙ ap (λ (d : DeviceTdis). slice_set old.ends.links x.link
             (record p.link_ends { device = record p.link_ends.device { interfaces = d } }))
             (j.device_is ∙ (λ n. record {
               interfaces = slice_set p.link_ends.device.interfaces.interfaces p.place j.tdi;
@@ -104,25 +107,117 @@ module _ (plan : Plan) (old new : Links) (w : Whole) (verdict : Verdict) (both :
                   (accepts_lock (around_of plan (whole_streams plan w) w.faces.used x p.face) x
                   (event.Interface (op_event o i loss)) (same n) p.face.tdi);
             }));
-        keeps = subst (λ (v : Verdict). IsFace (w.draw x.link x.plan.stream) x j.interface j.tdi
-            (face_after plan (whole_streams plan w) (secure_in plan w.links) w.faces.used
-            (event.Interface (op_event o i loss)) v x p.face)) same j.face;
+        keeps = subst (λ (u : Verdict). IsFace (w.draw x.link x.plan.stream) x j.interface j.tdi
+            (face_after plan (whole_streams plan w) (ends_in plan w.links) w.faces.used
+            (event.Interface (op_event o i loss)) u x p.face)) same j.face;
       }
 
+  -- the operation on an interface that is there
+  there_asked : (i : ℕ) (x : Site) (o : InterfaceOp) (loss : Option Loss) → SidesAsk i o loss old new
+      → slice_get (sites plan) i ≡ Some x → Fits x o → IsAsked (op_event o i loss)
+  there_asked i x o loss sides at fits is =
+      let before = both.whole.beside in
+      there_beside plan old new w (op_event o i loss) verdict i x at before (op_number o i loss) sides.contents
+      (asked_there i x o loss sides at fits
+      (interface_step plan w (links_state plan new) (op_event o i loss) verdict is).0 (before.placed i x at)) is
+
   pub asked_beside : (i : ℕ) (o : InterfaceOp) (loss : Option Loss) → SidesAsk i o loss old new
-      → ◌≡◌ {A = Stepped} (verdict, links_state plan new)
-      (step_of plan (beside_of plan w) w.links (event.Interface (op_event o i loss)))
-      → IsBeside plan new.ends new.keeper.interfaces new.trusted.contents
-      (whole_after plan w (event.Interface (op_event o i loss)) verdict (links_state plan new))
-  asked_beside i o loss sides is =
+      → ((x : Site) → slice_get (sites plan) i ≡ Some x → Fits x o) → IsAsked (op_event o i loss)
+  asked_beside i o loss sides fits is =
       let before = both.whole.beside in
       ⊎_elim
-      (λ lt.
-      let x = get_there (sites plan) i lt in
-      there_beside plan old new w (op_event o i loss) verdict i x.0 x.1 before (op_number o i loss) sides.contents
-      (asked_there i x.0 o loss sides x.1
-      (interface_step plan w (links_state plan new) (op_event o i loss) verdict is).0 (before.placed i x.0 x.1)) is)
+      (λ lt. let x = get_there (sites plan) i lt in there_asked i x.0 o loss sides x.1 (fits x.0 x.1) is)
       (λ past. nowhere_beside plan old new w (op_event o i loss) verdict i both
-      (sides.unnamed (interface_absent plan old.ends old.keeper.interfaces old.trusted.contents w i before past))
+      (sides.unnamed (interface_absent plan old.ends.links old.keeper.interfaces old.trusted.contents w i before past))
       (op_number o i loss) past is)
       (cases_lt i (length (sites plan)))
+
+  -- ---- operations on streams between devices
+
+  -- the device of an interface that is there has the stream exactly if the topology says so
+  has_there : (i line stream : ℕ) (x : Site) → slice_get (sites plan) i ≡ Some x
+      → has_peer_in old.keeper old.ends i line stream ≡ has_peer plan.peers x.link line stream
+  has_there i line stream x at =
+      let p = both.whole.beside.placed i x at in
+      ap (has_peer_at old.ends line stream)
+      (interface_there plan old.ends.links old.keeper.interfaces old.trusted.contents w i x p both.whole.beside
+      both.links.fits at)
+      ∙ ap (λ (ps : List PeerPlan). has_peer ps x.link line stream) both.links.peers_are
+
+  has_nowhere : (i line stream : ℕ) → length (sites plan) ≤ i
+      → has_peer_in old.keeper old.ends i line stream ≡ false
+  has_nowhere i line stream past =
+      ap (has_peer_at old.ends line stream)
+      (interface_absent plan old.ends.links old.keeper.interfaces old.trusted.contents w i both.whole.beside past)
+
+  -- an operation on a stream of this line, by its event
+  record IsPeerOp (i line stream : ℕ) (loss : Option Loss) (o : InterfaceOp) (e : ℕ → InterfaceEvent) : Type 0 where
+    event_is : op_event o i loss ≡ e (peer_line (peer_of line))
+    number_is : number_in (e line) ≡ Some i
+    of_peer : is_of_peer (e line) ≡ true
+    fits : (x : Site) → has_peer plan.peers x.link line stream ≡ true → Fits x o × (line ≡ peer_line (peer_of line))
+    few : (x : Site) → has_peer plan.peers x.link line stream ≡ true → stream < 256
+    answers : (x : Site) → slice_get (sites plan) i ≡ Some x → has_peer plan.peers x.link line stream ≡ false
+        → (beside_of plan w).answer (e line) ≡ v.Nothing
+
+  peer_beside : (i line stream : ℕ) (loss : Option Loss) (o : InterfaceOp) (e : ℕ → InterfaceEvent)
+      → IsPeerOp i line stream loss o e → SidesPeer i line stream o loss old new → IsAsked (e line)
+  peer_beside i line stream loss o e c sides = ⊎_elim
+      (λ lt.
+      let x = get_there (sites plan) i lt in
+      let has_is = has_there i line stream x.0 x.1 in
+      ⊎_elim
+      (λ has.
+      let f = c.fits x.0 has in
+      subst (λ (n : ℕ). IsAsked (e n)) (sym f.1)
+      (subst IsAsked c.event_is (there_asked i x.0 o loss (sides.asked (c.few x.0 has) (has_is ∙ has)) x.1 f.0)))
+      (λ none is.
+      unasked_beside plan old new w verdict (beside_of plan w) both (sides.absent (has_is ∙ none)) (e line) c.of_peer
+      ((interface_step plan w (links_state plan new) (e line) verdict is).0 ∙ c.answers x.0 x.1 none) is)
+      (cases_Bool (has_peer plan.peers x.0.link line stream)))
+      (λ past is. nowhere_beside plan old new w (e line) verdict i both
+      (sides.absent (has_nowhere i line stream past)) c.number_is past is)
+      (cases_lt i (length (sites plan)))
+
+  none_due : (b : Bool) (due : Verdict) → b ≡ false → (if b then due else v.Nothing) ≡ v.Nothing
+  none_due b due none = rw none refl
+
+  peers_fit : (x : Site) (line stream : ℕ) → has_peer plan.peers x.link line stream ≡ true
+      → Fits x (op.Bind (peer_stream old.keeper line stream)) × Fits x (op.Unbind (peer_stream old.keeper line stream))
+      × (line ≡ peer_line (peer_of line))
+  peers_fit = peer_fits plan old.ends old.keeper old.packets.packets old.trusted.contents w join both.links
+      both.whole.beside both.whole.drawn both.whole.links
+
+  pub bind_beside : (i line stream : ℕ) (loss : Option Loss)
+      → SidesPeer i line stream (op.Bind (peer_stream old.keeper line stream)) loss old new
+      → IsAsked (ie.Bind i line stream loss)
+  bind_beside i line stream loss =
+      peer_beside i line stream loss (op.Bind (peer_stream old.keeper line stream)) (λ n. ie.Bind i n stream loss)
+      (record {
+        event_is = refl;
+        number_is = refl;
+        of_peer = refl;
+        fits = λ x has. let f = peers_fit x line stream has in (f.0, f.2);
+        few = λ x has. (peers_fit x line stream has).1.1;
+        answers = λ x at none.
+            let p = both.whole.beside.placed i x at in
+            answer_there plan w (ie.Bind i line stream loss) i x p.face refl at p.face_is
+            ∙ none_due (has_peer plan.peers x.link line stream) _ none;
+      })
+
+  pub unbind_beside : (i line stream : ℕ) (loss : Option Loss)
+      → SidesPeer i line stream (op.Unbind (peer_stream old.keeper line stream)) loss old new
+      → IsAsked (ie.Unbind i line stream loss)
+  unbind_beside i line stream loss =
+      peer_beside i line stream loss (op.Unbind (peer_stream old.keeper line stream)) (λ n. ie.Unbind i n stream loss)
+      (record {
+        event_is = refl;
+        number_is = refl;
+        of_peer = refl;
+        fits = λ x has. let f = peers_fit x line stream has in (f.1, f.2);
+        few = λ x has. (peers_fit x line stream has).1.1;
+        answers = λ x at none.
+            let p = both.whole.beside.placed i x at in
+            answer_there plan w (ie.Unbind i line stream loss) i x p.face refl at p.face_is
+            ∙ none_due (has_peer plan.peers x.link line stream) _ none;
+      })

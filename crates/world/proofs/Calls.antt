@@ -1,13 +1,12 @@
 -- An event on one interface changes that one alone, at its device and at the manager (`one_beside`): no other site has
--- its number, no other interface its place, and only a lock that it accepts takes a nonce. It binds an interface to the
--- stream of the topology alone, and that is Secure (`asked_binds`). A write, a level reset and a firmware update call
--- the device's interface if the machine applies them, and the manager keeps what it kept.
+-- its number, no other interface its place, and only a lock that it accepts takes a nonce. All that it is bound to then
+-- is Secure (`asked_keeps`). A write, a level reset and a firmware update call the device's interface if the machine
+-- applies them, and the manager keeps what it kept.
 use Rattle.std.proofs.Common.{◌≡◌, ℕ, suc, zero, ◌+◌, ◌≤◌, ◌==◌, ◌&&◌, ◌||◌, Bool, true, false, List, [], ◌∷◌}
-use Rattle.std.proofs.Common.{length, refl, ap, sym, ◌∙◌, subst, arith, Option, Some, Result, Ok, Err, inl, inr}
+use Rattle.std.proofs.Common.{length, refl, ap, sym, ◌∙◌, subst, arith, Option, Some, inl, inr}
 use Rattle.std.proofs.Common.{◌⊎◌, ⊎_elim}
 use Rattle.std.specs.Prelude.{slice_get, slice_set, if◌then◌else◌, IfSome}
 use Rattle.std.specs.List.{list_any}
-use Rattle.std.specs.Str.{bytes_eq}
 use Rattle.std.proofs.lemmas.Bool.{cases_Bool, cases_lt, eq-eqb, ne_eqb}
 use Rattle.std.proofs.lemmas.Bool.Decides.{nat_tests}
 use Rattle.std.proofs.lemmas.List.{length-set}
@@ -22,37 +21,37 @@ use Rattle.link_events.specs.declared.event.InterfaceEvent.TheVariants as ie
 use Rattle.link_verdicts.specs.declared.verdict.Verdict.{Verdict}
 use Rattle.link_verdicts.specs.declared.verdict.Verdict.TheVariants as v
 use Rattle.interface_words.specs.declared.verdict.InterfaceVerdict.TheVariants as iv
-use Rattle.tdi_state.specs.declared.states.Lock.{Lock}
 use Rattle.tdi_state.specs.declared.states.TdiState.{TdiState}
 use Rattle.tdi_state.specs.declared.states.TdiState.TheVariants.{ConfigUnlocked, ConfigLocked, Run, Error}
 use Rattle.tdi_state.specs.RegisterValues.{has_bit, changes_listed}
-use Rattle.tdi_state.specs.Machine.{Tdi, bound_stream, lock_flags, lock_answer, new_lock, locked_with}
-use Rattle.tdi_state.specs.Machine.{after_start, after_failure, after_change, Call, LockInterface, StartInterface}
-use Rattle.tdi_state.specs.Machine.{StopInterface, WriteRegister, LevelReset, FirmwareUpdate, StreamLeft, LinkReset}
-use Rattle.tdi_state.specs.Machine.{tdi_after}
-use Rattle.interface_states.specs.Exchanges.{carries, changes_device}
+use Rattle.tdi_state.specs.Machine.{Tdi, bound_stream, lock_flags, after_failure, after_change, Call, WriteRegister}
+use Rattle.tdi_state.specs.Machine.{LevelReset, FirmwareUpdate, tdi_after}
+use Rattle.interface_states.specs.Exchanges.{changes_device}
 use Rattle.interface_states.specs.Sites.{Site, sites}
 use Rattle.interface_states.specs.Views.{Managed, is_number, number_in, on_operation}
-use Rattle.interface_states.specs.Devices.{Around, tdi_if_called, lock_call, tdi_asked, accepts_lock, one_if}
+use Rattle.interface_states.specs.Devices.{Around, tdi_if_called, tdi_asked, accepts_lock, one_if}
 use Rattle.interface_states.specs.Due.{Standing, asked_due}
-use Rattle.interface_machine.specs.Machine.{Face, Streams, around_of, face_after, gives_nonce}
+use Rattle.interface_machine.specs.Machine.{EndsRead, Face, Streams, around_of, face_after, gives_nonce, left_by}
 use Rattle.interface_machine.specs.Machine.{with_each, is_true, face_standing, asked_due_of, answer_to}
 use Rattle.link_ports.specs.Machine.{LinkState, Stepped}
 unfoldable use Rattle.link_ports.specs.Machine.{step_of}
-use Rattle.whole_machine.specs.Machine.{Whole, secure_in, whole_streams, beside_of, whole_after}
+use Rattle.whole_machine.specs.Machine.{Whole, ends_in, whole_streams, beside_of, whole_after}
 use Rattle.whole_machine.specs.Machine.{memory_shown}
 use Rattle.interface_joins.specs.Faces.{IsFace, IsManaged}
+use Rattle.access_states.specs.{Keeps, says_in}
+use Rattle.access_states.proofs.{StaysBound, asked_keeps}
 use Rattle.tdi_device.specs.Replies.{called_at}
 use Rattle.tdi_host.specs.Views.{HostTdi}
 use Rattle.trusted_memory.specs.{MemoryContents, IsLeftBy}
-use Rattle.world_states.specs.{InterfacesView, LinkEnds, Links, links_state, located, SidesCall, SidesKeep}
-use Rattle.link_ends.proofs.Lists.{set_read}
-use Rattle.world_states.specs.Whole.{IsPlaced, IsDevice, IsBeside}
-use Rattle.world_states.proofs.Places.{get_there}
-use Rattle.world_states.proofs.Sites.{site_numbered, face_found, located_apart, located_kept, interface_there}
-use Rattle.world_states.proofs.Sites.{interface_absent}
-use Rattle.world_states.proofs.Faces.{each_at, each_many, none_of}
-use Rattle.world_states.proofs.Kept.{AreBoth, elsewhere_beside, written_kept, interface_step}
+use Rattle.access_states.specs.{EndsView, InterfacesView, LinkEnds, Links, links_state, located, SidesCall, SidesKeep}
+use Rattle.access_states.proofs.{set_read}
+use Rattle.access_states.specs.{IsPlaced, IsDevice, IsBeside}
+use Rattle.access_states.proofs.{get_there}
+use Rattle.access_states.proofs.{site_numbered, face_found, located_apart, located_kept, interface_there}
+use Rattle.access_states.proofs.{interface_absent}
+use Rattle.access_states.proofs.{each_at, each_many, none_of}
+use Rattle.access_states.proofs.{placed_keeps}
+use Rattle.access_states.proofs.{AreBoth, elsewhere_beside, written_kept, interface_step}
 
 -- ---- numbers
 
@@ -121,13 +120,13 @@ only_one g (y ∷ xs) (k ∷ fs) (suc i) x f at there none =
     (only_one g xs fs i x f at there
     (λ j z m at' there' apart. none (suc j) z m at' there' (apart_sooner i j apart)))
 
--- ---- what an interface is bound to
+-- ---- calls that bind an interface to no stream
 
--- P of the stream that it is bound to, if it is bound
-abbrev pub Binds : (ℕ → Type 0) → TdiState → Type 0
+-- P of the stream of its link, if it is bound to it
+abbrev Binds : (ℕ → Type 0) → TdiState → Type 0
 Binds P state = IfSome (bound_stream state) P
 
-pub failure_binds : (P : ℕ → Type 0) (state : TdiState) → Binds P (after_failure state)
+failure_binds : (P : ℕ → Type 0) (state : TdiState) → Binds P (after_failure state)
 failure_binds P ConfigUnlocked = tt
 failure_binds P (ConfigLocked lock nonce) = tt
 failure_binds P (Run lock) = tt
@@ -137,108 +136,28 @@ change_binds : (P : ℕ → Type 0) (b : Bool) (state : TdiState) → Binds P st
 change_binds P true state is = failure_binds P state
 change_binds P false state is = is
 
-run_binds : (P : ℕ → Type 0) (b : Bool) (lock : Lock) (held : List ℕ) → P lock.stream
-    → Binds P (if b then Run lock else ConfigLocked lock held)
-run_binds P true lock held is = is
-run_binds P false lock held is = is
-
-start_binds : (P : ℕ → Type 0) (state : TdiState) (nonce : List ℕ) → Binds P state → Binds P (after_start state nonce)
-start_binds P ConfigUnlocked nonce is = is
-start_binds P (ConfigLocked lock held) nonce is = run_binds P (bytes_eq nonce held) lock held is
-start_binds P (Run lock) nonce is = is
-start_binds P Error nonce is = is
-
--- a lock that is accepted found its stream Secure
-answer_secure : (tdi : Tdi) (flags offset : ℕ) (secure : Bool) (drawn : Option (List ℕ)) (nonce : List ℕ)
-    → lock_answer tdi flags offset secure drawn ≡ Ok nonce → secure ≡ true
-answer_secure tdi flags offset secure drawn nonce is = grind arith
-
-lock_binds : (P : ℕ → Type 0) (tdi : Tdi) (flags stream offset : ℕ) (secure : Bool) (drawn : Option (List ℕ))
-    (answer : Result (List ℕ) ℕ) → lock_answer tdi flags offset secure drawn ≡ answer → (secure ≡ true → P stream)
-    → Binds P tdi.state → Binds P (locked_with tdi (new_lock tdi flags stream offset) answer).state
-lock_binds P tdi flags stream offset secure drawn (Ok nonce) answer binds is =
-    binds (answer_secure tdi flags offset secure drawn nonce answer)
-lock_binds P tdi flags stream offset secure drawn (Err code) answer binds is = is
-
-abbrev MayBind : (ℕ → Type 0) → Call → Type 0
-MayBind P (LockInterface flags stream offset secure drawn) = secure ≡ true → P stream
-MayBind P c = Unit {0}
-
-call_binds : (P : ℕ → Type 0) (tdi : Tdi) (c : Call) → MayBind P c → Binds P tdi.state
-    → Binds P (tdi_after tdi c).state
-call_binds P tdi (LockInterface flags stream offset secure drawn) binds is =
-    lock_binds P tdi flags stream offset secure drawn (lock_answer tdi flags offset secure drawn) refl binds is
-call_binds P tdi (StartInterface nonce) binds is = start_binds P tdi.state nonce is
-call_binds P tdi StopInterface binds is = tt
-call_binds P tdi (WriteRegister register value) binds is =
-    change_binds P (changes_listed (lock_flags tdi.state) tdi.registers register value) tdi.state is
-call_binds P tdi LevelReset binds is = failure_binds P tdi.state
-call_binds P tdi FirmwareUpdate binds is = change_binds P (has_bit 0 (lock_flags tdi.state)) tdi.state is
-call_binds P tdi StreamLeft binds is = failure_binds P tdi.state
-call_binds P tdi LinkReset binds is = tt
-
-pub called_binds : (P : ℕ → Type 0) (b : Bool) (c : Call) (tdi : Tdi) → MayBind P c → Binds P tdi.state
+called_binds : (P : ℕ → Type 0) (b : Bool) (c : Call) (tdi : Tdi)
+    → (Binds P tdi.state → Binds P (tdi_after tdi c).state) → Binds P tdi.state
     → Binds P (tdi_if_called b c tdi).state
-called_binds P true c tdi binds is = call_binds P tdi c binds is
+called_binds P true c tdi binds is = binds is
 called_binds P false c tdi binds is = is
 
-pub asked_binds : (P : ℕ → Type 0) (a : Around) (x : Site) (e : InterfaceEvent) (w : Verdict) (tdi : Tdi)
-    → (a.secure ≡ true → P x.plan.stream) → Binds P tdi.state → Binds P (tdi_asked a x e w tdi).state
-asked_binds P a x (ie.Lock i loss) w tdi binds is = called_binds P (carries w 3) (lock_call a x) tdi binds is
-asked_binds P a x (ie.Report i loss) w tdi binds is = is
-asked_binds P a x (ie.Start i loss) w tdi binds is = called_binds P (carries w 1) (StartInterface a.nonce) tdi tt is
-asked_binds P a x (ie.Halt i loss) w tdi binds is = called_binds P (carries w 1) StopInterface tdi tt is
-asked_binds P a x (ie.State i loss) w tdi binds is = is
-asked_binds P a x (ie.View i) w tdi binds is = is
-asked_binds P a x (ie.Write i register value) w tdi binds is =
-    called_binds P (changes_device w) (WriteRegister register value) tdi tt is
-asked_binds P a x (ie.Flr i) w tdi binds is = called_binds P (changes_device w) LevelReset tdi tt is
-asked_binds P a x (ie.Firmware i) w tdi binds is = called_binds P (changes_device w) FirmwareUpdate tdi tt is
-asked_binds P a x (ie.Memory at len) w tdi binds is = is
-
-if_binds : (P : ℕ → Type 0) (b : Bool) (new old : Tdi) → Binds P new.state → Binds P old.state
-    → Binds P (if b then new else old).state
-if_binds P true new old is was = is
-if_binds P false new old is was = was
-
-lock_plan : (tdi : Tdi) (lock : Lock) (answer : Result (List ℕ) ℕ) → (locked_with tdi lock answer).plan ≡ tdi.plan
-lock_plan tdi lock (Ok nonce) = refl
-lock_plan tdi lock (Err code) = refl
-
-call_plan : (tdi : Tdi) (c : Call) → (tdi_after tdi c).plan ≡ tdi.plan
-call_plan tdi (LockInterface flags stream offset secure drawn) =
-    lock_plan tdi (new_lock tdi flags stream offset) (lock_answer tdi flags offset secure drawn)
-call_plan tdi (StartInterface nonce) = refl
-call_plan tdi StopInterface = refl
-call_plan tdi (WriteRegister register value) = refl
-call_plan tdi LevelReset = refl
-call_plan tdi FirmwareUpdate = refl
-call_plan tdi StreamLeft = refl
-call_plan tdi LinkReset = refl
-
-pub called_plan : (b : Bool) (c : Call) (tdi : Tdi) → (tdi_if_called b c tdi).plan ≡ tdi.plan
-called_plan true c tdi = call_plan tdi c
-called_plan false c tdi = refl
+called_plan : (b : Bool) (c : Call) (tdi : Tdi) → (tdi_after tdi c).plan ≡ tdi.plan
+    → (tdi_if_called b c tdi).plan ≡ tdi.plan
+called_plan true c tdi same = same
+called_plan false c tdi same = refl
 
 -- ---- interfaces of another number
 
-pub other_face : (plan : Plan) (s : Streams) (secure : ℕ → ℕ → Bool) (used : ℕ → ℕ) (e : InterfaceEvent)
-    (verdict : Verdict) (x : Site) (f : Face) → is_number (number_in e) x.number ≡ false
-    → face_after plan s secure used (event.Interface e) verdict x f ≡ f
-other_face plan s secure used e verdict x f other = rw other refl
+other_face : (plan : Plan) (s : Streams) (after : EndsRead) (used : ℕ → ℕ) (e : InterfaceEvent) (verdict : Verdict)
+    (x : Site) (f : Face) → is_number (number_in e) x.number ≡ false
+    → face_after plan s after used (event.Interface e) verdict x f ≡ f
+other_face plan s after used e verdict x f other = rw other refl
 
 other_lock : (a : Around) (x : Site) (e : InterfaceEvent) (verdict : Verdict) (tdi : Tdi)
     → is_number (number_in e) x.number ≡ false → accepts_lock a x (event.Interface e) verdict tdi ≡ false
 other_lock a x (ie.Lock i loss) verdict tdi other = rw other refl
-other_lock a x (ie.Report i loss) verdict tdi other = refl
-other_lock a x (ie.Start i loss) verdict tdi other = refl
-other_lock a x (ie.Halt i loss) verdict tdi other = refl
-other_lock a x (ie.State i loss) verdict tdi other = refl
-other_lock a x (ie.View i) verdict tdi other = refl
-other_lock a x (ie.Write i register value) verdict tdi other = refl
-other_lock a x (ie.Flr i) verdict tdi other = refl
-other_lock a x (ie.Firmware i) verdict tdi other = refl
-other_lock a x (ie.Memory at len) verdict tdi other = refl
+other_lock a x e verdict tdi other = refl
 
 -- ---- places
 
@@ -306,7 +225,7 @@ pub record IsOne (plan : Plan) (ends : List LinkEnds) (m : InterfacesView) (w : 
       (accepts_lock (around_of plan (whole_streams plan w) w.faces.used x p.face) x (event.Interface e) verdict
       p.face.tdi))
   pub keeps : IsFace (w.draw x.link x.plan.stream) x interface tdi
-      (face_after plan (whole_streams plan w) (secure_in plan w.links) w.faces.used (event.Interface e) verdict x
+      (face_after plan (whole_streams plan w) (ends_in plan w.links) w.faces.used (event.Interface e) verdict x
       p.face)
 
 module _ (plan : Plan) (ends : List LinkEnds) (m : InterfacesView) (memory : MemoryContents) (w : Whole)
@@ -329,7 +248,7 @@ module _ (plan : Plan) (ends : List LinkEnds) (m : InterfacesView) (memory : Mem
   ends_now = slice_set ends x.link link_now
 
   abbrev face_of : Site → Face → Face
-  face_of y f = face_after plan streams_now (secure_in plan w.links) w.faces.used (event.Interface e) verdict y f
+  face_of y f = face_after plan streams_now (ends_in plan w.links) w.faces.used (event.Interface e) verdict y f
 
   is_other : (j : ℕ) (y : Site) → slice_get (sites plan) j ≡ Some y → (i == j) ≡ false
       → is_number (number_in e) y.number ≡ false
@@ -380,6 +299,15 @@ module _ (plan : Plan) (ends : List LinkEnds) (m : InterfacesView) (memory : Mem
 
   -- ---- places
 
+  -- all that it is bound to after the event is Secure
+  stays : StaysBound (says_in plan w.links x.link) one.tdi
+  stays =
+      let says = says_in plan w.links x.link in
+      subst (StaysBound says) (sym one.keeps.tdi_is)
+      (asked_keeps says (around_of plan streams_now w.faces.used x p.face)
+      (left_by plan streams_now (ends_in plan w.links) x p.face.tdi) x e verdict p.face.tdi refl refl
+      (subst (Keeps says x.plan) p.keeps.tdi_is (placed_keeps plan ends m w i x p)))
+
   one_placed : IsPlaced plan ends_now m' whole_now i x
   one_placed = record {
     link_ends = link_now;
@@ -394,13 +322,9 @@ module _ (plan : Plan) (ends : List LinkEnds) (m : InterfacesView) (memory : Mem
     face = face_of x p.face;
     face_is = each_at face_of (sites plan) w.faces.list i x p.face at p.face_is;
     keeps = one.keeps;
-    secure =
-        let P : ℕ → Type 0 = λ stream. secure_in plan w.links x.link stream ≡ true in
-        subst (λ (t : Tdi). Binds P t.state) (sym one.keeps.tdi_is)
-        (if_binds P (is_number (number_in e) x.number) _ p.face.tdi
-        (asked_binds P (around_of plan streams_now w.faces.used x p.face) x e verdict p.face.tdi (λ is. is)
-        (subst (λ (t : Tdi). Binds P t.state) p.keeps.tdi_is p.secure))
-        (subst (λ (t : Tdi). Binds P t.state) p.keeps.tdi_is p.secure));
+    secure = stays.secure;
+    bound = stays.bound;
+    held = stays.held;
   }
 
   -- another interface of the link
@@ -423,10 +347,12 @@ module _ (plan : Plan) (ends : List LinkEnds) (m : InterfacesView) (memory : Mem
             ∙ (set_apart m.interfaces i j one.interface apart ∙ q.interface_is);
         face = q.face;
         face_is = each_at face_of (sites plan) w.faces.list j y q.face there q.face_is
-            ∙ ap Some (other_face plan streams_now (secure_in plan w.links) w.faces.used e verdict y q.face
+            ∙ ap Some (other_face plan streams_now (ends_in plan w.links) w.faces.used e verdict y q.face
             (is_other j y there apart));
         keeps = q.keeps;
         secure = q.secure;
+        bound = q.bound;
+        held = q.held;
       }
 
   far_placed : (j : ℕ) (y : Site) → slice_get (sites plan) j ≡ Some y → (i == j) ≡ false → (x.link == y.link) ≡ false
@@ -443,10 +369,12 @@ module _ (plan : Plan) (ends : List LinkEnds) (m : InterfacesView) (memory : Mem
         ∙ (set_apart m.interfaces i j one.interface apart ∙ q.interface_is);
     face = q.face;
     face_is = each_at face_of (sites plan) w.faces.list j y q.face there q.face_is
-        ∙ ap Some (other_face plan streams_now (secure_in plan w.links) w.faces.used e verdict y q.face
+        ∙ ap Some (other_face plan streams_now (ends_in plan w.links) w.faces.used e verdict y q.face
         (is_other j y there apart));
     keeps = q.keeps;
     secure = q.secure;
+    bound = q.bound;
+    held = q.held;
   }
 
   placed_now : (j : ℕ) (y : Site) → slice_get (sites plan) j ≡ Some y → IsPlaced plan ends_now m' whole_now j y
@@ -488,7 +416,7 @@ answer_there plan w e i x f number at there =
 pub nowhere_beside : (plan : Plan) (old new : Links) (w : Whole) (e : InterfaceEvent) (verdict : Verdict) (i : ℕ)
     → AreBoth plan old new w → SidesKeep old new → number_in e ≡ Some i → length (sites plan) ≤ i
     → ◌≡◌ {A = Stepped} (verdict, links_state plan new) (step_of plan (beside_of plan w) w.links (event.Interface e))
-    → IsBeside plan new.ends new.keeper.interfaces new.trusted.contents
+    → IsBeside plan new.ends.links new.keeper.interfaces new.trusted.contents
     (whole_after plan w (event.Interface e) verdict (links_state plan new))
 nowhere_beside plan old new w e verdict i both keep number past is =
     elsewhere_beside plan old new w verdict (beside_of plan w) both keep e is
@@ -503,20 +431,21 @@ nowhere_beside plan old new w e verdict i both keep number past is =
 
 -- an event on an interface that is there
 pub there_beside : (plan : Plan) (old new : Links) (w : Whole) (e : InterfaceEvent) (verdict : Verdict) (i : ℕ)
-    (x : Site) (at : slice_get (sites plan) i ≡ Some x) (before : IsBeside plan old.ends old.keeper.interfaces
+    (x : Site) (at : slice_get (sites plan) i ≡ Some x) (before : IsBeside plan old.ends.links old.keeper.interfaces
     old.trusted.contents w) → number_in e ≡ Some i → new.trusted.contents ≡ old.trusted.contents
-    → IsOne plan old.ends old.keeper.interfaces w i x (before.placed i x at) e verdict new.ends new.keeper.interfaces
+    → IsOne plan old.ends.links old.keeper.interfaces w i x (before.placed i x at) e verdict new.ends.links
+    new.keeper.interfaces
     → ◌≡◌ {A = Stepped} (verdict, links_state plan new) (step_of plan (beside_of plan w) w.links (event.Interface e))
-    → IsBeside plan new.ends new.keeper.interfaces new.trusted.contents
+    → IsBeside plan new.ends.links new.keeper.interfaces new.trusted.contents
     (whole_after plan w (event.Interface e) verdict (links_state plan new))
 there_beside plan old new w e verdict i x at before number contents one is =
-    subst (λ (st : LinkState). IsBeside plan new.ends new.keeper.interfaces new.trusted.contents
+    subst (λ (st : LinkState). IsBeside plan new.ends.links new.keeper.interfaces new.trusted.contents
     (whole_after plan w (event.Interface e) verdict st))
     (sym (interface_step plan w (links_state plan new) e verdict is).1)
-    (subst (λ (c : MemoryContents). IsBeside plan new.ends new.keeper.interfaces c
+    (subst (λ (c : MemoryContents). IsBeside plan new.ends.links new.keeper.interfaces c
     (whole_after plan w (event.Interface e) verdict w.links)) (sym contents)
-    (one_beside plan old.ends old.keeper.interfaces old.trusted.contents w before i x at (before.placed i x at) e
-    verdict number new.ends new.keeper.interfaces one))
+    (one_beside plan old.ends.links old.keeper.interfaces old.trusted.contents w before i x at (before.placed i x at) e
+    verdict number new.ends.links new.keeper.interfaces one))
 
 -- ---- calls
 
@@ -530,7 +459,9 @@ record IsCall (number : ℕ) (test : Tdi → Bool) (call : Call) (e : InterfaceE
       → accepts_lock a x (event.Interface e) verdict tdi ≡ false
   applies : (plan : Plan) (x : Site) (s : Standing) (tdi : Tdi) → tdi.plan ≡ x.plan
       → changes_device (asked_due plan x s e) ≡ test tdi
-  binds : (stream : ℕ) → MayBind (λ s. s ≡ stream) call
+  plans : (tdi : Tdi) → (tdi_after tdi call).plan ≡ tdi.plan
+  binds : (planned : ℕ) (tdi : Tdi) → Binds (λ s. s ≡ planned) tdi.state
+      → Binds (λ s. s ≡ planned) (tdi_after tdi call).state
 
 called_one : (b gives : Bool) (l : LinkEnds) (place : ℕ) (tdi : Tdi) (call : Call) → gives ≡ false
     → slice_get l.device.interfaces.interfaces place ≡ Some tdi
@@ -573,8 +504,8 @@ module _ (plan : Plan) (old new : Links) (w : Whole) (verdict : Verdict) (both :
   called_there : (number : ℕ) (test : Tdi → Bool) (call : Call) (e : InterfaceEvent) (x : Site)
       → IsCall number test call e → SidesCall number test call old new → slice_get (sites plan) number ≡ Some x
       → verdict ≡ (beside_of plan w).answer e
-      → (p : IsPlaced plan old.ends old.keeper.interfaces w number x)
-      → IsOne plan old.ends old.keeper.interfaces w number x p e verdict new.ends new.keeper.interfaces
+      → (p : IsPlaced plan old.ends.links old.keeper.interfaces w number x)
+      → IsOne plan old.ends.links old.keeper.interfaces w number x p e verdict new.ends.links new.keeper.interfaces
   called_there number test call e x c sides at verdict_is p =
       let before = both.whole.beside in
       let due = verdict_is ∙ answer_there plan w e number x p.face c.number_is at p.face_is in
@@ -591,11 +522,11 @@ module _ (plan : Plan) (old new : Links) (w : Whole) (verdict : Verdict) (both :
         portion = ap (λ (m : InterfacesView). m.portion) sides.keeper;
         manager = ap (λ (m : InterfacesView). m.interfaces) sides.keeper
             ∙ sym (set_read old.keeper.interfaces.interfaces number p.interface p.interface_is);
-        ends_are = sides.called (x.link, p.place) p.link_ends p.tdi
-            (interface_there plan old.ends old.keeper.interfaces old.trusted.contents w number x p before
-            both.links.fits at)
-            p.ends_are p.tdi_is
-            ∙ ap (slice_set old.ends x.link)
+        ends_are = ap (λ (v : EndsView). v.links)
+            (sides.called (x.link, p.place) p.link_ends p.tdi
+            (interface_there plan old.ends.links old.keeper.interfaces old.trusted.contents w number x p before
+            both.links.fits at) p.ends_are p.tdi_is)
+            ∙ ap (slice_set old.ends.links x.link)
             (called_one (test p.tdi) _ p.link_ends p.place p.tdi call (c.locks around x verdict p.face.tdi) p.tdi_is);
         keeps = record {
           managed = subst (λ (g : Managed). IsManaged (w.draw x.link x.plan.stream) x p.interface g)
@@ -605,15 +536,16 @@ module _ (plan : Plan) (old new : Links) (w : Whole) (verdict : Verdict) (both :
           tdi_is = (λ n. tdi_if_called (sym applied n) call (p.keeps.tdi_is n)) ∙
               (sym (c.asks around x verdict p.face.tdi)
               ∙ sym (if_taken (is_number (number_in e) x.number) _ p.face.tdi here));
-          layout = called_plan (test p.tdi) call p.tdi ∙ p.keeps.layout;
-          bound = called_binds (λ s. s ≡ x.plan.stream) (test p.tdi) call p.tdi (c.binds x.plan.stream) p.keeps.bound;
+          layout = called_plan (test p.tdi) call p.tdi (c.plans p.tdi) ∙ p.keeps.layout;
+          bound = called_binds (λ s. s ≡ x.plan.stream) (test p.tdi) call p.tdi (c.binds x.plan.stream p.tdi)
+              p.keeps.bound;
         };
       }
 
   called_beside : (number : ℕ) (test : Tdi → Bool) (call : Call) (e : InterfaceEvent) → IsCall number test call e
       → SidesCall number test call old new
       → ◌≡◌ {A = Stepped} (verdict, links_state plan new) (step_of plan (beside_of plan w) w.links (event.Interface e))
-      → IsBeside plan new.ends new.keeper.interfaces new.trusted.contents
+      → IsBeside plan new.ends.links new.keeper.interfaces new.trusted.contents
       (whole_after plan w (event.Interface e) verdict (links_state plan new))
   called_beside number test call e c sides is =
       let before = both.whole.beside in
@@ -624,7 +556,8 @@ module _ (plan : Plan) (old new : Links) (w : Whole) (verdict : Verdict) (both :
       (called_there number test call e x.0 c sides x.1 (interface_step plan w (links_state plan new) e verdict is).0
       (before.placed number x.0 x.1)) is)
       (λ past. nowhere_beside plan old new w e verdict number both
-      (sides.unnamed (interface_absent plan old.ends old.keeper.interfaces old.trusted.contents w number before past))
+      (sides.unnamed (interface_absent plan old.ends.links old.keeper.interfaces old.trusted.contents w number before
+      past))
       c.number_is past is)
       (cases_lt number (length (sites plan)))
 
@@ -634,7 +567,7 @@ module _ (plan : Plan) (old new : Links) (w : Whole) (verdict : Verdict) (both :
       → SidesCall i (λ tdi. has_register tdi.plan register) (WriteRegister register value) old new
       → ◌≡◌ {A = Stepped} (verdict, links_state plan new)
       (step_of plan (beside_of plan w) w.links (event.Interface (ie.Write i register value)))
-      → IsBeside plan new.ends new.keeper.interfaces new.trusted.contents
+      → IsBeside plan new.ends.links new.keeper.interfaces new.trusted.contents
       (whole_after plan w (event.Interface (ie.Write i register value)) verdict (links_state plan new))
   write_beside i register value sides is = called_beside i (λ tdi. has_register tdi.plan register)
       (WriteRegister register value) (ie.Write i register value) (record {
@@ -644,13 +577,15 @@ module _ (plan : Plan) (old new : Links) (w : Whole) (verdict : Verdict) (both :
         locks = λ a x v tdi. refl;
         applies = λ plan x s tdi layout. write_applied (has_register x.plan register) _ _
             ∙ ap (λ (p : InterfacePlan). has_register p register) (sym layout);
-        binds = λ stream. tt;
+        plans = λ tdi. refl;
+        binds = λ planned tdi is. change_binds (λ s. s ≡ planned)
+            (changes_listed (lock_flags tdi.state) tdi.registers register value) tdi.state is;
       }) sides is
 
   pub flr_beside : (i : ℕ) → SidesCall i (λ tdi. true) LevelReset old new
       → ◌≡◌ {A = Stepped} (verdict, links_state plan new)
       (step_of plan (beside_of plan w) w.links (event.Interface (ie.Flr i)))
-      → IsBeside plan new.ends new.keeper.interfaces new.trusted.contents
+      → IsBeside plan new.ends.links new.keeper.interfaces new.trusted.contents
       (whole_after plan w (event.Interface (ie.Flr i)) verdict (links_state plan new))
   flr_beside i sides is = called_beside i (λ tdi. true) LevelReset (ie.Flr i) (record {
     number_is = refl;
@@ -658,13 +593,14 @@ module _ (plan : Plan) (old new : Links) (w : Whole) (verdict : Verdict) (both :
     manages = λ drawn v g. refl;
     locks = λ a x v tdi. refl;
     applies = λ plan x s tdi layout. refl;
-    binds = λ stream. tt;
+    plans = λ tdi. refl;
+    binds = λ planned tdi is. failure_binds (λ s. s ≡ planned) tdi.state;
   }) sides is
 
   pub firmware_beside : (i : ℕ) → SidesCall i (λ tdi. true) FirmwareUpdate old new
       → ◌≡◌ {A = Stepped} (verdict, links_state plan new)
       (step_of plan (beside_of plan w) w.links (event.Interface (ie.Firmware i)))
-      → IsBeside plan new.ends new.keeper.interfaces new.trusted.contents
+      → IsBeside plan new.ends.links new.keeper.interfaces new.trusted.contents
       (whole_after plan w (event.Interface (ie.Firmware i)) verdict (links_state plan new))
   firmware_beside i sides is = called_beside i (λ tdi. true) FirmwareUpdate (ie.Firmware i) (record {
     number_is = refl;
@@ -672,5 +608,7 @@ module _ (plan : Plan) (old new : Links) (w : Whole) (verdict : Verdict) (both :
     manages = λ drawn v g. refl;
     locks = λ a x v tdi. refl;
     applies = λ plan x s tdi layout. refl;
-    binds = λ stream. tt;
+    plans = λ tdi. refl;
+    binds = λ planned tdi is.
+        change_binds (λ s. s ≡ planned) (has_bit 0 (lock_flags tdi.state)) tdi.state is;
   }) sides is

@@ -1,4 +1,6 @@
 pub mod First
+pub mod Told
+pub mod Begins
 pub mod Arrives
 pub mod Calls
 pub mod Asks

@@ -1,14 +1,20 @@
--- An operation on a stream: interfaces follow the device's port, and the manager of interfaces is told what the machine
--- reads off the verdict. An establish gives the stream its draw if one was made, that is, if it began; a refresh does
--- so if it ended; a stop breaks views if it began, as its verdict always tells how far it came. A stream that is not
--- there is not operated on.
-use Rattle.std.proofs.Common.{◌≡◌, ◌⊎◌, inl, inr, ⊎_elim, ℕ, ◌==◌, ◌&&◌, Bool, true, false, length}
+-- An operation on a stream of any line: interfaces follow the ends of their device's streams, and the manager of
+-- interfaces is told what the machine reads off the verdict. An establish gives the stream its draw if one was made,
+-- that
+-- is, if it began; a refresh does so if it ended; a stop breaks views if it began, and of a stream between devices at
+-- each event, as its verdict always tells how far it came. A stream that is not there is not operated on.
+use Rattle.std.proofs.Common.{◌≡◌, ◌⊎◌, inl, inr, ⊎_elim, ℕ, ◌==◌, ◌&&◌, ◌<◌, Bool, true, false, List, length}
 use Rattle.std.proofs.Common.{Option, Some, None, refl, ap, sym, ◌∙◌, subst, arith}
-use Rattle.std.specs.Prelude.{slice_get, not, is_some, nat_lt, nat_le, option_map, if◌then◌else◌}
+use Rattle.std.specs.Prelude.{slice_get, slice_set, not, is_some, nat_lt, nat_le, option_map, if◌then◌else◌}
+use Rattle.std.specs.List.{slice_index_or}
+use Rattle.std.proofs.lemmas.Bool.{cases_Bool, true≢false}
 use Rattle.std.proofs.lemmas.Bool.Decides.{nat_tests}
-use Rattle.std.proofs.lemmas.List.{length-map}
-use Rattle.std.proofs.lemmas.Option.{slice_get-map}
+use Rattle.std.proofs.lemmas.List.{length-map, length-set}
+use Rattle.std.proofs.lemmas.Option.{slice_get-map, slice_get_within}
+use Rattle.ide_types.specs.Lines.{is_link_line, peer_line}
+use Rattle.ide_types.specs.Ports.{host_port}
 use Rattle.ide_plan.specs.declared.plan.Plan.{Plan}
+use Rattle.ide_plan.specs.declared.plan.PeerPlan.{PeerPlan}
 use Rattle.link_events.specs.declared.event.Event.{Event}
 use Rattle.link_events.specs.declared.event.Event.TheVariants as event
 use Rattle.link_events.specs.declared.event.Loss.{Loss}
@@ -16,33 +22,35 @@ use Rattle.link_verdicts.specs.declared.verdict.Operation.{Operation}
 use Rattle.link_verdicts.specs.declared.verdict.Operation.TheVariants as op
 use Rattle.link_verdicts.specs.declared.verdict.Verdict.{Verdict}
 use Rattle.link_verdicts.specs.declared.verdict.Verdict.TheVariants as v
-use Rattle.key_laws.specs.Operations.{Op, Idle, Work, Reach, work_of, reach_of}
+use Rattle.key_laws.specs.Operations.{Op, Idle, work_of, reach_of}
 use Rattle.key_laws.specs.History.{begins_keyed}
-use Rattle.key_laws.specs.Due.{PortView, done, stop_on}
-use Rattle.key_laws.proofs.Performs.{is_cut, performed_is}
 use Rattle.interface_states.specs.Sites.{Site}
-use Rattle.interface_states.specs.Views.{Managed, managed_after, stop_begins, view_broken}
-use Rattle.interface_machine.specs.Machine.{around_of}
+use Rattle.interface_states.specs.Views.{Managed, managed_after, peer_of, stop_begins, view_broken}
 use Rattle.tsm_host.specs.Managers.{ManagerView, Named, named, op_named}
-use Rattle.tdi_host.specs.Views.{HostTdi, broken, left_by_stop, keyed_by}
-use Rattle.tdi_host.specs.Managers.{all_interfaces}
+use Rattle.tdi_host.specs.Views.{HostTdi, broken, left_by_peer_stop, left_by_stop, keyed_by}
+use Rattle.tdi_host.specs.Managers.{all_interfaces, peer_stop}
 use Rattle.trusted_memory.specs.{MemoryContents, IsLeftBy}
 use Rattle.interface_joins.specs.Faces.{IsManaged}
-use Rattle.link_ports.specs.Machine.{Beside, LinkState, Stepped, work_done, draws_after, ports_of}
-use Rattle.link_ports.specs.Machine.{establish_found, refresh_found, stop_found}
-unfoldable use Rattle.link_ports.specs.Machine.{find_op, step_of}
-use Rattle.whole_machine.specs.Machine.{Whole, secure_in, whole_streams, op_or_idle, draw_after, written_after}
+use Rattle.link_ports.specs.Machine.{LinkState, Stepped, find_op, ports_of, step_of}
+use Rattle.whole_machine.specs.Machine.{Whole, whole_streams, op_or_idle, draw_after, written_after}
 use Rattle.whole_machine.specs.Machine.{beside_of}
 use Rattle.whole_machine.specs.Machine.{whole_after, arrival_of}
-use Rattle.world_states.specs.{InterfacesView, keyed_if, Links, links_state, SidesOperate, stopped_if, stream_named}
-use Rattle.world_states.specs.{told_by}
-use Rattle.all_ends.proofs.Streams.{op_is, unnamed}
-use Rattle.world_states.specs.Whole.{IsBeside}
-use Rattle.world_states.proofs.Statuses.{secure_is}
-use Rattle.world_states.proofs.Rests.{is_of_ports, next_of_ports, none_of_ports}
-use Rattle.world_states.proofs.Follows.{led_follows, beside_led}
-use Rattle.world_states.proofs.Kept.{AreBoth, written_kept}
-use Rattle.world.proofs.Resets.{broken_managed, same_link}
+use Rattle.access_states.specs.{EndsView, InterfacesView, keyed_if, Links, links_state, peers_drawn, port_on}
+use Rattle.access_states.specs.{SidesOperate, stopped_if, told_by}
+use Rattle.access_states.specs.{told_by_link, told_by_peer}
+use Rattle.access_states.specs.{stream_named}
+use Rattle.access_states.proofs.{op_is, unnamed}
+use Rattle.access_states.specs.{AreDrawn, IsBeside}
+use Rattle.access_states.proofs.{is_of_ports}
+use Rattle.access_states.proofs.{beside_led, link_few}
+use Rattle.access_states.proofs.{AreBoth, written_kept}
+use Rattle.world.proofs.Arrives.{each_led, only_leaves}
+use Rattle.world.proofs.Told.{keyed_managed, link_stop, none_breaks, one_drawn, peer_stop_breaks, peer_stopped}
+use Rattle.world.proofs.Told.{peer_stream_id, set_managed, stopped_managed, early_line}
+use Rattle.world.proofs.Begins.{establish_done, establish_nothing, refresh_nothing, none_refreshed, stop_nothing}
+use Rattle.world.proofs.Begins.{stop_verdict, drew_is, and_never, and_always, begins_stop, stop_reaches}
+use Rattle.world.proofs.Calls.{same_number}
+use Rattle.world.proofs.Told.{same_link}
 
 -- ---- what the manager is told
 
@@ -64,47 +72,6 @@ told_if false f m = record { portion = refl; many = refl; each = λ i h is. is }
 told_same : (m m' n : InterfacesView) (f : HostTdi → HostTdi) → n ≡ m' → IsTold m m' f → IsTold m n f
 told_same m m' n f same is = subst (λ (k : InterfacesView). IsTold m k f) (sym same) is
 
--- ---- an interface at the manager
-
--- its stream has another draw
-set_managed : (b : Bool) (drawn draw : ℕ) (x : Site) (h : HostTdi) (g : Managed) → IsManaged draw x h g
-    → IsManaged (if b then drawn else draw) x (if b then record h { draw = drawn } else h) g
-set_managed true drawn draw x h g is = record {
-  laid_out = record {
-    link = is.laid_out.link;
-    requester = is.laid_out.requester;
-    stream = is.laid_out.stream;
-    flags = is.laid_out.flags;
-    offset = is.laid_out.offset;
-  };
-  draw_is = refl;
-  needs = is.needs;
-  started = is.started;
-  seen = is.seen;
-  nonce = is.nonce;
-}
-set_managed false drawn draw x h g is = is
-
-keyed_managed : (b one two : Bool) (drawn draw : ℕ) (x : Site) (h : HostTdi) (g : Managed) → IsManaged draw x h g
-    → IsManaged (if one && two && b then drawn else draw) x
-    (if b then (if one && two then record h { draw = drawn } else h) else h) g
-keyed_managed true true true drawn draw x h g is = set_managed true drawn draw x h g is
-keyed_managed true true false drawn draw x h g is = is
-keyed_managed true false two drawn draw x h g is = is
-keyed_managed false true true drawn draw x h g is = is
-keyed_managed false true false drawn draw x h g is = is
-keyed_managed false false two drawn draw x h g is = is
-
-stopped_managed : (b one two : Bool) (draw : ℕ) (x : Site) (h : HostTdi) (g : Managed) → IsManaged draw x h g
-    → IsManaged draw x (if b then (if one && two then record h { seen = broken h.seen } else h) else h)
-    (if one && two && b then record g { view = view_broken g.view } else g)
-stopped_managed true true true draw x h g is = broken_managed true draw x h g is
-stopped_managed true true false draw x h g is = is
-stopped_managed true false two draw x h g is = is
-stopped_managed false true true draw x h g is = is
-stopped_managed false true false draw x h g is = is
-stopped_managed false false two draw x h g is = is
-
 -- the manager's test of a stream is the machine's
 is_bound_there : (link stream : ℕ) (draw : ℕ) (x : Site) (h : HostTdi) (g : Managed) → IsManaged draw x h g
     → ((h.link == link) && (h.stream == stream)) ≡ ((link == x.link) && (stream == x.plan.stream))
@@ -116,170 +83,75 @@ is_bound_there link stream draw x h g is =
 -- ---- the name of a stream
 
 -- there is no such stream, or it is this one
-record IsNamed (m : ManagerView) (links link stream : ℕ) : Type 0 where
+record IsNamed (m : ManagerView) (ends : EndsView) (line stream : ℕ) : Type 0 where
   it : Named
-  here : stream_named m links link stream ≡ Some (link, stream)
-  found : named m link stream ≡ Some it
+  here : stream_named m ends line stream ≡ Some (line, stream)
+  found : named m line stream ≡ Some it
 
-name_by : (a b : Bool) (o : Option Named) (at : ℕ × ℕ)
-    → ((if a then (if b then (if is_some o then Some at else None) else None) else None) ≡ None)
-    ⊎ ((n : Named) × ((if a then (if b then (if is_some o then Some at else None) else None) else None) ≡ Some at)
-    × (o ≡ Some n))
-name_by false b o at = inl refl
-name_by true false o at = inl refl
-name_by true true None at = inl refl
-name_by true true (Some n) at = inr (n, refl, refl)
+name_by : (a b c : Bool) (o : Option Named) (at : ℕ × ℕ)
+    → ((if a && b && c && is_some o then Some at else None) ≡ None)
+    ⊎ ((n : Named) × ((if a && b && c && is_some o then Some at else None) ≡ Some at) × (o ≡ Some n))
+name_by false b c o at = inl refl
+name_by true false c o at = inl refl
+name_by true true false o at = inl refl
+name_by true true true None at = inl refl
+name_by true true true (Some n) at = inr (n, refl, refl)
 
-name_cases : (m : ManagerView) (links link stream : ℕ)
-    → (stream_named m links link stream ≡ None) ⊎ IsNamed m links link stream
-name_cases m links link stream =
+name_cases : (m : ManagerView) (ends : EndsView) (line stream : ℕ)
+    → (stream_named m ends line stream ≡ None) ⊎ IsNamed m ends line stream
+name_cases m ends line stream =
     ⊎_elim (λ none. inl none) (λ n. inr (record { it = n.0; here = n.1; found = n.2 }))
-    (name_by (nat_lt link links) (nat_le stream 255) (named m link stream) (link, stream))
+    (name_by (nat_lt line 32) (nat_le stream 255) (is_some (port_on ends (host_port line))) (named m line stream)
+    (line, stream))
 
--- ---- an operation at the machine
-
-establish_done : (plan : Plan) (beside : Beside) (st after : LinkState) (link stream : ℕ) (loss : Option Loss) (q : Op)
-    (verdict : Verdict) → find_op plan st link stream ≡ Some q
-    → ◌≡◌ {A = Stepped} (verdict, after) (step_of plan beside st (event.Establish link stream loss))
-    → after ≡ work_done plan st link stream (work_of op.Establish q st.draws) (reach_of op.Establish verdict)
-unfolding step_of
-establish_done plan beside st after link stream loss q verdict found is =
-    let step = is ∙ ap (establish_found plan st link stream loss) found in
-    ap (λ (s : Stepped). s.1) step
-    ∙ ap (λ (u : Verdict). work_done plan st link stream (work_of op.Establish q st.draws) (reach_of op.Establish u))
-    (sym (ap (λ (s : Stepped). s.0) step))
-
-establish_nothing : (plan : Plan) (beside : Beside) (st after : LinkState) (link stream : ℕ) (loss : Option Loss)
-    (verdict : Verdict) → find_op plan st link stream ≡ None
-    → ◌≡◌ {A = Stepped} (verdict, after) (step_of plan beside st (event.Establish link stream loss))
-    → verdict ≡ v.Nothing
-unfolding step_of
-establish_nothing plan beside st after link stream loss verdict found is =
-    ap (λ (s : Stepped). s.0) (is ∙ ap (establish_found plan st link stream loss) found)
-
-refresh_nothing : (plan : Plan) (beside : Beside) (st after : LinkState) (link stream : ℕ) (loss : Option Loss)
-    (verdict : Verdict) → find_op plan st link stream ≡ None
-    → ◌≡◌ {A = Stepped} (verdict, after) (step_of plan beside st (event.Refresh link stream loss))
-    → verdict ≡ v.Nothing
-unfolding step_of
-refresh_nothing plan beside st after link stream loss verdict found is =
-    ap (λ (s : Stepped). s.0) (is ∙ ap (refresh_found plan st link stream loss) found)
-
-stop_nothing : (plan : Plan) (beside : Beside) (st after : LinkState) (link stream : ℕ) (loss : Option Loss)
-    (verdict : Verdict) → find_op plan st link stream ≡ None
-    → ◌≡◌ {A = Stepped} (verdict, after) (step_of plan beside st (event.Stop link stream loss))
-    → verdict ≡ v.Nothing
-unfolding step_of
-stop_nothing plan beside st after link stream loss verdict found is =
-    ap (λ (s : Stepped). s.0) (is ∙ ap (stop_found plan st link stream loss) found)
-
-stop_verdict : (plan : Plan) (beside : Beside) (st after : LinkState) (link stream : ℕ) (loss : Option Loss) (q : Op)
-    (verdict : Verdict) → find_op plan st link stream ≡ Some q
-    → ◌≡◌ {A = Stepped} (verdict, after) (step_of plan beside st (event.Stop link stream loss))
-    → verdict ≡ stop_on q st.draws (ports_of plan st) link stream loss
-unfolding step_of
-stop_verdict plan beside st after link stream loss q verdict found is =
-    ap (λ (s : Stepped). s.0) (is ∙ ap (stop_found plan st link stream loss) found)
-
--- ---- which operations begin
-
--- so many draws were made after it
-draws_done : (plan : Plan) (st : LinkState) (link stream : ℕ) (w : Work) (r : Option Reach)
-    → (work_done plan st link stream w r).draws ≡ (if is_some r then draws_after st.draws w else st.draws)
-draws_done plan st link stream w None = refl
-draws_done plan st link stream w (Some r) = refl
-
--- a draw was made if an establish began
-drew_by : (q : Op) (next : ℕ) (b : Bool)
-    → not ((if b then draws_after next (work_of op.Establish q next) else next) == next)
-    ≡ ((work_of op.Establish q next).begins && b)
-drew_by q next b = grind (arith, nat_tests)
-
-drew_is : (plan : Plan) (st after : LinkState) (link stream : ℕ) (q : Op) (verdict : Verdict)
-    → after ≡ work_done plan st link stream (work_of op.Establish q st.draws) (reach_of op.Establish verdict)
-    → not (after.draws == st.draws) ≡ begins_keyed q st.draws verdict
-drew_is plan st after link stream q verdict is =
-    ap (λ (n : ℕ). not (n == st.draws))
-    (ap (λ (s : LinkState). s.draws) is
-    ∙ draws_done plan st link stream (work_of op.Establish q st.draws) (reach_of op.Establish verdict))
-    ∙ drew_by q st.draws (is_some (reach_of op.Establish verdict))
-
-and_never : (b : Bool) → (b && false) ≡ false
-and_never true = refl
-and_never false = refl
-
-and_always : (a b : Bool) → b ≡ true → (a && b) ≡ a
-and_always a b is = grind arith
-
-begins_stop : (q : Op) (a b : ℕ) → (work_of op.Stop q a).begins ≡ (work_of op.Stop q b).begins
-begins_stop q a b = grind arith
-
--- a stop always tells how far it came
-cut_reaches : (x : Verdict) → is_cut x ≡ true → is_some (reach_of op.Stop x) ≡ true
-cut_reaches x cut = grind arith
-
-done_reaches : (link stream : ℕ) (w : Work) → is_some (reach_of op.Stop (done link stream w)) ≡ true
-done_reaches link stream w = grind arith
-
-stop_comes : (link stream : ℕ) (w : Work) (x : Verdict) → (x ≡ done link stream w) ⊎ (is_cut x ≡ true)
-    → is_some (reach_of op.Stop x) ≡ true
-stop_comes link stream w x (inl ended) = ap (λ (y : Verdict). is_some (reach_of op.Stop y)) ended
-    ∙ done_reaches link stream w
-stop_comes link stream w x (inr cut) = cut_reaches x cut
-
-stop_reaches : (q : Op) (next : ℕ) (ports : PortView) (link stream : ℕ) (loss : Option Loss)
-    → is_some (reach_of op.Stop (stop_on q next ports link stream loss)) ≡ true
-stop_reaches q next ports link stream loss =
-    let w = work_of op.Stop q next in
-    stop_comes link stream w _ (performed_is ports link stream loss w)
+-- ---- what it makes of what stands beside the ports
 
 module _ (plan : Plan) (old new : Links) (w : Whole) (verdict : Verdict) (both : AreBoth plan old new w)
-    (o : Operation) (link stream : ℕ) (sides : SidesOperate o link stream verdict old new) where
+    (o : Operation) (line stream : ℕ) (sides : SidesOperate o line stream verdict old new) where
   -- the machine's operation on the stream
-  found_here : (n : IsNamed old.keeper.keys.manager (length old.ends) link stream)
-      → find_op plan w.links link stream ≡ Some n.it.stream.op
-  found_here n = ap (λ (st : LinkState). find_op plan st link stream) both.whole.links
-      ∙ (op_is plan old.ends old.keeper.keys old.packets.packets link stream both.links ∙ ap op_named n.found)
+  found_here : (n : IsNamed old.keeper.keys.manager old.ends line stream)
+      → find_op plan w.links line stream ≡ Some n.it.stream.op
+  found_here n = ap (λ (st : LinkState). find_op plan st line stream) both.whole.links
+      ∙ (op_is plan old.ends old.keeper.keys old.packets.packets line stream both.links ∙ ap op_named n.found)
 
-  found_nowhere : stream_named old.keeper.keys.manager (length old.ends) link stream ≡ None
-      → find_op plan w.links link stream ≡ None
-  found_nowhere none = ap (λ (st : LinkState). find_op plan st link stream) both.whole.links
-      ∙ unnamed plan old.ends old.keeper.keys old.packets.packets link stream both.links (sym none)
+  found_nowhere : stream_named old.keeper.keys.manager old.ends line stream ≡ None
+      → find_op plan w.links line stream ≡ None
+  found_nowhere none = ap (λ (st : LinkState). find_op plan st line stream) both.whole.links
+      ∙ unnamed plan old.ends old.keeper.keys old.packets.packets line stream both.links (sym none)
 
-  told_here : (n : IsNamed old.keeper.keys.manager (length old.ends) link stream)
-      → new.keeper.interfaces ≡ told_by o link stream n.it.stream.op w.links.draws (links_state plan new).draws verdict
+  told_here : (n : IsNamed old.keeper.keys.manager old.ends line stream)
+      → new.keeper.interfaces ≡ told_by o line stream n.it.stream.op w.links.draws (links_state plan new).draws verdict
       old.keeper.interfaces
   told_here n = sides.told n.it n.here n.found
-      ∙ ap (λ (st : LinkState). told_by o link stream n.it.stream.op st.draws (links_state plan new).draws verdict
+      ∙ ap (λ (st : LinkState). told_by o line stream n.it.stream.op st.draws (links_state plan new).draws verdict
       old.keeper.interfaces) (sym both.whole.links)
 
-  -- the interfaces follow their ports, and the manager is told so
+  drawn_here : (n : IsNamed old.keeper.keys.manager old.ends line stream)
+      → new.keeper.peer_draws ≡ peers_drawn o line w.links.draws (links_state plan new).draws old.keeper.peer_draws
+  drawn_here n = sides.drawn n.it n.here n.found
+      ∙ ap (λ (st : LinkState). peers_drawn o line st.draws (links_state plan new).draws old.keeper.peer_draws)
+      (sym both.whole.links)
+
+  -- the interfaces follow the ends of their device's streams, and the manager is told so
   operated_beside : (e : Event) (f : HostTdi → HostTdi) → is_of_ports e verdict ≡ true
       → arrival_of plan w.links e ≡ None → IsTold old.keeper.interfaces new.keeper.interfaces f
-      → ((x : Site) (h : HostTdi) (g : Managed) → IsManaged (w.draw x.link x.plan.stream) x h g
+      → ((x : Site) (h : HostTdi) (g : Managed) → x.link < 8 → IsManaged (w.draw x.link x.plan.stream) x h g
       → IsManaged (draw_after (whole_streams plan w).op w.links.draws e verdict w.draw x.link x.plan.stream) x (f h)
       (managed_after (whole_streams plan w).op w.links.draws x e verdict g))
-      → IsBeside plan new.ends new.keeper.interfaces new.trusted.contents
+      → IsBeside plan new.ends.links new.keeper.interfaces new.trusted.contents
       (whole_after plan w e verdict (links_state plan new))
   operated_beside e f ports none told managed =
-      beside_led plan w e verdict (links_state plan new) old.ends new.ends old.keeper.interfaces new.keeper.interfaces
-      old.trusted.contents new.trusted.contents both.whole.beside (record {
+      beside_led plan w e verdict (links_state plan new) old.ends.links new.ends.links old.keeper.interfaces
+      new.keeper.interfaces old.trusted.contents new.trusted.contents both.links.fits both.whole.beside (record {
         many = both.links_after.many ∙ sym both.links.many;
-        led = λ k l l' was now. led_follows plan w.links (links_state plan new) k l l'
-            (λ s. ap (λ (st : LinkState). secure_in plan st k s) both.whole.links
-            ∙ sym (secure_is plan old.ends old.keeper.keys old.packets.packets k s l both.links was))
-            (λ s. sym (secure_is plan new.ends new.keeper.keys new.packets.packets k s l' both.links_after now))
-            (sides.devices k l l' was now);
-        only = λ i x f at there. record {
-          next = next_of_ports (around_of plan (whole_streams plan w) w.faces.used x f) _ x e verdict f.tdi ports;
-          none = none_of_ports (around_of plan (whole_streams plan w) w.faces.used x f) x e verdict f.tdi ports;
-        };
+        led = each_led plan old new w both sides.devices;
+        only = λ i x g at there. only_leaves plan w e verdict (links_state plan new) x g ports;
         portion = told.portion;
         interfaces = told.many;
         managed = λ i x h g at is there kept. record {
           interface = f h;
           interface_is = told.each i h is;
-          managed = managed x h g.managed kept;
+          managed = managed x h g.managed (link_few plan i x both.links.fits at) kept;
         };
         regions = ap (λ (c : MemoryContents). c.regions) sides.contents ∙ both.whole.beside.regions;
         written = subst (λ (c : MemoryContents). IsLeftBy c (written_after plan w e verdict)) (sym sides.contents)
@@ -287,142 +159,374 @@ module _ (plan : Plan) (old new : Links) (w : Whole) (verdict : Verdict) (both :
             both.whole.beside.written);
       })
 
+  -- it tells the manager nothing
+  untold_beside : (e : Event) → is_of_ports e verdict ≡ true → arrival_of plan w.links e ≡ None
+      → new.keeper.interfaces ≡ old.keeper.interfaces
+      → ((x : Site) (g : Managed) → x.link < 8
+      → draw_after (whole_streams plan w).op w.links.draws e verdict w.draw x.link x.plan.stream
+      ≡ w.draw x.link x.plan.stream)
+      → ((x : Site) (g : Managed) → x.link < 8
+      → managed_after (whole_streams plan w).op w.links.draws x e verdict g ≡ g)
+      → IsBeside plan new.ends.links new.keeper.interfaces new.trusted.contents
+      (whole_after plan w e verdict (links_state plan new))
+  untold_beside e ports none told draw kept =
+      operated_beside e (λ h. h) ports none
+      (told_same old.keeper.interfaces old.keeper.interfaces new.keeper.interfaces (λ h. h) told
+      (record { portion = refl; many = refl; each = λ i h is. is }))
+      (λ x h g few is.
+      subst (λ (n : ℕ). IsManaged n x h (managed_after (whole_streams plan w).op w.links.draws x e verdict g))
+      (sym (draw x g few)) (subst (IsManaged (w.draw x.link x.plan.stream) x h) (sym (kept x g few)) is))
+
+-- ---- lines
+
+link_early : (line : ℕ) → is_link_line line ≡ true → nat_le 24 line ≡ false
+link_early line is = grind (arith, nat_tests)
+
+-- another line than that of a link is none of an interface's
+far_line : (line link : ℕ) → is_link_line line ≡ false → link < 8 → (line == link) ≡ false
+far_line line link is few = grind (arith, nat_tests)
+
+if_far : {A : Type 0} (a b c : Bool) (m n : A) → a ≡ false → (if a && b && c then m else n) ≡ n
+if_far a b c m n far = rw far refl
+
 -- ---- each of them
 
 module _ (plan : Plan) (old new : Links) (w : Whole) (verdict : Verdict) (both : AreBoth plan old new w)
-    (link stream : ℕ) (loss : Option Loss) where
-  -- the stream has the next draw, or not
-  establish_told : (b : Bool) → SidesOperate op.Establish link stream verdict old new
-      → new.keeper.interfaces ≡ keyed_if b link stream w.links.draws old.keeper.interfaces
-      → begins_keyed ((whole_streams plan w).op link stream) w.links.draws verdict ≡ b
-      → IsBeside plan new.ends new.keeper.interfaces new.trusted.contents
-      (whole_after plan w (event.Establish link stream loss) verdict (links_state plan new))
-  establish_told b sides told begins =
-      operated_beside plan old new w verdict both op.Establish link stream sides (event.Establish link stream loss)
-      (λ h. if b then keyed_by link stream w.links.draws h else h) refl refl
-      (told_same old.keeper.interfaces _ new.keeper.interfaces _ told
-      (told_if b (keyed_by link stream w.links.draws) old.keeper.interfaces))
-      (λ x h g is.
-      let bound = is_bound_there link stream (w.draw x.link x.plan.stream) x h g is in
-      subst (λ (c : Bool). IsManaged
-      (if (link == x.link) && (stream == x.plan.stream)
-      && begins_keyed ((whole_streams plan w).op link stream) w.links.draws verdict
-      then w.links.draws else w.draw x.link x.plan.stream) x
-      (if b then (if c then record h { draw = w.links.draws } else h) else h) g) (sym bound)
-      (subst (λ (c : Bool). IsManaged
-      (if (link == x.link) && (stream == x.plan.stream) && c then w.links.draws else w.draw x.link x.plan.stream) x
-      (if b then (if (link == x.link) && (stream == x.plan.stream) then record h { draw = w.links.draws } else h)
-      else h) g) (sym begins)
-      (keyed_managed b (link == x.link) (stream == x.plan.stream) w.links.draws (w.draw x.link x.plan.stream) x h g
-      is)))
+    (line stream : ℕ) (loss : Option Loss) where
+  abbrev IsAfter : Event → Type 0
+  IsAfter e = IsBeside plan new.ends.links new.keeper.interfaces new.trusted.contents
+      (whole_after plan w e verdict (links_state plan new))
 
-  pub establish_beside : SidesOperate op.Establish link stream verdict old new
-      → ◌≡◌ {A = Stepped} (verdict, links_state plan new)
-      (step_of plan (beside_of plan w) w.links (event.Establish link stream loss))
-      → IsBeside plan new.ends new.keeper.interfaces new.trusted.contents
-      (whole_after plan w (event.Establish link stream loss) verdict (links_state plan new))
-  establish_beside sides is = ⊎_elim
+  abbrev Steps : Event → Type 0
+  Steps e = ◌≡◌ {A = Stepped} (verdict, links_state plan new) (step_of plan (beside_of plan w) w.links e)
+
+  -- ---- what is told on each kind of line
+
+  told_link : (o : Operation) (q : Op) (before after : ℕ) → is_link_line line ≡ true
+      → told_by o line stream q before after verdict old.keeper.interfaces
+      ≡ told_by_link o line stream q before after verdict old.keeper.interfaces
+  told_link o q before after here =
+      ap (λ (b : Bool). if b then told_by_link o line stream q before after verdict old.keeper.interfaces
+      else if nat_le 24 line then told_by_peer o line old.keeper.interfaces else old.keeper.interfaces) here
+
+  told_far : (o : Operation) (q : Op) (before after : ℕ) → is_link_line line ≡ false
+      → told_by o line stream q before after verdict old.keeper.interfaces
+      ≡ (if nat_le 24 line then told_by_peer o line old.keeper.interfaces else old.keeper.interfaces)
+  told_far o q before after far =
+      ap (λ (b : Bool). if b then told_by_link o line stream q before after verdict old.keeper.interfaces
+      else if nat_le 24 line then told_by_peer o line old.keeper.interfaces else old.keeper.interfaces) far
+
+  peer_or_none : (b : Bool) → (if b then old.keeper.interfaces else old.keeper.interfaces) ≡ old.keeper.interfaces
+  peer_or_none true = refl
+  peer_or_none false = refl
+
+  -- ---- establish
+
+  abbrev Begins : Bool → Type 0
+  Begins b = begins_keyed ((whole_streams plan w).op line stream) w.links.draws verdict ≡ b
+
+  -- whether the stream has the next draw, and what the manager was told of it
+  record IsEstablished : Type 0 where
+    began : Bool
+    begins : Begins began
+    keyed : is_link_line line ≡ true
+        → new.keeper.interfaces ≡ keyed_if began line stream w.links.draws old.keeper.interfaces
+    untold : is_link_line line ≡ false → new.keeper.interfaces ≡ old.keeper.interfaces
+    drawn : new.keeper.peer_draws
+        ≡ (if nat_le 24 line && began then slice_set old.keeper.peer_draws (peer_of line) w.links.draws
+        else old.keeper.peer_draws)
+    named : began ≡ true → (p : ℕ) (q : PeerPlan) → slice_get plan.peers p ≡ Some q → (line == peer_line p) ≡ true
+        → (stream == q.id) ≡ true
+
+  no_set : {A : Type 0} (a : Bool) (m n : A) → n ≡ (if a && false then m else n)
+  no_set true m n = refl
+  no_set false m n = refl
+
+  establish_told : SidesOperate op.Establish line stream verdict old new → Steps (event.Establish line stream loss)
+      → IsEstablished
+  establish_told sides is = ⊎_elim
       (λ none.
-      let nothing = establish_nothing plan (beside_of plan w) w.links (links_state plan new) link stream loss verdict
-      (found_nowhere plan old new w verdict both op.Establish link stream sides none) is in
-      establish_told false sides (sides.unnamed none)
-      (ap (begins_keyed ((whole_streams plan w).op link stream) w.links.draws) nothing ∙ and_never _))
+      let nothing = establish_nothing plan (beside_of plan w) w.links (links_state plan new) line stream loss verdict
+      (found_nowhere plan old new w verdict both op.Establish line stream sides none) is in
+      record {
+        began = false;
+        begins = ap (begins_keyed ((whole_streams plan w).op line stream) w.links.draws) nothing ∙ and_never _;
+        keyed = λ here. (sides.unnamed none).0;
+        untold = λ far. (sides.unnamed none).0;
+        drawn = (sides.unnamed none).1 ∙ no_set (nat_le 24 line) _ old.keeper.peer_draws;
+        named = λ no. absurd (true≢false (sym no));
+      })
       (λ n.
-      let found = found_here plan old new w verdict both op.Establish link stream sides n in
-      let done = establish_done plan (beside_of plan w) w.links (links_state plan new) link stream loss n.it.stream.op
-      verdict found is in
-      establish_told (not ((links_state plan new).draws == w.links.draws)) sides
-      (told_here plan old new w verdict both op.Establish link stream sides n)
-      (ap (λ (q : Option Op). begins_keyed (op_or_idle q) w.links.draws verdict) found
-      ∙ sym (drew_is plan w.links (links_state plan new) link stream n.it.stream.op verdict done)))
-      (name_cases old.keeper.keys.manager (length old.ends) link stream)
+      let found = found_here plan old new w verdict both op.Establish line stream sides n in
+      let finished = establish_done plan (beside_of plan w) w.links (links_state plan new) line stream loss
+      n.it.stream.op verdict found is in
+      let told = told_here plan old new w verdict both op.Establish line stream sides n in
+      record {
+        began = not ((links_state plan new).draws == w.links.draws);
+        begins = ap (λ (q : Option Op). begins_keyed (op_or_idle q) w.links.draws verdict) found
+            ∙ sym (drew_is plan w.links (links_state plan new) line stream n.it.stream.op verdict finished);
+        keyed = λ here. told ∙ told_link op.Establish n.it.stream.op w.links.draws (links_state plan new).draws here;
+        untold = λ far. told ∙ told_far op.Establish n.it.stream.op w.links.draws (links_state plan new).draws far
+            ∙ peer_or_none (nat_le 24 line);
+        drawn = drawn_here plan old new w verdict both op.Establish line stream sides n;
+        named = λ began p q at here. this_id n.it.stream.op p q at here found;
+      })
+      (name_cases old.keeper.keys.manager old.ends line stream)
+    where
+      this_id : (o : Op) (p : ℕ) (q : PeerPlan) → slice_get plan.peers p ≡ Some q → (line == peer_line p) ≡ true
+          → find_op plan w.links line stream ≡ Some o → (stream == q.id) ≡ true
+      this_id o p q at here found = peer_stream_id plan w.links p stream q o at
+          (ap (λ (n : ℕ). find_op plan w.links n stream) (sym (same_number line (peer_line p) here)) ∙ found)
 
-  -- the stream has the draw of the refresh that ended
-  refresh_told : (q : Op) (before after : ℕ) (u : Verdict) → verdict ≡ u
-      → SidesOperate op.Refresh link stream verdict old new
-      → new.keeper.interfaces ≡ told_by op.Refresh link stream q before after u old.keeper.interfaces
-      → IsBeside plan new.ends new.keeper.interfaces new.trusted.contents
-      (whole_after plan w (event.Refresh link stream loss) verdict (links_state plan new))
-  refresh_told q before after (v.Refreshed a b j) same sides told =
-      operated_beside plan old new w verdict both op.Refresh link stream sides (event.Refresh link stream loss)
-      (λ h. if true then keyed_by link stream j h else h) refl refl
-      (told_same old.keeper.interfaces _ new.keeper.interfaces _ told
-      (told_if true (keyed_by link stream j) old.keeper.interfaces))
-      (λ x h g is.
-      let bound = is_bound_there link stream (w.draw x.link x.plan.stream) x h g is in
-      subst (λ (u : Verdict). IsManaged (draw_after (whole_streams plan w).op w.links.draws
-      (event.Refresh link stream loss) u w.draw x.link x.plan.stream) x (keyed_by link stream j h) g) (sym same)
+  establish_of_link : (e : IsEstablished) → is_link_line line ≡ true
+      → SidesOperate op.Establish line stream verdict old new → IsAfter (event.Establish line stream loss)
+  establish_of_link e here sides =
+      operated_beside plan old new w verdict both op.Establish line stream sides (event.Establish line stream loss)
+      (λ h. if e.began then keyed_by line stream w.links.draws h else h) refl refl
+      (told_same old.keeper.interfaces _ new.keeper.interfaces _ (e.keyed here)
+      (told_if e.began (keyed_by line stream w.links.draws) old.keeper.interfaces))
+      (λ x h g few is.
+      let bound = is_bound_there line stream (w.draw x.link x.plan.stream) x h g is in
+      subst (λ (c : Bool). IsManaged
+      (if (line == x.link) && (stream == x.plan.stream)
+      && begins_keyed ((whole_streams plan w).op line stream) w.links.draws verdict
+      then w.links.draws else w.draw x.link x.plan.stream) x
+      (if e.began then (if c then record h { draw = w.links.draws } else h) else h) g) (sym bound)
       (subst (λ (c : Bool). IsManaged
-      (if (link == x.link) && (stream == x.plan.stream) then j else w.draw x.link x.plan.stream) x
-      (if c then record h { draw = j } else h) g) (sym bound)
-      (set_managed ((link == x.link) && (stream == x.plan.stream)) j (w.draw x.link x.plan.stream) x h g is)))
-  refresh_told q before after u same sides told =
-      operated_beside plan old new w verdict both op.Refresh link stream sides (event.Refresh link stream loss)
-      (λ h. if false then keyed_by link stream 0 h else h) refl refl
-      (told_same old.keeper.interfaces _ new.keeper.interfaces _ told
-      (told_if false (keyed_by link stream 0) old.keeper.interfaces))
-      (λ x h g is. subst (λ (t : Verdict). IsManaged (draw_after (whole_streams plan w).op w.links.draws
-      (event.Refresh link stream loss) t w.draw x.link x.plan.stream) x h g) (sym same) is)
+      (if (line == x.link) && (stream == x.plan.stream) && c then w.links.draws else w.draw x.link x.plan.stream) x
+      (if e.began then (if (line == x.link) && (stream == x.plan.stream) then record h { draw = w.links.draws } else h)
+      else h) g) (sym e.begins)
+      (keyed_managed e.began (line == x.link) (stream == x.plan.stream) w.links.draws (w.draw x.link x.plan.stream) x h
+      g is)))
 
-  pub refresh_beside : SidesOperate op.Refresh link stream verdict old new
-      → ◌≡◌ {A = Stepped} (verdict, links_state plan new)
-      (step_of plan (beside_of plan w) w.links (event.Refresh link stream loss))
-      → IsBeside plan new.ends new.keeper.interfaces new.trusted.contents
-      (whole_after plan w (event.Refresh link stream loss) verdict (links_state plan new))
-  refresh_beside sides is = ⊎_elim
+  pub establish_beside : SidesOperate op.Establish line stream verdict old new
+      → Steps (event.Establish line stream loss) → IsAfter (event.Establish line stream loss)
+  establish_beside sides is =
+      let e = establish_told sides is in
+      ⊎_elim (λ here. establish_of_link e here sides)
+      (λ far. untold_beside plan old new w verdict both op.Establish line stream sides
+      (event.Establish line stream loss) refl refl (e.untold far)
+      (λ x g few. if_far (line == x.link) (stream == x.plan.stream)
+      (begins_keyed ((whole_streams plan w).op line stream) w.links.draws verdict) w.links.draws
+      (w.draw x.link x.plan.stream) (far_line line x.link far few))
+      (λ x g few. refl))
+      (cases_Bool (is_link_line line))
+
+  -- a stream between devices that began has the draw
+  pub establish_drawn : SidesOperate op.Establish line stream verdict old new
+      → Steps (event.Establish line stream loss)
+      → AreDrawn plan new.keeper.peer_draws (draw_after (whole_streams plan w).op w.links.draws
+      (event.Establish line stream loss) verdict w.draw)
+  establish_drawn sides is =
+      let e = establish_told sides is in
+      let before = both.whole.drawn in
+      record {
+        many = ap (λ (ns : List ℕ). length ns) e.drawn ∙ many_set (nat_le 24 line && e.began) ∙ before.many;
+        each = λ p q at.
+            ap (λ (ns : List ℕ). slice_index_or ns p 0) e.drawn
+            ∙ one_drawn old.keeper.peer_draws line stream w.links.draws (w.draw (peer_line p) q.id) p q.id e.began
+            (omega (arith, slice_get_within plan.peers p q at, both.links.fits.peers_most, before.many))
+            (before.each p q at)
+            (λ began late here. e.named began p q at here)
+            ∙ (λ i. if (line == peer_line p) && (stream == q.id) && sym e.begins i then w.links.draws
+            else w.draw (peer_line p) q.id);
+      }
+    where
+      many_set : (b : Bool)
+          → length (if b then slice_set old.keeper.peer_draws (peer_of line) w.links.draws
+          else old.keeper.peer_draws) ≡ length old.keeper.peer_draws
+      many_set true = length-set old.keeper.peer_draws (peer_of line) w.links.draws
+      many_set false = refl
+
+  -- ---- refresh
+
+  -- the stream of a link has the draw of the refresh that ended
+  refresh_told : (q : Op) (before after : ℕ) (u : Verdict) → verdict ≡ u
+      → SidesOperate op.Refresh line stream verdict old new
+      → new.keeper.interfaces ≡ told_by_link op.Refresh line stream q before after u old.keeper.interfaces
+      → IsAfter (event.Refresh line stream loss)
+  refresh_told q before after (v.Refreshed a b j) same sides told =
+      operated_beside plan old new w verdict both op.Refresh line stream sides (event.Refresh line stream loss)
+      (λ h. if true then keyed_by line stream j h else h) refl refl
+      (told_same old.keeper.interfaces _ new.keeper.interfaces _ told
+      (told_if true (keyed_by line stream j) old.keeper.interfaces))
+      (λ x h g few is.
+      let bound = is_bound_there line stream (w.draw x.link x.plan.stream) x h g is in
+      subst (λ (u : Verdict). IsManaged (draw_after (whole_streams plan w).op w.links.draws
+      (event.Refresh line stream loss) u w.draw x.link x.plan.stream) x (keyed_by line stream j h) g) (sym same)
+      (subst (λ (c : Bool). IsManaged
+      (if (line == x.link) && (stream == x.plan.stream) then j else w.draw x.link x.plan.stream) x
+      (if c then record h { draw = j } else h) g) (sym bound)
+      (set_managed ((line == x.link) && (stream == x.plan.stream)) j (w.draw x.link x.plan.stream) x h g is)))
+  refresh_told q before after u same sides told =
+      untold_beside plan old new w verdict both op.Refresh line stream sides (event.Refresh line stream loss) refl refl
+      told
+      (λ x g few. ap (λ (t : Verdict). draw_after (whole_streams plan w).op w.links.draws
+      (event.Refresh line stream loss) t w.draw x.link x.plan.stream) same)
+      (λ x g few. refl)
+
+  -- on another line than that of a link it tells nothing
+  refresh_far : SidesOperate op.Refresh line stream verdict old new → is_link_line line ≡ false
+      → new.keeper.interfaces ≡ old.keeper.interfaces
+  refresh_far sides far = ⊎_elim (λ none. (sides.unnamed none).0)
+      (λ n. told_here plan old new w verdict both op.Refresh line stream sides n
+      ∙ told_far op.Refresh n.it.stream.op w.links.draws (links_state plan new).draws far
+      ∙ peer_or_none (nat_le 24 line))
+      (name_cases old.keeper.keys.manager old.ends line stream)
+
+  refresh_of_link : SidesOperate op.Refresh line stream verdict old new → is_link_line line ≡ true
+      → Steps (event.Refresh line stream loss) → IsAfter (event.Refresh line stream loss)
+  refresh_of_link sides here is = ⊎_elim
       (λ none.
       refresh_told Idle 0 0 v.Nothing
-      (refresh_nothing plan (beside_of plan w) w.links (links_state plan new) link stream loss verdict
-      (found_nowhere plan old new w verdict both op.Refresh link stream sides none) is) sides (sides.unnamed none))
+      (refresh_nothing plan (beside_of plan w) w.links (links_state plan new) line stream loss verdict
+      (found_nowhere plan old new w verdict both op.Refresh line stream sides none) is) sides (sides.unnamed none).0)
       (λ n. refresh_told n.it.stream.op w.links.draws (links_state plan new).draws verdict refl sides
-      (told_here plan old new w verdict both op.Refresh link stream sides n))
-      (name_cases old.keeper.keys.manager (length old.ends) link stream)
+      (told_here plan old new w verdict both op.Refresh line stream sides n
+      ∙ told_link op.Refresh n.it.stream.op w.links.draws (links_state plan new).draws here))
+      (name_cases old.keeper.keys.manager old.ends line stream)
 
-  -- a stop began, or not
-  stop_told : (b : Bool) → SidesOperate op.Stop link stream verdict old new
-      → new.keeper.interfaces ≡ stopped_if b link stream old.keeper.interfaces
-      → stop_begins ((whole_streams plan w).op link stream) w.links.draws verdict ≡ b
-      → IsBeside plan new.ends new.keeper.interfaces new.trusted.contents
-      (whole_after plan w (event.Stop link stream loss) verdict (links_state plan new))
-  stop_told b sides told begins =
-      operated_beside plan old new w verdict both op.Stop link stream sides (event.Stop link stream loss)
-      (λ h. if b then left_by_stop link stream h else h) refl refl
+  pub refresh_beside : SidesOperate op.Refresh line stream verdict old new → Steps (event.Refresh line stream loss)
+      → IsAfter (event.Refresh line stream loss)
+  refresh_beside sides is = ⊎_elim (λ here. refresh_of_link sides here is)
+      (λ far. refresh_told Idle 0 0 v.Nothing
+      (none_refreshed plan (beside_of plan w) w.links (links_state plan new) line stream loss verdict far is) sides
+      (refresh_far sides far))
+      (cases_Bool (is_link_line line))
+
+  -- no stream between devices has another draw
+  refresh_elsewhere : (u : Verdict) (p id : ℕ) → nat_le 24 line ≡ false
+      → draw_after (whole_streams plan w).op w.links.draws (event.Refresh line stream loss) u w.draw (peer_line p) id
+      ≡ w.draw (peer_line p) id
+  refresh_elsewhere (v.Refreshed a b j) p id early = two_far (line == peer_line p) (early_line line p early)
+    where
+      two_far : (c : Bool) → c ≡ false
+          → (if c && (stream == id) then j else w.draw (peer_line p) id) ≡ w.draw (peer_line p) id
+      two_far c far = rw far refl
+  refresh_elsewhere u p id early = refl
+
+  refresh_draws : Steps (event.Refresh line stream loss) → (p id : ℕ)
+      → draw_after (whole_streams plan w).op w.links.draws (event.Refresh line stream loss) verdict w.draw
+      (peer_line p) id ≡ w.draw (peer_line p) id
+  refresh_draws is p id = ⊎_elim (λ here. refresh_elsewhere verdict p id (link_early line here))
+      (λ far. ap (λ (u : Verdict). draw_after (whole_streams plan w).op w.links.draws
+      (event.Refresh line stream loss) u w.draw (peer_line p) id)
+      (none_refreshed plan (beside_of plan w) w.links (links_state plan new) line stream loss verdict far is))
+      (cases_Bool (is_link_line line))
+
+  pub refresh_drawn : SidesOperate op.Refresh line stream verdict old new → Steps (event.Refresh line stream loss)
+      → AreDrawn plan new.keeper.peer_draws (draw_after (whole_streams plan w).op w.links.draws
+      (event.Refresh line stream loss) verdict w.draw)
+  refresh_drawn sides is =
+      let same : new.keeper.peer_draws ≡ old.keeper.peer_draws = ⊎_elim (λ none. (sides.unnamed none).1)
+      (λ n. drawn_here plan old new w verdict both op.Refresh line stream sides n)
+      (name_cases old.keeper.keys.manager old.ends line stream) in
+      let before = both.whole.drawn in
+      record {
+        many = ap (λ (ns : List ℕ). length ns) same ∙ before.many;
+        each = λ p q at. ap (λ (ns : List ℕ). slice_index_or ns p 0) same ∙ before.each p q at
+            ∙ sym (refresh_draws is p q.id);
+      }
+
+  -- ---- stop
+
+  stop_of_link : (b : Bool) → SidesOperate op.Stop line stream verdict old new
+      → new.keeper.interfaces ≡ stopped_if b line stream old.keeper.interfaces
+      → stop_begins ((whole_streams plan w).op line stream) w.links.draws verdict ≡ b → nat_le 24 line ≡ false
+      → IsAfter (event.Stop line stream loss)
+  stop_of_link b sides told begins early =
+      operated_beside plan old new w verdict both op.Stop line stream sides (event.Stop line stream loss)
+      (λ h. if b then left_by_stop line stream h else h) refl refl
       (told_same old.keeper.interfaces _ new.keeper.interfaces _ told
-      (told_if b (left_by_stop link stream) old.keeper.interfaces))
-      (λ x h g is.
-      let bound = is_bound_there link stream (w.draw x.link x.plan.stream) x h g is in
-      subst (λ (c : Bool). IsManaged (w.draw x.link x.plan.stream) x
+      (told_if b (left_by_stop line stream) old.keeper.interfaces))
+      (λ x h g few is.
+      let bound = is_bound_there line stream (w.draw x.link x.plan.stream) x h g is in
+      subst (IsManaged (w.draw x.link x.plan.stream) x (if b then left_by_stop line stream h else h))
+      (sym (link_stop (whole_streams plan w).op w.links.draws x line stream loss verdict g early))
+      (subst (λ (c : Bool). IsManaged (w.draw x.link x.plan.stream) x
       (if b then (if c then record h { seen = broken h.seen } else h) else h)
-      (if (link == x.link) && (stream == x.plan.stream)
-      && stop_begins ((whole_streams plan w).op link stream) w.links.draws verdict
+      (if (line == x.link) && (stream == x.plan.stream)
+      && stop_begins ((whole_streams plan w).op line stream) w.links.draws verdict
       then record g { view = view_broken g.view } else g)) (sym bound)
       (subst (λ (c : Bool). IsManaged (w.draw x.link x.plan.stream) x
-      (if b then (if (link == x.link) && (stream == x.plan.stream) then record h { seen = broken h.seen } else h)
+      (if b then (if (line == x.link) && (stream == x.plan.stream) then record h { seen = broken h.seen } else h)
       else h)
-      (if (link == x.link) && (stream == x.plan.stream) && c then record g { view = view_broken g.view } else g))
+      (if (line == x.link) && (stream == x.plan.stream) && c then record g { view = view_broken g.view } else g))
       (sym begins)
-      (stopped_managed b (link == x.link) (stream == x.plan.stream) (w.draw x.link x.plan.stream) x h g is)))
+      (stopped_managed b (line == x.link) (stream == x.plan.stream) (w.draw x.link x.plan.stream) x h g is))))
 
-  pub stop_beside : SidesOperate op.Stop link stream verdict old new
-      → ◌≡◌ {A = Stepped} (verdict, links_state plan new)
-      (step_of plan (beside_of plan w) w.links (event.Stop link stream loss))
-      → IsBeside plan new.ends new.keeper.interfaces new.trusted.contents
-      (whole_after plan w (event.Stop link stream loss) verdict (links_state plan new))
-  stop_beside sides is = ⊎_elim
-      (λ none.
-      let nothing = stop_nothing plan (beside_of plan w) w.links (links_state plan new) link stream loss verdict
-      (found_nowhere plan old new w verdict both op.Stop link stream sides none) is in
-      stop_told false sides (sides.unnamed none)
-      (ap (stop_begins ((whole_streams plan w).op link stream) w.links.draws) nothing ∙ and_never _))
-      (λ n.
-      let found = found_here plan old new w verdict both op.Stop link stream sides n in
+  -- of a stream between devices
+  stop_of_peer : SidesOperate op.Stop line stream verdict old new → is_link_line line ≡ false → nat_le 24 line ≡ true
+      → is_some (reach_of op.Stop verdict) ≡ true
+      → new.keeper.interfaces ≡ peer_stop (peer_of line) old.keeper.interfaces → IsAfter (event.Stop line stream loss)
+  stop_of_peer sides far late reaches told =
+      operated_beside plan old new w verdict both op.Stop line stream sides (event.Stop line stream loss)
+      (left_by_peer_stop (peer_of line)) refl refl
+      (told_same old.keeper.interfaces _ new.keeper.interfaces _ told
+      (told_if true (left_by_peer_stop (peer_of line)) old.keeper.interfaces))
+      (λ x h g few is. subst (IsManaged (w.draw x.link x.plan.stream) x (left_by_peer_stop (peer_of line) h))
+      (sym (peer_stop_breaks (whole_streams plan w).op w.links.draws x line stream loss verdict g late
+      (far_line line x.link far few) reaches))
+      (peer_stopped (peer_of line) (w.draw x.link x.plan.stream) x h g is))
+
+  if_late : (b : Bool) → b ≡ true
+      → (if b then told_by_peer op.Stop line old.keeper.interfaces else old.keeper.interfaces)
+      ≡ peer_stop (peer_of line) old.keeper.interfaces
+  if_late b late = rw late refl
+
+  if_early : (b : Bool) → b ≡ false
+      → (if b then told_by_peer op.Stop line old.keeper.interfaces else old.keeper.interfaces)
+      ≡ old.keeper.interfaces
+  if_early b early = rw early refl
+
+  -- of a stream that is not there
+  stop_nowhere : SidesOperate op.Stop line stream verdict old new
+      → stream_named old.keeper.keys.manager old.ends line stream ≡ None → Steps (event.Stop line stream loss)
+      → IsAfter (event.Stop line stream loss)
+  stop_nowhere sides none is =
+      let nothing = stop_nothing plan (beside_of plan w) w.links (links_state plan new) line stream loss verdict
+      (found_nowhere plan old new w verdict both op.Stop line stream sides none) is in
+      untold_beside plan old new w verdict both op.Stop line stream sides (event.Stop line stream loss) refl refl
+      (sides.unnamed none).0 (λ x g few. refl)
+      (λ x g few. none_breaks (whole_streams plan w).op w.links.draws x line stream loss verdict g
+      (ap (λ (u : Verdict). is_some (reach_of op.Stop u)) nothing))
+
+  stop_here : SidesOperate op.Stop line stream verdict old new → IsNamed old.keeper.keys.manager old.ends line stream
+      → Steps (event.Stop line stream loss) → IsAfter (event.Stop line stream loss)
+  stop_here sides n is =
+      let found = found_here plan old new w verdict both op.Stop line stream sides n in
       let q = n.it.stream.op in
-      let said = stop_verdict plan (beside_of plan w) w.links (links_state plan new) link stream loss q verdict found is
+      let said = stop_verdict plan (beside_of plan w) w.links (links_state plan new) line stream loss q verdict found is
       in
-      stop_told (work_of op.Stop q 0).begins sides (told_here plan old new w verdict both op.Stop link stream sides n)
+      let reaches : is_some (reach_of op.Stop verdict) ≡ true =
+      ap (λ (u : Verdict). is_some (reach_of op.Stop u)) said
+      ∙ stop_reaches q w.links.draws (ports_of plan w.links) line stream loss in
+      let told = told_here plan old new w verdict both op.Stop line stream sides n in
+      let draws = (links_state plan new).draws in
+      ⊎_elim
+      (λ here. stop_of_link (work_of op.Stop q 0).begins sides (told ∙ told_link op.Stop q w.links.draws draws here)
       (ap (λ (r : Option Op). stop_begins (op_or_idle r) w.links.draws verdict) found
-      ∙ (and_always (work_of op.Stop q w.links.draws).begins (is_some (reach_of op.Stop verdict))
-      (ap (λ (u : Verdict). is_some (reach_of op.Stop u)) said
-      ∙ stop_reaches q w.links.draws (ports_of plan w.links) link stream loss)
-      ∙ begins_stop q w.links.draws 0)))
-      (name_cases old.keeper.keys.manager (length old.ends) link stream)
+      ∙ (and_always (work_of op.Stop q w.links.draws).begins (is_some (reach_of op.Stop verdict)) reaches
+      ∙ begins_stop q w.links.draws 0)) (link_early line here))
+      (λ far. ⊎_elim
+      (λ late. stop_of_peer sides far late reaches
+      (told ∙ told_far op.Stop q w.links.draws draws far ∙ if_late (nat_le 24 line) late))
+      (λ early.
+      untold_beside plan old new w verdict both op.Stop line stream sides (event.Stop line stream loss) refl refl
+      (told ∙ told_far op.Stop q w.links.draws draws far ∙ if_early (nat_le 24 line) early) (λ x g few. refl)
+      (λ x g few. link_stop (whole_streams plan w).op w.links.draws x line stream loss verdict g early
+      ∙ if_far (line == x.link) (stream == x.plan.stream) _ _ g (far_line line x.link far few)))
+      (cases_Bool (nat_le 24 line)))
+      (cases_Bool (is_link_line line))
+
+  pub stop_beside : SidesOperate op.Stop line stream verdict old new → Steps (event.Stop line stream loss)
+      → IsAfter (event.Stop line stream loss)
+  stop_beside sides is = ⊎_elim (λ none. stop_nowhere sides none is) (λ n. stop_here sides n is)
+      (name_cases old.keeper.keys.manager old.ends line stream)
+
+  pub stop_drawn : SidesOperate op.Stop line stream verdict old new
+      → AreDrawn plan new.keeper.peer_draws w.draw
+  stop_drawn sides = subst (λ (ns : List ℕ). AreDrawn plan ns w.draw)
+      (sym (⊎_elim (λ none. (sides.unnamed none).1)
+      (λ n. drawn_here plan old new w verdict both op.Stop line stream sides n)
+      (name_cases old.keeper.keys.manager old.ends line stream))) both.whole.drawn

@@ -1,254 +1,251 @@
 -- A reset of a link makes each interface of its device new and breaks each view of the manager there, as the machine
--- does; no lock stands there afterwards, and all else is as before. A reset of a link that is not there changes
--- nothing.
-use Rattle.std.proofs.Common.{◌≡◌, ℕ, ◌<◌, ◌==◌, Bool, true, false, List, length, refl, ap, sym, ◌∙◌, subst}
-use Rattle.std.proofs.Common.{arith, Some, ⊎_elim}
-use Rattle.std.specs.Prelude.{slice_get, slice_set, map, replicate, nat_lt, option_map, if◌then◌else◌}
+-- does; no lock stands there afterwards. An interface of another device leaves its lock if the reset cuts a stream
+-- between devices that it is bound to. All else is as before. A reset of a link that is not there changes nothing.
+use Rattle.std.proofs.Common.{◌≡◌, ℕ, ◌<◌, ◌==◌, ◌||◌, Bool, true, false, List, [], ◌∷◌, length, refl, ap, sym, ◌∙◌}
+use Rattle.std.proofs.Common.{arith, Some, ⊎_elim, inl, subst}
+use Rattle.std.specs.Prelude.{slice_get, map, nat_lt, option_map, if◌then◌else◌}
 use Rattle.std.proofs.lemmas.Bool.{cases_Bool, cases_lt, lt-ltb}
 use Rattle.std.proofs.lemmas.Bool.Decides.{nat_tests}
 use Rattle.std.proofs.lemmas.List.{length-map}
-use Rattle.std.proofs.lemmas.List.Elements.{All-replicate}
-use Rattle.std.proofs.lemmas.Option.{same_Some, slice_get-map}
-use Rattle.ide_plan.specs.Fits.{IsKey}
+use Rattle.std.proofs.lemmas.Option.{slice_get-map, slice_get_within}
+use Rattle.ide_types.specs.declared.port.PortName.{PortName}
 use Rattle.ide_plan.specs.declared.plan.Plan.{Plan}
+use Rattle.link_events.specs.declared.event.Event.{Event}
 use Rattle.link_events.specs.declared.event.Event.TheVariants as event
 use Rattle.link_verdicts.specs.declared.verdict.Verdict.{Verdict}
 use Rattle.link_verdicts.specs.declared.verdict.Verdict.TheVariants as v
 use Rattle.tdi_state.specs.Machine.{Tdi, LinkReset, tdi_after}
+use Rattle.tdi_device.specs.Replies.{DeviceTdis, reset_tdis, settled_tdi, settled_tdis}
 use Rattle.interface_states.specs.Sites.{Site, sites}
-use Rattle.interface_states.specs.Views.{Managed, view_broken}
-use Rattle.interface_states.specs.Devices.{tdi_if_called}
-use Rattle.interface_machine.specs.Machine.{Face, face_after}
-use Rattle.tdi_host.specs.Views.{HostTdi, Seen, IsUnlocked, IsLocked, IsRunning, IsDoubt, IsBroken, nonce_of, broken}
-use Rattle.tdi_host.specs.Views.{left_by_reset}
+use Rattle.interface_states.specs.Views.{view_broken}
+use Rattle.interface_states.specs.Devices.{reset_call, tdi_if_called}
+use Rattle.interface_machine.specs.Machine.{Face, face_after, left_by}
+use Rattle.tdi_host.specs.Views.{HostTdi, broken, left_by_reset}
 use Rattle.trusted_memory.specs.{MemoryContents, IsLeftBy}
-use Rattle.interface_joins.specs.Faces.{SeenAs, IsManaged}
+use Rattle.interface_joins.specs.Faces.{IsManaged}
+use Rattle.device_side.specs.Ends.{secure_with}
+use Rattle.access_states.specs.{says_in}
+use Rattle.access_states.proofs.{keeps_free}
 use Rattle.link_ports.specs.Machine.{Beside, LinkState, Stepped, reset_state}
 unfoldable use Rattle.link_ports.specs.Machine.{step_of}
-use Rattle.world_states.specs.{InterfacesView, LinkEnds, Links, links_state, located, reset_ends, SidesReset}
-use Rattle.whole_machine.specs.Machine.{Whole, secure_in, whole_streams, beside_of, whole_after}
-use Rattle.world_states.specs.Whole.{IsPlaced, IsDevice, IsBeside}
-use Rattle.world_states.proofs.Places.{get_there}
-use Rattle.world_states.proofs.Statuses.{secure_is}
-use Rattle.world_states.proofs.Faces.{each_at, each_many, used_kept}
-use Rattle.world_states.proofs.Kept.{AreBoth, absent_beside}
-use Rattle.world.proofs.Calls.{Binds, called_binds, called_plan, set_there, set_apart, set_item, located_set}
-use Rattle.world.proofs.Calls.{same_number}
+use Rattle.access_states.specs.{reset_if}
+use Rattle.access_states.specs.{InterfacesView, LinkEnds, Links, links_state, live_on, located, SidesReset}
+use Rattle.whole_machine.specs.Machine.{Whole, ends_in, whole_streams, beside_of, whole_after}
+use Rattle.access_states.specs.{IsPlaced, IsDevice, IsBeside}
+use Rattle.access_states.proofs.{get_there}
+use Rattle.access_states.proofs.{located_kept}
+use Rattle.access_states.proofs.{each_at, each_many, used_kept}
+use Rattle.access_states.proofs.{IsLed, IsManagedAfter, OnlyLeaves, SameDevice, led_follows, placed_led}
+use Rattle.access_states.proofs.{shows_state}
+use Rattle.access_states.proofs.{AreBoth, absent_beside}
+use Rattle.world.proofs.Told.{broken_managed, same_link}
 
--- ---- a view that is broken
+-- ---- a device
 
-zero_key : IsKey (replicate 32 0)
-zero_key = (refl, All-replicate (λ b. b < 256) 32 0 (omega arith))
-
-broken_nonce : (s : Seen) → IsKey (nonce_of s) → IsKey (nonce_of (broken s))
-broken_nonce IsUnlocked is = is
-broken_nonce (IsLocked nonce is_reported) is = zero_key
-broken_nonce (IsRunning floor) is = zero_key
-broken_nonce IsDoubt is = zero_key
-broken_nonce IsBroken is = zero_key
-
-broken_seen : (s : Seen) (g : Managed) → SeenAs s g → SeenAs (broken s) (record g { view = view_broken g.view })
-broken_seen IsUnlocked g is = ap view_broken is
-broken_seen (IsLocked nonce is_reported) g is = ap view_broken is.0
-broken_seen (IsRunning floor) g is = ap view_broken is.0
-broken_seen IsDoubt g is = ap view_broken is
-broken_seen IsBroken g is = ap view_broken is
-
-pub broken_managed : (b : Bool) (draw : ℕ) (x : Site) (h : HostTdi) (g : Managed) → IsManaged draw x h g
-    → IsManaged draw x (if b then record h { seen = broken h.seen } else h)
-    (if b then record g { view = view_broken g.view } else g)
-broken_managed true draw x h g is = record {
-  laid_out = record {
-    link = is.laid_out.link;
-    requester = is.laid_out.requester;
-    stream = is.laid_out.stream;
-    flags = is.laid_out.flags;
-    offset = is.laid_out.offset;
-  };
-  draw_is = is.draw_is;
-  needs = is.needs;
-  started = is.started;
-  seen = broken_seen h.seen g is.seen;
-  nonce = broken_nonce h.seen is.nonce;
+-- it has as many interfaces, and gave no nonce
+reset_same : (own : Bool) (is_secure : ℕ → Bool) (d : DeviceTdis)
+    → SameDevice d (settled_tdis is_secure (reset_if own d))
+reset_same true is_secure d = record {
+  nonces = refl;
+  used = refl;
+  many = length-map (reset_tdis d).interfaces (settled_tdi is_secure)
+      ∙ length-map d.interfaces (λ (t : Tdi). tdi_after t LinkReset);
 }
-broken_managed false draw x h g is = is
+reset_same false is_secure d =
+    record { nonces = refl; used = refl; many = length-map d.interfaces (settled_tdi is_secure) }
+
+-- new interfaces have no lock to leave
+none_settled : (is_secure : ℕ → Bool) (ts : List Tdi)
+    → map (settled_tdi is_secure) (map (λ (t : Tdi). tdi_after t LinkReset) ts)
+    ≡ map (λ (t : Tdi). tdi_after t LinkReset) ts
+none_settled is_secure [] = refl
+none_settled is_secure (t ∷ ts) = ap (λ (us : List Tdi). tdi_after t LinkReset ∷ us) (none_settled is_secure ts)
 
 -- ---- the step of the machine
 
-done_verdict : (plan : Plan) (beside : Beside) (st : LinkState) (link : ℕ) → nat_lt link (length plan.links) ≡ true
-    → (step_of plan beside st (event.Reset link)).0 ≡ v.Reset link
+done_verdict : (plan : Plan) (beside : Beside) (st : LinkState) (link : ℕ) (ends : List PortName)
+    → nat_lt link (length plan.links) ≡ true → (step_of plan beside st (event.Reset link ends)).0 ≡ v.Reset link
 unfolding step_of
-done_verdict plan beside st link there =
+done_verdict plan beside st link ends there =
     ap (λ (s : Stepped). s.0)
-    (ap (λ (b : Bool). if b then (v.Reset link, reset_state plan st link) else (v.Nothing, st)) there)
+    (ap (λ (b : Bool). if b then (v.Reset link, reset_state plan st ends) else (v.Nothing, st)) there)
+
+turned : (a b : ℕ) → (a == b) ≡ (b == a)
+turned a b = grind (arith, nat_tests)
 
 -- ---- a link that is there
 
-pub same_link : (a b link : ℕ) → a ≡ b → (a == link) ≡ (link == b)
-same_link a b link same = rw same (grind (arith, nat_tests))
-
-module _ (plan : Plan) (old new : Links) (w : Whole) (both : AreBoth plan old new w) (link : ℕ)
+module _ (plan : Plan) (old new : Links) (w : Whole) (both : AreBoth plan old new w) (link : ℕ) (ends : List PortName)
     (sides : SidesReset link old new) where
+  abbrev e : Event
+  e = event.Reset link ends
+
+  abbrev done : Verdict
+  done = v.Reset link
+
+  abbrev after : LinkState
+  after = links_state plan new
+
   abbrev whole_now : Whole
-  whole_now = whole_after plan w (event.Reset link) (v.Reset link) (links_state plan new)
+  whole_now = whole_after plan w e done after
 
   abbrev face_of : Site → Face → Face
-  face_of x f = face_after plan (whole_streams plan w) (secure_in plan (links_state plan new)) w.faces.used
-      (event.Reset link) (v.Reset link) x f
+  face_of x f = face_after plan (whole_streams plan w) (ends_in plan after) w.faces.used e done x f
 
-  module _ (there : link < length old.ends) (l : LinkEnds) (is : slice_get old.ends link ≡ Some l)
-      (ends : new.ends ≡ slice_set old.ends link (reset_ends l)) where
+  -- what a reset makes of an interface: by whether it is on the link
+  abbrev called : Site → Tdi → Bool → Tdi
+  called x tdi own = tdi_if_called (own || left_by plan (whole_streams plan w) (ends_in plan after) x tdi)
+      (reset_call own) tdi
+
+  module _ (there : link < length old.ends.links) where
+    device_is : (k : ℕ) (l l' : LinkEnds) → slice_get old.ends.links k ≡ Some l → slice_get new.ends.links k ≡ Some l'
+        → (b : Bool) → (k == link) ≡ b
+        → l'.device.interfaces
+        ≡ settled_tdis (secure_with l'.device.port (live_on new.ends k)) (reset_if b l.device.interfaces)
+    device_is k l l' at at' b own =
+        sides.devices there k l l' at at'
+        ∙ ap (λ (c : Bool). settled_tdis (secure_with l'.device.port (live_on new.ends k))
+        (reset_if c l.device.interfaces)) own
+
+    same_device : (k : ℕ) (l l' : LinkEnds) → slice_get old.ends.links k ≡ Some l
+        → slice_get new.ends.links k ≡ Some l' → SameDevice l.device.interfaces l'.device.interfaces
+    same_device k l l' at at' =
+        subst (SameDevice l.device.interfaces) (sym (sides.devices there k l l' at at'))
+        (reset_same (k == link) (secure_with l'.device.port (live_on new.ends k)) l.device.interfaces)
+
+    -- another device is led by the ends of its streams
+    other_led : (k : ℕ) (l l' : LinkEnds) → slice_get old.ends.links k ≡ Some l → slice_get new.ends.links k ≡ Some l'
+        → (k == link) ≡ false → IsLed plan w.links after k l l'
+    other_led k l l' at at' far =
+        subst (λ (st : LinkState). IsLed plan st after k l l') (sym both.whole.links)
+        (led_follows plan (links_state plan old) after old.ends new.ends k l l'
+        (shows_state plan old.ends old.keeper.keys old.packets.packets k l both.links at)
+        (shows_state plan new.ends new.keeper.keys new.packets.packets k l' both.links_after at')
+        (inl (device_is k l l' at at' false far)))
+
+    many_now : length new.ends.links ≡ length old.ends.links
+    many_now = both.links_after.many ∙ sym both.links.many
+
+    located_now : (i : ℕ) → located 0 i new.ends.links ≡ located 0 i old.ends.links
+    located_now i = located_kept 0 i old.ends.links new.ends.links many_now
+        (λ k l l' at at'. (same_device k l l' at at').many)
+
     used_now : (k : ℕ) → whole_now.faces.used k ≡ w.faces.used k
-    used_now k = used_kept plan (whole_streams plan w) (secure_in plan (links_state plan new)) (event.Reset link)
-        (v.Reset link) w.faces (λ i x f at kept. refl) k
+    used_now k = used_kept plan (whole_streams plan w) (ends_in plan after) e done w.faces (λ i x f at kept. refl) k
 
-    device_now : (k : ℕ) (y : LinkEnds) → slice_get (slice_set old.ends link (reset_ends l)) k ≡ Some y
-        → IsDevice plan whole_now k y
-    device_now k y at = ⊎_elim
-        (λ same. subst (λ (n : ℕ). IsDevice plan whole_now n y) same.0
-        (subst (λ (z : LinkEnds). IsDevice plan whole_now link z) same.1
-        (let d = both.whole.beside.devices link l is in record {
-          nonces = d.nonces;
-          used = d.used ∙ sym (used_now link);
-          many = λ p planned. length-map l.device.interfaces.interfaces (λ (t : Tdi). tdi_after t LinkReset)
-              ∙ d.many p planned;
-        })))
-        (λ other. let d = both.whole.beside.devices k y other.1 in record {
-          nonces = d.nonces;
-          used = d.used ∙ sym (used_now k);
-          many = d.many;
-        }) (set_item old.ends link k (reset_ends l) y at)
-
-    -- an interface at its device, of the link or of another
-    record IsReset (x : Site) (place : ℕ) (tdi : Tdi) : Type 0 where
-      link_ends : LinkEnds
-      ends_are : slice_get new.ends x.link ≡ Some link_ends
-      tdi_is : slice_get link_ends.device.interfaces.interfaces place
-          ≡ Some (tdi_if_called (link == x.link) LinkReset tdi)
-      secure : Binds (λ stream. secure_in plan (links_state plan new) x.link stream ≡ true)
-          (tdi_if_called (link == x.link) LinkReset tdi).state
-
-    reset_here : (i : ℕ) (x : Site) (p : IsPlaced plan old.ends old.keeper.interfaces w i x) → (link == x.link) ≡ true
-        → IsReset x p.place p.tdi
-    reset_here i x p here =
-        let same : link ≡ x.link = same_number link x.link here in
-        let link_is : l ≡ p.link_ends =
-        same_Some l p.link_ends (sym is ∙ (ap (slice_get old.ends) same ∙ p.ends_are)) in
-        let again = sym here in
+    device_now : (k : ℕ) (l' : LinkEnds) → slice_get new.ends.links k ≡ Some l' → IsDevice plan whole_now k l'
+    device_now k l' at' =
+        let l = get_there old.ends.links k (omega (arith, many_now, slice_get_within new.ends.links k l' at')) in
+        let same = same_device k l.0 l' l.1 at' in
+        let d = both.whole.beside.devices k l.0 l.1 in
         record {
-          link_ends = reset_ends p.link_ends;
-          ends_are = ap (λ (es : List LinkEnds). slice_get es x.link) ends
-              ∙ (ap (slice_get (slice_set old.ends link (reset_ends l))) (sym same)
-              ∙ (set_there old.ends link l (reset_ends l) is ∙ ap (λ (y : LinkEnds). Some (reset_ends y)) link_is));
-          tdi_is = slice_get-map (λ (t : Tdi). tdi_after t LinkReset) p.link_ends.device.interfaces.interfaces p.place
-              ∙ (ap (option_map (λ (t : Tdi). tdi_after t LinkReset)) p.tdi_is
-              ∙ ap (λ (b : Bool). Some (tdi_if_called b LinkReset p.tdi)) again);
-          secure = subst (λ (b : Bool). Binds
-              (λ stream. secure_in plan (links_state plan new) x.link stream ≡ true)
-              (tdi_if_called b LinkReset p.tdi).state)
-              again tt;
+          nonces = same.nonces ∙ d.nonces;
+          used = same.used ∙ d.used ∙ sym (used_now k);
+          many = λ p at. same.many ∙ d.many p at;
         }
 
-    reset_elsewhere : (i : ℕ) (x : Site) (p : IsPlaced plan old.ends old.keeper.interfaces w i x)
-        → (link == x.link) ≡ false → IsReset x p.place p.tdi
-    reset_elsewhere i x p far =
-        let again = sym far in
-        let ends_are : slice_get new.ends x.link ≡ Some p.link_ends =
-        ap (λ (es : List LinkEnds). slice_get es x.link) ends
-        ∙ (set_apart old.ends link x.link (reset_ends l) far ∙ p.ends_are) in
-        let same : (stream : ℕ) → secure_in plan w.links x.link stream
-        ≡ secure_in plan (links_state plan new) x.link stream = λ stream.
-        ap (λ (st : LinkState). secure_in plan st x.link stream) both.whole.links
-        ∙ (sym (secure_is plan old.ends old.keeper.keys old.packets.packets x.link stream p.link_ends both.links
-        p.ends_are)
-        ∙ secure_is plan new.ends new.keeper.keys new.packets.packets x.link stream p.link_ends both.links_after
-        ends_are) in
-        record {
-          link_ends = p.link_ends;
-          ends_are = ends_are;
-          tdi_is = p.tdi_is ∙ ap (λ (b : Bool). Some (tdi_if_called b LinkReset p.tdi)) again;
-          secure = subst (λ (b : Bool). Binds
-              (λ stream. secure_in plan (links_state plan new) x.link stream ≡ true)
-              (tdi_if_called b LinkReset p.tdi).state)
-              again (subst (λ (f : ℕ → Bool). Binds (λ stream. f stream ≡ true) p.tdi.state)
-              (λ n stream. same stream n) p.secure);
-        }
-
-    reset_at : (i : ℕ) (x : Site) (p : IsPlaced plan old.ends old.keeper.interfaces w i x) → IsReset x p.place p.tdi
-    reset_at i x p = ⊎_elim (λ here. reset_here i x p here) (λ far. reset_elsewhere i x p far)
-        (cases_Bool (link == x.link))
+    -- ---- an interface
 
     interfaces_are : new.keeper.interfaces.interfaces ≡ map (left_by_reset link) old.keeper.interfaces.interfaces
     interfaces_are = ap (λ (m : InterfacesView). m.interfaces) (sides.keeper there)
 
-    placed_now : (i : ℕ) (x : Site) → slice_get (sites plan) i ≡ Some x
-        → IsPlaced plan new.ends new.keeper.interfaces whole_now i x
-    placed_now i x at =
-        let p = both.whole.beside.placed i x at in
-        let r = reset_at i x p in
+    managed_now : (i : ℕ) (x : Site) (p : IsPlaced plan old.ends.links old.keeper.interfaces w i x)
+        → IsManagedAfter plan w e done new.keeper.interfaces i x p.face
+    managed_now i x p = record {
+      interface = left_by_reset link p.interface;
+      interface_is = ap (λ (hs : List HostTdi). slice_get hs i) interfaces_are
+          ∙ (slice_get-map (left_by_reset link) old.keeper.interfaces.interfaces i
+          ∙ ap (option_map (left_by_reset link)) p.interface_is);
+      managed = subst
+          (λ (b : Bool). IsManaged (w.draw x.link x.plan.stream) x
+          (if b then record p.interface { seen = broken p.interface.seen } else p.interface)
+          (if link == x.link then record p.face.managed { view = view_broken p.face.managed.view }
+          else p.face.managed))
+          (sym (same_link p.interface.link x.link link p.keeps.managed.laid_out.link))
+          (broken_managed (link == x.link) (w.draw x.link x.plan.stream) x p.interface p.face.managed p.keeps.managed);
+    }
+
+    -- of another link it leaves its lock if a stream that it is bound to is cut
+    other_leaves : (x : Site) (f : Face) → (link == x.link) ≡ false → OnlyLeaves plan w e done after x f
+    other_leaves x f far = record { next = ap (called x f.tdi) far; none = refl }
+
+    -- of the link it is new
+    own_placed : (i : ℕ) (x : Site) (p : IsPlaced plan old.ends.links old.keeper.interfaces w i x) (l' : LinkEnds)
+        → slice_get (sites plan) i ≡ Some x → slice_get new.ends.links x.link ≡ Some l' → (link == x.link) ≡ true
+        → IsPlaced plan new.ends.links new.keeper.interfaces whole_now i x
+    own_placed i x p l' at at' here =
+        let managed = managed_now i x p in
+        let free = keeps_free (says_in plan after x.link) x.plan (tdi_after p.tdi LinkReset)
+        (record { layout = p.keeps.layout; none = refl; bindings = refl }) in
+        let device : l'.device.interfaces.interfaces
+        ≡ map (λ (t : Tdi). tdi_after t LinkReset) p.link_ends.device.interfaces.interfaces =
+        ap (λ (d : DeviceTdis). d.interfaces)
+        (device_is x.link p.link_ends l' p.ends_are at' true (turned x.link link ∙ here))
+        ∙ none_settled (secure_with l'.device.port (live_on new.ends x.link))
+        p.link_ends.device.interfaces.interfaces in
         record {
-          link_ends = r.link_ends;
-          ends_are = r.ends_are;
+          link_ends = l';
+          ends_are = at';
           place = p.place;
-          located_is = ap (λ (es : List LinkEnds). located 0 i es) ends
-              ∙ (located_set old.ends link i l (reset_ends l) is
-              (length-map l.device.interfaces.interfaces (λ (t : Tdi). tdi_after t LinkReset)) ∙ p.located_is);
-          tdi = tdi_if_called (link == x.link) LinkReset p.tdi;
-          tdi_is = r.tdi_is;
-          interface = left_by_reset link p.interface;
-          interface_is = ap (λ (hs : List HostTdi). slice_get hs i) interfaces_are
-              ∙ (slice_get-map (left_by_reset link) old.keeper.interfaces.interfaces i
-              ∙ ap (option_map (left_by_reset link)) p.interface_is);
+          located_is = located_now i ∙ p.located_is;
+          tdi = tdi_after p.tdi LinkReset;
+          tdi_is = ap (λ (ts : List Tdi). slice_get ts p.place) device
+              ∙ (slice_get-map (λ (t : Tdi). tdi_after t LinkReset) p.link_ends.device.interfaces.interfaces p.place
+              ∙ ap (option_map (λ (t : Tdi). tdi_after t LinkReset)) p.tdi_is);
+          interface = managed.interface;
+          interface_is = managed.interface_is;
           face = face_of x p.face;
           face_is = each_at face_of (sites plan) w.faces.list i x p.face at p.face_is;
           keeps = record {
-            managed = subst
-                (λ (b : Bool). IsManaged (w.draw x.link x.plan.stream) x
-                (if b then record p.interface { seen = broken p.interface.seen } else p.interface)
-                (if link == x.link then record p.face.managed { view = view_broken p.face.managed.view }
-                else p.face.managed))
-                (sym (same_link p.interface.link x.link link p.keeps.managed.laid_out.link))
-                (broken_managed (link == x.link) (w.draw x.link x.plan.stream) x p.interface p.face.managed
-                p.keeps.managed);
-            tdi_is = ap (tdi_if_called (link == x.link) LinkReset) p.keeps.tdi_is;
-            layout = called_plan (link == x.link) LinkReset p.tdi ∙ p.keeps.layout;
-            bound = called_binds (λ s. s ≡ x.plan.stream) (link == x.link) LinkReset p.tdi tt p.keeps.bound;
+            managed = managed.managed;
+            tdi_is = ap (λ (t : Tdi). tdi_after t LinkReset) p.keeps.tdi_is ∙ sym (ap (called x p.face.tdi) here);
+            layout = p.keeps.layout;
+            bound = tt;
           };
-          secure = r.secure;
+          secure = free.secure;
+          bound = free.bound;
+          held = free.held;
         }
 
-    beside_now : IsBeside plan new.ends new.keeper.interfaces new.trusted.contents whole_now
+    placed_now : (i : ℕ) (x : Site) → slice_get (sites plan) i ≡ Some x
+        → IsPlaced plan new.ends.links new.keeper.interfaces whole_now i x
+    placed_now i x at =
+        let p = both.whole.beside.placed i x at in
+        let l' = get_there new.ends.links x.link
+        (omega (arith, many_now, slice_get_within old.ends.links x.link p.link_ends p.ends_are)) in
+        ⊎_elim (λ here. own_placed i x p l'.0 at l'.1 here)
+        (λ far. placed_led plan w e done after old.ends.links new.ends.links old.keeper.interfaces
+        new.keeper.interfaces i x l'.0 both.links.fits at p l'.1 (located_now i)
+        (other_led x.link p.link_ends l'.0 p.ends_are l'.1 (turned x.link link ∙ far))
+        (other_leaves x p.face far) (managed_now i x p))
+        (cases_Bool (link == x.link))
+
+    beside_now : IsBeside plan new.ends.links new.keeper.interfaces new.trusted.contents whole_now
     beside_now = record {
       portion = ap (λ (m : InterfacesView). m.portion) (sides.keeper there) ∙ both.whole.beside.portion;
       managed = ap length interfaces_are
           ∙ (length-map old.keeper.interfaces.interfaces (left_by_reset link) ∙ both.whole.beside.managed);
       faced = each_many face_of (sites plan) w.faces.list (sym both.whole.beside.faced);
-      devices = λ k y at. device_now k y (ap (λ (es : List LinkEnds). slice_get es k) (sym ends) ∙ at);
+      devices = device_now;
       placed = placed_now;
       regions = ap (λ (c : MemoryContents). c.regions) sides.contents ∙ both.whole.beside.regions;
       written = subst (λ (c : MemoryContents). IsLeftBy c w.written) (sym sides.contents) both.whole.beside.written;
     }
 
-  reset_there : (verdict : Verdict) → link < length old.ends
-      → ◌≡◌ {A = Stepped} (verdict, links_state plan new)
-      (step_of plan (beside_of plan w) w.links (event.Reset link))
-      → IsBeside plan new.ends new.keeper.interfaces new.trusted.contents
-      (whole_after plan w (event.Reset link) verdict (links_state plan new))
+  abbrev IsAfter : Verdict → Type 0
+  IsAfter verdict = IsBeside plan new.ends.links new.keeper.interfaces new.trusted.contents
+      (whole_after plan w e verdict after)
+
+  reset_there : (verdict : Verdict) → link < length old.ends.links
+      → ◌≡◌ {A = Stepped} (verdict, after) (step_of plan (beside_of plan w) w.links e) → IsAfter verdict
   reset_there verdict there is =
-      let l = get_there old.ends link there in
-      let a = sides.ends there l.0 l.1 in
-      let done : verdict ≡ v.Reset link = ap (λ (s : Stepped). s.0) is
-      ∙ done_verdict plan (beside_of plan w) w.links link
+      let said : verdict ≡ done = ap (λ (s : Stepped). s.0) is
+      ∙ done_verdict plan (beside_of plan w) w.links link ends
       (lt-ltb link (length plan.links) (omega (arith, there, both.links.many))) in
-      subst (λ (u : Verdict). IsBeside plan new.ends new.keeper.interfaces new.trusted.contents
-      (whole_after plan w (event.Reset link) u (links_state plan new))) (sym done)
-      (beside_now there l.0 l.1 (a.1 ∙ ap (slice_set old.ends link) a.2))
+      subst IsAfter (sym said) (beside_now there)
 
   pub reset_beside : (verdict : Verdict)
-      → ◌≡◌ {A = Stepped} (verdict, links_state plan new)
-      (step_of plan (beside_of plan w) w.links (event.Reset link))
-      → IsBeside plan new.ends new.keeper.interfaces new.trusted.contents
-      (whole_after plan w (event.Reset link) verdict (links_state plan new))
+      → ◌≡◌ {A = Stepped} (verdict, after) (step_of plan (beside_of plan w) w.links e) → IsAfter verdict
   reset_beside verdict is = ⊎_elim (λ there. reset_there verdict there is)
-      (λ past. absent_beside plan old new w verdict (beside_of plan w) both (sides.absent past) link past is)
-      (cases_lt link (length old.ends))
+      (λ past. absent_beside plan old new w verdict (beside_of plan w) both (sides.absent past) link ends past is)
+      (cases_lt link (length old.ends.links))

@@ -1,6 +1,8 @@
--- Whatever event comes, what stands beside the ports is afterwards what the whole machine keeps: by the family of the
--- event.
-use Rattle.std.proofs.Common.{◌≡◌, refl}
+-- Whatever event comes, what stands beside the ports is afterwards what the whole machine keeps, and so are the draws
+-- of
+-- streams between devices: by the family of the event.
+use Rattle.std.proofs.Common.{◌≡◌, ℕ, List, refl, sym, subst, ⊎_elim}
+use Rattle.std.proofs.lemmas.Bool.{cases_Bool, cases_lt}
 use Rattle.ide_plan.specs.declared.plan.Plan.{Plan}
 use Rattle.link_events.specs.declared.event.Event.{Event}
 use Rattle.link_events.specs.declared.event.Event.TheVariants as event
@@ -11,28 +13,33 @@ use Rattle.link_verdicts.specs.declared.verdict.Verdict.{Verdict}
 use Rattle.key_laws.specs.History.{History}
 use Rattle.link_ports.specs.Machine.{Stepped, step_of}
 use Rattle.link_ports.specs.Stands.{PortsStandFor}
-use Rattle.whole_machine.specs.Machine.{Whole, beside_of, whole_after}
+use Rattle.whole_machine.specs.Machine.{Whole, beside_of, draw_after, whole_after, whole_streams}
 use Rattle.interface_joins.specs.Joined.{InterfaceOperationsJoin}
 use Rattle.tdi_host.specs.declared.operation.InterfaceOp.TheVariants as op
-use Rattle.world_states.specs.{grants_in, Links, links_state, Sides, SidesInterface}
-use Rattle.world_states.specs.Whole.{IsBeside}
-use Rattle.interface_machine.specs.Machine.{grant_of}
-use Rattle.world_states.proofs.Besides.{grant_is}
-use Rattle.world_states.proofs.Kept.{
-  AreBoth,
-  answer_beside,
-  mmio_beside,
-  send_beside,
-  dump_beside,
-  status_beside,
-  view_beside,
-  memory_beside,
+use Rattle.access_states.specs.{
+  grants_in,
+  has_peer_in,
+  Links,
+  links_state,
+  peer_stream,
+  Sides,
+  SidesInterface,
 }
+use Rattle.access_states.specs.{SidesPeer}
+use Rattle.access_states.specs.{AreDrawn, IsBeside}
+use Rattle.tdi_host.specs.declared.operation.InterfaceOp.{InterfaceOp}
+use Rattle.link_events.specs.declared.event.Loss.{Loss}
+use Rattle.std.specs.Prelude.{Option}
+use Rattle.interface_machine.specs.Machine.{grant_of}
+use Rattle.access_states.proofs.{grant_is}
+use Rattle.access_states.proofs.{AreBoth, answer_beside, mmio_beside, send_beside, dump_beside, status_beside}
+use Rattle.access_states.proofs.{view_beside, memory_beside, forward_beside, nothing_beside}
 use Rattle.world.proofs.Arrives.{arrives_beside}
 use Rattle.world.proofs.Calls.{write_beside, flr_beside, firmware_beside}
-use Rattle.world.proofs.Asks.{asked_beside}
+use Rattle.world.proofs.Asks.{asked_beside, bind_beside, unbind_beside}
 use Rattle.world.proofs.Resets.{reset_beside}
-use Rattle.world.proofs.Operates.{establish_beside, refresh_beside, stop_beside}
+use Rattle.world.proofs.Operates.{establish_beside, refresh_beside, stop_beside, establish_drawn, refresh_drawn}
+use Rattle.world.proofs.Operates.{stop_drawn}
 
 -- an event between two states of all links, which is a step of the machine
 pub record Turn (plan : Plan) (old new : Links) (w : Whole) (e : Event) (verdict : Verdict) : Type 0 where
@@ -44,28 +51,32 @@ pub record Turn (plan : Plan) (old new : Links) (w : Whole) (e : Event) (verdict
 
 abbrev pub IsAfter : Plan → Links → Whole → Event → Verdict → Type 0
 IsAfter plan new w e verdict =
-    IsBeside plan new.ends new.keeper.interfaces new.trusted.contents
+    IsBeside plan new.ends.links new.keeper.interfaces new.trusted.contents
     (whole_after plan w e verdict (links_state plan new))
 
 grants_are : (plan : Plan) (old new : Links) (w : Whole) → AreBoth plan old new w
     → grants_in old.keeper.interfaces ≡ grant_of plan w.faces
 grants_are plan old new w both = λ i link requester.
-    grant_is plan old.ends old.keeper.interfaces old.trusted.contents w both.whole.beside both.links.fits
+    grant_is plan old.ends.links old.keeper.interfaces old.trusted.contents w both.whole.beside both.links.fits
     both.links.many link requester i
 
 module _ (plan : Plan) (old new : Links) (w : Whole) (verdict : Verdict) (join : InterfaceOperationsJoin) where
   interface_after : (e : InterfaceEvent) → Turn plan old new w (event.Interface e) verdict → SidesInterface e old new
       → IsAfter plan new w (event.Interface e) verdict
   interface_after (ie.Lock i loss) t sides =
-      asked_beside plan old new w verdict t.both join i op.Lock loss sides t.step
+      asked_beside plan old new w verdict t.both join i op.Lock loss sides (λ x at. tt) t.step
   interface_after (ie.Report i loss) t sides =
-      asked_beside plan old new w verdict t.both join i op.Report loss sides t.step
+      asked_beside plan old new w verdict t.both join i op.Report loss sides (λ x at. tt) t.step
   interface_after (ie.Start i loss) t sides =
-      asked_beside plan old new w verdict t.both join i op.Start loss sides t.step
+      asked_beside plan old new w verdict t.both join i op.Start loss sides (λ x at. tt) t.step
   interface_after (ie.Halt i loss) t sides =
-      asked_beside plan old new w verdict t.both join i op.Halt loss sides t.step
+      asked_beside plan old new w verdict t.both join i op.Halt loss sides (λ x at. tt) t.step
   interface_after (ie.State i loss) t sides =
-      asked_beside plan old new w verdict t.both join i op.State loss sides t.step
+      asked_beside plan old new w verdict t.both join i op.State loss sides (λ x at. tt) t.step
+  interface_after (ie.Bind i line stream loss) t sides =
+      bind_beside plan old new w verdict t.both join i line stream loss sides t.step
+  interface_after (ie.Unbind i line stream loss) t sides =
+      unbind_beside plan old new w verdict t.both join i line stream loss sides t.step
   interface_after (ie.View i) t sides =
       view_beside plan old new w verdict (beside_of plan w) t.both sides i t.step
   interface_after (ie.Write i register value) t sides =
@@ -75,7 +86,7 @@ module _ (plan : Plan) (old new : Links) (w : Whole) (verdict : Verdict) (join :
   interface_after (ie.Memory at len) t sides =
       memory_beside plan old new w verdict (beside_of plan w) t.both sides at len t.step
 
-  pub beside_after : (e : Event) → Turn plan old new w e verdict → Sides e verdict old new
+  pub beside_after : (e : Event) → Turn plan old new w e verdict → Sides plan e verdict old new
       → IsAfter plan new w e verdict
   beside_after (event.Send port bytes more trusted) t sides =
       send_beside plan old new w verdict (beside_of plan w) t.both sides port bytes more trusted t.step
@@ -93,17 +104,74 @@ module _ (plan : Plan) (old new : Links) (w : Whole) (verdict : Verdict) (join :
       (grants_are plan old new w t.both) t.regions sides
   beside_after (event.Dump n) t sides =
       dump_beside plan old new w verdict (beside_of plan w) t.both sides n t.step
-  beside_after (event.Establish link stream loss) t sides =
-      establish_beside plan old new w verdict t.both link stream loss sides t.step
-  beside_after (event.Refresh link stream loss) t sides =
-      refresh_beside plan old new w verdict t.both link stream loss sides t.step
-  beside_after (event.Stop link stream loss) t sides =
-      stop_beside plan old new w verdict t.both link stream loss sides t.step
-  beside_after (event.Reset link) t sides = reset_beside plan old new w t.both link sides verdict t.step
-  beside_after (event.Status link stream) t sides =
-      status_beside plan old new w verdict (beside_of plan w) t.both sides link stream t.step
+  beside_after (event.Establish line stream loss) t sides =
+      establish_beside plan old new w verdict t.both line stream loss sides t.step
+  beside_after (event.Refresh line stream loss) t sides =
+      refresh_beside plan old new w verdict t.both line stream loss sides t.step
+  beside_after (event.Stop line stream loss) t sides =
+      stop_beside plan old new w verdict t.both line stream loss sides t.step
+  beside_after (event.Reset link ends) t sides = reset_beside plan old new w t.both link ends sides verdict t.step
+  beside_after (event.Status line stream) t sides =
+      status_beside plan old new w verdict (beside_of plan w) t.both sides line stream t.step
   beside_after (event.Interface e) t sides = interface_after e t sides
   beside_after (event.Access (ae.Answer link)) t sides =
       answer_beside plan old new w verdict (beside_of plan w) t.both sides link t.step
   beside_after (event.Access (ae.Mmio interface bar offset len)) t sides =
       mmio_beside plan old new w verdict (beside_of plan w) t.both sides interface bar offset len t.step
+  beside_after (event.Forward link d) t sides =
+      forward_beside plan old new w verdict (beside_of plan w) t.both sides link d t.step
+  beside_after event.Absent t sides = nothing_beside plan old new w verdict (beside_of plan w) t.both sides t.step
+
+  -- ---- the draws of streams between devices
+
+  abbrev pub AreDrawnAfter : Event → Type 0
+  AreDrawnAfter e =
+      AreDrawn plan new.keeper.peer_draws (draw_after (whole_streams plan w).op w.links.draws e verdict w.draw)
+
+  same_drawn : AreBoth plan old new w → new.keeper.peer_draws ≡ old.keeper.peer_draws
+      → AreDrawn plan new.keeper.peer_draws w.draw
+  same_drawn both same = subst (λ (ns : List ℕ). AreDrawn plan ns w.draw) (sym same) both.whole.drawn
+
+  peer_same : (i line stream : ℕ) (o : InterfaceOp) (loss : Option Loss) → SidesPeer i line stream o loss old new
+      → new.keeper.peer_draws ≡ old.keeper.peer_draws
+  peer_same i line stream o loss sides = ⊎_elim
+      (λ few.
+      ⊎_elim (λ has. (sides.asked few has).peer_draws) (λ none. (sides.absent none).peer_draws)
+      (cases_Bool (has_peer_in old.keeper old.ends i line stream)))
+      (λ late. (sides.late late).peer_draws) (cases_lt stream 256)
+
+  interface_drawn : (e : InterfaceEvent) → AreBoth plan old new w → SidesInterface e old new
+      → AreDrawn plan new.keeper.peer_draws w.draw
+  interface_drawn (ie.Lock i loss) both sides = same_drawn both sides.peer_draws
+  interface_drawn (ie.Report i loss) both sides = same_drawn both sides.peer_draws
+  interface_drawn (ie.Start i loss) both sides = same_drawn both sides.peer_draws
+  interface_drawn (ie.Halt i loss) both sides = same_drawn both sides.peer_draws
+  interface_drawn (ie.State i loss) both sides = same_drawn both sides.peer_draws
+  interface_drawn (ie.Bind i line stream loss) both sides =
+      same_drawn both (peer_same i line stream (op.Bind (peer_stream old.keeper line stream)) loss sides)
+  interface_drawn (ie.Unbind i line stream loss) both sides =
+      same_drawn both (peer_same i line stream (op.Unbind (peer_stream old.keeper line stream)) loss sides)
+  interface_drawn (ie.View i) both sides = same_drawn both sides.peer_draws
+  interface_drawn (ie.Write i register value) both sides = same_drawn both sides.peer_draws
+  interface_drawn (ie.Flr i) both sides = same_drawn both sides.peer_draws
+  interface_drawn (ie.Firmware i) both sides = same_drawn both sides.peer_draws
+  interface_drawn (ie.Memory at len) both sides = same_drawn both sides.peer_draws
+
+  pub drawn_after : (e : Event) → Turn plan old new w e verdict → Sides plan e verdict old new → AreDrawnAfter e
+  drawn_after (event.Send port bytes more trusted) t sides = same_drawn t.both sides.peer_draws
+  drawn_after (event.Pass n) t sides = same_drawn t.both sides.peer_draws
+  drawn_after (event.Alter n at mask) t sides = same_drawn t.both sides.peer_draws
+  drawn_after (event.Cut n len) t sides = same_drawn t.both sides.peer_draws
+  drawn_after (event.Arrive port bytes) t sides = same_drawn t.both sides.peer_draws
+  drawn_after (event.Dump n) t sides = same_drawn t.both sides.peer_draws
+  drawn_after (event.Establish line stream loss) t sides =
+      establish_drawn plan old new w verdict t.both line stream loss sides t.step
+  drawn_after (event.Refresh line stream loss) t sides =
+      refresh_drawn plan old new w verdict t.both line stream loss sides t.step
+  drawn_after (event.Stop line stream loss) t sides = stop_drawn plan old new w verdict t.both line stream loss sides
+  drawn_after (event.Reset link ends) t sides = same_drawn t.both sides.peer_draws
+  drawn_after (event.Status line stream) t sides = same_drawn t.both sides.peer_draws
+  drawn_after (event.Interface e) t sides = interface_drawn e t.both sides
+  drawn_after (event.Access e) t sides = same_drawn t.both sides.peer_draws
+  drawn_after (event.Forward link d) t sides = same_drawn t.both sides.peer_draws
+  drawn_after event.Absent t sides = same_drawn t.both sides.peer_draws

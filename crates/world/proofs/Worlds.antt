@@ -15,21 +15,20 @@ use Rattle.port_operations.specs.Points.{PointsStand}
 use Rattle.whole_machine.specs.Machine.{Whole, beside_of, whole_after, whole_step}
 use Rattle.whole_machine.specs.Stands.{StandsFor, WholeSteps}
 use Rattle.interface_joins.specs.Joined.{InterfaceOperationsJoin}
-use Rattle.world_states.specs.{AreLinks, Ends, HasNoVerdict, HostKeeper, IsBounded, LinkEnds, links_state, Sides}
-use Rattle.world_states.specs.{StandsForSome, state_of, WholeLinks, AccessesAfter, beside_whole, WholeEnds}
-use Rattle.world_states.specs.{WholeEndsAs, WholeStays, IsWhole as EachHasAccesses}
-use Rattle.world_states.specs.Accesses.{AreAccesses, LinkSeen, seen_at}
-use Rattle.world_states.specs.Whole.{IsBeside}
-use Rattle.world_states.specs.Worlds.{WorldView, IsAsBefore, Stands, HasStood, IsStep, world_of, IsWorld}
-use Rattle.world_states.proofs.Kept.{IsState}
+use Rattle.access_states.specs.{AreLinks, Ends, EndsView, HasNoVerdict, HostKeeper, IsBounded, links_state, Sides}
+use Rattle.access_states.specs.{StandsForSome, state_of, WholeLinks, AccessesAfter, beside_whole, WholeEnds}
+use Rattle.access_states.specs.{WholeEndsAs, WholeStays, IsWhole as EachHasAccesses}
+use Rattle.access_states.specs.{AreAccesses, LinkSeen, seen_at}
+use Rattle.access_states.specs.{AreDrawn, IsBeside}
+use Rattle.access_states.specs.{WorldView, IsAsBefore, Stands, HasStood, IsStep, world_of, IsWorld}
+use Rattle.access_states.proofs.{IsState}
 use Rattle.access_states.proofs.Said.{answers_are, beside_is, is_answered}
 use Rattle.access_states.proofs.Turned.{accesses_are}
-use Rattle.world.proofs.Turns.{Turn, IsAfter, beside_after}
+use Rattle.world.proofs.Turns.{Turn, IsAfter, beside_after, drawn_after}
 
 -- the links stand for the history that the world stands for
-pub standing : (plan : Plan) (s : WholeLinks) → IsWorld plan s → StandsForSome s.links
+pub standing : (plan : Plan) (s : WholeLinks) → IsWorld plan s → StandsForSome plan s.links
 standing plan s is = record {
-  plan = plan;
   history = is.history;
   links = is.links;
   stands = subst (λ (st : LinkState). PortsStandFor plan st is.history) is.stands.is.links is.stands.stands.links;
@@ -43,8 +42,8 @@ pub record Given : Type 0 where
 
 module _ (plan : Plan) (old new : WholeLinks) (e : Event) (verdict : Verdict) (given : Given)
     (links : AreLinks plan old.links.ends old.links.keeper.keys) (each : EachHasAccesses old)
-    (ended : WholeEnds verdict old new e)
-    (sides : Sides e verdict old.links new.links) (accesses : AccessesAfter e verdict old new) (h : History)
+    (ended : WholeEnds plan verdict old new e)
+    (sides : Sides plan e verdict old.links new.links) (accesses : AccessesAfter plan e verdict old new) (h : History)
     (s : Stands (world_of plan old) h) where
   before : PortsStandFor plan (links_state plan old.links) h
   before = subst (λ (st : LinkState). PortsStandFor plan st h) s.is.links s.stands.links
@@ -53,8 +52,8 @@ module _ (plan : Plan) (old new : WholeLinks) (e : Event) (verdict : Verdict) (g
   answer = (beside_of plan s.whole).answer
 
   ends : Ends plan new.links verdict (step_of plan (beside_whole plan old answer) (links_state plan old.links) e)
-  ends = ended.ends answer (λ f on. answers_are plan old s.whole given.join links s.is f) plan s.is.beside.regions h
-      links before
+  ends = ended.ends answer (λ f on. answers_are plan old s.whole given.join links s.is f) s.is.beside.regions h links
+      before
 
   same : step_of plan (beside_whole plan old answer) (links_state plan old.links) e
       ≡ step_of plan (beside_of plan s.whole) s.whole.links e
@@ -64,7 +63,7 @@ module _ (plan : Plan) (old new : WholeLinks) (e : Event) (verdict : Verdict) (g
   stepped = (λ i. (ends.verdict_is i, ends.state_is i)) ∙ same
 
   state : IsState plan old.links s.whole
-  state = record { links = s.is.links; beside = s.is.beside }
+  state = record { links = s.is.links; beside = s.is.beside; drawn = s.is.drawn }
 
   turn : Turn plan old.links new.links s.whole e verdict
   turn = record {
@@ -96,6 +95,7 @@ module _ (plan : Plan) (old new : WholeLinks) (e : Event) (verdict : Verdict) (g
       is = record {
         links = refl;
         beside = beside_now;
+        drawn = drawn_after plan old.links new.links s.whole verdict given.join e turn sides;
         accesses = accesses_are plan old new s.whole verdict turn.both each s.is.accesses e h before beside_now stepped
             accesses;
       };
@@ -107,27 +107,28 @@ module _ (plan : Plan) (old new : WholeLinks) (e : Event) (verdict : Verdict) (g
 -- ---- a step of the world
 
 -- what an event with this verdict makes of what stands beside the ports
-pub record HasSides (old new : WholeLinks) (e : Event) (verdict : Verdict) : Type 0 where
-  pub sides : Sides e verdict old.links new.links
-  pub accesses : AccessesAfter e verdict old new
+pub record HasSides (plan : Plan) (old new : WholeLinks) (e : Event) (verdict : Verdict) : Type 0 where
+  pub sides : Sides plan e verdict old.links new.links
+  pub accesses : AccessesAfter plan e verdict old new
 
-pub both_sides : (old new : WholeLinks) (e : Event) (o : Option Verdict)
-    → IfSome o (λ v. Sides e v old.links new.links) → IfSome o (λ v. AccessesAfter e v old new)
-    → IfSome o (HasSides old new e)
-both_sides old new e None sides accesses = tt
-both_sides old new e (Some verdict) sides accesses = record { sides = sides; accesses = accesses }
+pub both_sides : (plan : Plan) (old new : WholeLinks) (e : Event) (o : Option Verdict)
+    → IfSome o (λ v. Sides plan e v old.links new.links) → IfSome o (λ v. AccessesAfter plan e v old new)
+    → IfSome o (HasSides plan old new e)
+both_sides plan old new e None sides accesses = tt
+both_sides plan old new e (Some verdict) sides accesses = record { sides = sides; accesses = accesses }
 
 module _ (plan : Plan) (old new : WholeLinks) (e : Event) (given : Given) (w : IsWorld plan old) where
   -- each event has a verdict
-  not_without : HasNoVerdict old.links e → ⊥
+  not_without : HasNoVerdict plan old.links e → ⊥
   not_without none = none (standing plan old w)
       (is_answered plan old w.stands.whole given.join w.links w.stands.is e)
 
-  pub has_verdict : (o : Option Verdict) → WholeEndsAs o old new e → IsSome o
+  pub has_verdict : (o : Option Verdict) → WholeEndsAs plan o old new e → IsSome o
   has_verdict (Some verdict) x = refl
   has_verdict None x = absurd (not_without x)
 
-  pub world_after : (o : Option Verdict) → WholeEndsAs o old new e → IfSome o (HasSides old new e) → IsWorld plan new
+  pub world_after : (o : Option Verdict) → WholeEndsAs plan o old new e → IfSome o (HasSides plan old new e)
+      → IsWorld plan new
   world_after None x sides = absurd (not_without x)
   world_after (Some verdict) x sides =
       let stood = stood_after plan old new e verdict given w.links w.bounded.whole x sides.sides sides.accesses
@@ -141,7 +142,7 @@ module _ (plan : Plan) (old new : WholeLinks) (e : Event) (given : Given) (w : I
       }
 
   pub step_after : (view : WorldView) → world_of plan old ≡ view → (o : Option Verdict) (verdict : Verdict)
-      → o ≡ Some verdict → WholeEndsAs o old new e → IfSome o (HasSides old new e)
+      → o ≡ Some verdict → WholeEndsAs plan o old new e → IfSome o (HasSides plan old new e)
       → IsStep view e verdict (world_of plan new)
   step_after view is None verdict some x sides = absurd (none-some verdict some)
   step_after view is (Some said) verdict some x sides =
@@ -163,6 +164,7 @@ module _ (plan : Plan) (old new : WholeLinks) (w : IsWorld plan old) (stays : Wh
     bytes = λ i b offset.
         (stays.accesses.bytes link (w.stands.whole.accesses.happened link) (w.stands.is.accesses.bytes link) i b offset
         ∙ sym (w.stands.is.accesses.bytes link i b offset)) j;
+    carried = λ d. stays.accesses.carried link d j;
   }
 
   world_same : record (world_of plan new) { accesses = old.accesses } ≡ world_of plan old
@@ -171,6 +173,7 @@ module _ (plan : Plan) (old new : WholeLinks) (w : IsWorld plan old) (stays : Wh
     state = state_of plan (stays.links.ends j) (stays.links.keeper j).keys (stays.links.packets j);
     ends = stays.links.ends j;
     interfaces = (stays.links.keeper j).interfaces;
+    peer_draws = (stays.links.keeper j).peer_draws;
     memory = stays.links.trusted j;
     accesses = old.accesses;
     steps = stays.links.steps j;
@@ -181,22 +184,24 @@ module _ (plan : Plan) (old new : WholeLinks) (w : IsWorld plan old) (stays : Wh
 
   pub invariant_stays : IsWorld plan new
   invariant_stays = record {
-    links = subst (λ (es : List LinkEnds). AreLinks plan es new.links.keeper.keys) (sym stays.links.ends)
+    links = subst (λ (v : EndsView). AreLinks plan v new.links.keeper.keys) (sym stays.links.ends)
         (subst (λ (k : HostKeeper). AreLinks plan old.links.ends k.keys) (sym stays.links.keeper) w.links);
     bounded = record {
       bounded = subst (λ (n : ℕ). IsBounded new.links.ends new.links.packets.packets n) (sym stays.links.steps)
           (subst (λ (ps : List LinkPacket). IsBounded new.links.ends ps old.links.steps) (sym stays.links.packets)
-          (subst (λ (es : List LinkEnds). IsBounded es old.links.packets.packets old.links.steps)
+          (subst (λ (v : EndsView). IsBounded v old.links.packets.packets old.links.steps)
           (sym stays.links.ends) w.bounded.bounded));
-      whole = stays.accesses.many ∙ (w.bounded.whole ∙ sym (ap (λ (es : List LinkEnds). length es) stays.links.ends));
+      whole = stays.accesses.many ∙ (w.bounded.whole ∙ sym (ap (λ (v : EndsView). length v.links) stays.links.ends));
     };
     history = w.history;
     stands = record {
       whole = w.stands.whole;
       is = record {
         links = w.stands.is.links ∙ sym (ap (λ (v : WorldView). v.state) world_same);
-        beside = subst (λ (v : WorldView). IsBeside plan v.ends v.interfaces v.memory w.stands.whole)
+        beside = subst (λ (v : WorldView). IsBeside plan v.ends.links v.interfaces v.memory w.stands.whole)
             (sym world_same) w.stands.is.beside;
+        drawn = subst (λ (v : WorldView). AreDrawn plan v.peer_draws w.stands.whole.draw) (sym world_same)
+            w.stands.is.drawn;
         accesses = subst (λ (seen : ℕ → LinkSeen). AreAccesses plan seen w.stands.whole.accesses) (sym seen_same)
             w.stands.is.accesses;
       };

@@ -1,2 +1,2 @@
 -- what clauses and crates above cite
-pub use Rattle.world_states.specs.{WorldView, Stands, IsNewWorld, IsStep}
+pub use Rattle.access_states.specs.{WorldView, Stands, IsNewWorld, IsStep}

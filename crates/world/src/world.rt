@@ -4,6 +4,7 @@ ghost use Rattle.std.specs.Prelude.{◌≡◌, ◌<◌, ◌+◌, ◌^◌, IfOk, 
 ghost use Rattle.ide_plan.specs.Fits.{FitsPlan};
 ghost use Rattle.link_events.specs.Spells.{IsAllowed};
 
+use access_states::WholeLinks;
 use ide_plan::Plan;
 use ide_types::Memory;
 use interface_joins::interface_operations_join;
@@ -13,10 +14,10 @@ use port_operations::points_stand;
 use std::alloc::Global;
 use std::marker::Model;
 use whole_machine::{whole_begins, whole_steps};
-use world_states::WholeLinks;
 
-/// All links of a topology, with their devices' interfaces, the keys, the packets that were sealed, what the managers
-/// know, and trusted memory (PCI Express Base 6.0 section 6.33 and chapter 11, in this profile).
+/// All links of a topology with their devices' interfaces, their hops and the streams between devices: the keys, the
+/// packets that were sealed, what waits, what the managers know, and trusted memory (PCI Express Base 6.0 section 6.33
+/// and chapter 11, in this profile).
 #[derive(Drop)]
 pub struct World {
     alloc: Global,
@@ -25,7 +26,7 @@ pub struct World {
 }
 
 impl Model for World {
-    ghost use Rattle.world_states.specs.Worlds.{WorldView, world_of, IsWorld};
+    ghost use Rattle.access_states.specs.{WorldView, world_of, IsWorld};
 
     ghost Value = { WorldView };
 
@@ -35,7 +36,7 @@ impl Model for World {
 }
 
 impl World {
-    ghost use Rattle.world_states.specs.Worlds.{IsAsBefore, IsNewWorld, IsStep};
+    ghost use Rattle.access_states.specs.{IsAsBefore, IsNewWorld, IsStep};
 
     /// The world before the first event: no stream of the plan has keys, no interface is locked, and trusted memory is
     /// 0.
@@ -48,6 +49,14 @@ impl World {
         Ok(World { alloc, plan, links })
     }
 
+    /// The topology, which meets every bound and rule.
+    pub fn plan(&self) -> &Plan
+        ensures plan { result.now ≡ self.now.plan }
+        ensures fits { FitsPlan self.now.plan }
+    {
+        &self.plan
+    }
+
     /// How many events got a verdict.
     pub fn calls(&self) -> u64
         ensures { result ≡ self.now.steps }
@@ -56,7 +65,8 @@ impl World {
     }
 
     /// The verdict of an event that a script's line spells: the one that is due after the events before it. For want of
-    /// memory nothing changes, but pages that were taken ahead may stay. Fewer than 2^28 events came before.
+    /// memory nothing changes, but pages and room at switches that were taken ahead may stay. Fewer than 2^28 events
+    /// came before.
     pub fn step(&mut self, event: &Event) -> Result<Verdict, Memory>
         requires few { self.old.steps < 2 ^ 28 }
         requires allowed { IsAllowed event.now }
@@ -66,7 +76,7 @@ impl World {
         whole_steps();
         points_stand();
         interface_operations_join();
-        let verdict = self.links.answer(self.alloc, event)?;
+        let verdict = self.links.answer(self.alloc, &self.plan, event)?;
         Ok(verdict.unwrap())
     }
 }

@@ -10,7 +10,7 @@ use Rattle.link_events.specs.declared.event.Event.{Event}
 use Rattle.link_verdicts.specs.declared.verdict.Verdict.{Verdict}
 use Rattle.interface_states.specs.Sites.{Site, sites}
 use Rattle.interface_states.specs.Devices.{accepts_lock, one_if}
-use Rattle.interface_machine.specs.Machine.{Face, Faces, Streams, with_each, around_of, gives_nonce, is_true}
+use Rattle.interface_machine.specs.Machine.{EndsRead, Face, Faces, Streams, with_each, around_of, gives_nonce, is_true}
 use Rattle.interface_machine.specs.Machine.{faces_after}
 
 pub each_at : {A : Type 0} (g : Site → Face → A) (xs : List Site) (fs : List Face) (i : ℕ) (x : Site) (f : Face)
@@ -52,9 +52,9 @@ none_more : (n : ℕ) (b : Bool) → b ≡ false → n + one_if b ≡ n
 none_more n b none = rw none (omega arith)
 
 -- if no lock is accepted, as many nonces were given as before
-pub used_kept : (plan : Plan) (s : Streams) (secure : ℕ → ℕ → Bool) (e : Event) (w : Verdict) (fs : Faces)
+pub used_kept : (plan : Plan) (s : Streams) (after : EndsRead) (e : Event) (w : Verdict) (fs : Faces)
     → ((i : ℕ) (x : Site) (f : Face) → slice_get (sites plan) i ≡ Some x → slice_get fs.list i ≡ Some f
     → accepts_lock (around_of plan s fs.used x f) x e w f.tdi ≡ false)
-    → (link : ℕ) → (faces_after plan s secure e w fs).used link ≡ fs.used link
-used_kept plan s secure e w fs none link =
+    → (link : ℕ) → (faces_after plan s after e w fs).used link ≡ fs.used link
+used_kept plan s after e w fs none link =
     none_more (fs.used link) _ (none_given plan s fs.used e w link (sites plan) fs.list none)

@@ -1,11 +1,12 @@
--- What stands beside the ports after an event that makes no more of an interface than that its stream leaves Secure.
--- The interfaces of a device are settled by its port, or no stream left Secure there. Either way each is the machine's,
--- which leaves its lock if its stream left Secure (`placed_led`).
-use Rattle.std.proofs.Common.{◌≡◌, ◌⊎◌, ⊎_elim, ℕ, ◌<◌, true, false, List}
-use Rattle.std.proofs.Common.{length, Some, option_map, inl, inr, ap, sym, ◌∙◌, arith}
-use Rattle.std.specs.Prelude.{slice_get}
+-- What stands beside the ports after an event that makes no more of an interface than that a stream of its own leaves
+-- Secure. The interfaces of a device are settled by the ends of its streams, or no stream left Secure there. Either way
+-- each is the machine's, which leaves its lock if a stream that it is bound to left Secure (`placed_led`).
+use Rattle.std.proofs.Common.{◌≡◌, ◌⊎◌, ⊎_elim, ℕ, ◌<◌, ◌≤◌, ◌||◌, true, false, List, Bool}
+use Rattle.std.proofs.Common.{length, Option, Some, option_map, inl, inr, ap, sym, ◌∙◌, arith}
+use Rattle.std.specs.Prelude.{slice_get, is_some}
 use Rattle.std.proofs.lemmas.List.{length-map}
 use Rattle.std.proofs.lemmas.Option.{slice_get-map, slice_get_within}
+use Rattle.ide_plan.specs.Fits.{FitsPlan}
 use Rattle.ide_plan.specs.declared.plan.Plan.{Plan}
 use Rattle.link_events.specs.declared.event.Event.{Event}
 use Rattle.link_verdicts.specs.declared.verdict.Verdict.{Verdict}
@@ -14,40 +15,74 @@ use Rattle.tdi_device.specs.Replies.{DeviceTdis, settled_tdis, settled_tdi}
 use Rattle.tdi_host.specs.Views.{HostTdi}
 use Rattle.device_side.specs.Ends.{secure_at}
 use Rattle.trusted_memory.specs.{MemoryContents, IsLeftBy}
+use Rattle.interface_states.specs.Peers.{live_by}
 use Rattle.interface_states.specs.Sites.{Site, sites}
 use Rattle.interface_states.specs.Devices.{tdi_if_called, accepts_lock}
 use Rattle.interface_states.specs.Views.{managed_after}
 use Rattle.interface_machine.specs.Machine.{Face, around_of, face_after}
 use Rattle.interface_joins.specs.Faces.{IsManaged}
-use Rattle.whole_machine.specs.Machine.{Whole, secure_in, whole_streams, draw_after, written_after, whole_after}
-use Rattle.link_ports.specs.Machine.{LinkState}
-use Rattle.whole_links.specs.{InterfacesView, IsSettledOrSame, LinkEnds, located}
+use Rattle.whole_machine.specs.Machine.{Whole, secure_in, live_in, ends_in, whole_streams, draw_after, written_after}
+use Rattle.whole_machine.specs.Machine.{whole_after}
+use Rattle.link_ports.specs.Machine.{LinkPacket, LinkState}
+use Rattle.bound_streams.specs.Says.{DeviceSays, AreApart, AreSecureStill, Keeps, says_in, is_said_secure, leaves}
+use Rattle.bound_streams.proofs.Settled.{settled_is, stays_is, keeps_after}
+use Rattle.bound_streams.proofs.Apart.{are_apart}
+use Rattle.whole_links.specs.{AllFollow, AreLinks, EndsView, InterfacesView, IsSettledOrSame, KeeperView, LinkEnds}
+use Rattle.whole_links.specs.{live_on, located, state_of}
 use Rattle.world_states.specs.Whole.{IsPlaced, IsDevice, IsBeside}
-use Rattle.world_states.proofs.Places.{get_there}
+use Rattle.world_states.proofs.Places.{get_there, site_planned}
 use Rattle.world_states.proofs.Sites.{located_kept}
 use Rattle.world_states.proofs.Faces.{each_at, each_many, used_kept}
-use Rattle.world_states.proofs.Settled.{Keeps, leaves, settled_is, stays_is, keeps_after}
+use Rattle.world_states.proofs.Statuses.{live_is, secure_is}
 
 -- ---- a device
+
+-- the ends at the device of a link show what the machine has of its streams
+pub record ShowsState (plan : Plan) (st : LinkState) (v : EndsView) (link : ℕ) (l : LinkEnds) : Type 0 where
+  pub secure : (stream : ℕ) → secure_in plan st link stream ≡ secure_at l.device.port stream
+  pub live : (stream : ℕ) → live_by (live_in plan st) plan.peers link stream ≡ live_on v link stream
 
 -- its interfaces are settled by what is Secure after the event, or are as before, and no stream left Secure
 abbrev pub IsLed : Plan → LinkState → LinkState → ℕ → LinkEnds → LinkEnds → Type 0
 IsLed plan old new link l l' =
-    (l'.device.interfaces ≡ settled_tdis (secure_in plan new link) l.device.interfaces)
-    ⊎ ((l'.device.interfaces ≡ l.device.interfaces)
-    × ((stream : ℕ) → secure_in plan old link stream ≡ true → secure_in plan new link stream ≡ true))
+    (l'.device.interfaces ≡ settled_tdis (is_said_secure (says_in plan new link)) l.device.interfaces)
+    ⊎ ((l'.device.interfaces ≡ l.device.interfaces) × AreSecureStill (says_in plan old link) (says_in plan new link))
 
--- if they follow their port, and the machine's states of the port are its
-pub led_follows : (plan : Plan) (old new : LinkState) (link : ℕ) (l l' : LinkEnds)
-    → ((stream : ℕ) → secure_in plan old link stream ≡ secure_at l.device.port stream)
-    → ((stream : ℕ) → secure_in plan new link stream ≡ secure_at l'.device.port stream) → IsSettledOrSame l l'
+-- if they follow the ends of its streams, and the machine's states of these are theirs
+pub led_follows : (plan : Plan) (old new : LinkState) (v v' : EndsView) (link : ℕ) (l l' : LinkEnds)
+    → ShowsState plan old v link l → ShowsState plan new v' link l' → IsSettledOrSame v v' link l l'
     → IsLed plan old new link l l'
-led_follows plan old new link l l' before after follows = ⊎_elim
-    (λ same. inl (same ∙ (λ i. settled_tdis (λ stream. sym (after stream) i) l.device.interfaces)))
+led_follows plan old new v v' link l l' before after follows = ⊎_elim
+    (λ same. inl (
+    same
+    ∙ (λ i. settled_tdis (λ stream. sym (after.secure stream) i || is_some (sym (after.live stream) i))
+    l.device.interfaces)
+    ))
     (λ same. inr (
-      ap (λ d. d.interfaces) same,
-      λ stream is. after stream ∙ (λ i. secure_at (same i).port stream) ∙ sym (before stream) ∙ is,
+      ap (λ d. d.interfaces) same.0,
+      record {
+        secure = λ stream is. after.secure stream ∙ (λ i. secure_at (same.0 i).port stream)
+            ∙ sym (before.secure stream) ∙ is;
+        live = λ stream is. ap is_some (after.live stream ∙ same.1 stream ∙ sym (before.live stream)) ∙ is;
+      },
     )) follows
+
+pub shows_state : (plan : Plan) (v : EndsView) (k : KeeperView) (packets : List LinkPacket) (link : ℕ) (l : LinkEnds)
+    → AreLinks plan v k → slice_get v.links link ≡ Some l → ShowsState plan (state_of plan v k packets) v link l
+shows_state plan v k packets link l links is = record {
+  secure = λ stream. sym (secure_is plan v k packets links link stream l is);
+  live = λ stream. live_is plan v k packets links link stream;
+}
+
+-- where all devices follow the ends of their streams
+pub all_led : (plan : Plan) (v v' : EndsView) (k k' : KeeperView) (packets packets' : List LinkPacket)
+    → AreLinks plan v k → AreLinks plan v' k' → AllFollow v v' → (link : ℕ) (l l' : LinkEnds)
+    → slice_get v.links link ≡ Some l → slice_get v'.links link ≡ Some l'
+    → IsLed plan (state_of plan v k packets) (state_of plan v' k' packets') link l l'
+all_led plan v v' k k' packets packets' links links' follow link l l' is is' =
+    led_follows plan (state_of plan v k packets) (state_of plan v' k' packets') v v' link l l'
+    (shows_state plan v k packets link l links is) (shows_state plan v' k' packets' link l' links' is')
+    (follow link l l' is is')
 
 -- it has as many interfaces, and gave no nonce
 pub record SameDevice (d d' : DeviceTdis) : Type 0 where
@@ -62,7 +97,7 @@ led_same plan old new link l l' led = ⊎_elim
       nonces = ap (λ (d : DeviceTdis). d.nonces) same;
       used = ap (λ (d : DeviceTdis). d.used) same;
       many = ap (λ (d : DeviceTdis). length d.interfaces) same
-          ∙ length-map l.device.interfaces.interfaces (settled_tdi (secure_in plan new link));
+          ∙ length-map l.device.interfaces.interfaces (settled_tdi (is_said_secure (says_in plan new link)));
     })
     (λ kept. record {
       nonces = ap (λ (d : DeviceTdis). d.nonces) kept.0;
@@ -71,25 +106,29 @@ led_same plan old new link l l' led = ⊎_elim
     }) led
 
 pub led_tdi : (plan : Plan) (old new : LinkState) (x : Site) (l l' : LinkEnds) (place : ℕ) (tdi : Tdi)
-    → IsLed plan old new x.link l l' → slice_get l.device.interfaces.interfaces place ≡ Some tdi
-    → Keeps (secure_in plan old x.link) x.plan tdi
+    → FitsPlan plan → x.link < 8 → IsLed plan old new x.link l l'
+    → slice_get l.device.interfaces.interfaces place ≡ Some tdi
+    → Keeps (says_in plan old x.link) x.plan tdi
     → slice_get l'.device.interfaces.interfaces place
-    ≡ Some (tdi_if_called (leaves (secure_in plan old x.link) (secure_in plan new x.link) x.plan) StreamLeft tdi)
-led_tdi plan old new x l l' place tdi led is keeps = ⊎_elim
+    ≡ Some (tdi_if_called (leaves (says_in plan old x.link) (says_in plan new x.link) x.plan tdi.bindings) StreamLeft
+    tdi)
+led_tdi plan old new x l l' place tdi fits lt led is keeps = ⊎_elim
     (λ same. ap (λ (d : DeviceTdis). slice_get d.interfaces place) same
-    ∙ slice_get-map (settled_tdi (secure_in plan new x.link)) l.device.interfaces.interfaces place
-    ∙ ap (option_map (settled_tdi (secure_in plan new x.link))) is
-    ∙ ap Some (settled_is (secure_in plan old x.link) (secure_in plan new x.link) x.plan tdi keeps))
+    ∙ slice_get-map (settled_tdi (is_said_secure (says_in plan new x.link))) l.device.interfaces.interfaces place
+    ∙ ap (option_map (settled_tdi (is_said_secure (says_in plan new x.link)))) is
+    ∙ ap Some (settled_is _ (says_in plan old x.link) (says_in plan new x.link) x.plan tdi
+    (are_apart plan old x.link fits lt) (are_apart plan new x.link fits lt) keeps))
     (λ kept. ap (λ (d : DeviceTdis). slice_get d.interfaces place) kept.0 ∙ is
-    ∙ ap Some (stays_is (secure_in plan old x.link) (secure_in plan new x.link) x.plan tdi kept.1)) led
+    ∙ ap Some (stays_is (says_in plan old x.link) (says_in plan new x.link) x.plan tdi kept.1)) led
 
 -- ---- an interface
 
--- the event makes no more of it than that its stream leaves Secure, and it accepts no lock
+-- the event makes no more of it than that a stream that it is bound to leaves Secure, and it accepts no lock
 pub record OnlyLeaves (plan : Plan) (w : Whole) (e : Event) (verdict : Verdict) (new : LinkState) (x : Site) (f : Face)
     : Type 0 where
-  pub next : (face_after plan (whole_streams plan w) (secure_in plan new) w.faces.used e verdict x f).tdi
-      ≡ tdi_if_called (leaves (secure_in plan w.links x.link) (secure_in plan new x.link) x.plan) StreamLeft f.tdi
+  pub next : (face_after plan (whole_streams plan w) (ends_in plan new) w.faces.used e verdict x f).tdi
+      ≡ tdi_if_called (leaves (says_in plan w.links x.link) (says_in plan new x.link) x.plan f.tdi.bindings) StreamLeft
+      f.tdi
   pub none : accepts_lock (around_of plan (whole_streams plan w) w.faces.used x f) x e verdict f.tdi ≡ false
 
 -- the manager keeps of it what the machine keeps of it after the event
@@ -102,19 +141,30 @@ pub record IsManagedAfter (plan : Plan) (w : Whole) (e : Event) (verdict : Verdi
       (managed_after (whole_streams plan w).op w.links.draws x e verdict f.managed)
 
 pub placed_keeps : (plan : Plan) (ends : List LinkEnds) (m : InterfacesView) (w : Whole) (i : ℕ) (x : Site)
-    → (p : IsPlaced plan ends m w i x) → Keeps (secure_in plan w.links x.link) x.plan p.tdi
-placed_keeps plan ends m w i x p =
-    record { layout = p.keeps.layout; bound = p.keeps.bound; secure = p.secure }
+    → (p : IsPlaced plan ends m w i x) → Keeps (says_in plan w.links x.link) x.plan p.tdi
+placed_keeps plan ends m w i x p = record {
+  layout = p.keeps.layout;
+  own = p.keeps.bound;
+  secure = p.secure;
+  bound = p.bound;
+  held = p.held;
+}
+
+-- a site is on one of up to eight links
+pub link_few : (plan : Plan) (i : ℕ) (x : Site) → FitsPlan plan → slice_get (sites plan) i ≡ Some x → x.link < 8
+link_few plan i x fits at =
+    let planned = site_planned plan i x fits at in
+    omega (arith, fits.links_most, slice_get_within plan.links x.link planned.laid_out planned.links_are)
 
 pub placed_led : (plan : Plan) (w : Whole) (e : Event) (verdict : Verdict) (new : LinkState)
-    (ends ends' : List LinkEnds) (m m' : InterfacesView) (i : ℕ) (x : Site) (l' : LinkEnds)
+    (ends ends' : List LinkEnds) (m m' : InterfacesView) (i : ℕ) (x : Site) (l' : LinkEnds) → FitsPlan plan
     → slice_get (sites plan) i ≡ Some x
     → (p : IsPlaced plan ends m w i x) → slice_get ends' x.link ≡ Some l' → located 0 i ends' ≡ located 0 i ends
     → IsLed plan w.links new x.link p.link_ends l' → OnlyLeaves plan w e verdict new x p.face
     → IsManagedAfter plan w e verdict m' i x p.face → IsPlaced plan ends' m' (whole_after plan w e verdict new) i x
-placed_led plan w e verdict new ends ends' m m' i x l' at p is same led only managed =
-    let before = secure_in plan w.links x.link in
-    let after = secure_in plan new x.link in
+placed_led plan w e verdict new ends ends' m m' i x l' fits at p is same led only managed =
+    let before = says_in plan w.links x.link in
+    let after = says_in plan new x.link in
     let keeps = placed_keeps plan ends m w i x p in
     let behind = keeps_after before after x.plan p.tdi keeps in
     record {
@@ -122,21 +172,25 @@ placed_led plan w e verdict new ends ends' m m' i x l' at p is same led only man
       ends_are = is;
       place = p.place;
       located_is = same ∙ p.located_is;
-      tdi = tdi_if_called (leaves before after x.plan) StreamLeft p.tdi;
-      tdi_is = led_tdi plan w.links new x p.link_ends l' p.place p.tdi led p.tdi_is keeps;
+      tdi = tdi_if_called (leaves before after x.plan p.tdi.bindings) StreamLeft p.tdi;
+      tdi_is = led_tdi plan w.links new x p.link_ends l' p.place p.tdi fits (link_few plan i x fits at) led p.tdi_is
+          keeps;
       interface = managed.interface;
       interface_is = managed.interface_is;
-      face = face_after plan (whole_streams plan w) (secure_in plan new) w.faces.used e verdict x p.face;
-      face_is = each_at (face_after plan (whole_streams plan w) (secure_in plan new) w.faces.used e verdict)
+      face = face_after plan (whole_streams plan w) (ends_in plan new) w.faces.used e verdict x p.face;
+      face_is = each_at (face_after plan (whole_streams plan w) (ends_in plan new) w.faces.used e verdict)
           (sites plan)
           w.faces.list i x p.face at p.face_is;
       keeps = record {
         managed = managed.managed;
-        tdi_is = ap (tdi_if_called (leaves before after x.plan) StreamLeft) p.keeps.tdi_is ∙ sym only.next;
+        tdi_is = ap (λ (t : Tdi). tdi_if_called (leaves before after x.plan t.bindings) StreamLeft t) p.keeps.tdi_is
+            ∙ sym only.next;
         layout = behind.layout;
-        bound = behind.bound;
+        bound = behind.own;
       };
       secure = behind.secure;
+      bound = behind.bound;
+      held = behind.held;
     }
 
 -- ---- all of them
@@ -170,20 +224,20 @@ pub record LedBeside (plan : Plan) (w : Whole) (e : Event) (verdict : Verdict) (
 
 pub beside_led : (plan : Plan) (w : Whole) (e : Event) (verdict : Verdict) (new : LinkState)
     (ends ends' : List LinkEnds) (m m' : InterfacesView) (memory memory' : MemoryContents)
-    → IsBeside plan ends m memory w
+    → FitsPlan plan → IsBeside plan ends m memory w
     → LedBeside plan w e verdict new ends ends' m m' memory'
     → IsBeside plan ends' m' memory' (whole_after plan w e verdict new)
-beside_led plan w e verdict new ends ends' m m' memory memory' b s =
+beside_led plan w e verdict new ends ends' m m' memory memory' fits b s =
     let within : (link : ℕ) (l' : LinkEnds) → slice_get ends' link ≡ Some l' → link < length ends
     = λ link l' at. omega (arith, s.many, slice_get_within ends' link l' at) in
-    let used = used_kept plan (whole_streams plan w) (secure_in plan new) e verdict w.faces
+    let used = used_kept plan (whole_streams plan w) (ends_in plan new) e verdict w.faces
     (λ i x f at there. (s.only i x f at there).none) in
     let places : (i : ℕ) → located 0 i ends' ≡ located 0 i ends = λ i. located_kept 0 i ends ends' s.many
     (λ k l l' at at'. (led_same plan w.links new k l l' (s.led k l l' at at')).many) in
     record {
       portion = s.portion ∙ b.portion;
       managed = s.interfaces ∙ b.managed;
-      faced = each_many (face_after plan (whole_streams plan w) (secure_in plan new) w.faces.used e verdict)
+      faced = each_many (face_after plan (whole_streams plan w) (ends_in plan new) w.faces.used e verdict)
           (sites plan)
           w.faces.list (sym b.faced);
       devices = λ link l' at.
@@ -193,7 +247,7 @@ beside_led plan w e verdict new ends ends' m m' memory memory' b s =
           let p = b.placed i x at in
           let l' = get_there ends' x.link
           (omega (arith, s.many, slice_get_within ends x.link p.link_ends p.ends_are)) in
-          placed_led plan w e verdict new ends ends' m m' i x l'.0 at p l'.1 (places i)
+          placed_led plan w e verdict new ends ends' m m' i x l'.0 fits at p l'.1 (places i)
           (s.led x.link p.link_ends l'.0 p.ends_are l'.1) (s.only i x p.face at p.face_is)
           (s.managed i x p.interface p.face at p.interface_is p.face_is p.keeps.managed);
       regions = s.regions;

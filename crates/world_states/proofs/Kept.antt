@@ -2,11 +2,14 @@
 -- rest, and so do the draws, and memory, to which no arrival brings a write.
 use Rattle.std.proofs.Common.{◌≡◌, ℕ, ◌≤◌, ◌&&◌, Bool, true, false, List, [], length, Option, Some, None, refl, ap, sym}
 use Rattle.std.proofs.Common.{◌∙◌, subst, arith, inr}
-use Rattle.std.specs.Prelude.{not, if◌then◌else◌, nat_lt, slice_get}
+use Rattle.std.specs.Prelude.{not, if◌then◌else◌, nat_lt, slice_get, is_some}
+use Rattle.ide_types.specs.declared.direction.Direction.{Direction}
 use Rattle.ide_types.specs.declared.port.PortName.{PortName}
+use Rattle.ide_plan.specs.Fits.{FitsPlan}
 use Rattle.ide_plan.specs.declared.plan.Plan.{Plan}
 use Rattle.link_events.specs.declared.event.Event.{Event}
-use Rattle.link_events.specs.declared.event.Event.TheVariants.{Access, Send, Dump, Reset, Status, Interface}
+use Rattle.link_events.specs.declared.event.Event.TheVariants.{Access, Absent, Send, Dump, Forward, Reset, Status}
+use Rattle.link_events.specs.declared.event.Event.TheVariants.{Interface}
 use Rattle.link_events.specs.declared.event.AccessEvent.TheVariants as ae
 use Rattle.link_events.specs.declared.event.InterfaceEvent.{InterfaceEvent}
 use Rattle.link_events.specs.declared.event.InterfaceEvent.TheVariants as ie
@@ -24,36 +27,32 @@ use Rattle.link_history.specs.History.{Arrival}
 use Rattle.link_history.specs.Memory.{Grants}
 use Rattle.link_ports.specs.Machine.{Beside, LinkState, Stepped, status_found}
 unfoldable use Rattle.link_ports.specs.Machine.{find_op, step_of}
-use Rattle.whole_machine.specs.Machine.{Whole, secure_in, whole_streams, arrival_of, draw_after, written_after}
+use Rattle.whole_machine.specs.Machine.{Whole, whole_streams, arrival_of, draw_after, written_after}
 use Rattle.whole_machine.specs.Machine.{beside_of, whole_after}
 use Rattle.whole_links.specs.{AreLinks, InterfacesView, Links, links_state, SidesKeep, writes_by}
-use Rattle.world_states.specs.Whole.{IsBeside}
-use Rattle.world_states.proofs.Settled.{leaves, stays_is}
-use Rattle.world_states.proofs.Secure.{answer_kept, secure_kept}
+use Rattle.bound_streams.specs.Says.{AreSecureStill, says_in}
+use Rattle.bound_streams.proofs.Settled.{leaves_none, stays_is}
+use Rattle.bound_streams.proofs.Sends.{StaySecure, answer_kept, forward_kept, says_kept, sends_kept}
+use Rattle.world_states.specs.Whole.{AreDrawn, IsBeside}
 use Rattle.world_states.proofs.Rests.{Rests, rests_of_packets, rests_at_view, rests_at_memory, rests_elsewhere}
-use Rattle.world_states.proofs.Rests.{draw_of_packets, is_of_packets}
+use Rattle.world_states.proofs.Rests.{is_of_packets, is_of_peer, draw_of_packets, rests_unasked}
 use Rattle.std.proofs.lemmas.Bool.Decides.{nat_tests}
 use Rattle.world_states.proofs.Follows.{OnlyLeaves, IsManagedAfter, beside_led}
 
 -- ---- an interface
 
-stays_false : (a b : Bool) → (a ≡ true → b ≡ true) → (a && not b) ≡ false
-stays_false false b stays = refl
-stays_false true true stays = refl
-stays_false true false stays = let no : false ≡ true = stays refl in absurd cc
-
 only_rests : (plan : Plan) (w : Whole) (e : Event) (verdict : Verdict) (new : LinkState) (x : Site) (f : Face)
-    → ((stream : ℕ) → secure_in plan w.links x.link stream ≡ true → secure_in plan new x.link stream ≡ true)
+    → AreSecureStill (says_in plan w.links x.link) (says_in plan new x.link)
     → Rests e verdict x → OnlyLeaves plan w e verdict new x f
 only_rests plan w e verdict new x f stays rests =
     let a = around_of plan (whole_streams plan w) w.faces.used x f in
+    let before = says_in plan w.links x.link in
+    let after = says_in plan new x.link in
     record {
       next =
-          ap (λ (b : Bool). next_tdi a b x e verdict f.tdi)
-          (stays_false (secure_in plan w.links x.link x.plan.stream) (secure_in plan new x.link x.plan.stream)
-          (stays x.plan.stream))
+          ap (λ (b : Bool). next_tdi a b x e verdict f.tdi) (leaves_none before after x.plan f.tdi.bindings stays)
           ∙ rests.next a f.tdi
-          ∙ stays_is (secure_in plan w.links x.link) (secure_in plan new x.link) x.plan f.tdi stays;
+          ∙ stays_is before after x.plan f.tdi stays;
       none = rests.none a f.tdi;
     }
 
@@ -98,18 +97,18 @@ written_kept plan w e verdict none =
 
 -- no stream left Secure, and the event rests at each interface, draw and byte
 pub record IsStill (plan : Plan) (w : Whole) (e : Event) (verdict : Verdict) (new : LinkState) : Type 0 where
-  pub stays : (link stream : ℕ) → secure_in plan w.links link stream ≡ true → secure_in plan new link stream ≡ true
+  pub stays : (link : ℕ) → AreSecureStill (says_in plan w.links link) (says_in plan new link)
   pub rests : (i : ℕ) (x : Site) → slice_get (sites plan) i ≡ Some x → Rests e verdict x
   pub draw : draw_after (whole_streams plan w).op w.links.draws e verdict w.draw ≡ w.draw
   pub written : written_after plan w e verdict ≡ w.written
 
 pub kept_beside : (plan : Plan) (w : Whole) (e : Event) (verdict : Verdict) (new : LinkState) (old after : Links)
-    → IsBeside plan old.ends old.keeper.interfaces old.trusted.contents w → length after.ends ≡ length old.ends
-    → SidesKeep old after → IsStill plan w e verdict new
-    → IsBeside plan after.ends after.keeper.interfaces after.trusted.contents (whole_after plan w e verdict new)
-kept_beside plan w e verdict new old after b many sides still =
-    beside_led plan w e verdict new old.ends after.ends old.keeper.interfaces after.keeper.interfaces
-    old.trusted.contents after.trusted.contents b (record {
+    → FitsPlan plan → IsBeside plan old.ends.links old.keeper.interfaces old.trusted.contents w
+    → length after.ends.links ≡ length old.ends.links → SidesKeep old after → IsStill plan w e verdict new
+    → IsBeside plan after.ends.links after.keeper.interfaces after.trusted.contents (whole_after plan w e verdict new)
+kept_beside plan w e verdict new old after fits b many sides still =
+    beside_led plan w e verdict new old.ends.links after.ends.links old.keeper.interfaces after.keeper.interfaces
+    old.trusted.contents after.trusted.contents fits b (record {
       many = many;
       led = λ link l l' at at'. inr (sides.devices link l l' at at', still.stays link);
       only = λ i x f at there. only_rests plan w e verdict new x f (still.stays x.link) (still.rests i x at);
@@ -123,10 +122,11 @@ kept_beside plan w e verdict new old after b many sides still =
           (subst (IsLeftBy old.trusted.contents) (sym still.written) b.written);
     })
 
--- ports, interfaces and memory are a state of the machine
+-- ports, interfaces, draws and memory are a state of the machine
 pub record IsState (plan : Plan) (s : Links) (w : Whole) : Type 0 where
   pub links : w.links ≡ links_state plan s
-  pub beside : IsBeside plan s.ends s.keeper.interfaces s.trusted.contents w
+  pub beside : IsBeside plan s.ends.links s.keeper.interfaces s.trusted.contents w
+  pub drawn : AreDrawn plan s.keeper.peer_draws w.draw
 
 -- the links before and after an event, and the state of the machine before it
 pub record AreBoth (plan : Plan) (old new : Links) (w : Whole) : Type 0 where
@@ -147,7 +147,8 @@ leaves_ports plan (Dump n) = true
 leaves_ports plan (Status link stream) = true
 leaves_ports plan (Interface e) = true
 leaves_ports plan (Access (ae.Mmio interface bar offset len)) = true
-leaves_ports plan (Reset link) = not (nat_lt link (length plan.links))
+leaves_ports plan (Reset link ends) = not (nat_lt link (length plan.links))
+leaves_ports plan Absent = true
 leaves_ports plan e = false
 
 status_kept : (plan : Plan) (st : LinkState) (link stream : ℕ) (o : Option Op)
@@ -166,24 +167,24 @@ ports_kept plan beside st (Dump n) is = refl
 ports_kept plan beside st (Status link stream) is = status_kept plan st link stream (find_op plan st link stream)
 ports_kept plan beside st (Interface e) is = refl
 ports_kept plan beside st (Access (ae.Mmio interface bar offset len)) is = refl
-ports_kept plan beside st (Reset link) is = past_kept (nat_lt link (length plan.links)) _ _ st is
+ports_kept plan beside st (Reset link ends) is = past_kept (nat_lt link (length plan.links)) _ _ st is
+ports_kept plan beside st Absent is = refl
 ports_kept plan beside st e is = absurd cc
 
 stays_there : (plan : Plan) (beside : Beside) (st new : LinkState) (e : Event) (verdict : Verdict)
-    → leaves_ports plan e ≡ true → (verdict, new) ≡ step_of plan beside st e
-    → (link stream : ℕ) → secure_in plan st link stream ≡ true → secure_in plan new link stream ≡ true
-stays_there plan beside st new e verdict is step link stream secure =
-    ap (λ (s : LinkState). secure_in plan s link stream)
-    (ap (λ (r : Stepped). r.1) step ∙ ports_kept plan beside st e is) ∙ secure
+    → leaves_ports plan e ≡ true → ◌≡◌ {A = Stepped} (verdict, new) (step_of plan beside st e) → StaySecure plan st new
+stays_there plan beside st new e verdict is step =
+    subst (StaySecure plan st)
+    (sym (ap (λ (r : Stepped). r.1) step ∙ ports_kept plan beside st e is)) (λ end stream secure. secure)
 
 past_verdict : (b : Bool) (r : Stepped) (w : Verdict) (st : LinkState) → not b ≡ true → (if b then r else (w, st)).0 ≡ w
 past_verdict true r w st is = absurd cc
 past_verdict false r w st is = refl
 
-absent_verdict : (plan : Plan) (beside : Beside) (st : LinkState) (link : ℕ) → leaves_ports plan (Reset link) ≡ true
-    → (step_of plan beside st (Reset link)).0 ≡ v.Nothing
+absent_verdict : (plan : Plan) (beside : Beside) (st : LinkState) (link : ℕ) (ends : List PortName)
+    → leaves_ports plan (Reset link ends) ≡ true → (step_of plan beside st (Reset link ends)).0 ≡ v.Nothing
 unfolding step_of
-absent_verdict plan beside st link is = past_verdict (nat_lt link (length plan.links)) _ _ st is
+absent_verdict plan beside st link ends is = past_verdict (nat_lt link (length plan.links)) _ _ st is
 
 not_there : (link n : ℕ) → n ≤ link → not (nat_lt link n) ≡ true
 not_there link n le = grind (arith, nat_tests)
@@ -191,39 +192,55 @@ not_there link n le = grind (arith, nat_tests)
 module _ (plan : Plan) (old new : Links) (w : Whole) (verdict : Verdict) (beside : Beside)
     (both : AreBoth plan old new w) (sides : SidesKeep old new) where
   still_beside : (e : Event) → IsStill plan w e verdict (links_state plan new)
-      → IsBeside plan new.ends new.keeper.interfaces new.trusted.contents
+      → IsBeside plan new.ends.links new.keeper.interfaces new.trusted.contents
       (whole_after plan w e verdict (links_state plan new))
   still_beside e still =
-      kept_beside plan w e verdict (links_state plan new) old new both.whole.beside
+      kept_beside plan w e verdict (links_state plan new) old new both.links.fits both.whole.beside
       (both.links_after.many ∙ sym both.links.many) sides still
+
+  -- the state of the machine after it is one in which every stream is Secure still
+  stays_in : (e : Event) → (verdict, links_state plan new) ≡ step_of plan beside w.links e
+      → StaySecure plan w.links (step_of plan beside w.links e).1 → (link : ℕ)
+      → AreSecureStill (says_in plan w.links link) (says_in plan (links_state plan new) link)
+  stays_in e step stays =
+      says_kept plan w.links (links_state plan new)
+      (subst (StaySecure plan w.links) (sym (ap (λ (r : Stepped). r.1) step)) stays)
+
+  -- one that may seal packets
+  sealing_beside : (e : Event) → (verdict, links_state plan new) ≡ step_of plan beside w.links e
+      → StaySecure plan w.links (step_of plan beside w.links e).1 → is_of_packets e verdict ≡ true
+      → arrival_of plan w.links e ≡ None
+      → IsBeside plan new.ends.links new.keeper.interfaces new.trusted.contents
+      (whole_after plan w e verdict (links_state plan new))
+  sealing_beside e step stays packets none =
+      still_beside e (record {
+        stays = stays_in e step stays;
+        rests = λ i x at. rests_of_packets e verdict x packets;
+        draw = draw_of_packets (whole_streams plan w).op w.links.draws e verdict w.draw packets;
+        written = written_kept plan w e verdict none;
+      })
 
   pub send_beside : (port : PortName) (bytes : List ℕ) (more trusted : Bool)
       → (verdict, links_state plan new) ≡ step_of plan beside w.links (Send port bytes more trusted)
-      → IsBeside plan new.ends new.keeper.interfaces new.trusted.contents
+      → IsBeside plan new.ends.links new.keeper.interfaces new.trusted.contents
       (whole_after plan w (Send port bytes more trusted) verdict (links_state plan new))
   send_beside port bytes more trusted step =
-      still_beside (Send port bytes more trusted) (record {
-        stays = λ link stream is.
-            ap (λ (r : Stepped). secure_in plan r.1 link stream) step
-            ∙ secure_kept plan beside w.links port bytes more trusted link stream is;
-        rests = λ i x at. rests_of_packets (Send port bytes more trusted) verdict x refl;
-        draw = refl;
-        written = written_kept plan w (Send port bytes more trusted) verdict refl;
-      })
+      sealing_beside (Send port bytes more trusted) step (sends_kept plan beside w.links port bytes more trusted) refl
+      refl
 
   pub answer_beside : (link : ℕ)
       → (verdict, links_state plan new) ≡ step_of plan beside w.links (Access (ae.Answer link))
-      → IsBeside plan new.ends new.keeper.interfaces new.trusted.contents
+      → IsBeside plan new.ends.links new.keeper.interfaces new.trusted.contents
       (whole_after plan w (Access (ae.Answer link)) verdict (links_state plan new))
   answer_beside link step =
-      still_beside (Access (ae.Answer link)) (record {
-        stays = λ l stream is.
-            ap (λ (r : Stepped). secure_in plan r.1 l stream) step
-            ∙ answer_kept plan beside w.links link l stream is;
-        rests = λ i x at. rests_of_packets (Access (ae.Answer link)) verdict x refl;
-        draw = refl;
-        written = written_kept plan w (Access (ae.Answer link)) verdict refl;
-      })
+      sealing_beside (Access (ae.Answer link)) step (answer_kept plan beside w.links link) refl refl
+
+  pub forward_beside : (link : ℕ) (d : Direction)
+      → (verdict, links_state plan new) ≡ step_of plan beside w.links (Forward link d)
+      → IsBeside plan new.ends.links new.keeper.interfaces new.trusted.contents
+      (whole_after plan w (Forward link d) verdict (links_state plan new))
+  forward_beside link d step =
+      sealing_beside (Forward link d) step (forward_kept plan beside w.links link d) refl refl
 
   -- an event that leaves the ports as they are
   pub leaving_beside : (e : Event) → leaves_ports plan e ≡ true
@@ -231,25 +248,26 @@ module _ (plan : Plan) (old new : Links) (w : Whole) (verdict : Verdict) (beside
       → ((i : ℕ) (x : Site) → slice_get (sites plan) i ≡ Some x → Rests e verdict x)
       → draw_after (whole_streams plan w).op w.links.draws e verdict w.draw ≡ w.draw
       → arrival_of plan w.links e ≡ None
-      → IsBeside plan new.ends new.keeper.interfaces new.trusted.contents
+      → IsBeside plan new.ends.links new.keeper.interfaces new.trusted.contents
       (whole_after plan w e verdict (links_state plan new))
   leaving_beside e leaves step rests draw none =
       still_beside e (record {
-        stays = stays_there plan beside w.links (links_state plan new) e verdict leaves step;
+        stays = says_kept plan w.links (links_state plan new)
+            (stays_there plan beside w.links (links_state plan new) e verdict leaves step);
         rests = rests;
         draw = draw;
         written = written_kept plan w e verdict none;
       })
 
   pub dump_beside : (n : ℕ) → (verdict, links_state plan new) ≡ step_of plan beside w.links (Dump n)
-      → IsBeside plan new.ends new.keeper.interfaces new.trusted.contents
+      → IsBeside plan new.ends.links new.keeper.interfaces new.trusted.contents
       (whole_after plan w (Dump n) verdict (links_state plan new))
   dump_beside n step =
       leaving_beside (Dump n) refl step (λ i x at. rests_of_packets (Dump n) verdict x refl) refl refl
 
   pub status_beside : (link stream : ℕ)
       → (verdict, links_state plan new) ≡ step_of plan beside w.links (Status link stream)
-      → IsBeside plan new.ends new.keeper.interfaces new.trusted.contents
+      → IsBeside plan new.ends.links new.keeper.interfaces new.trusted.contents
       (whole_after plan w (Status link stream) verdict (links_state plan new))
   status_beside link stream step =
       leaving_beside (Status link stream) refl step (λ i x at. rests_of_packets (Status link stream) verdict x refl)
@@ -257,21 +275,21 @@ module _ (plan : Plan) (old new : Links) (w : Whole) (verdict : Verdict) (beside
 
   pub mmio_beside : (interface bar offset len : ℕ)
       → (verdict, links_state plan new) ≡ step_of plan beside w.links (Access (ae.Mmio interface bar offset len))
-      → IsBeside plan new.ends new.keeper.interfaces new.trusted.contents
+      → IsBeside plan new.ends.links new.keeper.interfaces new.trusted.contents
       (whole_after plan w (Access (ae.Mmio interface bar offset len)) verdict (links_state plan new))
   mmio_beside interface bar offset len step =
       let e = Access (ae.Mmio interface bar offset len) in
       leaving_beside e refl step (λ i x at. rests_of_packets e verdict x refl) refl refl
 
   pub view_beside : (i : ℕ) → (verdict, links_state plan new) ≡ step_of plan beside w.links (Interface (ie.View i))
-      → IsBeside plan new.ends new.keeper.interfaces new.trusted.contents
+      → IsBeside plan new.ends.links new.keeper.interfaces new.trusted.contents
       (whole_after plan w (Interface (ie.View i)) verdict (links_state plan new))
   view_beside i step =
       leaving_beside (Interface (ie.View i)) refl step (λ j x at. rests_at_view i verdict x) refl refl
 
   pub memory_beside : (at len : ℕ)
       → (verdict, links_state plan new) ≡ step_of plan beside w.links (Interface (ie.Memory at len))
-      → IsBeside plan new.ends new.keeper.interfaces new.trusted.contents
+      → IsBeside plan new.ends.links new.keeper.interfaces new.trusted.contents
       (whole_after plan w (Interface (ie.Memory at len)) verdict (links_state plan new))
   memory_beside at len step =
       leaving_beside (Interface (ie.Memory at len)) refl step (λ j x is. rests_at_memory at len verdict x) refl refl
@@ -280,20 +298,36 @@ module _ (plan : Plan) (old new : Links) (w : Whole) (verdict : Verdict) (beside
   pub elsewhere_beside : (e : InterfaceEvent)
       → (verdict, links_state plan new) ≡ step_of plan beside w.links (Interface e)
       → ((i : ℕ) (x : Site) → slice_get (sites plan) i ≡ Some x → is_number (number_in e) x.number ≡ false)
-      → IsBeside plan new.ends new.keeper.interfaces new.trusted.contents
+      → IsBeside plan new.ends.links new.keeper.interfaces new.trusted.contents
       (whole_after plan w (Interface e) verdict (links_state plan new))
   elsewhere_beside e step other =
       leaving_beside (Interface e) refl step (λ i x at. rests_elsewhere e verdict x (other i x at)) refl refl
 
+  -- a bind or an unbind that gives nothing
+  pub unasked_beside : (e : InterfaceEvent) → is_of_peer e ≡ true → verdict ≡ v.Nothing
+      → (verdict, links_state plan new) ≡ step_of plan beside w.links (Interface e)
+      → IsBeside plan new.ends.links new.keeper.interfaces new.trusted.contents
+      (whole_after plan w (Interface e) verdict (links_state plan new))
+  unasked_beside e peer nothing step =
+      leaving_beside (Interface e) refl step
+      (λ i x at. subst (λ (u : Verdict). Rests (Interface e) u x) (sym nothing) (rests_unasked e x peer)) refl refl
+
+  -- what the topology does not have
+  pub nothing_beside : (verdict, links_state plan new) ≡ step_of plan beside w.links Absent
+      → IsBeside plan new.ends.links new.keeper.interfaces new.trusted.contents
+      (whole_after plan w Absent verdict (links_state plan new))
+  nothing_beside step =
+      leaving_beside Absent refl step (λ i x at. rests_of_packets Absent verdict x refl) refl refl
+
   -- a reset of a link that is not there
-  pub absent_beside : (link : ℕ) → length old.ends ≤ link
-      → (verdict, links_state plan new) ≡ step_of plan beside w.links (Reset link)
-      → IsBeside plan new.ends new.keeper.interfaces new.trusted.contents
-      (whole_after plan w (Reset link) verdict (links_state plan new))
-  absent_beside link past step =
+  pub absent_beside : (link : ℕ) (ends : List PortName) → length old.ends.links ≤ link
+      → (verdict, links_state plan new) ≡ step_of plan beside w.links (Reset link ends)
+      → IsBeside plan new.ends.links new.keeper.interfaces new.trusted.contents
+      (whole_after plan w (Reset link ends) verdict (links_state plan new))
+  absent_beside link ends past step =
       let absent = not_there link (length plan.links) (omega (arith, past, both.links.many)) in
       let nothing : verdict ≡ v.Nothing =
-      ap (λ (r : Stepped). r.0) step ∙ absent_verdict plan beside w.links link absent in
-      let packets : is_of_packets (Reset link) verdict ≡ true = ap (is_of_packets (Reset link)) nothing in
-      leaving_beside (Reset link) absent step (λ i x at. rests_of_packets (Reset link) verdict x packets)
-      (draw_of_packets (whole_streams plan w).op w.links.draws (Reset link) verdict w.draw packets) refl
+      ap (λ (r : Stepped). r.0) step ∙ absent_verdict plan beside w.links link ends absent in
+      let packets : is_of_packets (Reset link ends) verdict ≡ true = ap (is_of_packets (Reset link ends)) nothing in
+      leaving_beside (Reset link ends) absent step (λ i x at. rests_of_packets (Reset link ends) verdict x packets)
+      (draw_of_packets (whole_streams plan w).op w.links.draws (Reset link ends) verdict w.draw packets) refl

@@ -2,9 +2,12 @@ pub mod Faces
 pub mod Places
 pub mod Sites
 pub mod Statuses
+pub mod Owners
 pub mod Besides
-pub mod Settled
-pub mod Secure
+pub mod Asked
 pub mod Rests
 pub mod Follows
 pub mod Kept
+pub use Rattle.bound_streams.proofs.Settled.{keeps_free}
+pub use Rattle.bound_streams.proofs.Calls.{StaysBound, asked_keeps}
+pub use Rattle.whole_links.proofs.{op_is, set_read, unnamed}

@@ -1,5 +1,6 @@
 -- What events make of one interface of the machine. One that speaks of packets or of streams makes no more of it than
--- that its stream leaves Secure; one that speaks of another interface, or of none, makes nothing of it.
+-- that a stream that it is bound to leaves Secure; one that speaks of another interface, or of none, or of a stream
+-- between devices that its device does not have, makes nothing of it.
 use Rattle.std.proofs.Common.{◌≡◌, ℕ, ◌==◌, Bool, true, false, refl, arith}
 use Rattle.std.specs.Prelude.{if◌then◌else◌}
 use Rattle.link_events.specs.declared.event.Event.{Event}
@@ -20,7 +21,7 @@ use Rattle.whole_machine.specs.Machine.{draw_after}
 -- it is on no interface, and resets no link
 abbrev pub is_of_ports : Event → Verdict → Bool
 is_of_ports (event.Interface e) w = false
-is_of_ports (event.Reset link) (v.Reset l) = false
+is_of_ports (event.Reset link ends) (v.Reset l) = false
 is_of_ports e w = true
 
 pub next_of_ports : (a : Around) (left : Bool) (x : Site) (e : Event) (w : Verdict) (tdi : Tdi)
@@ -41,7 +42,7 @@ pub record Rests (e : Event) (w : Verdict) (x : Site) : Type 0 where
 -- it speaks of packets, or asks what is; or it is a reset of a link that is not there
 abbrev pub is_of_packets : Event → Verdict → Bool
 is_of_packets (event.Interface e) w = false
-is_of_packets (event.Reset link) (v.Reset l) = false
+is_of_packets (event.Reset link ends) (v.Reset l) = false
 is_of_packets (event.Establish link stream loss) w = false
 is_of_packets (event.Refresh link stream loss) w = false
 is_of_packets (event.Stop link stream loss) w = false
@@ -100,3 +101,22 @@ rests_elsewhere e w x other = record {
   none = λ a tdi. none_elsewhere a x e w tdi other;
   managed = λ ops drawn m. rw other refl;
 }
+
+-- a bind or an unbind of a stream that the interface's device does not have, or of no interface
+abbrev pub is_of_peer : InterfaceEvent → Bool
+is_of_peer (ie.Bind i line stream loss) = true
+is_of_peer (ie.Unbind i line stream loss) = true
+is_of_peer e = false
+
+pub rests_unasked : (e : InterfaceEvent) (x : Site) → is_of_peer e ≡ true → Rests (event.Interface e) v.Nothing x
+rests_unasked (ie.Bind i line stream loss) x is = record {
+  next = λ a tdi. if_same (i == x.number) tdi;
+  none = λ a tdi. refl;
+  managed = λ ops drawn m. if_same (i == x.number) m;
+}
+rests_unasked (ie.Unbind i line stream loss) x is = record {
+  next = λ a tdi. if_same (i == x.number) tdi;
+  none = λ a tdi. refl;
+  managed = λ ops drawn m. if_same (i == x.number) m;
+}
+rests_unasked e x is = absurd cc

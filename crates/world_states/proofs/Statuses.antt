@@ -1,63 +1,75 @@
--- What a port shows of a stream is what the machine has of it. The machine keeps the states of all ports in one list,
--- of each link the host's and then the device's. So a port's are read at twice its link and its side.
-use Rattle.std.proofs.Common.{◌≡◌, ℕ, suc, zero, ◌+◌, ◌*◌, List, [], ◌∷◌, refl, ap, sym, ◌∙◌, arith, Option, Some}
-use Rattle.std.proofs.Common.{None}
-use Rattle.std.proofs.lemmas.Option.{none-some, same_Some}
-use Rattle.std.specs.List.{slice_index_or}
+-- What an end shows of a stream is what the machine has of it, as it keeps the states of each end (`end_found`). So a
+-- device says of its streams what the machine reads of them: of its link's at its port (`secure_is`), of those between
+-- devices at its ends of these (`shows_state`).
+use Rattle.std.proofs.Common.{
+  ◌≡◌,
+  ℕ,
+  ◌+◌,
+  ◌-◌,
+  ◌*◌,
+  ◌<◌,
+  ◌≤◌,
+  Bool,
+  true,
+  false,
+  List,
+  [],
+  ◌∷◌,
+  length,
+  refl,
+  ap,
+  sym,
+  ◌∙◌,
+}
+use Rattle.std.proofs.Common.{arith, Option, Some, None}
+use Rattle.std.proofs.lemmas.Bool.{lt-ltb, le-ltb}
+use Rattle.std.proofs.lemmas.Option.{slice_get_within}
 use Rattle.std.specs.Option.{option_and_then}
-use Rattle.std.specs.Prelude.{slice_get, option_map, unwrap_or}
+use Rattle.std.specs.Prelude.{slice_get, option_map, unwrap_or, if◌then◌else◌, nat_lt}
+use Rattle.ide_types.specs.Lines.{peer_line}
+use Rattle.ide_types.specs.declared.port.PortName.{PortName}
 use Rattle.ide_types.specs.declared.port.Side.{Side}
 use Rattle.ide_types.specs.declared.port.Side.TheVariants.{Host, Device}
 use Rattle.ide_types.specs.declared.status.StreamStatus.{StreamStatus}
 use Rattle.ide_types.specs.declared.sub.SubKind.{SubKind}
+use Rattle.ide_types.specs.declared.sub.SubKind.TheVariants.{Pr}
 use Rattle.ide_types.specs.declared.status.StreamStatus.TheVariants as status
+use Rattle.ide_plan.specs.declared.plan.PeerPlan.{PeerPlan}
 use Rattle.ide_plan.specs.declared.plan.Plan.{Plan}
-use Rattle.ide_plan.specs.declared.stream.StreamPlan.{StreamPlan}
-use Rattle.key_laws.specs.Places.{sent_direction}
 use Rattle.stream_rules.specs.Stream.{StreamState, at_sub}
 use Rattle.stream_rules.specs.Slots.{receiving_draw}
 use Rattle.sub_stream.specs.Calls.{stream_status}
 use Rattle.tsm_host.specs.Streams.{status_or_idle}
-use Rattle.ide_port.specs.{Found, found, receiving_draw_in, status_in}
+use Rattle.ide_port.specs.{Found, PortEnd, found, receiving_draw_in, status_in}
 use Rattle.device_side.specs.Ends.{says_secure, secure_at}
-use Rattle.link_history.specs.Plan.{streams_of}
 use Rattle.link_ports.specs.Machine.{LinkPacket, port_at, receiving_draw_at, status_at}
 unfoldable use Rattle.link_ports.specs.Machine.{find}
 use Rattle.link_ports.specs.Machine as machine
 use Rattle.interface_states.specs.Devices.{is_secure}
-use Rattle.whole_machine.specs.Machine.{secure_in}
-use Rattle.whole_links.specs.{AreLinks, IsLink, KeeperView, LinkEnds, port_in, ports_in, state_of}
-use Rattle.whole_links.proofs.{machine_found}
+unfoldable use Rattle.interface_states.specs.Peers.{peer_end}
+use Rattle.interface_states.specs.Peers.{live_by}
+use Rattle.whole_machine.specs.Accesses.{posted_draw_at}
+use Rattle.whole_machine.specs.Machine.{live_if, live_in, secure_in}
+use Rattle.bound_streams.proofs.PeerEnds.{IsPeerEnd, peer_end_is}
+use Rattle.whole_links.specs.{EndsView, PairEnds, live_at_port, live_of, live_on, pair_port, port_on}
+use Rattle.whole_links.proofs.{end_found}
+use Rattle.whole_links.specs.{AreLinks, KeeperView, LinkEnds, port_in, state_of}
+use Rattle.world_states.proofs.Places.{get_there}
 
--- ---- the states of one port
+-- ---- what stands at an end
 
-twice : (i d : ℕ) → 2 * suc i + d ≡ suc (suc (2 * i + d))
-twice i d = omega arith
+pub link_port : (plan : Plan) (v : EndsView) (k : KeeperView) (s : Side) (link : ℕ) (l : LinkEnds) → AreLinks plan v k
+    → slice_get v.links link ≡ Some l → port_on v (port_at s link) ≡ Some (port_in s l)
+link_port plan v k s link l links is =
+    let lt : link < 8 = omega (arith, slice_get_within v.links link l is, links.many, links.fits.links_most) in
+    rw (lt-ltb link 8 lt) (ap (option_map (port_in s)) is)
 
-states_at : (ls : List LinkEnds) (s : Side) (i : ℕ) (l : LinkEnds) → slice_get ls i ≡ Some l
-    → slice_index_or (ports_in ls) (2 * i + sent_direction s) [] ≡ (port_in s l).states
-states_at [] s i l is = absurd (none-some l is)
-states_at (x ∷ ls) Host zero l is = ap (λ (y : LinkEnds). y.host.states) (same_Some x l is)
-states_at (x ∷ ls) Device zero l is = ap (λ (y : LinkEnds). y.device.port.states) (same_Some x l is)
-states_at (x ∷ ls) s (suc i) l is = ap (λ (n : ℕ). slice_index_or (ports_in (x ∷ ls)) n []) (twice i (sent_direction s))
-    ∙ states_at ls s i l is
-
-plans_are : (plan : Plan) (i : ℕ) (l : LinkEnds) (s : Side) → IsLink plan i l → (port_in s l).plans ≡ streams_of plan i
-plans_are plan i l Host is = is.host_plans
-plans_are plan i l Device is = is.device_plans
-
--- ---- the machine's stream of a port
-
-find_is : (plan : Plan) (ends : List LinkEnds) (k : KeeperView) (packets : List LinkPacket) (s : Side) (link stream : ℕ)
-    (l : LinkEnds) → AreLinks plan ends k → slice_get ends link ≡ Some l
-    → find plan (state_of plan ends k packets) (port_at s link) stream
-    ≡ option_map (λ (f : Found). f.state) (found (port_in s l).plans (port_in s l).states stream)
-unfolding find
-find_is plan ends k packets s link stream l links is =
-    ap (λ (xs : List StreamState). machine.found_by_id (streams_of plan link) xs stream) (states_at ends s link l is)
-    ∙ ap (λ (ss : List StreamPlan). machine.found_by_id ss (port_in s l).states stream)
-    (sym (plans_are plan link l s (links.each_link link l is)))
-    ∙ machine_found (port_in s l).plans (port_in s l).states stream
+pair_there : (v : EndsView) (s : Side) (line : ℕ) (l : PairEnds) → 16 ≤ line → slice_get v.pairs (line - 16) ≡ Some l
+    → port_on v (port_at s line) ≡ Some (pair_port s l)
+pair_there v s line l le is =
+    let past : nat_lt line 8 ≡ false = le-ltb line 8 (omega (arith, le)) in
+    let late : nat_lt line 16 ≡ false = le-ltb line 16 le in
+    rw (past, late) (ap (option_map (pair_port s)) is)
 
 -- ---- its status
 
@@ -66,45 +78,83 @@ status_shown : (o : Option Found) → status_or_idle (option_map (λ (f : Found)
 status_shown None = refl
 status_shown (Some f) = refl
 
-status_is : (plan : Plan) (ends : List LinkEnds) (k : KeeperView) (packets : List LinkPacket) (s : Side)
-    (link stream : ℕ) (l : LinkEnds) → AreLinks plan ends k → slice_get ends link ≡ Some l
-    → status_or_idle (status_in (port_in s l) stream) ≡ status_at plan (state_of plan ends k packets) s link stream
-status_is plan ends k packets s link stream l links is =
-    status_shown (found (port_in s l).plans (port_in s l).states stream)
-    ∙ ap machine.status_if_planned (sym (find_is plan ends k packets s link stream l links is))
+module _ (plan : Plan) (v : EndsView) (k : KeeperView) (packets : List LinkPacket) (links : AreLinks plan v k) where
+  status_is : (end : PortName) (e : PortEnd) (stream : ℕ) → port_on v end ≡ Some e
+      → status_or_idle (status_in e stream) ≡ status_at plan (state_of plan v k packets) end.side end.link stream
+  status_is end e stream is =
+      status_shown (found e.plans e.states stream)
+      ∙ ap machine.status_if_planned (sym (end_found plan v k packets end e stream links is))
 
-pub host_status_is : (plan : Plan) (ends : List LinkEnds) (k : KeeperView) (packets : List LinkPacket)
-    (link stream : ℕ) (l : LinkEnds) → AreLinks plan ends k → slice_get ends link ≡ Some l
-    → status_or_idle (status_in l.host stream) ≡ status_at plan (state_of plan ends k packets) Host link stream
-host_status_is plan ends k packets link stream l links is = status_is plan ends k packets Host link stream l links is
+  pub host_status_is : (link stream : ℕ) (l : LinkEnds) → slice_get v.links link ≡ Some l
+      → status_or_idle (status_in l.host stream) ≡ status_at plan (state_of plan v k packets) Host link stream
+  host_status_is link stream l is = status_is (port_at Host link) l.host stream
+      (link_port plan v k Host link l links is)
 
-secure_says : (o : Option StreamStatus) → says_secure o ≡ is_secure (status_or_idle o)
-secure_says None = refl
-secure_says (Some status.Idle) = refl
-secure_says (Some status.Partial) = refl
-secure_says (Some status.Secure) = refl
-secure_says (Some status.Insecure) = refl
+  secure_says : (o : Option StreamStatus) → says_secure o ≡ is_secure (status_or_idle o)
+  secure_says None = refl
+  secure_says (Some status.Idle) = refl
+  secure_says (Some status.Partial) = refl
+  secure_says (Some status.Secure) = refl
+  secure_says (Some status.Insecure) = refl
 
-pub secure_is : (plan : Plan) (ends : List LinkEnds) (k : KeeperView) (packets : List LinkPacket)
-    (link stream : ℕ) (l : LinkEnds) → AreLinks plan ends k → slice_get ends link ≡ Some l
-    → secure_at l.device.port stream ≡ secure_in plan (state_of plan ends k packets) link stream
-secure_is plan ends k packets link stream l links is =
-    secure_says (status_in l.device.port stream)
-    ∙ ap is_secure (status_is plan ends k packets Device link stream l links is)
+  pub secure_is : (link stream : ℕ) (l : LinkEnds) → slice_get v.links link ≡ Some l
+      → secure_at l.device.port stream ≡ secure_in plan (state_of plan v k packets) link stream
+  secure_is link stream l is =
+      secure_says (status_in l.device.port stream)
+      ∙ ap is_secure (status_is (port_at Device link) l.device.port stream (link_port plan v k Device link l links is))
 
--- ---- what its receivers open under
+  -- ---- what its receivers open under
 
-draw_shown : (o : Option Found) (u : SubKind)
-    → unwrap_or (option_and_then (λ (f : Found). receiving_draw (at_sub f.state.rx u).slots) o) 0
-    ≡ unwrap_or (receiving_draw_at u (option_map (λ (f : Found). f.state) o)) 0
-draw_shown None u = refl
-draw_shown (Some f) u = refl
+  draw_shown : (o : Option Found) (u : SubKind)
+      → unwrap_or (option_and_then (λ (f : Found). receiving_draw (at_sub f.state.rx u).slots) o) 0
+      ≡ unwrap_or (receiving_draw_at u (option_map (λ (f : Found). f.state) o)) 0
+  draw_shown None u = refl
+  draw_shown (Some f) u = refl
 
-pub device_draw_is : (plan : Plan) (ends : List LinkEnds) (k : KeeperView) (packets : List LinkPacket)
-    (link stream : ℕ) (l : LinkEnds) (u : SubKind) → AreLinks plan ends k → slice_get ends link ≡ Some l
-    → unwrap_or (receiving_draw_in l.device.port stream u) 0
-    ≡ unwrap_or (receiving_draw_at u (find plan (state_of plan ends k packets) (port_at Device link) stream)) 0
-device_draw_is plan ends k packets link stream l u links is =
-    draw_shown (found l.device.port.plans l.device.port.states stream) u
-    ∙ ap (λ (o : Option StreamState). unwrap_or (receiving_draw_at u o) 0)
-    (sym (find_is plan ends k packets Device link stream l links is))
+  end_draw_is : (end : PortName) (e : PortEnd) (stream : ℕ) (u : SubKind) → port_on v end ≡ Some e
+      → unwrap_or (receiving_draw_in e stream u) 0
+      ≡ unwrap_or (receiving_draw_at u (find plan (state_of plan v k packets) end stream)) 0
+  end_draw_is end e stream u is =
+      draw_shown (found e.plans e.states stream) u
+      ∙ ap (λ (o : Option StreamState). unwrap_or (receiving_draw_at u o) 0)
+      (sym (end_found plan v k packets end e stream links is))
+
+  pub device_draw_is : (link stream : ℕ) (l : LinkEnds) (u : SubKind) → slice_get v.links link ≡ Some l
+      → unwrap_or (receiving_draw_in l.device.port stream u) 0
+      ≡ unwrap_or (receiving_draw_at u (find plan (state_of plan v k packets) (port_at Device link) stream)) 0
+  device_draw_is link stream l u is =
+      end_draw_is (port_at Device link) l.device.port stream u (link_port plan v k Device link l links is)
+
+  -- ---- what is Live
+
+  live_there : (end : PortName) (e : PortEnd) (stream : ℕ) → port_on v end ≡ Some e
+      → live_in plan (state_of plan v k packets) end stream ≡ live_at_port e stream
+  live_there end e stream is =
+      let secure = secure_says (status_in e stream) ∙ ap is_secure (status_is end e stream is) in
+      let draw = end_draw_is end e stream Pr is in
+      λ i. live_if (sym secure i) (sym draw i)
+
+  pair_live : (end : PortName) (l : PairEnds) (stream : ℕ) → 16 ≤ end.link
+      → slice_get v.pairs (end.link - 16) ≡ Some l
+      → live_in plan (state_of plan v k packets) end stream ≡ live_of v.pairs end stream
+  pair_live end l stream le is =
+      live_there end (pair_port end.side l) stream (pair_there v end.side end.link l le is)
+      ∙ sym (ap (option_and_then (λ (x : PairEnds). live_at_port (pair_port end.side x) stream)) is)
+
+  live_found : (link stream : ℕ) (o : Option PortName) → peer_end plan.peers 0 link stream ≡ o
+      → option_and_then (λ e. live_in plan (state_of plan v k packets) e stream) o
+      ≡ option_and_then (λ e. live_of v.pairs e stream) o
+  live_found link stream None is = refl
+  live_found link stream (Some e) is =
+      let r = peer_end_is plan.peers 0 link stream e is in
+      let within = slice_get_within plan.peers r.number r.peer r.peer_is in
+      let le : 16 ≤ e.link = omega (arith, r.line_is) in
+      let there = get_there v.pairs (e.link - 16) (omega (arith, r.line_is, within, links.pairs_many)) in
+      pair_live e there.0 stream le there.1
+
+  -- the device says of streams to others what the machine reads of them
+  pub live_is : (link stream : ℕ)
+      → live_by (live_in plan (state_of plan v k packets)) plan.peers link stream ≡ live_on v link stream
+  live_is link stream =
+      live_found link stream (peer_end plan.peers 0 link stream) refl
+      ∙ ap (λ (ps : List PeerPlan). live_by (live_of v.pairs) ps link stream) (sym links.peers_are)

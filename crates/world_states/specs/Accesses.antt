@@ -1,20 +1,23 @@
 -- What stands at each link for reads and for the memory of its device is what the machine keeps.
-use Rattle.std.specs.Prelude.{ℕ, ◌≡◌, ◌==◌, List, [], ◌∷◌, length, map, slice_get, Some, if◌then◌else◌}
+use Rattle.std.specs.Prelude.{ℕ, ◌≡◌, ◌<◌, ◌==◌, List, [], ◌∷◌, length, map, slice_get, Some, if◌then◌else◌}
+use Rattle.ide_types.specs.declared.direction.Direction.{Direction}
 use Rattle.ide_plan.specs.declared.plan.Plan.{Plan}
 use Rattle.ide_plan.specs.declared.plan.LinkPlan.{LinkPlan}
 use Rattle.interface_states.specs.Sites.{Site, sites}
 use Rattle.waiting_reads.specs.declared.queue.WaitingRead.{WaitingRead}
 use Rattle.guarded_memory.specs.{page_counts}
+use Rattle.link_history.specs.Hops.{HopTlp}
 use Rattle.whole_machine.specs.Accesses.{Accesses}
 use Rattle.accesses.specs.declared.link.LinkAccesses.{LinkAccesses}
-use Rattle.whole_links.specs.{AreLeftBy, floors_at, mmio_at, reads_at, sizes_at}
+use Rattle.whole_links.specs.{AreLeftBy, carried_at, floors_at, mmio_at, reads_at, sizes_at}
 
--- What is seen of a link. How many pages are spare is no part of it.
+-- What is seen of a link. How many pages are spare, and for how many TLPs there is room, is no part of it.
 pub record LinkSeen : Type 0 where
   pub reads : List WaitingRead
   pub floors : List ℕ
   pub sizes : List (List ℕ)
   pub bytes : ℕ → ℕ → ℕ → ℕ
+  pub carried : Direction → List HopTlp
 
 abbrev pub seen_at : List LinkAccesses → ℕ → LinkSeen
 seen_at xs link = record {
@@ -22,6 +25,7 @@ seen_at xs link = record {
   floors = floors_at xs link;
   sizes = sizes_at xs link;
   bytes = mmio_at xs link;
+  carried = carried_at xs link;
 }
 
 -- of the interfaces of a link, in order, what is kept of each in the topology's order
@@ -29,8 +33,8 @@ abbrev pub on_link : {A : Type 0} → ℕ → List Site → List A → List A
 on_link link (x ∷ xs) (y ∷ ys) = if x.link == link then y ∷ on_link link xs ys else on_link link xs ys
 on_link link _ _ = []
 
--- of each link the reads that wait, the bytes of its device's memory, how many pages its ranges have, and the least
--- draws that its device's interfaces take trusted writes under
+-- of each link the reads that wait, the bytes of its device's memory, how many pages its ranges have, the least draws
+-- that its device's interfaces take trusted writes under, and the TLPs that wait at the switch of its hop
 pub record AreAccesses (plan : Plan) (seen : ℕ → LinkSeen) (a : Accesses) : Type 0 where
   pub floored : length a.floors ≡ length (sites plan)
   pub reads : (link : ℕ) → (seen link).reads ≡ a.waiting link
@@ -38,3 +42,4 @@ pub record AreAccesses (plan : Plan) (seen : ℕ → LinkSeen) (a : Accesses) : 
   pub sizes : (link : ℕ) (p : LinkPlan) → slice_get plan.links link ≡ Some p
       → (seen link).sizes ≡ map page_counts p.interfaces
   pub floors : (link : ℕ) → (seen link).floors ≡ on_link link (sites plan) a.floors
+  pub carried : (link : ℕ) (d : Direction) → link < 8 → (seen link).carried d ≡ a.carried link d

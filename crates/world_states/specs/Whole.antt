@@ -1,18 +1,25 @@
 -- What is kept of links, interfaces and memory is a state of the whole machine.
-use Rattle.std.specs.Prelude.{ℕ, ◌≡◌, true, List, length, slice_get, Some, IfSome}
+use Rattle.std.specs.Prelude.{ℕ, ◌≡◌, true, is_some, List, length, slice_get, Some, IfSome}
+use Rattle.std.specs.List.{slice_index_or}
+use Rattle.ide_types.specs.Lines.{peer_line}
 use Rattle.ide_plan.specs.declared.plan.Plan.{Plan}
 use Rattle.ide_plan.specs.declared.plan.LinkPlan.{LinkPlan}
+use Rattle.ide_plan.specs.declared.plan.PeerPlan.{PeerPlan}
+use Rattle.interface_states.specs.Peers.{live_by}
 use Rattle.interface_states.specs.Sites.{Site, sites, nonces_of}
 use Rattle.interface_machine.specs.Machine.{Face}
-use Rattle.whole_machine.specs.Machine.{Whole, secure_in}
+use Rattle.whole_machine.specs.Machine.{Whole, secure_in, live_in}
 use Rattle.tdi_state.specs.Machine.{Tdi, bound_stream}
+use Rattle.tdi_state.specs.Bindings.{binds}
+use Rattle.tdi_state.specs.Held.{IsBound}
 use Rattle.tdi_host.specs.Views.{HostTdi}
 use Rattle.interface_joins.specs.Faces.{IsFace}
 use Rattle.trusted_memory.specs.{MemoryContents, IsLeftBy}
 use Rattle.whole_links.specs.{InterfacesView, LinkEnds, located}
 
--- Interface number `i` at the manager and at the device of its link: they keep of it what the machine keeps, and a lock
--- stands only while its stream is Secure at the device's port.
+-- Interface number `i` at the manager and at the device of its link: they keep of it what the machine keeps. A lock
+-- stands only while its stream is Secure at the device's port, and a binding only while the stream between devices is
+-- Secure at the device's end of it.
 pub record IsPlaced (plan : Plan) (ends : List LinkEnds) (m : InterfacesView) (w : Whole) (i : ℕ) (x : Site) : Type 0
   where
     pub link_ends : LinkEnds
@@ -27,6 +34,9 @@ pub record IsPlaced (plan : Plan) (ends : List LinkEnds) (m : InterfacesView) (w
     pub face_is : slice_get w.faces.list i ≡ Some face
     pub keeps : IsFace (w.draw x.link x.plan.stream) x interface tdi face
     pub secure : IfSome (bound_stream tdi.state) (λ stream. secure_in plan w.links x.link stream ≡ true)
+    pub bound : (stream : ℕ) → binds stream tdi.bindings ≡ true
+        → is_some (live_by (live_in plan w.links) plan.peers x.link stream) ≡ true
+    pub held : IsBound tdi.state tdi.bindings
 
 -- the device of a link gives the nonces of the topology in their order, and has the link's interfaces
 pub record IsDevice (plan : Plan) (w : Whole) (link : ℕ) (l : LinkEnds) : Type 0 where
@@ -47,3 +57,9 @@ pub record IsBeside (plan : Plan) (ends : List LinkEnds) (m : InterfacesView) (m
     pub placed : (i : ℕ) (x : Site) → slice_get (sites plan) i ≡ Some x → IsPlaced plan ends m w i x
     pub regions : memory.regions ≡ plan.memory
     pub written : IsLeftBy memory w.written
+
+-- the draw that the manager has of each stream between devices, by its number, is that of the stream
+pub record AreDrawn (plan : Plan) (draws : List ℕ) (draw : ℕ → ℕ → ℕ) : Type 0 where
+  pub many : length draws ≡ 8
+  pub each : (p : ℕ) (q : PeerPlan) → slice_get plan.peers p ≡ Some q
+      → slice_index_or draws p 0 ≡ draw (peer_line p) q.id

@@ -6,25 +6,26 @@ use Rattle.link_verdicts.specs.declared.verdict.Verdict.{Verdict}
 use Rattle.key_laws.specs.History.{History}
 use Rattle.link_history.specs.Due.{due}
 use Rattle.link_ports.specs.Machine.{LinkState}
-use Rattle.port_operations.specs.Points.{StreamPoints}
+use Rattle.whole_machine.specs.{StreamPoints}
 use Rattle.whole_machine.specs.Machine.{Whole}
 use Rattle.whole_machine.specs.Stands.{StandsFor}
-use Rattle.whole_links.specs.{AreLinks, InterfacesView, LinkEnds, links_state}
+use Rattle.whole_links.specs.{AreLinks, EndsView, InterfacesView, links_state}
 use Rattle.trusted_memory.specs.{MemoryContents}
 use Rattle.whole_links.specs.declared.whole.WholeLinks.{WholeLinks}
 use Rattle.whole_links.specs.Whole.{IsBoundedWhole}
-use Rattle.world_states.specs.Whole.{IsBeside}
+use Rattle.world_states.specs.Whole.{AreDrawn, IsBeside}
 use Rattle.accesses.specs.declared.link.LinkAccesses.{LinkAccesses}
 use Rattle.world_states.specs.Accesses.{AreAccesses, seen_at}
 
--- the topology, what is kept of its ports and of the manager's streams, the ends of each link with its device's
--- interfaces, the manager of interfaces, trusted memory, what stands at each link for reads and for the memory of its
--- device, and how many events came
+-- the topology, what is kept of its ports and of the manager's streams, the ends of each line with the interfaces of
+-- devices, the manager of interfaces, the draw of each stream between devices, by its number, trusted memory, what
+-- stands at each link for reads, for the memory of its device and at its switch, and how many events came
 pub record WorldView : Type 0 where
   pub plan : Plan
   pub state : LinkState
-  pub ends : List LinkEnds
+  pub ends : EndsView
   pub interfaces : InterfacesView
+  pub peer_draws : List ℕ
   pub memory : MemoryContents
   pub accesses : List LinkAccesses
   pub steps : ℕ
@@ -33,7 +34,8 @@ pub record WorldView : Type 0 where
 -- the machine keeps of them.
 pub record IsWhole (s : WorldView) (w : Whole) : Type 0 where
   pub links : w.links ≡ s.state
-  pub beside : IsBeside s.plan s.ends s.interfaces s.memory w
+  pub beside : IsBeside s.plan s.ends.links s.interfaces s.memory w
+  pub drawn : AreDrawn s.plan s.peer_draws w.draw
   pub accesses : AreAccesses s.plan (seen_at s.accesses) w.accesses
 
 -- It stands for a history: it is a state of the whole machine that does.
@@ -61,7 +63,7 @@ pub record IsStep (old : WorldView) (event : Event) (verdict : Verdict) (new : W
   pub steps_are : new.steps ≡ old.steps + 1
   pub stood : (h : History) → Stands old h → HasStood h event verdict old new
 
--- All is as before, but for how many pages are spare.
+-- All is as before, but for how many pages are spare, and for how many TLPs there is room at switches.
 pub record IsAsBefore (old new : WorldView) : Type 0 where
   pub world : record new { accesses = old.accesses } ≡ old
   pub accesses : seen_at new.accesses ≡ seen_at old.accesses
@@ -74,6 +76,7 @@ world_of plan s = record {
   state = links_state plan s.links;
   ends = s.links.ends;
   interfaces = s.links.keeper.interfaces;
+  peer_draws = s.links.keeper.peer_draws;
   memory = s.links.trusted.contents;
   accesses = s.accesses;
   steps = s.links.steps;

@@ -3,5 +3,5 @@ use Rattle.all_ends.specs.Places.{located}
 use Rattle.all_ends.proofs.all_ends.AllEnds.interface.Given as goal
 
 abbrev pub invariant-loop-ends : goal.invariant-loop-ends
-invariant-loop-ends l = (located 0 l.number l.self ≡ located l.link l.left (drop l.ends-index l.self))
+invariant-loop-ends l = (located 0 l.number l.self.links ≡ located l.link l.left (drop l.ends-index l.self.links))
     × (l.link ≡ l.ends-index)

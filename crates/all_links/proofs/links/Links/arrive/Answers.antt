@@ -1,45 +1,33 @@
-use Rattle.all_links.proofs.Terms.{true, false, refl, sym, length, true-lt, Arrive}
+use Rattle.all_links.proofs.Terms.{sym, Arrive, beside_in, links_state}
 use Rattle.all_links.proofs.Finds.{nothing_changes}
-use Rattle.all_links.proofs.Arrivals.{arrived, given}
-use Rattle.all_links.proofs.Sides.{nothing_arrives, arrived_beside, brings, brings_given}
-use Rattle.all_links.proofs.Accesses.{nothing_accessed, arrived_accesses}
+use Rattle.all_links.proofs.Arrivals.{arrived, arrived_accesses, arrived_beside, brought_port}
+use Rattle.all_links.proofs.Arrivals.{nothing_brought}
 use Rattle.all_links.proofs.links.Links.arrive.Goals as goal
 
-pub returns-then-not-has_link-clause-ends : goal.returns-then-not-has_link-clause-ends
-returns-then-not-has_link-clause-ends c =
-    nothing_changes c.only.ensures.value c.only.ensures.links c.requires.bounded
-    (λ b plan so h links stands. given c.args.self.now b plan c.args.port c.args.bytes.now false links
-    c.if-not-has_link.ensures)
+pub returns-then-not-has_port-clause-ends : goal.returns-then-not-has_port-clause-ends
+returns-then-not-has_port-clause-ends c =
+    nothing_changes c.args.plan.now (Arrive c.args.port c.args.bytes.now)
+    c.only.ensures.value c.only.ensures.links c.requires.bounded
+    (λ b so h links stands. nothing_brought c.args.plan.now (beside_in c.args.self.now b)
+    (links_state c.args.plan.now c.args.self.now) c.args.port c.args.bytes.now (sym c.if-not-has_port.ensures))
 
 pub returns-clause-ends : goal.returns-clause-ends
 returns-clause-ends c =
-    arrived c.args.self.now c.args.accesses.now c.bring.new.accesses c.args.port c.args.bytes.now
-    c.in_ok-verdict.verdict c.bring.new.ends c.bring.new.trusted c.requires.bounded c.requires.many
-    (true-lt c.args.port.link (length c.args.self.now.ends) (sym c.if-not-has_link.ensures))
-    c.in_ok-verdict.ensures.brings (Arrive c.args.port c.args.bytes.now)
-    (λ b plan links. given c.args.self.now b plan c.args.port c.args.bytes.now true links c.if-not-has_link.ensures)
-
-pub returns-then-not-has_link-clause-sides : goal.returns-then-not-has_link-clause-sides
-returns-then-not-has_link-clause-sides c = nothing_arrives _ c.only.ensures.value c.only.ensures.links
+    arrived c.args.plan.now c.args.self.now (Arrive c.args.port c.args.bytes.now) c.args.port c.args.bytes.now
+    c.in_ok-verdict.verdict c.args.accesses.now c.land.new.accesses c.land.new.ends c.land.new.trusted
+    (brought_port c.args.plan.now c.args.self.now c.args.port c.args.bytes.now (sym c.if-not-has_port.ensures))
+    c.in_ok-verdict.ensures.lands c.requires.bounded
 
 pub returns-clause-sides : goal.returns-clause-sides
 returns-clause-sides c =
-    brings (λ plan links. brings_given c.args.self.now plan c.args.port c.args.bytes.now links
-    c.if-not-has_link.ensures)
-    (arrived_beside c.args.self.now c.args.accesses.now c.bring.new.accesses c.args.port c.args.bytes.now
-    c.in_ok-verdict.verdict c.bring.new.ends c.bring.new.trusted c.requires.many
-    (true-lt c.args.port.link (length c.args.self.now.ends) (sym c.if-not-has_link.ensures))
-    c.in_ok-verdict.ensures.brings)
-
-pub returns-then-not-has_link-clause-accesses : goal.returns-then-not-has_link-clause-accesses
-returns-then-not-has_link-clause-accesses c =
-    nothing_accessed c.args.self.now c.args.accesses.now (Arrive c.args.port c.args.bytes.now) _ c.only.ensures.value
-    (λ plan w k. refl)
+    arrived_beside c.args.plan.now c.args.self.now (Arrive c.args.port c.args.bytes.now) c.args.port c.args.bytes.now
+    c.in_ok-verdict.verdict c.args.accesses.now c.land.new.accesses c.land.new.ends c.land.new.trusted
+    (brought_port c.args.plan.now c.args.self.now c.args.port c.args.bytes.now (sym c.if-not-has_port.ensures))
+    c.in_ok-verdict.ensures.lands
 
 pub returns-clause-accesses : goal.returns-clause-accesses
 returns-clause-accesses c =
-    arrived_accesses c.args.self.now c.args.accesses.now c.bring.new.accesses c.args.port c.args.bytes.now
-    c.in_ok-verdict.verdict c.bring.new.ends c.bring.new.trusted c.requires.many
-    (true-lt c.args.port.link (length c.args.self.now.ends) (sym c.if-not-has_link.ensures))
-    c.in_ok-verdict.ensures.brings (Arrive c.args.port c.args.bytes.now) (λ plan w k. refl) _
-    (λ plan links. brings_given c.args.self.now plan c.args.port c.args.bytes.now links c.if-not-has_link.ensures)
+    arrived_accesses c.args.plan.now c.args.self.now (Arrive c.args.port c.args.bytes.now) c.args.port c.args.bytes.now
+    c.in_ok-verdict.verdict c.args.accesses.now c.land.new.accesses c.land.new.ends c.land.new.trusted
+    (brought_port c.args.plan.now c.args.self.now c.args.port c.args.bytes.now (sym c.if-not-has_port.ensures))
+    c.in_ok-verdict.ensures.lands

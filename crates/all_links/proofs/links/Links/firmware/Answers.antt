@@ -17,15 +17,15 @@ firmware-state-requires c =
     }
 
 pub returns-in-None-clause-ends : goal.returns-in-None-clause-ends
-returns-in-None-clause-ends c =
-    only_says (ie.Firmware c.args.number)
+returns-in-None-clause-ends c plan =
+    only_says plan (ie.Firmware c.args.number)
     (ap (λ (o : Option (ℕ × ℕ)). Some
-    (firmware_as c.args.number (option_and_then (tdi_of_ends c.args.self.now.ends) o)))
+    (firmware_as c.args.number (option_and_then (tdi_of_ends c.args.self.now.ends.links) o)))
     c.in-None.ensures) c.only.ensures.value c.only.ensures.links c.requires.bounded
 
 pub returns-in-Some-clause-ends : goal.returns-in-Some-clause-ends
-returns-in-Some-clause-ends c =
-    called c.args.self.now c.args.number (c.in-Some.link, c.in-Some.place) FirmwareUpdate c.firmware-state.result
+returns-in-Some-clause-ends c plan =
+    called plan c.args.self.now c.args.number (c.in-Some.link, c.in-Some.place) FirmwareUpdate c.firmware-state.result
     c.firmware-state.new.self c.shows.new.self c.shows.result (ie.Firmware c.args.number)
     (λ code. v.Interface (iv.Firmware c.args.number code)) c.in-Some.ensures c.firmware-state.ensures
     (λ tdi is. ap (λ (o : Option Tdi). Some (firmware_as c.args.number o)) (sym is)) c.shows.ensures.value

@@ -1,6 +1,6 @@
 use Rattle.all_links.proofs.Terms.{◌∙◌, List, ap, refl, Region}
 use Rattle.trusted_memory.specs.{new_memory}
-use Rattle.link_ends.specs.declared.host.HostKeeper.{HostKeeper}
+use Rattle.interface_answers.specs.{HostKeeper}
 use Rattle.all_links.proofs.links.Links.make.Goals as goal
 
 pub returns : goal.returns
@@ -8,7 +8,17 @@ returns c = record {
   ends = c.in_ok-ends.ensures;
   keys = ap (λ (k : HostKeeper). k.keys) c.in_ok-keeper.ensures;
   interfaces = ap (λ (k : HostKeeper). k.interfaces) c.in_ok-keeper.ensures;
+  peer_draws = ap (λ (k : HostKeeper). k.peer_draws) c.in_ok-keeper.ensures;
   packets = c.new-packets.ensures;
   trusted = c.in_ok-trusted.ensures.new ∙ ap (λ (rs : List Region). new_memory rs) c.as_slice.ensures;
   steps = refl;
 }
+
+pub make-requires-2-clause-links : goal.make-requires-2-clause-links
+make-requires-2-clause-links c = c.requires.links_most
+
+pub make-requires-2-clause-peers : goal.make-requires-2-clause-peers
+make-requires-2-clause-peers c = c.requires.peers_most
+
+pub make-requires-2-clause-pool : goal.make-requires-2-clause-pool
+make-requires-2-clause-pool c = c.requires.pool_most

@@ -14,7 +14,7 @@ length-bytes f at zero = refl
 length-bytes f at (suc n) = ap (λ (k : ℕ). suc k) (length-bytes f (at + 1) n)
 
 pub returns-then-peek-clause-ends : goal.returns-then-peek-clause-ends
-returns-then-peek-clause-ends c =
+returns-then-peek-clause-ends c plan =
     let m : MemoryContents = c.args.self.now.trusted.contents in
     let at : ℕ = c.args.address in
     let len : length c.deref_mut.result.now ≡ c.args.length = omega
@@ -34,11 +34,11 @@ returns-then-peek-clause-ends c =
     (bytes_from (byte_at m) at c.args.length) =
     ap (λ (bs : List ℕ). v.Interface (iv.Memory bs)) bytes ∙ ap
     (λ (b : Bool). read_as b (bytes_from (byte_at m) at c.args.length)) (sym inside) in
-    only_says (ie.Memory at c.args.length) (ap Some due) c.shows.ensures.value c.shows.ensures.links
+    only_says plan (ie.Memory at c.args.length) (ap Some due) c.shows.ensures.value c.shows.ensures.links
     c.requires.bounded
 
 pub returns-else-peek-clause-ends : goal.returns-else-peek-clause-ends
-returns-else-peek-clause-ends c =
+returns-else-peek-clause-ends c plan =
     let m : MemoryContents = c.args.self.now.trusted.contents in
     let at : ℕ = c.args.address in
     let len : length c.deref_mut.result.now ≡ c.args.length = omega
@@ -47,7 +47,8 @@ returns-else-peek-clause-ends c =
     (sym len) ∙ sym c.peek.ensures.answer ∙ c.if-peek.false in
     let due : v.Nothing ≡ read_as (in_one_region m.regions at c.args.length) (bytes_from (byte_at m) at c.args.length) =
     ap (λ (b : Bool). read_as b (bytes_from (byte_at m) at c.args.length)) (sym outside) in
-    only_says (ie.Memory at c.args.length) (ap Some due) c.only.ensures.value c.only.ensures.links c.requires.bounded
+    only_says plan (ie.Memory at c.args.length) (ap Some due) c.only.ensures.value c.only.ensures.links
+    c.requires.bounded
 
 pub returns-then-peek-clause-sides : goal.returns-then-peek-clause-sides
 returns-then-peek-clause-sides c =

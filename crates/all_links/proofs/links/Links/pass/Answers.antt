@@ -1,48 +1,48 @@
 use Rattle.all_links.proofs.Terms.{None, Some, refl, LinkPacket, Pass, beside_in, links_state}
 use Rattle.all_links.proofs.Finds.{nothing_changes}
-use Rattle.link_steps.proofs.Arrivals.{passes, brings_whole}
-use Rattle.all_links.proofs.Arrivals.{packet_arrived}
-use Rattle.all_links.proofs.Sides.{nothing_arrives, packet_beside}
-use Rattle.all_links.proofs.Accesses.{nothing_accessed, packet_accesses}
+use Rattle.all_links.proofs.Arrivals.{arrived, arrived_accesses, arrived_beside, brought_packet}
+use Rattle.line_arrivals.proofs.{passes, brings_whole}
 use Rattle.all_links.proofs.links.Links.pass.Goals as goal
 
 pub returns-in-None-clause-ends : goal.returns-in-None-clause-ends
 returns-in-None-clause-ends c =
-    nothing_changes c.only.ensures.value c.only.ensures.links c.requires.bounded
-    (λ b plan so h links stands. passes (beside_in c.args.self.now b) plan (links_state plan c.args.self.now)
-    c.args.packet None c.in-None.ensures)
+    nothing_changes c.args.plan.now (Pass c.args.packet)
+    c.only.ensures.value c.only.ensures.links c.requires.bounded
+    (λ b so h links stands. passes (beside_in c.args.self.now b) c.args.plan.now
+    (links_state c.args.plan.now c.args.self.now) c.args.packet None c.in-None.ensures)
 
 pub returns-in_ok-verdict-in-Some-clause-ends : goal.returns-in_ok-verdict-in-Some-clause-ends
 returns-in_ok-verdict-in-Some-clause-ends c =
-    let x : LinkPacket = record { port = c.in-Some.port; bytes = c.in-Some.bytes.now } in
-    packet_arrived c.args.self.now c.args.accesses.now c.bring.new.accesses c.args.packet x c.partner-port.result
-    x.bytes
-    c.in_ok-verdict-in-Some.verdict c.bring.new.ends c.bring.new.trusted c.requires.bounded c.in-Some.ensures
-    c.requires.many c.partner-port.ensures c.in_ok-verdict-in-Some.ensures.brings (Pass c.args.packet)
-    (λ b plan. passes (beside_in c.args.self.now b) plan (links_state plan c.args.self.now) c.args.packet (Some x)
-    c.in-Some.ensures)
-
-pub returns-in-None-clause-sides : goal.returns-in-None-clause-sides
-returns-in-None-clause-sides c = nothing_arrives _ c.only.ensures.value c.only.ensures.links
+    let x : LinkPacket = record { port = c.in-Some.end; bytes = c.in-Some.bytes.now } in
+    arrived c.args.plan.now c.args.self.now (Pass c.args.packet) c.partner-end.result x.bytes
+    c.in_ok-verdict-in-Some.verdict c.args.accesses.now c.land.new.accesses c.land.new.ends c.land.new.trusted
+    (brought_packet c.args.plan.now c.args.self.now (Pass c.args.packet) c.args.packet x c.partner-end.result x.bytes
+    c.partner-end.ensures c.in-Some.ensures (λ w k. refl)
+    (brings_whole c.args.plan.now c.args.self.now.packets.packets c.args.packet x c.in-Some.ensures)
+    (λ b. passes b c.args.plan.now (links_state c.args.plan.now c.args.self.now) c.args.packet (Some x)
+    c.in-Some.ensures))
+    c.in_ok-verdict-in-Some.ensures.lands c.requires.bounded
 
 pub returns-in_ok-verdict-in-Some-clause-sides : goal.returns-in_ok-verdict-in-Some-clause-sides
 returns-in_ok-verdict-in-Some-clause-sides c =
-    let x : LinkPacket = record { port = c.in-Some.port; bytes = c.in-Some.bytes.now } in
-    packet_beside c.args.self.now c.args.accesses.now c.bring.new.accesses c.args.packet x c.partner-port.result x.bytes
-    c.in_ok-verdict-in-Some.verdict c.bring.new.ends c.bring.new.trusted c.requires.bounded c.in-Some.ensures
-    c.requires.many c.partner-port.ensures c.in_ok-verdict-in-Some.ensures.brings _
-    (λ plan. brings_whole c.args.self.now.packets.packets c.args.packet x c.in-Some.ensures)
-
-pub returns-in-None-clause-accesses : goal.returns-in-None-clause-accesses
-returns-in-None-clause-accesses c =
-    nothing_accessed c.args.self.now c.args.accesses.now (Pass c.args.packet) _ c.only.ensures.value (λ plan w k. refl)
+    let x : LinkPacket = record { port = c.in-Some.end; bytes = c.in-Some.bytes.now } in
+    arrived_beside c.args.plan.now c.args.self.now (Pass c.args.packet) c.partner-end.result x.bytes
+    c.in_ok-verdict-in-Some.verdict c.args.accesses.now c.land.new.accesses c.land.new.ends c.land.new.trusted
+    (brought_packet c.args.plan.now c.args.self.now (Pass c.args.packet) c.args.packet x c.partner-end.result x.bytes
+    c.partner-end.ensures c.in-Some.ensures (λ w k. refl)
+    (brings_whole c.args.plan.now c.args.self.now.packets.packets c.args.packet x c.in-Some.ensures)
+    (λ b. passes b c.args.plan.now (links_state c.args.plan.now c.args.self.now) c.args.packet (Some x)
+    c.in-Some.ensures))
+    c.in_ok-verdict-in-Some.ensures.lands
 
 pub returns-in_ok-verdict-in-Some-clause-accesses : goal.returns-in_ok-verdict-in-Some-clause-accesses
 returns-in_ok-verdict-in-Some-clause-accesses c =
-    let x : LinkPacket = record { port = c.in-Some.port; bytes = c.in-Some.bytes.now } in
-    packet_accesses c.args.self.now c.args.accesses.now c.bring.new.accesses c.args.packet x c.partner-port.result
-    x.bytes
-    c.in_ok-verdict-in-Some.verdict c.bring.new.ends c.bring.new.trusted c.requires.bounded c.in-Some.ensures
-    c.requires.many c.partner-port.ensures c.in_ok-verdict-in-Some.ensures.brings (Pass c.args.packet)
-    (λ plan w k. refl)
-    _ (λ plan. brings_whole c.args.self.now.packets.packets c.args.packet x c.in-Some.ensures)
+    let x : LinkPacket = record { port = c.in-Some.end; bytes = c.in-Some.bytes.now } in
+    arrived_accesses c.args.plan.now c.args.self.now (Pass c.args.packet) c.partner-end.result x.bytes
+    c.in_ok-verdict-in-Some.verdict c.args.accesses.now c.land.new.accesses c.land.new.ends c.land.new.trusted
+    (brought_packet c.args.plan.now c.args.self.now (Pass c.args.packet) c.args.packet x c.partner-end.result x.bytes
+    c.partner-end.ensures c.in-Some.ensures (λ w k. refl)
+    (brings_whole c.args.plan.now c.args.self.now.packets.packets c.args.packet x c.in-Some.ensures)
+    (λ b. passes b c.args.plan.now (links_state c.args.plan.now c.args.self.now) c.args.packet (Some x)
+    c.in-Some.ensures))
+    c.in_ok-verdict-in-Some.ensures.lands

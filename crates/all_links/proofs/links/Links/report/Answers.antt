@@ -6,24 +6,24 @@ use Rattle.all_links.proofs.Finds.{ends_as, if_some, some_none}
 use Rattle.all_links.proofs.Sides.{nothing_asked, asked_beside}
 use Rattle.all_links.proofs.links.Links.report.Goals as goal
 
-pub carry_interface-outcome-requires : goal.carry_interface-outcome-requires
-carry_interface-outcome-requires c = record {
-  here = ap (option_map (λ (at : ℕ × ℕ). at.0)) (sym c.in-Some.ensures);
-}
+pub carry_interface-outcome-requires-clause-here : goal.carry_interface-outcome-requires-clause-here
+carry_interface-outcome-requires-clause-here c = ap (option_map (λ (at : ℕ × ℕ). at.0)) (sym c.in-Some.ensures)
 
 pub returns-in-None-clause-ends : goal.returns-in-None-clause-ends
-returns-in-None-clause-ends c =
-    asked_nowhere c.args.number op.Report c.args.loss c.in-None.ensures c.only.ensures.value c.only.ensures.links
+returns-in-None-clause-ends c plan =
+    asked_nowhere plan c.args.number op.Report c.args.loss tt c.in-None.ensures c.only.ensures.value
+    c.only.ensures.links
     c.requires.bounded
 
 pub returns-in_ok-report-in-Some-clause-ends : goal.returns-in_ok-report-in-Some-clause-ends
-returns-in_ok-report-in-Some-clause-ends c =
+returns-in_ok-report-in-Some-clause-ends c plan =
     let after : Links = c.carry_interface-outcome.new.self in
     let event = ie.Report c.args.number c.args.loss in
-    ends_as c.asked_verdict.result c.args.self.now (record after { steps = after.steps + 1 }) (Interface event)
-    (λ verdict is. operated_as c.args.self.now c.args.number (c.in-Some.link, c.in-Some.field-0-1) op.Report c.args.loss
+    ends_as plan c.asked_verdict.result c.args.self.now (record after { steps = after.steps + 1 }) (Interface event)
+    (λ verdict is. operated_as plan c.args.self.now c.args.number (c.in-Some.link, c.in-Some.field-0-1) op.Report
+    c.args.loss
     c.carry_interface-outcome.result after.ends after.keeper (record after { steps = after.steps + 1 }) verdict
-    c.new-report.result c.in-Some.ensures c.carry_interface-outcome.ensures.asks (sym c.asked_verdict.ensures ∙ is)
+    c.new-report.result tt c.in-Some.ensures c.carry_interface-outcome.ensures.asks (sym c.asked_verdict.ensures ∙ is)
     (λ e same. c.new-report.ensures ∙ (rw c.unwrap.ensures at c.extend_from_slice.ensures.items)
     ∙ (λ i. c.in_ok-report-in-Some.ensures.items i ++
     (c.report.ensures.value ∙ ap (λ (m : InterfacesView). m.read.bytes) (c.manager.ensures ∙ same)) i))

@@ -1,25 +1,21 @@
-use Rattle.all_links.proofs.Terms.{Send, false}
-use Rattle.all_links.proofs.Finds.{nothing_changes, reserved}
-use Rattle.all_links.proofs.Sends.{given}
-use Rattle.all_links.proofs.Sides.{keeps_all, keeps_reserved}
+use Rattle.all_links.proofs.Terms.{sym, subst, Send, beside_in, links_state}
+use Rattle.all_links.specs.Links.{EndsSendingOr}
+use Rattle.ide_types.specs.declared.port.PortName.{PortName}
+use Rattle.all_links.proofs.Finds.{nothing_changes}
+use Rattle.all_links.proofs.Sends.{nothing_sent, sends_or}
 use Rattle.all_links.proofs.links.Links.send.Goals as goal
 
-pub returns-then-not-has_link-clause-ends : goal.returns-then-not-has_link-clause-ends
-returns-then-not-has_link-clause-ends c =
-    nothing_changes c.only.ensures.value c.only.ensures.links c.requires.bounded
-    (λ b plan by h links stands. given _ c.args.self.now plan c.args.port c.args.bytes.now c.args.more
-    c.args.trusted false links c.if-not-has_link.ensures)
+pub returns-then-not-may_send-clause-ends : goal.returns-then-not-may_send-clause-ends
+returns-then-not-may_send-clause-ends c =
+    nothing_changes c.args.plan.now (Send c.args.port c.args.bytes.now c.args.more c.args.trusted)
+    c.only.ensures.value c.only.ensures.links c.requires.bounded
+    (λ b so h links stands. nothing_sent c.args.plan.now (beside_in c.args.self.now b)
+    (links_state c.args.plan.now c.args.self.now) c.args.port c.args.bytes.now c.args.more c.args.trusted
+    (sym c.if-not-may_send.ensures))
 
 pub returns-clause-ends : goal.returns-clause-ends
 returns-clause-ends c =
-    reserved c.args.self.now c.reserve_packets.new.self (Send c.args.port c.args.bytes.now c.args.more c.args.trusted)
-    c.reserve_packets.ensures.links
-    c.reserve_packets.ensures.packets c.seal.ensures.ends
-
-pub returns-then-not-has_link-clause-sides : goal.returns-then-not-has_link-clause-sides
-returns-then-not-has_link-clause-sides c =
-    keeps_all c.only.ensures.links
-
-pub returns-clause-sides : goal.returns-clause-sides
-returns-clause-sides c =
-    keeps_reserved c.args.self.now c.reserve_packets.new.self c.reserve_packets.ensures.links c.seal.ensures.sides
+    sends_or c.args.plan.now c.send_at.result c.args.self.now c.send_at.new.self c.args.port c.args.bytes.now
+    c.args.more c.args.trusted (sym c.if-not-may_send.ensures)
+    (subst (λ (end : PortName). EndsSendingOr c.args.plan.now c.send_at.result c.args.self.now c.send_at.new.self end
+    c.args.bytes.now c.args.more c.args.trusted) c.sealing_end-end.ensures c.send_at.ensures.ends)

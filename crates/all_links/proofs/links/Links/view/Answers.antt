@@ -7,21 +7,21 @@ use Rattle.link_events.specs.declared.event.InterfaceEvent.TheVariants as ie
 use Rattle.link_verdicts.specs.declared.verdict.Verdict.TheVariants as v
 use Rattle.interface_words.specs.declared.verdict.InterfaceVerdict.TheVariants as iv
 use Rattle.all_links.specs.Interfaces.{viewed_as, tdi_seen_at, interface_named}
-use Rattle.interface_joins.specs.Verdicts.{view_shown}
+use Rattle.interface_answers.specs.{view_shown}
 use Rattle.all_links.proofs.Finds.{only_says}
 use Rattle.all_links.proofs.Asked.{if_some, is_found}
 use Rattle.all_links.proofs.Sides.{keeps_all}
 use Rattle.all_links.proofs.links.Links.view.Goals as goal
 
 pub returns-in-None-clause-ends : goal.returns-in-None-clause-ends
-returns-in-None-clause-ends c =
-    only_says (ie.View c.args.number)
+returns-in-None-clause-ends c plan =
+    only_says plan (ie.View c.args.number)
     (ap (λ (o : Option (ℕ × ℕ)). Some (viewed_as c.args.number
     (tdi_seen_at c.args.self.now.keeper.interfaces c.args.number o))) c.in-None.ensures)
     c.only.ensures.value c.only.ensures.links c.requires.bounded
 
 pub returns-in-Some-clause-ends : goal.returns-in-Some-clause-ends
-returns-in-Some-clause-ends c =
+returns-in-Some-clause-ends c plan =
     let m = c.args.self.now.keeper.interfaces in
     let n : ℕ = c.args.number in
     let x = is_found m c.args.self.now.ends n c.in-Some.field-0 c.in-Some.ensures in
@@ -30,11 +30,11 @@ returns-in-Some-clause-ends c =
     (subst (λ (y : InterfacesView). IfSome (slice_get y.interfaces n) (λ (k : HostTdi). c.view.result ≡ view_of k.seen))
     c.manager.ensures c.view.ensures) in
     let due : v.Interface (iv.View n c.view_shown-view.result)
-    ≡ viewed_as n (tdi_seen_at m n (interface_named m c.args.self.now.ends n)) =
+    ≡ viewed_as n (tdi_seen_at m n (interface_named m c.args.self.now.ends.links n)) =
     ap (λ (y : View). v.Interface (iv.View n y)) (c.view_shown-view.ensures ∙ ap (λ (y : Seen). view_shown y) seen)
     ∙ sym (ap (λ (o : Option HostTdi). viewed_as n o)
     (ap (λ (o : Option (ℕ × ℕ)). tdi_seen_at m n o) (sym c.in-Some.ensures) ∙ x.kept_there)) in
-    only_says (ie.View n) (ap Some due) c.shows.ensures.value c.shows.ensures.links c.requires.bounded
+    only_says plan (ie.View n) (ap Some due) c.shows.ensures.value c.shows.ensures.links c.requires.bounded
 
 pub returns-in-None-clause-sides : goal.returns-in-None-clause-sides
 returns-in-None-clause-sides c =

@@ -8,7 +8,7 @@ use Rattle.link_verdicts.specs.declared.verdict.Verdict.TheVariants as v
 use Rattle.interface_words.specs.declared.verdict.InterfaceVerdict.TheVariants as iv
 use Rattle.link_events.specs.declared.event.InterfaceEvent.TheVariants as ie
 use Rattle.all_links.specs.Interfaces.{written_as, tdi_of_ends}
-use Rattle.all_ends.specs.Places.{code_behind}
+use Rattle.interface_answers.specs.{code_behind}
 use Rattle.all_links.proofs.Finds.{only_says}
 use Rattle.all_links.proofs.Asked.{if_some, is_found, is_there, called}
 use Rattle.all_links.proofs.Sides.{nothing_called, called_beside, not_called}
@@ -27,10 +27,10 @@ write_register-state-requires-clause-here c =
     c.in-Some.ensures
 
 pub returns-in-None-clause-ends : goal.returns-in-None-clause-ends
-returns-in-None-clause-ends c =
-    only_says (ie.Write c.args.number c.args.register c.args.value)
+returns-in-None-clause-ends c plan =
+    only_says plan (ie.Write c.args.number c.args.register c.args.value)
     (ap (λ (o : Option (ℕ × ℕ)). Some (written_as c.args.number c.args.register c.args.value
-    (option_and_then (tdi_of_ends c.args.self.now.ends) o))) c.in-None.ensures)
+    (option_and_then (tdi_of_ends c.args.self.now.ends.links) o))) c.in-None.ensures)
     c.only.ensures.value c.only.ensures.links c.requires.bounded
 
 -- whether it has the register
@@ -57,14 +57,14 @@ written_is n register value tdi o b is has =
     v.Nothing) (sym has) ∙ ap (λ (y : Option Tdi). written_as n register value y) (sym is)
 
 pub returns-then-has_register-clause-ends : goal.returns-then-has_register-clause-ends
-returns-then-has_register-clause-ends c =
+returns-then-has_register-clause-ends c plan =
     let n : ℕ = c.args.number in
     let at : ℕ × ℕ = (c.in-Some.link, c.in-Some.place) in
     let x = is_found c.args.self.now.keeper.interfaces c.args.self.now.ends n at c.in-Some.ensures in
     let has : c.has_register.result ≡ has_register x.tdi.plan c.args.register =
-    has_it c.args.self.now.ends at c.args.register c.has_register.result x.ends_at x.tdi x.link_there x.tdi_there
+    has_it c.args.self.now.ends.links at c.args.register c.has_register.result x.ends_at x.tdi x.link_there x.tdi_there
     c.has_register.ensures in
-    called c.args.self.now n at (WriteRegister c.args.register c.args.value) c.write_register-state.result
+    called plan c.args.self.now n at (WriteRegister c.args.register c.args.value) c.write_register-state.result
     c.write_register-state.new.self c.shows.new.self c.shows.result (ie.Write n c.args.register c.args.value)
     (λ code. v.Interface (iv.Written n code)) c.in-Some.ensures c.write_register-state.ensures
     (λ tdi is. ap Some (written_is n c.args.register c.args.value tdi _ true is
@@ -72,14 +72,14 @@ returns-then-has_register-clause-ends c =
     ∙ sym has ∙ c.if-has_register.true))) c.shows.ensures.value c.shows.ensures.links c.requires.bounded
 
 pub returns-else-has_register-clause-ends : goal.returns-else-has_register-clause-ends
-returns-else-has_register-clause-ends c =
+returns-else-has_register-clause-ends c plan =
     let n : ℕ = c.args.number in
     let at : ℕ × ℕ = (c.in-Some.link, c.in-Some.place) in
     let x = is_found c.args.self.now.keeper.interfaces c.args.self.now.ends n at c.in-Some.ensures in
     let has : c.has_register.result ≡ has_register x.tdi.plan c.args.register =
-    has_it c.args.self.now.ends at c.args.register c.has_register.result x.ends_at x.tdi x.link_there x.tdi_there
+    has_it c.args.self.now.ends.links at c.args.register c.has_register.result x.ends_at x.tdi x.link_there x.tdi_there
     c.has_register.ensures in
-    only_says (ie.Write n c.args.register c.args.value)
+    only_says plan (ie.Write n c.args.register c.args.value)
     (ap Some (written_is n c.args.register c.args.value x.tdi _ false x.named_is (sym has ∙ c.if-has_register.false)))
     c.only-else-has_register.ensures.value c.only-else-has_register.ensures.links c.requires.bounded
 
@@ -94,7 +94,7 @@ returns-then-has_register-clause-sides c =
     called_beside c.args.self.now c.shows.new.self c.args.number at (λ tdi. has_register tdi.plan c.args.register)
     (WriteRegister c.args.register c.args.value) c.write_register-state.result c.write_register-state.new.self
     c.in-Some.ensures
-    (λ l tdi link_there tdi_there. sym (has_it c.args.self.now.ends at c.args.register c.has_register.result l tdi
+    (λ l tdi link_there tdi_there. sym (has_it c.args.self.now.ends.links at c.args.register c.has_register.result l tdi
     link_there tdi_there c.has_register.ensures) ∙ c.if-has_register.true)
     c.write_register-state.ensures c.shows.ensures.links
 
@@ -103,6 +103,6 @@ returns-else-has_register-clause-sides c =
     let at : ℕ × ℕ = (c.in-Some.link, c.in-Some.place) in
     not_called c.args.self.now c.only-else-has_register.new.self c.args.number at
     (λ tdi. has_register tdi.plan c.args.register) (WriteRegister c.args.register c.args.value) c.in-Some.ensures
-    (λ l tdi link_there tdi_there. sym (has_it c.args.self.now.ends at c.args.register c.has_register.result l tdi
+    (λ l tdi link_there tdi_there. sym (has_it c.args.self.now.ends.links at c.args.register c.has_register.result l tdi
     link_there tdi_there c.has_register.ensures) ∙ c.if-has_register.false)
     c.only-else-has_register.ensures.links

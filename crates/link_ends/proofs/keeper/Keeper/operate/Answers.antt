@@ -5,19 +5,19 @@ use Rattle.link_ends.proofs.keeper.Keeper.operate.Goals as goal
 
 pub returns-in-Err-clause-operates : goal.returns-in-Err-clause-operates
 returns-in-Err-clause-operates c = rw (← c.self.view_is)
-    (λ n host device is on asked.
+    (λ n host device is hosted on asked.
     operate_refused (record { manager = c.self.inside.manager; pool = c.self.inside.pool }) c.begin.new.self
     c.begin.new.pool c.args.ends.now
-    c.begin.new.port c.args.op c.args.loss n host device is on
+    c.begin.new.port c.args.op c.args.loss n host device is hosted on
     (rw is at c.begin.ensures.manager) (rw is at c.begin.ensures.pool) (rw is at c.begin.ensures.calls) c.in-Err.refusal
     (sym c.in-Err.is ∙ (rw is at c.begin.ensures.answer)))
 
 pub returns-in-Ok-clause-operates : goal.returns-in-Ok-clause-operates
 returns-in-Ok-clause-operates c = rw (← c.self.view_is)
-    (λ n host device is on asked.
+    (λ n host device is hosted on asked.
     operate_goes (record { manager = c.self.inside.manager; pool = c.self.inside.pool }) c.begin.new.self
     c.begin.new.pool c.args.ends.now c.begin.new.port
-    c.args.op c.args.loss n host device is on
+    c.args.op c.args.loss n host device is hosted on
     (rw is at c.begin.ensures.manager) (rw is at c.begin.ensures.pool) (rw is at c.begin.ensures.calls)
     c.walk.new.self.manager c.walk.new.self.pool c.walk.new.ends c.walk.result asked
     (sym c.in-Ok.is ∙ (rw is at c.begin.ensures.answer))

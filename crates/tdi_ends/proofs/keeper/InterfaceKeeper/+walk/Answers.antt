@@ -12,7 +12,7 @@ returns-in-Next t c =
     (sym c.is_asking.ensures ∙ c.if-not-is_asking.false) in
     subst (λ n. (let e : Ended = record
     { outcome = c.walk.result; manager = c.walk.new.self; device = c.walk.new.device } in e)
-    ≡ manager_walk n c.args.secure c.args.loss c.args.self.now c.args.device.now) next
+    ≡ manager_walk n c.args.said c.args.loss c.args.self.now c.args.device.now) next
     (walks_on _ _ _ _ _ (record
     { outcome = c.exchange.result; manager = c.exchange.new.self; device = c.exchange.new.device }) _
     (current_interface c.args.self.now) refl asks c.exchange.ensures c.in-Next.is c.walk.ensures)
@@ -24,7 +24,7 @@ returns-in_default t c =
     (sym c.is_asking.ensures ∙ c.if-not-is_asking.false) in
     subst (λ n. (let e : Ended = record
     { outcome = c.exchange.result; manager = c.exchange.new.self; device = c.exchange.new.device } in e)
-    ≡ manager_walk n c.args.secure c.args.loss c.args.self.now c.args.device.now) next
+    ≡ manager_walk n c.args.said c.args.loss c.args.self.now c.args.device.now) next
     (walks_out _ _ _ _ _ (record
     { outcome = c.exchange.result; manager = c.exchange.new.self; device = c.exchange.new.device })
     (current_interface c.args.self.now) refl asks c.exchange.ensures c.in_default.not-Next)

@@ -1,47 +1,77 @@
-use Rattle.std.proofs.Common.{refl, subst, List, ℕ}
-use Rattle.link_events.specs.declared.event.Event.TheVariants.{Send, Arrive}
+use Rattle.std.proofs.Common.{refl, subst, sym, List, ℕ}
+use Rattle.ide_types.specs.declared.port.PortName.{PortName}
+use Rattle.link_events.specs.declared.event.Event.{Event}
+use Rattle.link_events.specs.declared.event.Event.TheVariants.{Send, Arrive, Reset}
 use Rattle.all_links.specs.Links.{EndsWith, EndsArriving}
-use Rattle.whole_links.proofs.Ends.{ends_of, arriving_of}
+use Rattle.whole_links.specs.Accesses.{AccessesAfter}
+use Rattle.whole_links.specs.Whole.{WholeEnds}
+use Rattle.whole_links.proofs.Ends.{ends_of, arriving_of, err_stays, nothing_ends}
 use Rattle.whole_links.proofs.whole.WholeLinks.answer.Goals as goal
 
 pub returns-in_ok-send-in-Send-clause-ends : goal.returns-in_ok-send-in-Send-clause-ends
 returns-in_ok-send-in-Send-clause-ends c =
     let e = c.in-Send in
-    ends_of c.args.self.now _ (Send e.port e.bytes e.more e.trusted) c.send.new.self e.is
-    (subst (λ (bs : List ℕ). EndsWith c.in_ok-send-in-Send.field-0 c.args.self.now.links c.send.new.self
-    (Send e.port bs e.more e.trusted)) c.as_slice.ensures c.in_ok-send-in-Send.ensures.ends) c.requires.bounded.whole
-    refl refl
+    ends_of c.args.plan.now c.args.self.now _ (Send e.port e.bytes e.more e.trusted) c.send.new.self e.is
+    (subst (λ (bs : List ℕ). EndsWith c.args.plan.now c.in_ok-send-in-Send.field-0 c.args.self.now.links
+    c.send.new.self (Send e.port bs e.more e.trusted)) c.as_slice-bytes.ensures c.in_ok-send-in-Send.ensures.ends)
+    c.requires.bounded.whole refl refl
 
 pub returns-in_ok-pass-in-Pass-clause-ends : goal.returns-in_ok-pass-in-Pass-clause-ends
 returns-in_ok-pass-in-Pass-clause-ends c =
-    arriving_of c.args.self.now _ _ c.pass.new.self c.in-Pass.is c.in_ok-pass-in-Pass.ensures.ends
+    arriving_of c.args.plan.now c.args.self.now _ _ c.pass.new.self c.in-Pass.is c.in_ok-pass-in-Pass.ensures.ends
     c.requires.bounded.whole refl c.in_ok-pass-in-Pass.ensures.accesses.many
 
 pub returns-in_ok-alter-in-Alter-clause-ends : goal.returns-in_ok-alter-in-Alter-clause-ends
 returns-in_ok-alter-in-Alter-clause-ends c =
-    arriving_of c.args.self.now _ _ c.alter.new.self c.in-Alter.is c.in_ok-alter-in-Alter.ensures.ends
-    c.requires.bounded.whole refl c.in_ok-alter-in-Alter.ensures.accesses.many
+    arriving_of c.args.plan.now c.args.self.now _ _ c.alter.new.self c.in-Alter.is
+    c.in_ok-alter-in-Alter.ensures.ends c.requires.bounded.whole refl c.in_ok-alter-in-Alter.ensures.accesses.many
 
 pub returns-in_ok-cut-in-Cut-clause-ends : goal.returns-in_ok-cut-in-Cut-clause-ends
 returns-in_ok-cut-in-Cut-clause-ends c =
-    arriving_of c.args.self.now _ _ c.cut.new.self c.in-Cut.is c.in_ok-cut-in-Cut.ensures.ends
+    arriving_of c.args.plan.now c.args.self.now _ _ c.cut.new.self c.in-Cut.is c.in_ok-cut-in-Cut.ensures.ends
     c.requires.bounded.whole refl c.in_ok-cut-in-Cut.ensures.accesses.many
 
 pub returns-in_ok-arrive-in-Arrive-clause-ends : goal.returns-in_ok-arrive-in-Arrive-clause-ends
 returns-in_ok-arrive-in-Arrive-clause-ends c =
     let e = c.in-Arrive in
-    arriving_of c.args.self.now _ (Arrive e.port e.bytes) c.arrive.new.self e.is
-    (subst (λ (bs : List ℕ). EndsArriving c.in_ok-arrive-in-Arrive.field-0 c.args.self.now.accesses
+    arriving_of c.args.plan.now c.args.self.now _ (Arrive e.port e.bytes) c.arrive.new.self e.is
+    (subst (λ (bs : List ℕ). EndsArriving c.args.plan.now c.in_ok-arrive-in-Arrive.field-0 c.args.self.now.accesses
     c.args.self.now.links c.arrive.new.self (Arrive e.port bs)) c.as_slice-in-Arrive.ensures
     c.in_ok-arrive-in-Arrive.ensures.ends) c.requires.bounded.whole refl
     c.in_ok-arrive-in-Arrive.ensures.accesses.many
 
 pub returns-in_ok-dump-in-Dump-clause-ends : goal.returns-in_ok-dump-in-Dump-clause-ends
 returns-in_ok-dump-in-Dump-clause-ends c =
-    ends_of c.args.self.now _ _ c.dump.new.self c.in-Dump.is c.in_ok-dump-in-Dump.ensures.ends
-    c.requires.bounded.whole refl refl
+    ends_of c.args.plan.now c.args.self.now _ _ c.dump.new.self c.in-Dump.is
+    (c.in_ok-dump-in-Dump.ensures.ends c.args.plan.now) c.requires.bounded.whole refl refl
 
 pub returns-in-Status-clause-ends : goal.returns-in-Status-clause-ends
 returns-in-Status-clause-ends c =
-    ends_of c.args.self.now _ _ c.status.new.self c.in-Status.is c.status.ensures.ends c.requires.bounded.whole refl
-    refl
+    ends_of c.args.plan.now c.args.self.now _ _ c.status.new.self c.in-Status.is (c.status.ensures.ends c.args.plan.now)
+    c.requires.bounded.whole refl refl
+
+pub returns-in_err-dump-in-Dump-clause-ends : goal.returns-in_err-dump-in-Dump-clause-ends
+returns-in_err-dump-in-Dump-clause-ends c =
+    err_stays c.args.plan.now c.from_residual-in_err-dump-in-Dump.result c.args.self.now
+    (record { links = c.dump.new.self; accesses = c.args.self.now.accesses }) c.args.event.now
+    c.from_residual-in_err-dump-in-Dump.ensures.0 (c.in_err-dump-in-Dump.ensures.ends c.args.plan.now) refl
+
+pub returns-in-Reset-clause-ends : goal.returns-in-Reset-clause-ends
+returns-in-Reset-clause-ends c =
+    let e = c.in-Reset in
+    subst (λ (x : Event). WholeEnds c.args.plan.now c.reset.result c.args.self.now c.reset.new.self x) (sym e.is)
+    (subst (λ (ps : List PortName). WholeEnds c.args.plan.now c.reset.result c.args.self.now c.reset.new.self
+    (Reset e.link ps)) c.as_slice.ensures (c.reset.ensures.ends c.args.plan.now))
+
+pub returns-in-Reset-clause-accesses : goal.returns-in-Reset-clause-accesses
+returns-in-Reset-clause-accesses c =
+    let e = c.in-Reset in
+    subst (λ (x : Event). AccessesAfter c.args.plan.now x c.reset.result c.args.self.now c.reset.new.self) (sym e.is)
+    (subst (λ (ps : List PortName). AccessesAfter c.args.plan.now (Reset e.link ps) c.reset.result c.args.self.now
+    c.reset.new.self) c.as_slice.ensures (c.reset.ensures.accesses c.args.plan.now))
+
+pub returns-in-Absent-clause-ends : goal.returns-in-Absent-clause-ends
+returns-in-Absent-clause-ends c =
+    subst (λ (x : Event). WholeEnds c.args.plan.now c.only.result c.args.self.now
+    (record { links = c.only.new.self; accesses = c.args.self.now.accesses }) x) (sym c.in-Absent.is)
+    (nothing_ends c.args.plan.now c.only.ensures.value c.only.ensures.links refl c.requires.bounded)

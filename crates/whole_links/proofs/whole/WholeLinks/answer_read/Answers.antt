@@ -6,7 +6,7 @@ use Rattle.link_events.specs.declared.event.AccessEvent.TheVariants as ae
 use Rattle.waiting_reads.specs.declared.queue.WaitingRead.{WaitingRead}
 use Rattle.accesses.specs.declared.link.LinkAccesses.{LinkAccesses}
 use Rattle.all_links.specs.{waiting_reads_after}
-use Rattle.all_links.specs.Accesses.{same_floors, nothing_happens, AccessesTurn}
+use Rattle.all_links.specs.Accesses.{same_floors, nothing_happens, same_carried, AccessesTurn}
 use Rattle.all_links.proofs.Sides.{keeps_all}
 use Rattle.whole_links.specs.declared.whole.WholeLinks.{WholeLinks}
 use Rattle.whole_links.specs.Whole.{WholeEnds}
@@ -18,7 +18,7 @@ use Rattle.whole_links.proofs.whole.WholeLinks.answer_read.Goals as goal
 
 pub returns-then-not-has_link-clause-ends : goal.returns-then-not-has_link-clause-ends
 returns-then-not-has_link-clause-ends c =
-    answer_nowhere c.args.link c.if-not-has_link.ensures c.only.ensures.value c.only.ensures.links refl
+    answer_nowhere c.args.plan.now c.args.link c.if-not-has_link.ensures c.only.ensures.value c.only.ensures.links refl
     c.requires.bounded
 
 pub returns-then-not-has_link-clause-sides : goal.returns-then-not-has_link-clause-sides
@@ -29,9 +29,9 @@ returns-clause-ends c =
     let mid : WholeLinks = c.answered.new.self in
     let finish = λ (new : WholeLinks) (is : c.if-takes_read.self ≡ new) (links : new.links ≡ mid.links)
     (many : length new.accesses ≡ length mid.accesses).
-    subst (λ (s : WholeLinks). WholeEnds c.in_ok-verdict.verdict c.args.self.now s
+    subst (λ (s : WholeLinks). WholeEnds c.args.plan.now c.in_ok-verdict.verdict c.args.self.now s
     (Access (ae.Answer c.args.link))) (sym is)
-    (whole_noted c.args.self.now mid new c.in_ok-verdict.ensures.ends links many) in
+    (whole_noted c.args.plan.now c.args.self.now mid new c.in_ok-verdict.ensures.ends links many) in
     elim c.if-takes_read.branch [
       | then-takes_read w ↦ finish _ w.self-is refl (length-set mid.accesses c.args.link _)
       | else-takes_read w ↦ finish _ w.self-is refl refl
@@ -41,23 +41,24 @@ pub returns-clause-accesses : goal.returns-clause-accesses
 returns-clause-accesses c =
     let mid : WholeLinks = c.answered.new.self in
     let reads : ℕ → List WaitingRead → List WaitingRead =
-    waiting_reads_after [] (Access (ae.Answer c.args.link)) c.in_ok-verdict.verdict in
+    waiting_reads_after c.args.plan.now [] (Access (ae.Answer c.args.link)) c.in_ok-verdict.verdict in
     let finish = λ (new : WholeLinks) (is : c.if-takes_read.self ≡ new)
-    (turn : AccessesTurn reads same_floors nothing_happens mid.accesses new.accesses).
-    subst (λ (s : WholeLinks). AccessesTurn reads same_floors nothing_happens c.args.self.now.accesses s.accesses)
+    (turn : AccessesTurn reads same_floors nothing_happens same_carried mid.accesses new.accesses).
+    subst (λ (s : WholeLinks). AccessesTurn reads same_floors nothing_happens same_carried c.args.self.now.accesses
+    s.accesses)
     (sym is)
-    (subst (λ (xs : List LinkAccesses). AccessesTurn reads same_floors nothing_happens xs new.accesses)
+    (subst (λ (xs : List LinkAccesses). AccessesTurn reads same_floors nothing_happens same_carried xs new.accesses)
     c.in_ok-verdict.ensures.accesses turn) in
     elim c.if-takes_read.branch [
       | then-takes_read w ↦
           let a : LinkAccesses = w.at_mut.result.now in
           finish _ w.self-is
-          (answer_takes mid.accesses c.args.link a (record a { reads = w.remove_first.new.self })
+          (answer_takes c.args.plan.now mid.accesses c.args.link a (record a { reads = w.remove_first.new.self })
           c.in_ok-verdict.verdict w.at_mut.ensures.value
           (ap (λ (rs : List WaitingRead). record a { reads = rs }) w.remove_first.ensures)
           (sym c.takes_read.ensures ∙ w.if-takes_read.true))
       | else-takes_read w ↦
           finish _ w.self-is
-          (answer_keeps mid.accesses c.args.link c.in_ok-verdict.verdict
+          (answer_keeps c.args.plan.now mid.accesses c.args.link c.in_ok-verdict.verdict
           (sym c.takes_read.ensures ∙ w.if-takes_read.false) c.in_ok-verdict.ensures.kind)
     ]

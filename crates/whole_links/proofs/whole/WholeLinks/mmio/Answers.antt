@@ -27,7 +27,7 @@ returns-then-peek-clause-ends c =
     ∙ take-append_seam c.peek.new.buf rest in
     let bytes : c.new-bytes.result ≡ bytes_shown s c.args.interface c.args.bar c.args.offset c.args.length =
     c.new-bytes.ensures ∙ written ∙ read in
-    mmio_only c.args.interface c.args.bar c.args.offset c.args.length
+    λ plan. mmio_only plan c.args.interface c.args.bar c.args.offset c.args.length
     (λ i. mmio_if (has i) (sym bytes i)) c.only.ensures.value c.only.ensures.links refl c.requires.bounded
 
 pub returns-else-peek-clause-ends : goal.returns-else-peek-clause-ends
@@ -38,7 +38,7 @@ returns-else-peek-clause-ends c =
     let has : has_shown s c.args.interface c.args.bar c.args.offset c.args.length ≡ false =
     ap (λ (n : ℕ). has_shown s c.args.interface c.args.bar c.args.offset n) (sym len) ∙ sym c.peek.ensures.answer
     ∙ c.if-peek.false in
-    mmio_only c.args.interface c.args.bar c.args.offset c.args.length
+    λ plan. mmio_only plan c.args.interface c.args.bar c.args.offset c.args.length
     (λ i. mmio_if (has i) (bytes_shown s c.args.interface c.args.bar c.args.offset c.args.length))
     c.only-else-peek.ensures.value c.only-else-peek.ensures.links refl c.requires.bounded
 

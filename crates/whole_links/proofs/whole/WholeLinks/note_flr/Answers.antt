@@ -16,7 +16,7 @@ at_mut-requires c =
 pub returns-in-Some-clause-accesses : goal.returns-in-Some-clause-accesses
 returns-in-Some-clause-accesses c =
     let s = c.args.self.now.links in
-    happens_here (changes_device c.args.verdict.now) (interface_named s.keeper.interfaces s.ends c.args.interface)
+    happens_here (changes_device c.args.verdict.now) (interface_named s.keeper.interfaces s.ends.links c.args.interface)
     InterfaceReset (c.in-Some.link, c.in-Some.place) c.args.self.now.accesses c.at_mut.result.now
     (record c.at_mut.result.now { guarded = c.reset.new.self }) (sym c.if-not-changes_device.ensures) c.in-Some.ensures
     c.at_mut.ensures.value refl (ap (λ (g : GuardedMemory). g.sizes) c.reset.ensures.kept) c.reset.ensures.leads

@@ -27,7 +27,7 @@ pub returns-in-Some-clause-accesses : goal.returns-in-Some-clause-accesses
 returns-in-Some-clause-accesses c =
     let s = c.args.self.now.links in
     let a = c.at_mut.result.now in
-    happens_here (carries c.args.verdict.now 1) (interface_named s.keeper.interfaces s.ends c.args.interface)
+    happens_here (carries c.args.verdict.now 1) (interface_named s.keeper.interfaces s.ends.links c.args.interface)
     (λ place. InterfaceStopped place (bars_named s c.args.interface)) (c.in-Some.link, c.in-Some.place)
     c.args.self.now.accesses a (record a { guarded = c.stop.new.self }) (sym c.if-not-reaches.ensures) c.in-Some.ensures
     c.at_mut.ensures.value refl (ap (λ (g : GuardedMemory). g.sizes) c.stop.ensures.kept)

@@ -1,22 +1,23 @@
 use Rattle.std.proofs.Common.{ℕ, ap, sym, subst, ◌∙◌, ◌<◌}
-use Rattle.std.specs.Prelude.{Option}
+use Rattle.std.specs.Prelude.{Err, Option}
 use Rattle.all_links.proofs.{there}
 use Rattle.whole_links.specs.Besides.{reply_numbered}
 use Rattle.whole_links.proofs.Replies.{reply_empty, reply_read}
 use Rattle.whole_links.proofs.whole.WholeLinks.reply.Goals as goal
 
 pub at-requires : goal.at-requires
-at-requires c = subst (λ (n : ℕ). c.args.link < n) (sym c.requires.whole) c.requires.here
+at-requires c = subst (λ (n : ℕ). c.args.link < n) (sym c.requires.bounded.whole) c.requires.here
 
 pub returns-in-None : goal.returns-in-None
 returns-in-None c =
-    let l = there c.args.self.now.links.ends c.args.link c.requires.here in
-    reply_empty c.args.self.now c.args.link l.0 c.at.result.now l.1 c.at.ensures c.in-None.ensures.oldest
+    let l = there c.args.self.now.links.ends.links c.args.link c.requires.here in
+    (λ i. Err (c.empty.ensures i))
+    ∙ reply_empty c.args.self.now c.args.link l.0 c.at.result.now l.1 c.at.ensures c.in-None.ensures.oldest
 
 pub returns-in-None-reader : goal.returns-in-None-reader
 returns-in-None-reader c =
     let s = c.args.self.now in
-    let l = there s.links.ends c.args.link c.requires.here in
+    let l = there s.links.ends.links c.args.link c.requires.here in
     ap (λ (o : Option ℕ). reply_numbered s.links.keeper.interfaces l.0 c.args.link s.links.trusted.contents
     c.in-Some.waiting o) c.in-None-reader.ensures
     ∙ reply_read s c.args.link l.0 c.at.result.now l.1 c.at.ensures c.in-Some.waiting c.in-Some.ensures.oldest
@@ -24,7 +25,7 @@ returns-in-None-reader c =
 pub returns-in-Some-reader : goal.returns-in-Some-reader
 returns-in-Some-reader c =
     let s = c.args.self.now in
-    let l = there s.links.ends c.args.link c.requires.here in
+    let l = there s.links.ends.links c.args.link c.requires.here in
     c.granted.ensures l.0 l.1
     ∙ ap (λ (o : Option ℕ). reply_numbered s.links.keeper.interfaces l.0 c.args.link s.links.trusted.contents
     c.in-Some.waiting o) c.in-Some-reader.ensures

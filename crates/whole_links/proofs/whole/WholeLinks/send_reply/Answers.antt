@@ -6,19 +6,19 @@ use Rattle.whole_links.proofs.whole.WholeLinks.send_reply.Goals as goal
 
 pub returns-in-Some-clause-ends : goal.returns-in-Some-clause-ends
 returns-in-Some-clause-ends c =
-    let l = there c.args.self.now.links.ends c.args.link c.requires.here in
-    answer_older c.args.link
+    let l = there c.args.self.now.links.ends.links c.args.link c.requires.here in
+    answer_older c.args.plan.now c.args.link
     (record { stream = c.args.bound.0; floor = c.args.bound.1; bytes = c.args.bytes.now }) l.0 c.in-Some.draw
     c.requires.due l.1 (sym (c.in-Some.ensures l.0 l.1)) c.only.ensures.value c.only.ensures.links refl
     c.requires.bounded
 
 pub returns-in-None-clause-ends : goal.returns-in-None-clause-ends
 returns-in-None-clause-ends c =
-    let l = there c.args.self.now.links.ends c.args.link c.requires.here in
-    answer_sent_or c.send.result c.args.self.now
-    (record { links = c.send.new.self; accesses = c.args.self.now.accesses }) c.args.link
+    let l = there c.args.self.now.links.ends.links c.args.link c.requires.here in
+    answer_sent_or c.args.plan.now c.send_at.result c.args.self.now
+    (record { links = c.send_at.new.self; accesses = c.args.self.now.accesses }) c.args.link
     (record { stream = c.args.bound.0; floor = c.args.bound.1; bytes = c.args.bytes.now }) l.0
-    c.requires.due l.1 c.requires.here (sym (c.in-None.ensures l.0 l.1)) c.send.ensures.ends refl c.requires.bounded
+    c.requires.due l.1 (sym (c.in-None.ensures l.0 l.1)) c.send_at.ensures.ends refl c.requires.bounded
 
 pub returns-in-Some-clause-sides : goal.returns-in-Some-clause-sides
 returns-in-Some-clause-sides c = keeps_all c.only.ensures.links

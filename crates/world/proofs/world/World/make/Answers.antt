@@ -6,4 +6,4 @@ invariant_of-result c = first_world c.args.plan c.in_ok-links.links c.whole_begi
     c.in_ok-links.ensures
 
 pub returns : goal.returns
-returns c = first_is c.args.plan c.in_ok-links.links c.whole_begins.ensures c.in_ok-links.ensures
+returns c = first_is c.args.plan c.in_ok-links.links c.whole_begins.ensures c.requires c.in_ok-links.ensures

@@ -18,7 +18,7 @@ invariant_of-self-2 c =
       points = c.points_stand.ensures;
       join = c.interface_operations_join.ensures;
     }) c.self.invariant c.in_ok-verdict.verdict c.in_ok-verdict.ensures.ends
-    (both_sides c.self.inside.links c.answer.new.self c.args.event.now c.in_ok-verdict.verdict
+    (both_sides c.self.inside.plan c.self.inside.links c.answer.new.self c.args.event.now c.in_ok-verdict.verdict
     c.in_ok-verdict.ensures.sides c.in_ok-verdict.ensures.accesses)
 
 pub returns-clause-step : goal.returns-clause-step
@@ -30,7 +30,7 @@ returns-clause-step c =
       join = c.interface_operations_join.ensures;
     }) c.self.invariant c.args.self.now c.self.view_is c.in_ok-verdict.verdict c.unwrap.result c.unwrap.ensures
     c.in_ok-verdict.ensures.ends
-    (both_sides c.self.inside.links c.answer.new.self c.args.event.now c.in_ok-verdict.verdict
+    (both_sides c.self.inside.plan c.self.inside.links c.answer.new.self c.args.event.now c.in_ok-verdict.verdict
     c.in_ok-verdict.ensures.sides c.in_ok-verdict.ensures.accesses)
 
 pub invariant_of-self : goal.invariant_of-self

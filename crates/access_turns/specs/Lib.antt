@@ -1,0 +1,2 @@
+pub mod Turns
+pub use Rattle.read_order.specs.Waiting.{waiting_next}

@@ -1,0 +1,32 @@
+//! Where the ends of lines are kept.
+
+ghost use Rattle.std.specs.Prelude.{◌≡◌};
+ghost use Rattle.all_ends.specs.Ends.{line_place};
+
+/// The first line of the segments of hops towards the hosts.
+const FIRST_NEAR_LINE: u8 = 8;
+
+/// The first line that is keyed by messages at both ends.
+const FIRST_PAIR_LINE: u8 = 16;
+
+/// The list that has the ends of a line, and the place there: those of links, those of the segments of their hops
+/// towards the hosts, and those of lines that are keyed by messages at both ends.
+#[derive(Clone, Copy)]
+pub enum LinePlace {
+    Link(usize),
+    Near(usize),
+    Pair(usize),
+}
+
+/// Where the ends of a line are.
+pub fn line_place(line: u8) -> LinePlace
+    ensures { result ≡ line_place line }
+{
+    if line < FIRST_NEAR_LINE {
+        LinePlace::Link(line as usize)
+    } else if line < FIRST_PAIR_LINE {
+        LinePlace::Near((line - FIRST_NEAR_LINE) as usize)
+    } else {
+        LinePlace::Pair((line - FIRST_PAIR_LINE) as usize)
+    }
+}

@@ -1,0 +1,98 @@
+//! Sends at the ends of lines that are no links.
+
+ghost use Rattle.std.specs.Prelude.{◌≡◌, ◌<◌, ◌^◌, ℕ, option_map};
+ghost use Rattle.ide_port.specs.{IsSentAtPort};
+ghost use Rattle.link_ends.specs.Ends.{port_in, with_port};
+ghost use Rattle.tdi_device.specs.Replies.{DeviceTdis};
+ghost use Rattle.all_ends.specs.Ends.{pair_port, with_pair_port, bound_on, far_hop_trust, bound_trust};
+
+use device_side::BoundOwners;
+use ide_plan::PeerPlan;
+use ide_port::{Asked, Sent, Trusting};
+use ide_types::Side;
+use line_ends::PairEnds;
+use link_ends::LinkEnds;
+use tdi_device::DeviceInterfaces;
+
+/// Sends a TLP's bytes at the end of a side of a hop's segment towards the host, with T as it is asked.
+pub fn send_near(ends: &mut LinkEnds, side: Side, tlp: &[u8], more: bool, trusted: bool) -> Sent
+    requires { (port_in side ends.old).calls < 2 ^ 40 }
+    ensures sent { (number : ℕ) → IsSentAtPort (port_in side ends.old) tlp.now more
+        (λ head stream. trusted) number result (port_in side ends.new) }
+    ensures ends { ends.new ≡ with_port side (port_in side ends.new) ends.old }
+{
+    match side {
+        Side::Host => ends.host.send(tlp, more, &Asked(trusted)),
+        Side::Device => ends.device.port.send(tlp, more, &Asked(trusted)),
+    }
+}
+
+// Sends them at the end of a side of a line that is keyed by messages at both.
+fn send_pair<T: Trusting>(
+    ends: &mut PairEnds,
+    side: Side,
+    tlp: &[u8],
+    more: bool,
+    trusting: &T,
+) -> Sent
+    requires { (pair_port side ends.old).calls < 2 ^ 40 }
+    ensures sent { (number : ℕ) → IsSentAtPort (pair_port side ends.old) tlp.now more
+        (T.trusting trusting.now) number result (pair_port side ends.new) }
+    ensures ends { ends.new ≡ with_pair_port side (pair_port side ends.new) ends.old }
+{
+    match side {
+        Side::Host => ends.near.port.send(tlp, more, trusting),
+        Side::Device => ends.far.port.send(tlp, more, trusting),
+    }
+}
+
+/// Sends them at the end of a side of a hop's segment towards the device: the switch sets T as it is asked, and the
+/// device does not.
+pub fn send_far(ends: &mut PairEnds, side: Side, tlp: &[u8], more: bool, trusted: bool) -> Sent
+    requires { (pair_port side ends.old).calls < 2 ^ 40 }
+    ensures sent { (number : ℕ) → IsSentAtPort (pair_port side ends.old) tlp.now more
+        (far_hop_trust side trusted) number result (pair_port side ends.new) }
+    ensures ends { ends.new ≡ with_pair_port side (pair_port side ends.new) ends.old }
+{
+    match side {
+        Side::Host => send_pair(ends, side, tlp, more, &Asked(trusted)),
+        Side::Device => send_pair(ends, side, tlp, more, &Asked(false)),
+    }
+}
+
+/// Sends them at the end of a side of a stream between devices, where T is set by these interfaces.
+pub fn send_between(
+    ends: &mut PairEnds,
+    side: Side,
+    tlp: &[u8],
+    more: bool,
+    interfaces: Option<&DeviceInterfaces>,
+) -> Sent
+    requires { (pair_port side ends.old).calls < 2 ^ 40 }
+    ensures sent { (number : ℕ) → IsSentAtPort (pair_port side ends.old) tlp.now more
+        (bound_trust (option_map (λ d. d.now) interfaces.entry)) number result (pair_port side ends.new) }
+    ensures ends { ends.new ≡ with_pair_port side (pair_port side ends.new) ends.old }
+{
+    match interfaces {
+        None => send_pair(ends, side, tlp, more, &Asked(false)),
+        Some(interfaces) => send_pair(ends, side, tlp, more, &BoundOwners { interfaces }),
+    }
+}
+
+/// The interfaces of the device at the end of a side of the stream between devices of this number.
+pub fn bound_on<'a>(
+    links: &'a [LinkEnds],
+    peers: &[PeerPlan],
+    side: Side,
+    number: usize,
+) -> Option<&'a DeviceInterfaces>
+    ensures { option_map (λ d. d.now) result ≡ bound_on links.now peers.now side number }
+{
+    let peer = peers.get(number)?;
+    let link = match side {
+        Side::Host => peer.near,
+        Side::Device => peer.far,
+    };
+    let ends = links.get(link as usize)?;
+    Some(&ends.device.interfaces)
+}

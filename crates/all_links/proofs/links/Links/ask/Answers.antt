@@ -1,0 +1,37 @@
+use Rattle.std.proofs.lemmas.Result.{err_from_is_err_and}
+use Rattle.ide_types.specs.declared.memory.Memory.{Memory}
+use Rattle.all_links.proofs.Terms.{sym, subst, EndsWith, Interface, Option, Result, Verdict}
+use Rattle.all_links.specs.Links.{EndsAsOr}
+use Rattle.link_events.specs.declared.event.InterfaceEvent.{InterfaceEvent}
+use Rattle.all_links.proofs.links.Links.ask.Goals as goal
+
+pub returns-in-View-clause-ends : goal.returns-in-View-clause-ends
+returns-in-View-clause-ends c plan =
+    subst (λ (e : InterfaceEvent). EndsWith plan c.view.result c.args.self.now c.view.new.self (Interface e))
+    (sym c.in-View.is) (c.view.ensures.ends plan)
+
+pub returns-in-Write-clause-ends : goal.returns-in-Write-clause-ends
+returns-in-Write-clause-ends c plan =
+    subst (λ (e : InterfaceEvent). EndsWith plan c.write.result c.args.self.now c.write.new.self (Interface e))
+    (sym c.in-Write.is) (c.write.ensures.ends plan)
+
+pub returns-in-Flr-clause-ends : goal.returns-in-Flr-clause-ends
+returns-in-Flr-clause-ends c plan =
+    subst (λ (e : InterfaceEvent). EndsWith plan c.flr.result c.args.self.now c.flr.new.self (Interface e))
+    (sym c.in-Flr.is) (c.flr.ensures.ends plan)
+
+pub returns-in-Firmware-clause-ends : goal.returns-in-Firmware-clause-ends
+returns-in-Firmware-clause-ends c plan =
+    subst (λ (e : InterfaceEvent). EndsWith plan c.firmware.result c.args.self.now c.firmware.new.self (Interface e))
+    (sym c.in-Firmware.is) (c.firmware.ensures.ends plan)
+
+pub returns-in_ok-memory-in-Memory-clause-ends : goal.returns-in_ok-memory-in-Memory-clause-ends
+returns-in_ok-memory-in-Memory-clause-ends c plan =
+    subst (λ (e : InterfaceEvent). EndsWith plan c.in_ok-memory-in-Memory.field-0 c.args.self.now c.memory.new.self
+    (Interface e)) (sym c.in-Memory.is) (c.in_ok-memory-in-Memory.ensures.ends plan)
+
+pub returns-in_err-memory-in-Memory-clause-ends : goal.returns-in_err-memory-in-Memory-clause-ends
+returns-in_err-memory-in-Memory-clause-ends c plan =
+    let p = err_from_is_err_and c.from_residual.result c.from_residual.ensures.1 in
+    subst (λ (r : Result (Option Verdict) Memory). EndsAsOr plan r c.args.self.now c.memory.new.self
+    (Interface c.args.event.now)) (sym p.1) (c.in_err-memory-in-Memory.ensures.ends plan)

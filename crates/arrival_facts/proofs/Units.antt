@@ -1,0 +1,153 @@
+-- A unit that is accepted on a line whose units have one packet has the packet that came and no other; its TLP is no
+-- longer than one may be.
+use Rattle.sealing_laws.proofs.Terms.{◌≡◌, ◌∙◌, ℕ, ◌+◌, ◌<◌, ◌≤◌, ◌&&◌, Bool, true, false, List, [], ◌∷◌, ◌++◌}
+use Rattle.sealing_laws.proofs.Terms.{length, refl, ap, sym, subst, arith, nat_tests, inl, inr, not, take, Plan}
+use Rattle.sealing_laws.proofs.Terms.{History, CauseLaw, SubStream, lane_in, PortName, SubKind, Packet, FitsPacket}
+use Rattle.sealing_laws.proofs.Terms.{is_sync_packet, encrypted, keys_at, failed, length-append, append-nil}
+use Rattle.std.proofs.lemmas.Option.{none-some, same_Some}
+use Rattle.std.specs.Prelude.{Option, Some, None, nat_le, if◌then◌else◌, ◌||◌}
+use Rattle.std.proofs.Math.Seq.{take-append_seam}
+use Rattle.ide_types.specs.declared.sub.SubKind.TheVariants.{Pr, Npr, Cpl}
+use Rattle.ide_types.specs.declared.sub.FailCause.TheVariants as fail
+use Rattle.tlp_layout.specs.declared.head.HeadView.{HeadView}
+use Rattle.tlp_layout.specs.Head.{head_length}
+use Rattle.tlp_layout.specs.Tlp.{body_size}
+use Rattle.tlp_layout.proofs.Readings.{head_sized}
+use Rattle.gcm_seal.specs.Gcm.{masked}
+use Rattle.gcm_seal.proofs.Sealing.{length-masked}
+use Rattle.key_laws.specs.Keys.{Keyed, Off, Loaded, On, Keys}
+use Rattle.stream_rules.specs.Stream.{StreamState, LiveKey, Taken, Insecure, Failed, Held, Accepted, holds_any}
+use Rattle.stream_rules.specs.Stream.{
+  is_tagged,
+  is_allowed,
+  checked,
+  taken_under,
+  taken_by,
+  live_in,
+  slot_in_set,
+  at_sub,
+}
+use Rattle.hop_queues.specs.{most_bytes}
+use Rattle.link_history.specs.Hops.{HopTlp, tlps_with}
+use Rattle.link_history.specs.History.{pending}
+use Rattle.link_history.specs.Plan.{mode_of}
+use Rattle.link_ports.specs.Stands.{rx_slot, rx_slots, receiving_key}
+unfoldable use Rattle.link_ports.specs.Stands.{standing}
+use Rattle.arrival_facts.proofs.Held.{held_none}
+
+-- ---- nothing is held
+
+abbrev pub HoldsNone : LiveKey → Type 0
+HoldsNone y = y.packets ≡ []
+
+module _ (plan : Plan) (h : History) (cause : CauseLaw plan h) (port : PortName) where
+  key_none : (s : SubStream) (j : ℕ) → mode_of plan s.link s.stream ≡ 1 → HoldsNone (receiving_key plan h port s j)
+  key_none s j one = by (failed h port s.stream)
+    where
+      by : (b : Bool) → (if b then [] else pending plan h s j) ≡ []
+      by true = refl
+      by false = held_none plan h cause s one j _
+
+  slot_none : (s : SubStream) (k : Keyed) (y : LiveKey) → mode_of plan s.link s.stream ≡ 1
+      → live_in (rx_slot plan h port s k) ≡ Some y → HoldsNone y
+  slot_none s Off y one is = absurd (none-some y is)
+  slot_none s (Loaded j) y one is = absurd (none-some y is)
+  slot_none s (On j) y one is =
+      subst HoldsNone (same_Some (receiving_key plan h port s j) y is) (key_none s j one)
+
+  slots_none : (s : SubStream) (keys : Keys) (k : Bool) (y : LiveKey) → mode_of plan s.link s.stream ≡ 1
+      → live_in (slot_in_set (rx_slots plan h port s keys) k) ≡ Some y → HoldsNone y
+  slots_none s keys true y one is = slot_none s keys.second y one is
+  slots_none s keys false y one is = slot_none s keys.first y one is
+
+  pub standing_none : (stream : ℕ) (u : SubKind) (k : Bool) (y : LiveKey) → mode_of plan port.link stream ≡ 1
+      → live_in (slot_in_set (at_sub (standing plan h port stream).rx u).slots k) ≡ Some y → HoldsNone y
+  unfolding standing
+  standing_none stream Pr k y one is =
+      slots_none (lane_in port stream Pr) (keys_at h port (lane_in port stream Pr)) k y one is
+  standing_none stream Npr k y one is =
+      slots_none (lane_in port stream Npr) (keys_at h port (lane_in port stream Npr)) k y one is
+  standing_none stream Cpl k y one is =
+      slots_none (lane_in port stream Cpl) (keys_at h port (lane_in port stream Cpl)) k y one is
+
+-- ---- the unit is the packet
+
+-- the packet alone, if a unit was accepted
+abbrev pub IsAlone : Packet → Taken → Type 0
+IsAlone p (Accepted draw unit packets) = packets ≡ p ∷ []
+IsAlone p t = Unit {0}
+
+module _ (x : StreamState) (p : Packet) where
+  abbrev slot_of : Option LiveKey
+  slot_of = live_in (slot_in_set (at_sub x.rx p.prefix.sub).slots p.prefix.k)
+
+  keyed_alone : (y : LiveKey) (a b m c : Bool) → HoldsNone y
+      → IsAlone p (if a then Failed fail.Unit else if m then checked b c y p else Held y.draw (y.units + 1))
+  keyed_alone y true b m c none = tt
+  keyed_alone y false b false c none = tt
+  keyed_alone y false false true c none = tt
+  keyed_alone y false true true false none = tt
+  keyed_alone y false true true true none = ap (λ (ps : List Packet). ps ++ p ∷ []) none
+
+  under_alone : (mode : ℕ) (closed : Bool) (one other : Option LiveKey)
+      → ((y : LiveKey) → one ≡ Some y → HoldsNone y) → IsAlone p (taken_under mode closed x.rx p one other)
+  under_alone mode closed None None none = tt
+  under_alone mode closed None (Some y) none = tt
+  under_alone mode closed (Some y) other none =
+      keyed_alone y (holds_any other || (not p.prefix.m && nat_le mode (length y.packets + 1)))
+      (is_tagged closed (at_sub x.rx p.prefix.sub).total y p) p.prefix.m
+      (is_allowed x.rx p.prefix.sub (y.packets ++ p ∷ [])) (none y refl)
+
+  failed_alone : (b : Bool) (t : Taken) → IsAlone p t → IsAlone p (if b then Insecure else t)
+  failed_alone true t is = tt
+  failed_alone false t is = is
+
+  pub taken_alone : (mode : ℕ) (closed : Bool) → ((y : LiveKey) → slot_of ≡ Some y → HoldsNone y)
+      → IsAlone p (taken_by mode closed x p)
+  taken_alone mode closed none =
+      failed_alone x.failed _
+      (under_alone mode closed slot_of (live_in (slot_in_set (at_sub x.rx p.prefix.sub).slots (not p.prefix.k))) none)
+
+-- ---- its TLP
+
+-- in plain
+abbrev pub opened_tlp : Packet → List ℕ → HopTlp
+opened_tlp p plain = record { sub = p.prefix.sub; bytes = p.head ++ plain; t = p.prefix.t }
+
+abbrev pub opened_tlps : Packet → List ℕ → List HopTlp
+opened_tlps p plain = if is_sync_packet p then [] else opened_tlp p plain ∷ []
+
+pub alone_waits : (p : Packet) (key iv : List ℕ)
+    → tlps_with (masked key iv 0 (encrypted (p ∷ []))) (p ∷ []) ≡ opened_tlps p (masked key iv 0 p.body)
+alone_waits p key iv =
+    let body : encrypted (p ∷ []) ≡ p.body = append-nil p.body in
+    let plain : take (length p.body) (masked key iv 0 (encrypted (p ∷ []))) ≡ masked key iv 0 p.body =
+    (λ i. take (length p.body) (masked key iv 0 (body i)))
+    ∙ ap (λ (n : ℕ). take n (masked key iv 0 p.body)) (sym (length-masked key iv 0 p.body))
+    ∙ whole (masked key iv 0 p.body) in
+    ap (λ (front : List ℕ). opened_tlps p front) plain
+  where
+    whole : (xs : List ℕ) → take (length xs) xs ≡ xs
+    whole xs = ap (take (length xs)) (sym (append-nil xs)) ∙ take-append_seam xs []
+
+-- ---- it is no longer than one may be
+
+small_size : (b : Bool) (n : ℕ) → n < 1024 → body_size b n ≤ 4096
+small_size b n less = grind (arith, nat_tests)
+
+small_head : (h : HeadView) → head_length h ≤ 16
+small_head h = grind arith
+
+pub short_tlp : (p : Packet) (plain : List ℕ) → FitsPacket p → length plain ≡ length p.body
+    → length (p.head ++ plain) ≤ most_bytes
+short_tlp p plain fits same = elim fits.carries [
+  | inl c ↦
+      let head : length p.head ≡ head_length c.head = ap length c.spells.spelled ∙ head_sized c.head c.spells.fits in
+      let small = small_head c.head in
+      let body = small_size c.head.has_payload c.head.lead.length c.spells.fits.lead.length in
+      omega (arith, length-append p.head plain, head, small, body, c.size, same)
+  | inr s ↦
+      let head : length p.head ≡ 12 = ap length s.head in
+      let body : length p.body ≡ 0 = ap length s.body in
+      omega (arith, length-append p.head plain, head, body, same)
+]

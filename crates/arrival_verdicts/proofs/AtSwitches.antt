@@ -1,0 +1,61 @@
+-- The packets of a unit at a switch, one after another.
+use Rattle.std.proofs.Common.{◌≡◌, ℕ, ◌+◌, List, [], ◌∷◌, ◌++◌, length, drop, refl, ap, sym, ◌∙◌, add-one}
+use Rattle.std.proofs.Math.Seq.{drop-length}
+use Rattle.std.proofs.lemmas.List.{append_assoc, append-nil}
+use Rattle.std.specs.Prelude.{Some, map, slice_get}
+use Rattle.ide_types.specs.declared.direction.Direction.{Direction}
+use Rattle.ide_types.specs.declared.sub.SubKind.{SubKind}
+use Rattle.ide_prefix.specs.Packet.{Packet}
+use Rattle.link_verdicts.specs.declared.verdict.Effect.{Effect}
+use Rattle.sub_stream.specs.{lent_parts, mark_of}
+use Rattle.sub_stream.specs.declared.answer.PacketMark.{PacketMark}
+use Rattle.hop_queues.specs.declared.queue.HopTlp.{HopTlp}
+use Rattle.hop_queues.specs.declared.queues.HopQueues.{HopQueues}
+use Rattle.arrival_verdicts.specs.Switches.{switched_as, switched_each, tlps_as, tlps_in, offered, all_offered}
+use Rattle.arrival_verdicts.proofs.Effects.{IsThere, packet_there}
+
+offered_both : (d : Direction) (xs ys : List HopTlp) (q : HopQueues)
+    → all_offered d (xs ++ ys) q ≡ all_offered d ys (all_offered d xs q)
+offered_both d [] ys q = refl
+offered_both d (x ∷ xs) ys q = offered_both d xs ys (offered d x q)
+
+module _ (ps : List Packet) (sub : SubKind) (d : Direction) (q0 : HopQueues) where
+  -- the packets before this place got these effects, and made these of the queues
+  pub record SoFar (i : ℕ) (list : List Effect) (q : HopQueues) : Type 0 where
+    pub effects : switched_each ps ≡ list ++ switched_each (drop i ps)
+    pub queues : all_offered d (tlps_in sub ps) q0 ≡ all_offered d (tlps_in sub (drop i ps)) q
+
+  pub none_yet : SoFar 0 [] q0
+  none_yet = record { effects = refl; queues = refl }
+
+  pub one_more : (i : ℕ) (list : List Effect) (q q' : HopQueues) (mark : PacketMark) (head body : List ℕ) (e : Effect)
+      → SoFar i list q → slice_get (map mark_of ps) i ≡ Some mark
+      → slice_get (map lent_parts ps) i ≡ Some (head, body) → e ≡ switched_as mark
+      → q' ≡ all_offered d (tlps_as sub mark head body) q → SoFar (i + 1) (list ++ e ∷ []) q'
+  one_more i list q q' mark head body e before marked lent effect_is queues_are =
+      let t : IsThere ps i mark head body = packet_there ps i mark head body marked lent in
+      let p : Packet = t.packet in
+      let rest : List Packet = drop (i + 1) ps in
+      let here : drop i ps ≡ p ∷ rest = rw add-one t.here in
+      let same : e ≡ switched_as (mark_of p) = effect_is ∙ ap switched_as (sym t.mark_is) in
+      let tlps : tlps_as sub (mark_of p) p.head p.body ≡ tlps_as sub mark head body =
+      (λ j. tlps_as sub (t.mark_is j) (t.head_is j) (t.body_is j)) in
+      record {
+        effects = before.effects ∙ ap (λ (qs : List Packet). list ++ switched_each qs) here
+            ∙ ap (λ (x : Effect). list ++ x ∷ switched_each rest) (sym same)
+            ∙ sym (append_assoc list (e ∷ []) (switched_each rest));
+        queues = before.queues ∙ ap (λ (qs : List Packet). all_offered d (tlps_in sub qs) q) here
+            ∙ offered_both d (tlps_as sub (mark_of p) p.head p.body) (tlps_in sub rest) q
+            ∙ ap (λ (xs : List HopTlp). all_offered d (tlps_in sub rest) (all_offered d xs q)) tlps
+            ∙ ap (λ (r : HopQueues). all_offered d (tlps_in sub rest) r) (sym queues_are);
+      }
+
+  module _ (i : ℕ) (list : List Effect) (q : HopQueues) (all : SoFar i list q) (at : i ≡ length ps) where
+    none_left : drop i ps ≡ []
+    none_left = ap (λ (n : ℕ). drop n ps) at ∙ drop-length ps
+
+    pub all_effects : list ≡ switched_each ps
+    all_effects = sym (all.effects ∙ ap (λ (qs : List Packet). list ++ switched_each qs) none_left ∙ append-nil list)
+
+    pub all_queues : q ≡ all_offered d (tlps_in sub ps) q0
+    all_queues = sym (all.queues ∙ ap (λ (qs : List Packet). all_offered d (tlps_in sub qs) q) none_left)

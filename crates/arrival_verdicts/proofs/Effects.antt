@@ -1,0 +1,300 @@
+-- Effects of an accepted unit, one packet after another: what one packet makes, and then those behind it.
+use Rattle.std.proofs.Common.{◌≡◌, ℕ, suc, zero, ◌+◌, ◌==◌, Bool, true, false, List, [], ◌∷◌, ◌++◌, drop, length}
+use Rattle.std.proofs.Common.{length-append, arith, refl, ap, sym, ◌∙◌, subst}
+use Rattle.std.proofs.lemmas.List.{append-nil}
+use Rattle.std.specs.Prelude.{map, slice_get, if◌then◌else◌, Some, None, Option, Result, Ok, Err}
+use Rattle.std.proofs.lemmas.Option.{none-some, same_Some, some_pair_parts}
+use Rattle.link_verdicts.specs.declared.verdict.UnitName.{UnitName}
+use Rattle.ide_plan.specs.declared.plan.Region.{Region}
+use Rattle.link_history.specs.Memory.{Grants}
+use Rattle.ide_types.specs.declared.port.Side.TheVariants.{Host, Device}
+use Rattle.ide_types.specs.declared.port.Side.{Side}
+use Rattle.ide_types.specs.declared.port.PortName.{PortName}
+use Rattle.ide_prefix.specs.Packet.{Packet}
+use Rattle.sub_stream.specs.{lent_parts, mark_of}
+use Rattle.link_verdicts.specs.declared.verdict.Effect.{Effect}
+use Rattle.trusted_memory.specs.{Write, Leads}
+use Rattle.key_laws.specs.Places.{sent_direction}
+use Rattle.std.proofs.lemmas.List.{append_assoc}
+use Rattle.std.specs.List.{cons_option}
+use Rattle.tlp_layout.specs.declared.head.HeadView.{HeadView}
+use Rattle.tlp_layout.specs.declared.fault.TlpFault.{TlpFault}
+use Rattle.tlp_layout.specs.Reading.{read_head_of}
+use Rattle.link_verdicts.specs.declared.verdict.BlockCause.{BlockCause}
+use Rattle.link_verdicts.specs.declared.verdict.Effect.TheVariants as effect
+use Rattle.trusted_memory.specs.declared.grant.Grant.{Grant}
+use Rattle.trusted_memory.specs.declared.span.Span.{Span}
+use Rattle.trusted_memory.specs.{MemoryContents, write_effect, write_span}
+use Rattle.trusted_memory.specs.Causes.{block_cause, block_effect}
+use Rattle.waiting_reads.specs.declared.queue.WaitingRead.{WaitingRead}
+use Rattle.waiting_reads.specs.declared.read.MemReadView.{MemReadView}
+use Rattle.waiting_reads.specs.{memory_read, waiting_after}
+use Rattle.waiting_reads.specs.Waiting.{request_effect, effect_by_read, read_cause, read_effect}
+use Rattle.guarded_memory.specs.declared.standing.Standing.{Standing}
+use Rattle.guarded_memory.specs.declared.claims.Claim.{Claim}
+use Rattle.guarded_memory.specs.{GuardedMemory, Happened, MmioLeads, mmio_effect, mmio_cause}
+use Rattle.guarded_memory.specs.{claim_effect, cause_effect, claim_of}
+use Rattle.link_history.specs.Admission.{waiting_then}
+use Rattle.link_history.specs.Sent.{read_under, reads_by}
+use Rattle.link_history.specs.Guarded.{stored_as}
+use Rattle.accesses.specs.Accesses.{waiting_with, reads_after}
+use Rattle.arrival_verdicts.specs.Verdicts.{
+  head_effect,
+  head_grant,
+  head_write,
+  claimed_effect,
+  marked_effect,
+  queued_by,
+}
+use Rattle.arrival_verdicts.specs.Verdicts.{
+  effects_from,
+  packet_effect,
+  packet_write,
+  packet_stored,
+  PacketCame,
+  UnitCame,
+}
+use Rattle.sub_stream.specs.declared.answer.PacketMark.{PacketMark}
+
+-- ---- reads that wait
+
+module _ (draw : ℕ) where
+  -- after this effect of a TLP with this header one more waits if it is queued
+  abbrev Waits : ℕ → Effect → Result HeadView TlpFault → Type 0
+  Waits n e r = waiting_then e n ≡ n + length (queued_by draw e r)
+
+  block_waits : (n : ℕ) (r : Result HeadView TlpFault) (c : Option BlockCause) → Waits n (block_effect c) r
+  block_waits n r None = omega arith
+  block_waits n r (Some c) = omega arith
+
+  write_waits : (regions : List Region) (t : Bool) (grant : Grant) (n : ℕ) (r : Result HeadView TlpFault)
+      (o : Option Span) → Waits n (write_effect regions t grant o) r
+  write_waits regions t grant n r None = omega arith
+  write_waits regions t grant n r (Some s) = block_waits n r (block_cause regions s t grant)
+
+  read_waits : (n : ℕ) (head : HeadView) (read : MemReadView) (c : Option BlockCause) → memory_read head ≡ Some read
+      → Waits n (read_effect c) (Ok head)
+  read_waits n head read None is =
+      ap (λ (o : Option MemReadView). n + length (read_under draw o)) (sym is)
+  read_waits n head read (Some c) is = omega arith
+
+  by_read : (regions : List Region) (t : Bool) (grant : Grant) (n : ℕ) (head : HeadView) (o : Option MemReadView)
+      (other : Effect) → memory_read head ≡ o → Waits n other (Ok head)
+      → Waits n (effect_by_read regions t grant n o other) (Ok head)
+  by_read regions t grant n head None other is waits = waits
+  by_read regions false grant n head (Some read) other is waits = omega arith
+  by_read regions true grant n head (Some read) other is waits =
+      read_waits n head read (read_cause regions read.span grant n) is
+
+  pub request_waits : (regions : List Region) (t : Bool) (grant : Grant) (n : ℕ) (head : HeadView)
+      → Waits n (request_effect regions t grant n head) (Ok head)
+  request_waits regions t grant n head = by_read regions t grant n head (memory_read head)
+      (write_effect regions t grant (write_span head)) refl
+      (write_waits regions t grant n (Ok head) (write_span head))
+
+  -- none is queued at a device's port
+  cause_none : (r : Result HeadView TlpFault) (c : Option BlockCause) → queued_by draw (cause_effect c) r ≡ []
+  cause_none r None = refl
+  cause_none r (Some c) = refl
+
+  claim_none : (t : Bool) (stream at : ℕ) (s : Span) (r : Result HeadView TlpFault) (o : Option Claim)
+      → queued_by draw (claim_effect o s t stream at) r ≡ []
+  claim_none t stream at s r None = refl
+  claim_none t stream at s r (Some c) = cause_none r (mmio_cause c.standing c.range s t stream at)
+
+  pub mmio_none : (xs : List Standing) (t : Bool) (stream at : ℕ) (r : Result HeadView TlpFault) (o : Option Span)
+      → queued_by draw (mmio_effect xs t stream at o) r ≡ []
+  mmio_none xs t stream at r None = refl
+  mmio_none xs t stream at r (Some s) = claim_none t stream at s r (claim_of xs s)
+
+  cause_waits : (n : ℕ) (r : Result HeadView TlpFault) (c : Option BlockCause) → Waits n (cause_effect c) r
+  cause_waits n r None = omega arith
+  cause_waits n r (Some c) = omega arith
+
+  claim_waits : (n : ℕ) (t : Bool) (stream at : ℕ) (s : Span) (r : Result HeadView TlpFault) (o : Option Claim)
+      → Waits n (claim_effect o s t stream at) r
+  claim_waits n t stream at s r None = omega arith
+  claim_waits n t stream at s r (Some c) = cause_waits n r (mmio_cause c.standing c.range s t stream at)
+
+  mmio_waits : (n : ℕ) (xs : List Standing) (t : Bool) (stream at : ℕ) (r : Result HeadView TlpFault)
+      (o : Option Span) → Waits n (mmio_effect xs t stream at o) r
+  mmio_waits n xs t stream at r None = omega arith
+  mmio_waits n xs t stream at r (Some s) = claim_waits n t stream at s r (claim_of xs s)
+
+  -- the reads that wait are those that did, and the one that is queued
+  same_reads : (e : Effect) (ws : List WaitingRead) (o : Option MemReadView)
+      → ((w : WaitingRead) → waiting_after e w ws ≡ ws) → waiting_with e draw o ws ≡ ws ++ []
+  same_reads e ws None same = sym (append-nil ws)
+  same_reads e ws (Some read) same = same (record { read = read; draw = draw }) ∙ sym (append-nil ws)
+
+  one_read : (ws : List WaitingRead) (o : Option MemReadView) → waiting_with effect.Queued draw o ws
+      ≡ ws ++ read_under draw o
+  one_read ws None = sym (append-nil ws)
+  one_read ws (Some read) = refl
+
+  pub reads_are : (e : Effect) (head : HeadView) (ws : List WaitingRead) → reads_after e draw head ws
+      ≡ ws ++ queued_by draw e (Ok head)
+  reads_are effect.Sync head ws = same_reads effect.Sync ws (memory_read head) (λ w. refl)
+  reads_are effect.Delivered head ws = same_reads effect.Delivered ws (memory_read head) (λ w. refl)
+  reads_are effect.Applied head ws = same_reads effect.Applied ws (memory_read head) (λ w. refl)
+  reads_are effect.Queued head ws = one_read ws (memory_read head)
+  reads_are effect.Stored head ws = same_reads effect.Stored ws (memory_read head) (λ w. refl)
+  reads_are effect.Waiting head ws = same_reads effect.Waiting ws (memory_read head) (λ w. refl)
+  reads_are (effect.Blocked c) head ws = same_reads (effect.Blocked c) ws (memory_read head) (λ w. refl)
+
+  -- the first of a unit's reads
+  first_reads : (e : Effect) (p : Packet) (es : List Effect) (ps : List Packet)
+      → queued_by draw e (read_head_of p.head) ++ reads_by draw es ps ≡ reads_by draw (e ∷ es) (p ∷ ps)
+  first_reads effect.Sync p es ps = refl
+  first_reads effect.Delivered p es ps = refl
+  first_reads effect.Applied p es ps = refl
+  first_reads effect.Queued p es ps = refl
+  first_reads effect.Stored p es ps = refl
+  first_reads effect.Waiting p es ps = refl
+  first_reads (effect.Blocked c) p es ps = refl
+
+pub none_more : (ws : List WaitingRead) → ws ≡ ws ++ []
+none_more ws = sym (append-nil ws)
+
+-- ---- memory, one after another
+
+write_on : (m k n : MemoryContents) (o : Option Write) (os : List (Option Write)) → Leads m (o ∷ []) k → Leads k os n
+    → Leads m (o ∷ os) n
+write_on m k n None os first rest = λ older is. rest older (first older is)
+write_on m k n (Some w) os first rest = λ older is. rest (w ∷ older) (first older is)
+
+store_on : (m k n : GuardedMemory) (o : Option Happened) (os : List (Option Happened)) → MmioLeads m (o ∷ []) k
+    → MmioLeads k os n → MmioLeads m (o ∷ os) n
+store_on m k n o os first rest = λ older is. rest (cons_option o older) (first older is)
+
+module _ (regions : List Region) (grants : Grants) (xs : List Standing) (port : PortName) (unit : UnitName) where
+  head_waits : (n : ℕ) (t : Bool) (r : Result HeadView TlpFault)
+      → Waits unit.draw n (head_effect regions grants port.link n unit t r) r
+  head_waits n t (Err f) = omega arith
+  head_waits n t (Ok head) = request_waits unit.draw regions t (head_grant grants port.link unit head) n head
+
+  claimed_waits : (n : ℕ) (t : Bool) (r : Result HeadView TlpFault) → Waits unit.draw n (claimed_effect xs unit t r) r
+  claimed_waits n t (Err f) = omega arith
+  claimed_waits n t (Ok head) = mmio_waits unit.draw n xs t unit.stream unit.draw (Ok head) (write_span head)
+
+  either_waits : (n : ℕ) (b c : Bool) (x y : Effect) (r : Result HeadView TlpFault) → Waits unit.draw n x r
+      → Waits unit.draw n y r → Waits unit.draw n (if b then effect.Sync else if c then x else y) r
+  either_waits n true c x y r first second = omega arith
+  either_waits n false true x y r first second = first
+  either_waits n false false x y r first second = second
+
+  marked_waits : (n : ℕ) (mark : PacketMark) (header : List ℕ)
+      → Waits unit.draw n (marked_effect regions grants xs n port unit mark header) (read_head_of header)
+  marked_waits n mark header =
+      either_waits n mark.sync (sent_direction port.side == 0) _ _ (read_head_of header)
+      (head_waits n mark.t (read_head_of header)) (claimed_waits n mark.t (read_head_of header))
+
+  -- a unit of no packets
+  pub none_came : (ws : List WaitingRead) (m : MemoryContents) (g : GuardedMemory)
+      → UnitCame regions grants xs port unit [] ws m g [] ws m g
+  none_came ws m g = record {
+    effects_are = refl;
+    reads_are = sym (append-nil ws);
+    written = λ older is. is;
+    stored = λ older is. is;
+  }
+
+  -- one packet, and those behind it
+  pub more_came : (p : Packet) (ps : List Packet) (ws ws1 ws' : List WaitingRead) (m m1 m' : MemoryContents)
+      (g g1 g' : GuardedMemory) (e : Effect) (es : List Effect)
+      → PacketCame regions grants xs port unit (mark_of p) p.head p.body ws m g e ws1 m1 g1
+      → UnitCame regions grants xs port unit ps ws1 m1 g1 es ws' m' g'
+      → UnitCame regions grants xs port unit (p ∷ ps) ws m g (e ∷ es) ws' m' g'
+  more_came p ps ws ws1 ws' m m1 m' g g1 g' e es one rest =
+      let r : Result HeadView TlpFault = read_head_of p.head in
+      let due : Effect = packet_effect regions grants xs (length ws) port unit p in
+      let q : List WaitingRead = queued_by unit.draw e r in
+      let many : length ws1 ≡ waiting_then due (length ws) =
+      ap (λ (vs : List WaitingRead). length vs) one.reads_are ∙ length-append ws q
+      ∙ ap (λ (x : Effect). length ws + length (queued_by unit.draw x r)) one.effect_is
+      ∙ sym (marked_waits (length ws) (mark_of p) p.head) in
+      let behind : es ≡ effects_from regions grants xs (waiting_then due (length ws)) port unit ps =
+      rest.effects_are ∙ ap (λ (n : ℕ). effects_from regions grants xs n port unit ps) many in
+      record {
+        effects_are = λ i. one.effect_is i ∷ behind i;
+        reads_are = rest.reads_are ∙ ap (λ (vs : List WaitingRead). vs ++ reads_by unit.draw es ps) one.reads_are
+            ∙ append_assoc ws q (reads_by unit.draw es ps)
+            ∙ ap (λ (vs : List WaitingRead). ws ++ vs) (first_reads unit.draw e p es ps);
+        written = write_on m m1 m' (packet_write regions grants port unit p)
+            (map (packet_write regions grants port unit) ps) one.written rest.written;
+        stored = store_on g g1 g' (packet_stored xs port unit p) (map (packet_stored xs port unit) ps)
+            one.stored rest.stored;
+      }
+
+-- ---- the ports
+
+module _ (regions : List Region) (grants : Grants) (xs : List Standing) (unit : UnitName) (header body : List ℕ)
+    (ws : List WaitingRead) (m : MemoryContents) (g : GuardedMemory) where
+  pub sync : (port : PortName) (mark : PacketMark) → mark.sync ≡ true
+      → PacketCame regions grants xs port unit mark header body ws m g effect.Sync ws m g
+  sync port mark is =
+      subst (λ (b : Bool). PacketCame regions grants xs port unit (record { t = mark.t; sync = b }) header body ws m g
+      effect.Sync ws m g) (sym is)
+      (record {
+        effect_is = refl;
+        reads_are = sym (append-nil ws);
+        written = λ older is. is;
+        stored = λ older is. is;
+      })
+
+  pub at_host : (port : PortName) (mark : PacketMark) (e : Effect) (ws' : List WaitingRead) (m' : MemoryContents)
+      → mark.sync ≡ false → port.side ≡ Host
+      → e ≡ head_effect regions grants port.link (length ws) unit mark.t (read_head_of header)
+      → ws' ≡ ws ++ queued_by unit.draw e (read_head_of header)
+      → Leads m (head_write regions grants port.link unit mark.t body (read_head_of header) ∷ []) m'
+      → PacketCame regions grants xs port unit mark header body ws m g e ws' m' g
+  at_host port mark e ws' m' plain at effect_is reads_are written =
+      subst (λ (b : Bool). PacketCame regions grants xs port unit (record { t = mark.t; sync = b }) header body ws m g
+      e ws' m' g) (sym plain)
+      (subst (λ (s : Side). PacketCame regions grants xs (record { side = s; link = port.link }) unit
+      (record { t = mark.t; sync = false }) header body ws m g e ws' m' g) (sym at)
+      (record { effect_is = effect_is; reads_are = reads_are; written = written; stored = λ older is. is }))
+
+  pub at_device : (port : PortName) (mark : PacketMark) (e : Effect) (g' : GuardedMemory)
+      → mark.sync ≡ false → port.side ≡ Device
+      → e ≡ claimed_effect xs unit mark.t (read_head_of header)
+      → queued_by unit.draw e (read_head_of header) ≡ []
+      → MmioLeads g (stored_as xs unit mark.t body (read_head_of header) ∷ []) g'
+      → PacketCame regions grants xs port unit mark header body ws m g e ws m g'
+  at_device port mark e g' plain at effect_is none stored =
+      subst (λ (b : Bool). PacketCame regions grants xs port unit (record { t = mark.t; sync = b }) header body ws m g
+      e ws m g') (sym plain)
+      (subst (λ (s : Side). PacketCame regions grants xs (record { side = s; link = port.link }) unit
+      (record { t = mark.t; sync = false }) header body ws m g e ws m g') (sym at)
+      (record {
+        effect_is = effect_is;
+        reads_are = sym (ap (λ (vs : List WaitingRead). ws ++ vs) none ∙ append-nil ws);
+        written = λ older is. is;
+        stored = stored;
+      }))
+
+-- ---- a packet among those that are lent
+
+pub record IsThere (ps : List Packet) (i : ℕ) (mark : PacketMark) (head body : List ℕ) : Type 0 where
+  pub packet : Packet
+  pub here : drop i ps ≡ packet ∷ drop (suc i) ps
+  pub mark_is : mark_of packet ≡ mark
+  pub head_is : packet.head ≡ head
+  pub body_is : packet.body ≡ body
+
+pub packet_there : (ps : List Packet) (i : ℕ) (mark : PacketMark) (head body : List ℕ)
+    → slice_get (map mark_of ps) i ≡ Some mark → slice_get (map lent_parts ps) i ≡ Some (head, body)
+    → IsThere ps i mark head body
+packet_there [] i mark head body marked lent = absurd (none-some mark marked)
+packet_there (p ∷ ps) zero mark head body marked lent =
+    let parts = some_pair_parts p.head head p.body body lent in
+    record {
+      packet = p;
+      here = refl;
+      mark_is = same_Some (mark_of p) mark marked;
+      head_is = parts.0;
+      body_is = parts.1;
+    }
+packet_there (p ∷ ps) (suc i) mark head body marked lent =
+    let t = packet_there ps i mark head body marked lent in
+    record { packet = t.packet; here = t.here; mark_is = t.mark_is; head_is = t.head_is; body_is = t.body_is }

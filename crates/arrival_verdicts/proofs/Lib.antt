@@ -1,0 +1,5 @@
+mod Effects
+mod Units
+mod AtSwitches
+pub mod Writes
+pub mod Waits

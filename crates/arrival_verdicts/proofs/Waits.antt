@@ -1,0 +1,66 @@
+-- The TLPs that wait at a switch of a unit are those that the machine has: the port lends the unit opened packet by
+-- packet, the machine opens it as one and cuts the plaintext.
+use Rattle.std.proofs.Common.{◌≡◌, ℕ, ◌+◌, take, drop, Bool, true, false, List, [], ◌∷◌, ◌++◌, length, refl, sym, ◌∙◌}
+use Rattle.std.specs.Prelude.{All, if◌then◌else◌}
+use Rattle.std.proofs.lemmas.List.Elements.{All-head, All-tail}
+use Rattle.std.proofs.Math.Seq.{take-append_seam, drop-append_seam}
+use Rattle.ide_types.specs.declared.port.PortName.{PortName}
+use Rattle.ide_plan.specs.declared.plan.Plan.{Plan}
+use Rattle.ide_prefix.specs.Packet.{Packet}
+use Rattle.ide_prefix.specs.{encrypted, iv_of, is_sync_packet}
+use Rattle.gcm_seal.specs.Gcm.{masked}
+unfoldable use Rattle.gcm_seal.specs.Gcm.{open_of}
+use Rattle.gcm_seal.proofs.Sealing.{masked-append, length-masked}
+use Rattle.link_verdicts.specs.declared.verdict.UnitName.{UnitName}
+use Rattle.sub_stream.specs.{mark_of, opened_from}
+use Rattle.hop_queues.specs.declared.queue.HopTlp.{HopTlp}
+use Rattle.link_history.specs.Hops.{tlps_with}
+use Rattle.link_history.specs.Admission.{plain_of}
+use Rattle.link_history.specs.Plan.{key_of}
+use Rattle.link_history.specs.Packets.{received_in}
+use Rattle.arrival_verdicts.specs.Switches.{tlps_as, unit_waits}
+use Rattle.arrival_verdicts.proofs.Writes.{OpensAs}
+
+-- of packets whose bodies are plain, each in the sub-stream that it names
+abbrev pub own_tlps : List Packet → List HopTlp
+own_tlps [] = []
+own_tlps (p ∷ ps) = tlps_as p.prefix.sub (mark_of p) p.head p.body ++ own_tlps ps
+
+one_first : (b : Bool) (x : HopTlp) (xs : List HopTlp) → (if b then xs else x ∷ xs)
+    ≡ (if b then [] else x ∷ []) ++ xs
+one_first true x xs = refl
+one_first false x xs = refl
+
+each_waits : (key iv : List ℕ) (n : ℕ) (ps : List Packet)
+    → tlps_with (masked key iv n (encrypted ps)) ps ≡ own_tlps (opened_from key iv n ps)
+each_waits key iv n [] = refl
+each_waits key iv n (p ∷ ps) =
+    let first : List ℕ = masked key iv n p.body in
+    let rest : List ℕ = masked key iv (n + length p.body) (encrypted ps) in
+    let plain : List ℕ = masked key iv n (p.body ++ encrypted ps) in
+    let joined : plain ≡ first ++ rest = masked-append key iv n p.body (encrypted ps) in
+    let long : length p.body ≡ length first = sym (length-masked key iv n p.body) in
+    let front : take (length p.body) plain ≡ first =
+    (λ i. take (long i) (joined i)) ∙ take-append_seam first rest in
+    let back : drop (length p.body) plain ≡ rest =
+    (λ i. drop (long i) (joined i)) ∙ drop-append_seam first rest in
+    let x : HopTlp = record { sub = p.prefix.sub; bytes = p.head ++ first; t = p.prefix.t } in
+    (λ i. if is_sync_packet p then tlps_with (back i) ps
+    else record { sub = p.prefix.sub; bytes = p.head ++ front i; t = p.prefix.t } ∷ tlps_with (back i) ps)
+    ∙ (λ i. if is_sync_packet p then each_waits key iv (n + length p.body) ps i
+    else x ∷ each_waits key iv (n + length p.body) ps i)
+    ∙ one_first (is_sync_packet p) x (own_tlps (opened_from key iv (n + length p.body) ps))
+
+pub waits_open : (plan : Plan) (end : PortName)
+    → OpensAs plan end (λ unit ps. tlps_with (plain_of plan end unit ps) ps) (λ unit ps. own_tlps ps)
+unfolding open_of
+waits_open plan end unit ps =
+    each_waits (key_of plan unit.draw (received_in end unit)) (iv_of unit.sub unit.unit) 0 ps
+
+-- all of a unit are in its sub-stream
+pub own_in : (unit : UnitName) (ps : List Packet) → All (λ (p : Packet). p.prefix.sub ≡ unit.sub) ps
+    → own_tlps ps ≡ unit_waits ps unit
+own_in unit [] all = refl
+own_in unit (p ∷ ps) all =
+    (λ i. tlps_as (All-head (λ (q : Packet). q.prefix.sub ≡ unit.sub) p ps all i) (mark_of p) p.head p.body
+    ++ own_in unit ps (All-tail (λ (q : Packet). q.prefix.sub ≡ unit.sub) p ps all) i)

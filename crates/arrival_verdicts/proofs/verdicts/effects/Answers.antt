@@ -1,0 +1,86 @@
+use Rattle.std.proofs.Common.{◌≡◌, ◌∙◌, ap, sym, subst, List, ◌+◌, ◌++◌, [], ◌∷◌, arith, drop, add-one, ℕ, length}
+use Rattle.std.proofs.Common.{length-append}
+use Rattle.std.proofs.lemmas.List.{append-nil}
+use Rattle.ide_plan.specs.declared.plan.Region.{Region}
+use Rattle.ide_prefix.specs.Packet.{Packet}
+use Rattle.link_verdicts.specs.declared.verdict.Effect.{Effect}
+use Rattle.sub_stream.specs.{mark_of}
+use Rattle.std.proofs.lemmas.List.{append_assoc}
+use Rattle.std.proofs.Math.Seq.{drop-length}
+use Rattle.guarded_memory.specs.declared.standing.Standing.{Standing}
+use Rattle.accesses.specs.{standings_by}
+use Rattle.sub_stream.specs.declared.answer.PacketMark.{PacketMark}
+use Rattle.arrival_verdicts.specs.Verdicts.{grants_in}
+use Rattle.arrival_verdicts.specs.Verdicts.{UnitCame, PacketCame}
+use Rattle.arrival_verdicts.proofs.Effects.{none_came, more_came, packet_there, IsThere}
+use Rattle.arrival_verdicts.proofs.verdicts.effects.Goals as goal
+
+pub loop-i-preserved : goal.loop-i-preserved
+loop-i-preserved c =
+    let ps : List Packet = c.args.packets.now in
+    let port = c.args.at.now.port in
+    let unit = c.args.unit in
+    let regions : List Region = c.args.memory.now.contents.regions in
+    let grants = grants_in c.args.at.now.keeper.now in
+    let xs : List Standing = standings_by c.args.access.now.floors c.args.at.now.interfaces.now in
+    let same : c.loop-i.memory.contents.regions ≡ regions = c.loop-i.invariant.2 in
+    let floors : c.loop-i.access.floors ≡ c.args.access.now.floors = c.loop-i.invariant.3 in
+    let ws = c.loop-i.access.reads in
+    let m = c.loop-i.memory.contents in
+    let g = c.loop-i.access.guarded in
+    let e : Effect = c.effect.result in
+    let ws1 = c.effect.new.access.reads in
+    let m1 = c.effect.new.memory.contents in
+    let g1 = c.effect.new.access.guarded in
+    let t : IsThere ps c.loop-i.i c.mark-mark.result c.packet.result.0.now c.packet.result.1.now = packet_there ps
+    c.loop-i.i c.mark-mark.result c.packet.result.0.now c.packet.result.1.now c.mark-mark.ensures c.packet.ensures in
+    let p : Packet = t.packet in
+    let here : drop c.loop-i.i ps ≡ p ∷ drop (c.loop-i.i + 1) ps = rw add-one t.here in
+    let first = subst (λ (rs : List Region). PacketCame rs grants
+    (standings_by c.loop-i.access.floors c.args.at.now.interfaces.now) port unit c.mark-mark.result
+    c.packet.result.0.now c.packet.result.1.now ws m g e ws1 m1 g1) same c.effect.ensures.came in
+    let second = subst (λ (fs : List ℕ). PacketCame regions grants (standings_by fs c.args.at.now.interfaces.now) port
+    unit c.mark-mark.result c.packet.result.0.now c.packet.result.1.now ws m g e ws1 m1 g1) floors first in
+    let third = subst (λ (k : PacketMark). PacketCame regions grants xs port unit k c.packet.result.0.now
+    c.packet.result.1.now ws m g e ws1 m1 g1) (sym t.mark_is) second in
+    let fourth = subst (λ (head : List ℕ). PacketCame regions grants xs port unit (mark_of p) head
+    c.packet.result.1.now ws m g e ws1 m1 g1) (sym t.head_is) third in
+    let one = subst (λ (body : List ℕ). PacketCame regions grants xs port unit (mark_of p) p.head body ws m g e ws1 m1
+    g1) (sym t.body_is) fourth in (
+      λ es ws' m' g' came.
+          let all = more_came regions grants xs port unit p (drop (c.loop-i.i + 1) ps) ws ws1 ws' m m1 m' g g1 g' e es
+          one came in
+          let whole = c.loop-i.invariant.0 (e ∷ es) ws' m' g'
+          (subst (λ (qs : List Packet). UnitCame regions grants xs port unit qs ws m g (e ∷ es) ws' m' g') (sym here)
+          all) in
+          subst (λ (ds : List Effect). UnitCame regions grants xs port unit ps c.args.access.now.reads
+          c.args.memory.now.contents c.args.access.now.guarded ds ws' m' g')
+          (sym (append_assoc c.loop-i.list (e ∷ []) es)
+          ∙ ap (λ (ds : List Effect). ds ++ es) (sym c.push.ensures)) whole,
+      rw c.push.ensures (omega (arith, length-append c.loop-i.list (c.effect.result ∷ []), c.loop-i.invariant.1)),
+      c.effect.ensures.regions ∙ same,
+      c.effect.ensures.floors ∙ floors,
+      c.effect.ensures.sizes ∙ c.loop-i.invariant.4,
+      omega (arith, c.effect.ensures.spare, c.loop-i.invariant.5),
+      omega (arith, c.effect.ensures.pages, c.loop-i.invariant.6),
+      c.effect.ensures.carried ∙ c.loop-i.invariant.7,
+    )
+
+pub returns-clause-came : goal.returns-clause-came
+returns-clause-came c =
+    let ps : List Packet = c.args.packets.now in
+    let port = c.args.at.now.port in
+    let unit = c.args.unit in
+    let regions : List Region = c.args.memory.now.contents.regions in
+    let grants = grants_in c.args.at.now.keeper.now in
+    let xs : List Standing = standings_by c.args.access.now.floors c.args.at.now.interfaces.now in
+    let ws = c.loop-i.access.reads in
+    let m = c.loop-i.memory.contents in
+    let g = c.loop-i.access.guarded in
+    let at : c.loop-i.i ≡ length ps = omega (arith, c.count-i-end.ensures.value) in
+    let none : drop c.loop-i.i ps ≡ [] = ap (λ (n : ℕ). drop n ps) at ∙ drop-length ps in
+    let whole = c.loop-i.invariant.0 [] ws m g
+    (subst (λ (qs : List Packet). UnitCame regions grants xs port unit qs ws m g [] ws m g) (sym none)
+    (none_came regions grants xs port unit ws m g)) in
+    subst (λ (es : List Effect). UnitCame regions grants xs port unit ps c.args.access.now.reads
+    c.args.memory.now.contents c.args.access.now.guarded es ws m g) (append-nil c.loop-i.list) whole

@@ -1,0 +1,28 @@
+use Rattle.std.proofs.Common.{◌≡◌, ◌≤◌, ◌+◌, ◌*◌, ◌++◌, length, drop, List}
+use Rattle.link_verdicts.specs.declared.verdict.Effect.{Effect}
+use Rattle.trusted_memory.specs.{MemoryContents}
+use Rattle.waiting_reads.specs.declared.queue.WaitingRead.{WaitingRead}
+use Rattle.guarded_memory.specs.{GuardedMemory}
+use Rattle.accesses.specs.{standings_by}
+use Rattle.arrival_verdicts.specs.Verdicts.{grants_in}
+use Rattle.arrival_verdicts.specs.Verdicts.{UnitCame}
+use Rattle.arrival_verdicts.proofs.verdicts.effects.Given as goal
+
+-- what the packets behind these make of what stands now, the whole unit makes of what stood
+abbrev pub invariant-loop-i : goal.invariant-loop-i
+invariant-loop-i l =
+    let regions = l.initial.memory.contents.regions in
+    let grants = grants_in l.at.keeper.now in
+    let xs = standings_by l.initial.access.floors l.at.interfaces.now in
+    ((es : List Effect) (ws : List WaitingRead) (m : MemoryContents) (g : GuardedMemory)
+    → UnitCame regions grants xs l.at.port l.unit (drop l.i l.packets) l.access.reads l.memory.contents
+    l.access.guarded es ws m g
+    → UnitCame regions grants xs l.at.port l.unit l.packets l.initial.access.reads l.initial.memory.contents
+    l.initial.access.guarded (l.list ++ es) ws m g)
+    × (length l.list ≡ l.i)
+    × (l.memory.contents.regions ≡ regions)
+    × (l.access.floors ≡ l.initial.access.floors)
+    × (l.access.guarded.sizes ≡ l.initial.access.guarded.sizes)
+    × (l.initial.memory.spare ≤ l.memory.spare + l.i)
+    × (l.initial.access.guarded.spare ≤ l.access.guarded.spare + 2 * l.i)
+    × (l.access.carried ≡ l.initial.access.carried)

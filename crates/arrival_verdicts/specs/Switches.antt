@@ -1,0 +1,53 @@
+-- What becomes of a unit that is accepted at a switch: each TLP waits to be forwarded.
+use Rattle.std.specs.Prelude.{ℕ, ◌&&◌, ◌++◌, nat_le, if◌then◌else◌, List, [], ◌∷◌, length, false, map}
+use Rattle.ide_types.specs.declared.direction.Direction.{Direction}
+use Rattle.ide_types.specs.declared.sub.SubKind.{SubKind}
+use Rattle.ide_prefix.specs.Packet.{Packet}
+use Rattle.link_verdicts.specs.declared.verdict.Effect.{Effect}
+use Rattle.link_verdicts.specs.declared.verdict.Effect.TheVariants as effect
+use Rattle.link_verdicts.specs.declared.verdict.UnitName.{UnitName}
+use Rattle.sub_stream.specs.{mark_of}
+use Rattle.sub_stream.specs.declared.answer.PacketMark.{PacketMark}
+use Rattle.hop_queues.specs.declared.queue.HopTlp.{HopTlp}
+use Rattle.hop_queues.specs.declared.queues.HopQueues.{HopQueues}
+use Rattle.hop_queues.specs.{WaitingTlps, most_bytes, queue_of, with_queue}
+
+-- ---- effects
+
+-- of a packet with this mark
+abbrev pub switched_as : PacketMark → Effect
+switched_as mark = if mark.sync then effect.Sync else effect.Waiting
+
+abbrev pub switched_each : List Packet → List Effect
+switched_each ps = map (λ p. switched_as (mark_of p)) ps
+
+-- ---- TLPs that wait
+
+-- that of a packet with this mark, header and plain payload, in a sub-stream
+abbrev pub tlps_as : SubKind → PacketMark → List ℕ → List ℕ → List HopTlp
+tlps_as sub mark header payload =
+    if mark.sync then [] else record { sub = sub; bytes = header ++ payload; t = mark.t } ∷ []
+
+-- those of packets whose bodies are plain
+abbrev pub tlps_in : SubKind → List Packet → List HopTlp
+tlps_in sub [] = []
+tlps_in sub (p ∷ ps) = tlps_as sub (mark_of p) p.head p.body ++ tlps_in sub ps
+
+-- those of the unit, by its sub-stream
+abbrev pub unit_waits : List Packet → UnitName → List HopTlp
+unit_waits ps unit = tlps_in unit.sub ps
+
+-- behind all others
+abbrev pub waits_last : HopTlp → WaitingTlps → WaitingTlps
+waits_last x w = record { tlps = w.tlps ++ x ∷ []; has_room = false }
+
+-- A TLP is queued if there is room for it and it is no longer than a TLP may be.
+abbrev pub offered : Direction → HopTlp → HopQueues → HopQueues
+offered d x q =
+    if (queue_of q d).has_room && nat_le (length x.bytes) most_bytes
+    then with_queue q d (waits_last x (queue_of q d)) else q
+
+-- one after the other
+abbrev pub all_offered : Direction → List HopTlp → HopQueues → HopQueues
+all_offered d [] q = q
+all_offered d (x ∷ xs) q = all_offered d xs (offered d x q)

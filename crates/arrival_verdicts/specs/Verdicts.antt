@@ -1,0 +1,164 @@
+-- What becomes of sends and arrivals: verdicts, writes of trusted memory and of the memory of devices' interfaces, and
+-- reads that wait. A stream is named at an end of its line, effects go by the port that the end is at.
+use Rattle.std.specs.Prelude.{ℕ, ◌≡◌, ◌==◌, ◌&&◌, Bool, not, List, [], ◌∷◌, ◌++◌, length, map, Option, None, Result}
+use Rattle.std.specs.Prelude.{Ok, Err, if◌then◌else◌}
+use Rattle.std.specs.Option.{option_and_then}
+use Rattle.ide_types.specs.declared.port.PortName.{PortName}
+use Rattle.ide_plan.specs.declared.plan.Region.{Region}
+use Rattle.link_verdicts.specs.declared.verdict.UnitName.{UnitName}
+use Rattle.link_verdicts.specs.declared.verdict.Verdict.{Verdict}
+use Rattle.link_verdicts.specs.declared.verdict.Verdict.TheVariants as v
+use Rattle.link_verdicts.specs.declared.verdict.Effect.{Effect}
+use Rattle.link_verdicts.specs.declared.verdict.Effect.TheVariants as effect
+use Rattle.tlp_layout.specs.declared.head.HeadView.{HeadView}
+use Rattle.tlp_layout.specs.declared.fault.TlpFault.{TlpFault}
+use Rattle.tlp_layout.specs.Reading.{read_head_of}
+use Rattle.ide_prefix.specs.Faults.{packet_place}
+use Rattle.ide_prefix.specs.Packet.{Packet}
+use Rattle.fault_words.specs.FaultWords.{packet_word}
+use Rattle.key_laws.specs.Places.{sent_direction}
+use Rattle.link_history.specs.{owner_of}
+use Rattle.link_history.specs.Admission.{Grants, waiting_then}
+use Rattle.link_history.specs.Sent.{read_in, reads_by}
+use Rattle.link_history.specs.Guarded.{stored_as}
+use Rattle.waiting_reads.specs.declared.queue.WaitingRead.{WaitingRead}
+use Rattle.waiting_reads.specs.Waiting.{request_effect}
+use Rattle.guarded_memory.specs.declared.standing.Standing.{Standing}
+use Rattle.guarded_memory.specs.{Happened, GuardedMemory, MmioLeads, mmio_effect}
+use Rattle.trusted_memory.specs.declared.grant.Grant.{Grant}
+use Rattle.trusted_memory.specs.{Write, MemoryContents, Leads, write_span, memory_write, admitted_write}
+use Rattle.sub_stream.specs.{mark_of}
+use Rattle.sub_stream.specs.declared.answer.PacketMark.{PacketMark}
+use Rattle.tlp_layout.specs.Faults.{place_in}
+use Rattle.fault_words.specs.FaultWords.{tlp_word}
+use Rattle.tdi_host.specs.Managers.{InterfaceManagerView, granted}
+use Rattle.ide_stream.specs.{refusal_verdict, numbered_from}
+use Rattle.ide_port.specs.declared.answer.Sent.{Sent}
+use Rattle.ide_port.specs.declared.answer.Sent.TheVariants as sent
+use Rattle.ide_port.specs.declared.answer.Arrival.{Arrival}
+use Rattle.ide_port.specs.declared.answer.Arrival.TheVariants.{Malformed, Plain, Unknown, Insecure, NotKeyed, Fail}
+use Rattle.ide_port.specs.declared.answer.Arrival.TheVariants.{Held, Accepted}
+
+-- ---- sends
+
+-- of a send at an end that is at this port, whose first sealed packet has this number
+abbrev pub end_sent_verdict : PortName → PortName → ℕ → Sent → Verdict
+end_sent_verdict end port number (sent.Malformed fault) = v.Malformed port (tlp_word fault) (place_in fault)
+end_sent_verdict end port number sent.Plain = v.Plain port
+end_sent_verdict end port number (sent.Refused refusal) = refusal_verdict refusal
+end_sent_verdict end port number (sent.Sealed packets) = v.Sealed (numbered_from end number packets)
+
+-- ---- effects
+
+-- what the manager says of requesters
+abbrev pub grants_in : InterfaceManagerView → Grants
+grants_in m link requester = granted m link requester
+
+-- of a TLP at a host's port of this link, in this unit
+abbrev pub head_grant : Grants → ℕ → UnitName → HeadView → Grant
+head_grant grants link unit head =
+    record { bound = option_and_then (grants link) (owner_of head); stream = unit.stream; draw = unit.draw }
+
+-- while so many reads of the link wait
+abbrev pub head_effect : List Region → Grants → ℕ → ℕ → UnitName → Bool → Result HeadView TlpFault → Effect
+head_effect regions grants link waiting unit t (Err f) = effect.Delivered
+head_effect regions grants link waiting unit t (Ok head) =
+    request_effect regions t (head_grant grants link unit head) waiting head
+
+abbrev pub head_write : List Region → Grants → ℕ → UnitName → Bool → List ℕ → Result HeadView TlpFault → Option Write
+head_write regions grants link unit t payload (Err f) = None
+head_write regions grants link unit t payload (Ok head) =
+    admitted_write regions t (head_grant grants link unit head) (memory_write head payload)
+
+-- of a TLP at a device's port whose interfaces stand so
+abbrev pub claimed_effect : List Standing → UnitName → Bool → Result HeadView TlpFault → Effect
+claimed_effect xs unit t (Err f) = effect.Delivered
+claimed_effect xs unit t (Ok head) = mmio_effect xs t unit.stream unit.draw (write_span head)
+
+-- of a packet with this mark, header and payload
+abbrev pub marked_effect : List Region → Grants → List Standing → ℕ → PortName → UnitName → PacketMark → List ℕ
+    → Effect
+marked_effect regions grants xs waiting port unit mark header =
+    if mark.sync then effect.Sync
+    else if sent_direction port.side == 0
+    then head_effect regions grants port.link waiting unit mark.t (read_head_of header)
+    else claimed_effect xs unit mark.t (read_head_of header)
+
+abbrev pub marked_write : List Region → Grants → PortName → UnitName → PacketMark → List ℕ → List ℕ → Option Write
+marked_write regions grants port unit mark header payload =
+    if not mark.sync && (sent_direction port.side == 0)
+    then head_write regions grants port.link unit mark.t payload (read_head_of header)
+    else None
+
+-- what it makes happen to the memory of a device's interfaces that stand so
+abbrev pub marked_stored : List Standing → PortName → UnitName → PacketMark → List ℕ → List ℕ → Option Happened
+marked_stored xs port unit mark header payload =
+    if not mark.sync && (sent_direction port.side == 1)
+    then stored_as xs unit mark.t payload (read_head_of header)
+    else None
+
+abbrev pub packet_effect : List Region → Grants → List Standing → ℕ → PortName → UnitName → Packet → Effect
+packet_effect regions grants xs waiting port unit p =
+    marked_effect regions grants xs waiting port unit (mark_of p) p.head
+
+-- of packets in order, while so many reads wait ahead of the first
+abbrev pub effects_from : List Region → Grants → List Standing → ℕ → PortName → UnitName → List Packet → List Effect
+effects_from regions grants xs waiting port unit [] = []
+effects_from regions grants xs waiting port unit (p ∷ ps) =
+    packet_effect regions grants xs waiting port unit p
+    ∷ effects_from regions grants xs (waiting_then (packet_effect regions grants xs waiting port unit p) waiting) port
+    unit ps
+
+abbrev pub packet_write : List Region → Grants → PortName → UnitName → Packet → Option Write
+packet_write regions grants port unit p = marked_write regions grants port unit (mark_of p) p.head p.body
+
+abbrev pub packet_stored : List Standing → PortName → UnitName → Packet → Option Happened
+packet_stored xs port unit p = marked_stored xs port unit (mark_of p) p.head p.body
+
+-- of a TLP of this header, by its effect: the read that waits
+abbrev pub queued_by : ℕ → Effect → Result HeadView TlpFault → List WaitingRead
+queued_by draw effect.Queued r = read_in draw r
+queued_by draw e r = []
+
+-- ---- one packet, and those of a unit
+
+-- A packet with this mark, header and payload got this effect at a port. `ws` are the reads of the link that waited,
+-- `m` stood in trusted memory and `g` in the memory of the device's interfaces, which stand as `xs`; then `ws'`, `m'`
+-- and `g'` do.
+pub record PacketCame (regions : List Region) (grants : Grants) (xs : List Standing) (port : PortName) (unit : UnitName)
+    (mark : PacketMark) (header payload : List ℕ) (ws : List WaitingRead) (m : MemoryContents) (g : GuardedMemory)
+    (e : Effect) (ws' : List WaitingRead) (m' : MemoryContents) (g' : GuardedMemory) : Type 0 where
+  pub effect_is : e ≡ marked_effect regions grants xs (length ws) port unit mark header
+  pub reads_are : ws' ≡ ws ++ queued_by unit.draw e (read_head_of header)
+  pub written : Leads m (marked_write regions grants port unit mark header payload ∷ []) m'
+  pub stored : MmioLeads g (marked_stored xs port unit mark header payload ∷ []) g'
+
+-- the packets of a unit got these effects, likewise
+pub record UnitCame (regions : List Region) (grants : Grants) (xs : List Standing) (port : PortName) (unit : UnitName)
+    (ps : List Packet) (ws : List WaitingRead) (m : MemoryContents) (g : GuardedMemory) (es : List Effect)
+    (ws' : List WaitingRead) (m' : MemoryContents) (g' : GuardedMemory) : Type 0 where
+  pub effects_are : es ≡ effects_from regions grants xs (length ws) port unit ps
+  pub reads_are : ws' ≡ ws ++ reads_by unit.draw es ps
+  pub written : Leads m (map (packet_write regions grants port unit) ps) m'
+  pub stored : MmioLeads g (map (packet_stored xs port unit) ps) g'
+
+-- ---- verdicts
+
+-- of the unit that was accepted, if one was
+abbrev pub of_unit : {A : Type 0} → Arrival → (UnitName → List A) → List A
+of_unit (Accepted unit count) f = f unit
+of_unit answer f = []
+
+abbrev pub unit_writes : Arrival → (UnitName → List (Option Write)) → List (Option Write)
+unit_writes answer writes = of_unit answer writes
+
+-- of an arrival at an end that is at this port; these effects come of an accepted unit
+abbrev pub arrival_verdict : PortName → PortName → Arrival → (UnitName → List Effect) → Verdict
+arrival_verdict end port (Malformed fault) effects = v.Malformed port (packet_word fault) (packet_place fault)
+arrival_verdict end port Plain effects = v.Plain port
+arrival_verdict end port (Unknown stream) effects = v.Unknown port stream
+arrival_verdict end port (Insecure stream) effects = v.Insecure end stream
+arrival_verdict end port (NotKeyed stream sub) effects = v.NotKeyed end stream sub
+arrival_verdict end port (Fail stream sub cause) effects = v.Fail end stream sub cause
+arrival_verdict end port (Held unit) effects = v.Held end unit
+arrival_verdict end port (Accepted unit count) effects = v.Accepted end unit (effects unit)

@@ -1,0 +1,347 @@
+//! The verdicts of sends and of arrivals at ports.
+
+ghost use Rattle.std.specs.Option.{option_and_then};
+ghost use Rattle.std.specs.Prelude.{◌≡◌, ◌∷◌, [], ◌+◌, ◌++◌, ◌<◌, ◌≤◌, ◌^◌, length, map, if◌then◌else◌};
+ghost use Rattle.tlp_layout.specs.Reading.{read_head_of};
+ghost use Rattle.link_history.specs.{owner_of};
+ghost use Rattle.tdi_host.specs.Managers.{granted};
+ghost use Rattle.trusted_memory.specs.{Leads};
+ghost use Rattle.guarded_memory.specs.{MmioLeads};
+ghost use Rattle.accesses.specs.{standings_by};
+ghost use Rattle.link_history.specs.Guarded.{stored_as};
+ghost use Rattle.link_history.specs.Sent.{reads_by};
+ghost use Rattle.sub_stream.specs.{numbered};
+ghost use Rattle.ide_stream.specs.{refusal_verdict as verdict_refused, numbered_from};
+ghost use Rattle.arrival_verdicts.specs.Verdicts.{grants_in, end_sent_verdict};
+ghost use Rattle.arrival_verdicts.specs.Verdicts.{head_effect, head_write, claimed_effect, queued_by, effects_from};
+ghost use Rattle.arrival_verdicts.specs.Verdicts.{packet_write, packet_stored, unit_writes, of_unit, arrival_verdict};
+ghost use Rattle.arrival_verdicts.specs.Verdicts.{PacketCame, UnitCame};
+
+use accesses::LinkAccesses;
+use association::owner;
+use fault_words::{packet_word, tlp_word};
+use ide_port::{Arrival, Sent};
+use ide_stream::SendRefusal;
+use ide_types::{PortName, Side};
+use link_verdicts::{Effect, Effects, SealedPacket, SealedPackets, UnitName, Verdict};
+use sub_stream::{Delivered, PacketMark};
+use tdi_device::DeviceInterfaces;
+use tdi_ends::InterfaceKeeper;
+use tlp_layout::{HeadView, TlpView, read_head};
+use trusted_memory::{Grant, Trusted};
+
+// ---- sends
+
+// A sealed packet with its number and the end that sealed it.
+fn described(end: PortName, number: u64, packet: &sub_stream::SealedPacket) -> SealedPacket
+    ensures { result ≡ numbered end number packet.now }
+{
+    SealedPacket {
+        number,
+        port: end,
+        stream: packet.stream,
+        sub: packet.sub,
+        draw: packet.draw,
+        unit: packet.unit,
+        m: packet.m,
+        k: packet.k,
+        t: packet.t,
+        posted: packet.posted,
+        sync: packet.sync,
+    }
+}
+
+// The packets of one send, numbered from `number` on.
+fn descriptions(end: PortName, number: u64, packets: &[sub_stream::SealedPacket]) -> SealedPackets
+    requires few { length packets.now ≤ 3 }
+    requires fits { number ≤ 2 ^ 63 }
+    ensures { result ≡ numbered_from end number packets.now }
+{
+    let mut list = SealedPackets::new();
+    let mut number = number;
+    for packet in packets {
+        list.push(described(end, number, packet));
+        number += 1;
+    }
+    list
+}
+
+fn refused(refusal: SendRefusal) -> Verdict
+    ensures { result ≡ verdict_refused refusal }
+{
+    match refusal {
+        SendRefusal::NoKey(sub) => Verdict::RefusedNoKey { sub },
+        SendRefusal::Worn(sub, units) => Verdict::RefusedWorn { sub, units },
+        SendRefusal::Unfinished => Verdict::RefusedUnfinished,
+        SendRefusal::Insecure => Verdict::RefusedInsecure,
+    }
+}
+
+/// The verdict of a send at an end of a line, which is at this port; the first packet that it sealed has this number
+/// over the run (this profile).
+pub fn send_verdict(end: PortName, port: PortName, number: u64, sent: &Sent) -> Verdict
+    requires { number ≤ 2 ^ 63 }
+    ensures { result ≡ end_sent_verdict end port number sent.now }
+{
+    match sent {
+        Sent::Malformed(fault) => Verdict::Malformed {
+            port,
+            fault: tlp_word(*fault),
+            place: fault.place(),
+        },
+        Sent::Plain => Verdict::Plain { port },
+        Sent::Refused(refusal) => refused(*refusal),
+        Sent::Sealed(sealed) => Verdict::Sealed {
+            packets: descriptions(end, number, sealed.as_slice()),
+        },
+    }
+}
+
+// ---- arrivals
+
+/// An end of a line, the port that it is at, and what effects there depend on beside memory and reads that wait: the
+/// manager of interfaces at a host's port, the device's interfaces at a device's (this profile).
+#[derive(Clone, Copy)]
+pub struct ReceivingPort<'a> {
+    pub end: PortName,
+    pub port: PortName,
+    pub keeper: &'a InterfaceKeeper,
+    pub interfaces: &'a DeviceInterfaces,
+}
+
+// What the manager says of the requester of a TLP with this header.
+fn bound(link: u8, keeper: &InterfaceKeeper, head: &HeadView) -> Option<(u8, u32)>
+    ensures { result ≡ option_and_then (λ requester. granted keeper.now link requester) (owner_of head.now) }
+{
+    match owner(head) {
+        None => None,
+        Some(requester) => keeper.manager().grant(link, requester),
+    }
+}
+
+// The effect of a TLP with this header and payload at a host's port; its packet has this T and came in this unit.
+fn requested(
+    at: &ReceivingPort,
+    unit: UnitName,
+    trusted: bool,
+    header: &[u8],
+    payload: &[u8],
+    memory: &mut Trusted,
+    access: &mut LinkAccesses,
+) -> Effect
+    requires { 1 ≤ memory.old.spare }
+    ensures effect { result ≡ head_effect memory.old.contents.regions (grants_in at.now.keeper.now) at.now.port.link
+        (length access.old.reads) unit trusted (read_head_of header.now) }
+    ensures reads { access.new.reads ≡ access.old.reads ++ queued_by unit.draw result (read_head_of header.now) }
+    ensures kept { access.new ≡ record access.old { reads = access.new.reads } }
+    ensures regions { memory.new.contents.regions ≡ memory.old.contents.regions }
+    ensures spare { memory.old.spare ≤ memory.new.spare + 1 }
+    ensures leads { Leads memory.old.contents (head_write memory.old.contents.regions (grants_in at.now.keeper.now)
+        at.now.port.link unit trusted payload.now (read_head_of header.now) ∷ []) memory.new.contents }
+{
+    match read_head(header) {
+        Err(_) => Effect::Delivered,
+        Ok(head) => {
+            let grant = Grant {
+                bound: bound(at.port.link, at.keeper, &head),
+                stream: unit.stream,
+                draw: unit.draw,
+            };
+            let tlp = TlpView { head, payload };
+            access.request(memory, &tlp, trusted, grant)
+        }
+    }
+}
+
+// The effect of a TLP with this header and payload at a device's port; its packet has this T and came in this unit.
+fn claimed(
+    at: &ReceivingPort,
+    unit: UnitName,
+    trusted: bool,
+    header: &[u8],
+    payload: &[u8],
+    access: &mut LinkAccesses,
+) -> Effect
+    requires { 2 ≤ access.old.guarded.spare }
+    ensures effect { let xs = standings_by access.old.floors at.now.interfaces.now in
+        result ≡ claimed_effect xs unit trusted (read_head_of header.now) }
+    ensures none_waits { queued_by unit.draw result (read_head_of header.now) ≡ [] }
+    ensures stored { let xs = standings_by access.old.floors at.now.interfaces.now in
+        MmioLeads access.old.guarded (stored_as xs unit trusted payload.now (read_head_of header.now) ∷ [])
+        access.new.guarded }
+    ensures kept { access.new ≡ record access.old { guarded = access.new.guarded } }
+    ensures sizes { access.new.guarded.sizes ≡ access.old.guarded.sizes }
+    ensures spare { access.old.guarded.spare ≤ access.new.guarded.spare + 2 }
+{
+    match read_head(header) {
+        Err(_) => Effect::Delivered,
+        Ok(head) => access.deliver(at.interfaces, &TlpView { head, payload }, trusted, unit),
+    }
+}
+
+// The effect of a packet with this mark, header and payload at a port that accepted it.
+#[tactic(auto, using(crate::proofs::Effects::sync, crate::proofs::Effects::at_host, crate::proofs::Effects::at_device))]
+fn effect(
+    at: &ReceivingPort,
+    unit: UnitName,
+    mark: PacketMark,
+    header: &[u8],
+    payload: &[u8],
+    memory: &mut Trusted,
+    access: &mut LinkAccesses,
+) -> Effect
+    requires spare { 1 ≤ memory.old.spare }
+    requires pages { 2 ≤ access.old.guarded.spare }
+    ensures came { PacketCame memory.old.contents.regions (grants_in at.now.keeper.now)
+        (standings_by access.old.floors at.now.interfaces.now) at.now.port unit mark header.now payload.now
+        access.old.reads memory.old.contents access.old.guarded
+        result access.new.reads memory.new.contents access.new.guarded }
+    ensures regions { memory.new.contents.regions ≡ memory.old.contents.regions }
+    ensures floors { access.new.floors ≡ access.old.floors }
+    ensures sizes { access.new.guarded.sizes ≡ access.old.guarded.sizes }
+    ensures carried { access.new.carried ≡ access.old.carried }
+    ensures spare { memory.old.spare ≤ memory.new.spare + 1 }
+    ensures pages { access.old.guarded.spare ≤ access.new.guarded.spare + 2 }
+{
+    if mark.sync {
+        return Effect::Sync;
+    }
+    match at.port.side {
+        Side::Device => claimed(at, unit, mark.t, header, payload, access),
+        Side::Host => requested(at, unit, mark.t, header, payload, memory, access),
+    }
+}
+
+// The effect of each packet of the unit that was accepted at a port.
+fn effects(
+    at: &ReceivingPort,
+    unit: UnitName,
+    packets: &Delivered,
+    memory: &mut Trusted,
+    access: &mut LinkAccesses,
+) -> Effects
+    requires spare { 8 ≤ memory.old.spare }
+    requires pages { 16 ≤ access.old.guarded.spare }
+    ensures came { UnitCame memory.old.contents.regions (grants_in at.now.keeper.now)
+        (standings_by access.old.floors at.now.interfaces.now) at.now.port unit packets.now
+        access.old.reads memory.old.contents access.old.guarded
+        result access.new.reads memory.new.contents access.new.guarded }
+    ensures regions { memory.new.contents.regions ≡ memory.old.contents.regions }
+    ensures floors { access.new.floors ≡ access.old.floors }
+    ensures sizes { access.new.guarded.sizes ≡ access.old.guarded.sizes }
+    ensures carried { access.new.carried ≡ access.old.carried }
+{
+    let mut list = Effects::new();
+    for i in 0..packets.count() {
+        let mark = packets.mark(i);
+        let (header, payload) = packets.packet(i);
+        list.push(effect(at, unit, mark, header, payload, memory, access));
+    }
+    list
+}
+
+// The effects of the unit that an arrival ended, if it ended one; `packets` are its packets.
+fn unit_effects(
+    at: &ReceivingPort,
+    arrival: Arrival,
+    packets: &Delivered,
+    memory: &mut Trusted,
+    access: &mut LinkAccesses,
+) -> Effects
+    requires spare { 8 ≤ memory.old.spare }
+    requires pages { 16 ≤ access.old.guarded.spare }
+    ensures effects { let xs = standings_by access.old.floors at.now.interfaces.now in
+        result ≡ of_unit arrival (λ unit. effects_from memory.old.contents.regions (grants_in at.now.keeper.now) xs
+        (length access.old.reads) at.now.port unit packets.now) }
+    ensures reads { let xs = standings_by access.old.floors at.now.interfaces.now in
+        access.new.reads ≡ access.old.reads ++ of_unit arrival (λ unit. reads_by unit.draw
+        (effects_from memory.old.contents.regions (grants_in at.now.keeper.now) xs (length access.old.reads)
+        at.now.port unit packets.now) packets.now) }
+    ensures leads { let regions = memory.old.contents.regions in
+        Leads memory.old.contents (unit_writes arrival (λ unit. map (packet_write regions (grants_in at.now.keeper.now)
+        at.now.port unit) packets.now)) memory.new.contents }
+    ensures stored { let xs = standings_by access.old.floors at.now.interfaces.now in
+        MmioLeads access.old.guarded (of_unit arrival (λ unit. map (packet_stored xs at.now.port unit) packets.now))
+        access.new.guarded }
+    ensures regions { memory.new.contents.regions ≡ memory.old.contents.regions }
+    ensures floors { access.new.floors ≡ access.old.floors }
+    ensures sizes { access.new.guarded.sizes ≡ access.old.guarded.sizes }
+    ensures carried { access.new.carried ≡ access.old.carried }
+{
+    match arrival {
+        Arrival::Accepted(unit, _) => effects(at, unit, packets, memory, access),
+        _ => Effects::new(),
+    }
+}
+
+/// The verdict of an arrival at an end of a line, which is at this port; `effects` are those of the unit, if one was
+/// accepted (this profile).
+pub(crate) fn verdict_with(
+    end: PortName,
+    port: PortName,
+    arrival: Arrival,
+    effects: Effects,
+) -> Verdict
+    ensures { result ≡ arrival_verdict end port arrival (λ unit. effects) }
+{
+    match arrival {
+        Arrival::Malformed(fault) => Verdict::Malformed {
+            port,
+            fault: packet_word(fault),
+            place: fault.place(),
+        },
+        Arrival::Plain => Verdict::Plain { port },
+        Arrival::Unknown(stream) => Verdict::Unknown { port, stream },
+        Arrival::Insecure(stream) => Verdict::Insecure { port: end, stream },
+        Arrival::NotKeyed(stream, sub) => Verdict::NotKeyed {
+            port: end,
+            stream,
+            sub,
+        },
+        Arrival::Fail(stream, sub, cause) => Verdict::Fail {
+            port: end,
+            stream,
+            sub,
+            cause,
+        },
+        Arrival::Held(unit) => Verdict::Held { port: end, unit },
+        Arrival::Accepted(unit, _) => Verdict::Accepted {
+            port: end,
+            unit,
+            effects,
+        },
+    }
+}
+
+/// The verdict of an arrival at an end that is at a host's or a device's port; `packets` are those of the unit, if one
+/// was accepted (this profile).
+pub fn taken_verdict(
+    at: &ReceivingPort,
+    arrival: Arrival,
+    packets: &Delivered,
+    memory: &mut Trusted,
+    access: &mut LinkAccesses,
+) -> Verdict
+    requires spare { 8 ≤ memory.old.spare }
+    requires pages { 16 ≤ access.old.guarded.spare }
+    ensures verdict { let xs = standings_by access.old.floors at.now.interfaces.now in
+        result ≡ arrival_verdict at.now.end at.now.port arrival (λ unit. effects_from memory.old.contents.regions
+        (grants_in at.now.keeper.now) xs (length access.old.reads) at.now.port unit packets.now) }
+    ensures reads { let xs = standings_by access.old.floors at.now.interfaces.now in
+        access.new.reads ≡ access.old.reads ++ of_unit arrival (λ unit. reads_by unit.draw
+        (effects_from memory.old.contents.regions (grants_in at.now.keeper.now) xs (length access.old.reads)
+        at.now.port unit packets.now) packets.now) }
+    ensures leads { let regions = memory.old.contents.regions in
+        Leads memory.old.contents (unit_writes arrival (λ unit. map (packet_write regions (grants_in at.now.keeper.now)
+        at.now.port unit) packets.now)) memory.new.contents }
+    ensures stored { let xs = standings_by access.old.floors at.now.interfaces.now in
+        MmioLeads access.old.guarded (of_unit arrival (λ unit. map (packet_stored xs at.now.port unit) packets.now))
+        access.new.guarded }
+    ensures regions { memory.new.contents.regions ≡ memory.old.contents.regions }
+    ensures floors { access.new.floors ≡ access.old.floors }
+    ensures sizes { access.new.guarded.sizes ≡ access.old.guarded.sizes }
+    ensures carried { access.new.carried ≡ access.old.carried }
+{
+    let effects = unit_effects(at, arrival, packets, memory, access);
+    verdict_with(at.end, at.port, arrival, effects)
+}

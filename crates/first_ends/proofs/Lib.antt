@@ -1,0 +1,4 @@
+pub mod Rows
+pub mod Streams
+pub mod Ends
+pub mod Sites

@@ -1,0 +1,21 @@
+pub mod Interfaces
+pub mod Shown
+pub use Rattle.interface_joins.specs.Verdicts.{NoBadInterfaceReply, asked_as, op_event, report_of, view_shown}
+pub use Rattle.all_ends.specs.{PairEnds, arrival_of, secure_with, unit_in, unit_tlps, waiting_reads_after, cut_packets}
+pub use Rattle.all_ends.specs.{new_ends, port_in, reset_ends, with_port, InterfacesView, NamesPeer, keyed_if, live_for}
+pub use Rattle.all_ends.specs.{operated_on, status_for, stopped_if, told, IsAtBothEnds, IsOperated, IsWalked}
+pub use Rattle.all_ends.specs.{KeeperView, Operates, ends_found, arrival_verdict, end_sent_verdict, grants_in}
+pub use Rattle.all_ends.specs.{packet_effect, packet_write, unit_writes, writes_by, LinkEnds, HostKeeper}
+pub use Rattle.all_ends.specs.AllEnds.{ArrivesAt, AsksAt, CallsAt, IsThere, OperatesAt, OperatesIn, OperatesOnLink}
+pub use Rattle.all_ends.specs.AllEnds.{OperatesOnPair, ResetsAt, SendsAt, both_of, drawn_at, drawn_in, statuses_of}
+pub use Rattle.all_ends.specs.AllEnds.{told_at, told_in}
+pub use Rattle.all_ends.specs.Ends.{EndsView, all_cleared, bound_on, bound_trust, changed_at, cleared_ends, cleared_on}
+pub use Rattle.all_ends.specs.Ends.{cleared_place, far_hop_trust, line_place, link_trust, live_at_port, live_of}
+pub use Rattle.all_ends.specs.Ends.{live_on, new_all_ends, pair_port, port_at_place, port_on, reset_all, settled_below}
+pub use Rattle.all_ends.specs.Ends.{settled_ends, settled_link, settled_peer, trusting_on, unlocked_ends, unlocked_link}
+pub use Rattle.all_ends.specs.Ends.{with_pair_port, with_port_at, with_port_on}
+pub use Rattle.all_ends.specs.Places.{code_behind, located, stream_named}
+pub use Rattle.all_ends.specs.States.{AreLinks, IsBounded, IsLink, in_sixteen, name_of, names_from, names_of, ops_in}
+pub use Rattle.all_ends.specs.States.{ops_of, pair_ports, ports_in, rows_of, state_of, views_after}
+pub use Rattle.all_ends.specs.declared.places.LinePlace.{LinePlace}
+pub use Rattle.all_ends.specs.declared.places.LinePlace.TheVariants.{Link, Near, Pair}

@@ -1,0 +1,99 @@
+//! The verdicts of operations on interfaces.
+
+ghost use Rattle.std.specs.Prelude.{◌≡◌, ◌<◌};
+ghost use Rattle.ide_types.specs.Lines.{peer_line};
+ghost use Rattle.interface_answers.specs.Shown.{ShowsPeer, NamesPeerIn};
+ghost use Rattle.interface_joins.specs.Verdicts.{view_shown, shown_as, refused_as, asked_as};
+
+use crate::stream_verdicts::lost_verdict;
+use ide_types::Bytes;
+use interface_words::{InterfaceVerdict, View};
+use link_events::Loss;
+use link_verdicts::Verdict;
+use tdi_host::{Outcome, Refusal, Shown};
+
+/// The manager's view.
+pub fn view_shown(view: tdi_host::View) -> View
+    ensures { result ≡ view_shown view }
+{
+    match view {
+        tdi_host::View::Unlocked => View::Unlocked,
+        tdi_host::View::Locked => View::Locked,
+        tdi_host::View::Running => View::Running,
+        tdi_host::View::Doubt => View::Doubt,
+        tdi_host::View::Broken => View::Broken,
+    }
+}
+
+fn of_interface(verdict: InterfaceVerdict) -> Verdict
+    ensures { result ≡ Verdict.Interface verdict }
+{
+    Verdict::Interface { verdict }
+}
+
+// The line of a stream between devices.
+fn peer_line(number: u8) -> u8
+    requires { number < 8 }
+    ensures { result ≡ peer_line number }
+{
+    24 + number
+}
+
+// What an operation on an interface shows at its end; a report that was read is this one.
+fn shown(interface: u8, shown: Shown, report: Bytes) -> Verdict
+    requires { ShowsPeer shown }
+    ensures { result ≡ shown_as interface report shown }
+{
+    of_interface(match shown {
+        Shown::Nonce(nonce) => InterfaceVerdict::Locked { interface, nonce },
+        Shown::Report => InterfaceVerdict::Reported { interface, report },
+        Shown::Draw(draw) => InterfaceVerdict::Started { interface, draw },
+        Shown::Needs(needs) => InterfaceVerdict::Halted { interface, needs },
+        Shown::State(state) => InterfaceVerdict::State { interface, state },
+        Shown::Bound(number) => InterfaceVerdict::Bound {
+            interface,
+            line: peer_line(number),
+        },
+        Shown::Unbound(number) => InterfaceVerdict::Unbound {
+            interface,
+            line: peer_line(number),
+        },
+    })
+}
+
+fn refused(loss: Option<Loss>, refusal: Refusal) -> Option<Verdict>
+    ensures { result ≡ refused_as loss refusal }
+{
+    match refusal {
+        Refusal::WrongState(view) => Some(of_interface(InterfaceVerdict::RefusedWrongState {
+            view: view_shown(view),
+        })),
+        Refusal::NotReported => Some(of_interface(InterfaceVerdict::RefusedNotReported)),
+        Refusal::NotSecure(status) => Some(Verdict::RefusedNotSecure { status }),
+        Refusal::RefreshFirst(draw, needed) => Some(of_interface(
+            InterfaceVerdict::RefusedRefreshFirst { draw, needed },
+        )),
+        Refusal::SessionLost(exchange) => lost_verdict(loss, exchange),
+        Refusal::DeviceRefused(exchange, code) => Some(Verdict::RefusedDevice { exchange, code }),
+        Refusal::BadReply(_) => None,
+    }
+}
+
+/// The verdict of an operation on the interface of this number; a report that was read is this one, and a stream
+/// between devices has a number below 8. None is made up for an operation that is neither at its end nor refused, for a
+/// bad reply, and for an exchange that is lost without the loss of a message.
+pub fn asked_verdict(
+    interface: u8,
+    loss: Option<Loss>,
+    outcome: Outcome,
+    report: Bytes,
+) -> Option<Verdict>
+    requires { NamesPeerIn outcome }
+    ensures { result ≡ asked_as interface loss report outcome }
+{
+    match outcome {
+        Outcome::Next => None,
+        Outcome::Done(value) => Some(shown(interface, value, report)),
+        Outcome::Refused(refusal) => refused(loss, refusal),
+    }
+}

@@ -1,0 +1,157 @@
+//! Which ends arriving bytes meet.
+
+ghost use Rattle.std.specs.Prelude.{◌≡◌, ◌≤◌, length, slice_get};
+ghost use Rattle.ide_plan.specs.Fits.{FitsPlan};
+ghost use Rattle.ide_plan.specs.Plans.{has_stream_id, hop_has_id as hop_has_its};
+ghost use Rattle.ide_plan.specs.Ends.{end_on as end_on_port, peer_end as end_of_peer};
+ghost use Rattle.ide_plan.specs.Ends.{link_hop, own_has_id as own_has_its, peer_end_at as end_of_peer_at};
+ghost use Rattle.link_history.specs.Ports.{id_in as id_of, reached as reached_by, goes_through as is_through};
+ghost use Rattle.line_routes.specs.Rows.{hop_line_has as hop_line_has_id, lacks_hop_stream};
+
+use crate::ports::{at_switch, hop, port_of};
+use crate::sends::hop_end;
+use ide_plan::{PeerPlan, Plan, StreamPlan, port_at};
+use ide_prefix::PACKET_FIRST;
+use ide_types::{PortName, Side};
+
+// The stream ID of a packet's bytes.
+#[tactic(auto, unfolding(link_history::specs::Ports::id_in))]
+fn id_in(bytes: &[u8]) -> Option<u8>
+    ensures { result ≡ id_of bytes.now }
+{
+    match bytes {
+        [first, _, id, ..] => {
+            if *first == PACKET_FIRST {
+                Some(*id)
+            } else {
+                None
+            }
+        }
+        _ => None,
+    }
+}
+
+fn has_stream(streams: &[StreamPlan], id: u8) -> bool
+    ensures { result ≡ has_stream_id streams.now id }
+{
+    streams.iter().any(|stream| stream.id == id)
+}
+
+// Whether the hop of a link has the stream.
+fn hop_has(plan: &Plan, link: u8, id: u8) -> bool
+    ensures { result ≡ hop_has_its (link_hop (slice_get plan.now.links link)) id }
+{
+    match hop(plan, link) {
+        None => false,
+        Some(hop) => hop.id == id,
+    }
+}
+
+// The end at the link's device of the first of these streams that has the ID and ends there.
+#[tactic(auto, unfolding(ide_plan::specs::Ends::peer_end))]
+fn peer_end(peers: &[PeerPlan], link: u8, id: u8) -> Option<PortName>
+    requires { length peers.now ≤ 8 }
+    ensures { result ≡ end_of_peer peers.now 0 link id }
+{
+    let mut line = 24;
+    for peer in peers {
+        if peer.id == id && peer.near == link {
+            let side = Side::Host;
+            return Some(PortName { side, link: line });
+        }
+        if peer.id == id && peer.far == link {
+            let side = Side::Device;
+            return Some(PortName { side, link: line });
+        }
+        line += 1;
+    }
+    None
+}
+
+fn peer_end_at(peers: &[PeerPlan], port: PortName, id: u8) -> PortName
+    requires { length peers.now ≤ 8 }
+    ensures { result ≡ end_of_peer_at peers.now port id }
+{
+    match port.side {
+        Side::Host => port,
+        Side::Device => match peer_end(peers, port.link, id) {
+            None => port,
+            Some(end) => end,
+        },
+    }
+}
+
+fn own_has(plan: &Plan, link: u8, id: u8) -> bool
+    ensures { result ≡ own_has_its (slice_get plan.now.links link) id }
+{
+    match plan.links.as_slice().get(link as usize) {
+        None => false,
+        Some(link) => has_stream(link.streams.as_slice(), id),
+    }
+}
+
+// The end, at this port, of the line that has the stream; if none has it the port itself.
+fn end_on(plan: &Plan, port: PortName, id: u8) -> PortName
+    requires { length plan.now.peers ≤ 8 }
+    ensures { result ≡ end_on_port plan.now port id }
+{
+    if port.link >= 8 {
+        port
+    } else if own_has(plan, port.link, id) {
+        port
+    } else if hop_has(plan, port.link, id) {
+        hop_end(port.side, port.link)
+    } else {
+        peer_end_at(plan.peers.as_slice(), port, id)
+    }
+}
+
+/// The end that bytes meet which arrive at the port of this one: that of the line that has their stream, first of the
+/// link, then of its hop, then of a stream between devices; the port if there is none. At a switch nothing is looked up
+/// (PCI Express Base 6.0 section 6.33, in this profile).
+#[tactic(auto, unfolding(link_history::specs::Ports::reached))]
+pub fn reached(plan: &Plan, end: PortName, bytes: &[u8]) -> PortName
+    requires { FitsPlan plan.now }
+    ensures { result ≡ reached_by plan.now end bytes.now }
+{
+    match id_in(bytes) {
+        None => port_of(plan, end),
+        Some(id) => end_on(plan, port_at(plan.peers.as_slice(), end), id),
+    }
+}
+
+// Whether the line of a hop has the stream.
+fn hop_line_has(plan: &Plan, line: u8, id: u8) -> bool
+    requires { 8 ≤ line }
+    ensures { result ≡ hop_line_has_id plan.now line id }
+{
+    if line < 16 {
+        hop_has(plan, line - 8, id)
+    } else {
+        hop_has(plan, line - 16, id)
+    }
+}
+
+fn lacks_stream(plan: &Plan, end: PortName, bytes: &[u8]) -> bool
+    requires { 8 ≤ end.link }
+    ensures { result ≡ lacks_hop_stream plan.now end (id_of bytes.now) }
+{
+    match id_in(bytes) {
+        None => false,
+        Some(id) => !hop_line_has(plan, end.link, id),
+    }
+}
+
+/// Whether bytes that arrive at this end go through a switch unread: they are of another stream than the hop's (PCI
+/// Express Base 6.0 section 6.33, in this profile).
+#[tactic(auto, using(crate::proofs::Rows::lacks_is, crate::proofs::Rows::switch_line), unfolding(link_history::specs::Ports::goes_through))]
+pub fn goes_through(plan: &Plan, end: PortName, bytes: &[u8]) -> bool
+    requires { FitsPlan plan.now }
+    ensures { result ≡ is_through plan.now end bytes.now }
+{
+    if at_switch(plan, end) {
+        lacks_stream(plan, end, bytes)
+    } else {
+        false
+    }
+}

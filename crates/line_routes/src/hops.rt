@@ -1,0 +1,52 @@
+//! Hops of links.
+
+ghost use Rattle.std.specs.Prelude.{◌≡◌, ◌<◌};
+ghost use Rattle.key_laws.specs.Places.{is_cut};
+ghost use Rattle.link_history.specs.Hops.{
+  has_hop as has_hop_in,
+  leaving_end as leaving_end_of,
+  clears_hop as clears_hop_of,
+};
+
+use crate::ports::hop;
+use ide_plan::Plan;
+use ide_types::{Direction, PortName, Side};
+
+/// Whether a link has a hop (this profile).
+pub fn has_hop(plan: &Plan, link: u64) -> bool
+    ensures { result ≡ has_hop_in plan.now link }
+{
+    link < 8 && hop(plan, link as u8).is_some()
+}
+
+/// The end at the switch at which TLPs of a direction are sealed again (PCI Express Base 6.0 section 6.33, in this
+/// profile).
+pub fn leaving_end(link: u8, direction: Direction) -> PortName
+    requires { link < 8 }
+    ensures { result ≡ leaving_end_of link direction }
+{
+    match direction {
+        Direction::Downstream => PortName {
+            side: Side::Host,
+            link: 16 + link,
+        },
+        Direction::Upstream => PortName {
+            side: Side::Device,
+            link: 8 + link,
+        },
+    }
+}
+
+fn is_cut(ends: &[PortName], line: u8) -> bool
+    ensures { result ≡ is_cut ends.now line }
+{
+    ends.iter().any(|end| end.link == line)
+}
+
+/// Whether these ends that a reset clears are of both segments of the link's hop (this profile).
+pub fn clears_hop(ends: &[PortName], link: u8) -> bool
+    requires { link < 8 }
+    ensures { result ≡ clears_hop_of ends.now link }
+{
+    is_cut(ends, 8 + link) && is_cut(ends, 16 + link)
+}

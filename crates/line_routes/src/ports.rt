@@ -1,0 +1,96 @@
+//! Ends of lines, and the ports at which they are.
+
+ghost use Rattle.std.specs.Prelude.{◌≡◌, ◌<◌, ◌≤◌, length, option_map, slice_get};
+ghost use Rattle.ide_plan.specs.Fits.{FitsPlan};
+ghost use Rattle.ide_plan.specs.Ends.{link_hop};
+ghost use Rattle.link_history.specs.Plan.{has_link, has_port as has_end, partner as partner_of};
+ghost use Rattle.link_history.specs.Ports.{port_of as port_of_end, at_switch as is_at_switch, may_send as sends_at};
+ghost use Rattle.line_routes.specs.Rows.{has_line_by};
+
+use ide_plan::{HopPlan, Plan, port_at};
+use ide_types::{PortName, Side};
+
+/// The other end of its line.
+pub fn partner(end: PortName) -> PortName
+    ensures { result ≡ partner_of end }
+{
+    let PortName { side, link } = end;
+    PortName {
+        side: match side {
+            Side::Host => Side::Device,
+            Side::Device => Side::Host,
+        },
+        link,
+    }
+}
+
+fn has_link(plan: &Plan, line: u8) -> bool
+    ensures { result ≡ has_link plan.now line }
+{
+    (line as usize) < plan.links.as_slice().len()
+}
+
+// The hop of a link, if there is one.
+pub(crate) fn hop(plan: &Plan, link: u8) -> Option<&HopPlan>
+    ensures { option_map (λ o. o.now) result ≡ link_hop (slice_get plan.now.links link) }
+{
+    match plan.links.as_slice().get(link as usize) {
+        None => None,
+        Some(link) => link.hop.as_ref(),
+    }
+}
+
+/// The port of an end: of a host or a device it is the end of their link, of a switch the end itself (this profile).
+#[tactic(auto, unfolding(link_history::specs::Ports::port_of))]
+pub fn port_of(plan: &Plan, end: PortName) -> PortName
+    ensures { result ≡ port_of_end plan.now end }
+{
+    if has_link(plan, end.link) {
+        end
+    } else {
+        port_at(plan.peers.as_slice(), end)
+    }
+}
+
+/// Whether an end is at a switch: the far end of a hop's segment towards the host, the near end of the one towards the
+/// device (this profile).
+pub fn at_switch(plan: &Plan, end: PortName) -> bool
+    ensures { result ≡ is_at_switch plan.now end }
+{
+    if has_link(plan, end.link) {
+        return false;
+    }
+    match end.side {
+        Side::Host => 16 <= end.link && end.link < 24,
+        Side::Device => 8 <= end.link && end.link < 16,
+    }
+}
+
+// Whether a line that is no link has a stream.
+fn has_line(plan: &Plan, line: u8) -> bool
+    ensures { result ≡ has_line_by plan.now line }
+{
+    match line {
+        0..=7 => has_link(plan, line),
+        8..=15 => hop(plan, line - 8).is_some(),
+        16..=23 => hop(plan, line - 16).is_some(),
+        _ => ((line - 24) as usize) < plan.peers.as_slice().len(),
+    }
+}
+
+/// Whether the topology has the line of this end (this profile).
+#[tactic(auto, using(crate::proofs::Rows::line_is))]
+pub fn has_port(plan: &Plan, end: PortName) -> bool
+    requires { FitsPlan plan.now }
+    ensures { result ≡ has_end plan.now end }
+{
+    has_line(plan, end.link)
+}
+
+/// Whether TLPs are sent at the end: it exists, and is not at a switch, which sends none of its own (this profile).
+pub fn may_send(plan: &Plan, end: PortName) -> bool
+    requires { FitsPlan plan.now }
+    ensures { result ≡ sends_at plan.now end }
+{
+    has_port(plan, end) && !at_switch(plan, end)
+}

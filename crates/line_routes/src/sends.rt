@@ -1,0 +1,97 @@
+//! At which end TLPs are sealed.
+
+ghost use Rattle.std.specs.Prelude.{◌≡◌, ◌&&◌, ◌<◌};
+ghost use Rattle.tlp_layout.specs.Reading.{read_of};
+ghost use Rattle.association.specs.Choice.{chosen};
+ghost use Rattle.association.specs.Outgoing.{outgoing_of, outgoing_on};
+ghost use Rattle.ide_plan.specs.Fits.{FitsPlan};
+ghost use Rattle.ide_plan.specs.Plans.{is_among};
+ghost use Rattle.ide_plan.specs.Ends.{hop_end as end_of_hop};
+ghost use Rattle.link_history.specs.Ports.{takes_none, hop_lists, sealing_end as sealing_end_of};
+ghost use Rattle.line_routes.specs.Rows.{goes_to_hop_by, is_no_choice};
+
+use association::{Choice, choose};
+use ide_plan::{HopPlan, LinkPlan, Plan};
+use ide_types::{PortName, Side};
+use tlp_layout::read;
+
+fn is_plain(choice: Choice) -> bool
+    ensures { result ≡ is_no_choice choice }
+{
+    match choice {
+        Choice::Plain => true,
+        _ => false,
+    }
+}
+
+fn is_among(class: u8, classes: &[u8]) -> bool
+    ensures { result ≡ is_among class classes.now }
+{
+    classes.iter().any(|other| class == *other)
+}
+
+fn lists(hop: &HopPlan, class: u8) -> bool
+    ensures { result ≡ is_among class hop.now.classes }
+{
+    is_among(class, hop.classes.as_slice())
+}
+
+// No stream of the link takes the TLP with these bytes at this side, and its hop does.
+#[tactic(auto, unfolding(association::specs::Outgoing::outgoing_of))]
+fn is_left(link: &LinkPlan, side: Side, bytes: &[u8]) -> bool
+    ensures { result ≡ (takes_none (outgoing_of link.now.streams side bytes.now)
+        && hop_lists link.now.hop (read_of bytes.now)) }
+{
+    match read(bytes) {
+        Err(_) => false,
+        Ok(tlp) => {
+            let head = tlp.head();
+            if is_plain(choose(&link.streams, side, &head)) {
+                match &link.hop {
+                    None => false,
+                    Some(hop) => lists(hop, head.lead.tc),
+                }
+            } else {
+                false
+            }
+        }
+    }
+}
+
+fn goes_to_hop(plan: &Plan, end: PortName, bytes: &[u8]) -> bool
+    ensures { result ≡ goes_to_hop_by plan.now end bytes.now }
+{
+    match plan.links.as_slice().get(end.link as usize) {
+        None => false,
+        Some(link) => is_left(link, end.side, bytes),
+    }
+}
+
+// The end of a link's hop at the host or at the device.
+pub(crate) fn hop_end(side: Side, link: u8) -> PortName
+    requires { link < 8 }
+    ensures { result ≡ end_of_hop side link }
+{
+    PortName {
+        side,
+        link: match side {
+            Side::Host => 8 + link,
+            Side::Device => 16 + link,
+        },
+    }
+}
+
+/// The end at which a TLP with these bytes is sealed that is sent at this end: that of the hop, if no stream of the
+/// link takes it and the hop lists its traffic class; else this end (PCI Express Base 6.0 section 6.33, in this
+/// profile).
+#[tactic(auto, using(crate::proofs::Rows::to_hop_is, crate::proofs::Rows::to_hop_low), unfolding(link_history::specs::Ports::sealing_end))]
+pub fn sealing_end(plan: &Plan, end: PortName, bytes: &[u8]) -> PortName
+    requires { FitsPlan plan.now }
+    ensures { result ≡ sealing_end_of plan.now end bytes.now }
+{
+    if goes_to_hop(plan, end, bytes) {
+        hop_end(end.side, end.link)
+    } else {
+        end
+    }
+}

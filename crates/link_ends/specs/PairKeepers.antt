@@ -1,0 +1,104 @@
+-- The manager at the two ends of a line that is keyed by messages at both: what an exchange and an operation make of
+-- one
+-- stream, and that no other changes.
+use Rattle.std.specs.Prelude.{ℕ, ◌≡◌, ◌<◌, length, slice_set, Some, false}
+use Rattle.ide_types.specs.declared.port.Side.TheVariants.{Host, Device}
+use Rattle.link_events.specs.declared.event.Loss.{Loss}
+use Rattle.std.specs.Prelude.{Option}
+use Rattle.tsm_host.specs.declared.operation.Op.{Op}
+use Rattle.tsm_host.specs.declared.operation.Outcome.{Outcome}
+use Rattle.tsm_host.specs.declared.stage.Asked.{Asked}
+use Rattle.tsm_host.specs.Operations.{op_name}
+use Rattle.tsm_host.specs.Streams.{asked_in, has_host, outcome_of}
+use Rattle.tsm_host.specs.Managers.{ManagerView, Named, named, asking_after, pool_begun}
+use Rattle.tsm_host.specs.Walk.{IsAsked}
+use Rattle.ide_port.specs.{Found, found}
+use Rattle.link_walks.specs.Paired.{
+  PairEnds as PairStreams,
+  pair_exchanged,
+  pair_after,
+  PairWalked,
+  pair_walk,
+  pair_event,
+}
+use Rattle.link_walks.specs.Joined.{host_of}
+use Rattle.line_ends.specs.declared.pair.PairEnds.{PairEnds}
+use Rattle.link_ends.specs.Keepers.{HasStream, KeeperView}
+
+-- ---- one stream at both ends
+
+-- the stream of this ID is at this place of the manager, and at both ends of its line
+pub record IsAtBoth (m : ManagerView) (l : PairEnds) (place id : ℕ) (near far : Found) : Type 0 where
+  pub within : place < length m.streams
+  pub near_side : l.near.side ≡ Host
+  pub far_side : l.far.side ≡ Device
+  pub near_named : l.near.port.name.side ≡ Host
+  pub far_named : l.far.port.name.side ≡ Device
+  pub near_found : found l.near.port.plans l.near.port.states id ≡ Some near
+  pub far_found : found l.far.port.plans l.far.port.states id ≡ Some far
+
+-- the manager and the ends with other parts of one stream
+pub record DiffersInPair (m : ManagerView) (l : PairEnds) (place id : ℕ) (e : PairStreams) (m' : ManagerView)
+    (l' : PairEnds) : Type 0 where
+  pub id_is : e.keeper.id ≡ id
+  pub paired : has_host e.keeper ≡ false
+  pub streams : m'.streams ≡ slice_set m.streams place e.keeper
+  pub near : HasStream l.near.port id e.near l'.near.port
+  pub far : HasStream l.far.port id e.far l'.far.port
+  pub near_stays : l'.near.side ≡ l.near.side
+  pub far_stays : l'.far.side ≡ l.far.side
+
+-- ---- an exchange
+
+pub record IsPairExchanged (m0 : ManagerView) (l0 : PairEnds) (place id : ℕ) (loss : Option Loss) (a : Asked)
+    (e : PairStreams) (result : Outcome) (m : ManagerView) (l : PairEnds) : Type 0 where
+  pub outcome : result ≡ outcome_of false a (pair_exchanged loss 0 a e).judged
+  pub stands : DiffersInPair m0 l0 place id (pair_after a (pair_exchanged loss 0 a e) e) m l
+  pub asking : m.asking ≡ asking_after place result
+
+-- Whatever stream is asked.
+abbrev pub PairExchanges : Option Loss → ManagerView → PairEnds → Outcome → ManagerView → PairEnds → Type 0
+PairExchanges loss m l result m' l' =
+    (m0 : ManagerView) (l0 : PairEnds) (place id : ℕ) (near far : Found) (e : PairStreams) (a : Asked)
+    → IsAtBoth m0 l0 place id near far
+    → DiffersInPair m0 l0 place id e m l → m.asking ≡ Some place → asked_in e.keeper.op ≡ Some a
+    → IsAsked false (Some a) → IsPairExchanged m0 l0 place id loss a e result m' l'
+
+-- ---- one exchange after another
+
+pub record IsPairWalked (m0 : ManagerView) (l0 : PairEnds) (place id : ℕ) (walked : PairWalked) (result : Outcome)
+    (m : ManagerView) (l : PairEnds) : Type 0 where
+  pub outcome : result ≡ walked.outcome
+  pub stands : DiffersInPair m0 l0 place id walked.ends m l
+
+abbrev pub PairWalks : ℕ → Option Loss → ManagerView → PairEnds → Outcome → ManagerView → PairEnds → Type 0
+PairWalks more loss m l result m' l' =
+    (m0 : ManagerView) (l0 : PairEnds) (place id : ℕ) (near far : Found) (e : PairStreams)
+    → IsAtBoth m0 l0 place id near far
+    → DiffersInPair m0 l0 place id e m l → m.asking ≡ Some place → IsAsked false (asked_in e.keeper.op)
+    → IsPairWalked m0 l0 place id (pair_walk more loss 0 e) result m' l'
+
+-- ---- an operation
+
+abbrev pub pair_found : Named → Found → Found → PairStreams
+pair_found n near far = record { near = near.state; far = far.state; keeper = n.stream }
+
+pub record IsPairOperated (k : KeeperView) (l : PairEnds) (op : Op) (loss : Option Loss) (n : Named) (near far : Found)
+    (result : Outcome) (k' : KeeperView) (l' : PairEnds) : Type 0 where
+  pub walked : IsPairWalked k.manager l n.place (op_name op).stream
+      (pair_event (op_name op).operation (host_of near.state)
+      k.pool loss 0 (pair_found n near far)) result k'.manager l'
+  pub pool : k'.pool ≡ pool_begun (op_name op).operation (host_of near.state) k.pool n
+
+abbrev pub PairOperates : KeeperView → PairEnds → Op → Option Loss → Outcome → KeeperView → PairEnds → Type 0
+PairOperates k l op loss result k' l' =
+    (n : Named) (near far : Found) → named k.manager (op_name op).link (op_name op).stream ≡ Some n
+    → has_host n.stream ≡ false → IsAtBoth k.manager l n.place (op_name op).stream near far
+    → IsAsked false (asked_in n.stream.op) → IsPairOperated k l op loss n near far result k' l'
+
+-- ---- calls
+
+-- an operation on a stream is no call that sends or takes
+pub record HasPairCalls (l l' : PairEnds) : Type 0 where
+  pub near : l'.near.port.calls ≡ l.near.port.calls
+  pub far : l'.far.port.calls ≡ l.far.port.calls
