@@ -64,6 +64,7 @@ struct Narrow {
 impl Shelf for Narrow {
     ghost seen = { λ s. record {
       contents = None;
+      asked = None;
       given = s.given;
       latest = s.latest;
       longest = s.longest;

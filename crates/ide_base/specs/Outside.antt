@@ -1,6 +1,7 @@
 -- What a shelf gives and a sink takes.
 use Rattle.std.specs.Prelude.{ℕ, ◌+◌, ◌-◌, ◌^◌, ◌<◌, ◌≤◌, ◌≡◌, ◌⊎◌, min, List, ◌++◌, length, take, drop, Option, Some}
-use Rattle.std.specs.Prelude.{None, Result, Ok, Err, IfOk, option_map}
+use Rattle.std.specs.Prelude.{None, Result, Ok, Err, IfOk, option_map, slice_get}
+use Rattle.std.specs.List.{AllByRecursion}
 use Rattle.ide_base.specs.declared.shelf.ShelfFault.{ShelfFault}
 use Rattle.ide_base.specs.declared.sink.SinkFault.{SinkFault}
 use Rattle.ide_base.specs.declared.sink.SinkFault.TheVariants.{Failed, Memory}
@@ -11,10 +12,11 @@ Contents = List ℕ → Option (List ℕ)
 
 -- ---- what can be seen from outside
 
--- of a shelf: its contents, which it need not tell, how many bytes it gave, how many of them at its last read, how many
--- one read asked for at most, and how many reads failed
+-- of a shelf: its contents and the names that it was asked for, neither of which it need tell, how many bytes it gave,
+-- how many of them at its last read, how many one read asked for at most, and how many reads failed
 pub record ShelfSeen : Type 0 where
   pub contents : Option Contents
+  pub asked : Option (List (List ℕ))
   pub given : ℕ
   pub latest : ℕ
   pub longest : ℕ
@@ -73,6 +75,22 @@ Lacks (Some contents) name = contents name ≡ None
 abbrev pub ShelfCause : ℕ → ℕ → Option Contents → List ℕ → Result ℕ ShelfFault → Type 0
 ShelfCause before now told name (Ok n) = now ≡ before
 ShelfCause before now told name (Err e) = (before ≤ now) × (Rose before now ⊎ Lacks told name)
+
+-- ---- which names are asked for
+
+-- if they are told, no name came to them but such ones
+abbrev pub AsksOnly : (List ℕ → Type 0) → Option (List (List ℕ)) → Option (List (List ℕ)) → Type 0
+AsksOnly may None now = Unit {0}
+AsksOnly may (Some names) now = (more : List (List ℕ)) × (now ≡ Some (names ++ more)) × AllByRecursion may more
+
+-- if they are told, this one came last
+abbrev pub EndsWith : List ℕ → Option (List (List ℕ)) → Type 0
+EndsWith name None = Unit {0}
+EndsWith name (Some names) = slice_get names (length names - 1) ≡ Some name
+
+-- no name but this one
+abbrev pub AsksFor : List ℕ → Option (List (List ℕ)) → Option (List (List ℕ)) → Type 0
+AsksFor name before now = AsksOnly (λ other. other ≡ name) before now
 
 -- ---- what a sink takes
 

@@ -1,6 +1,8 @@
 //! Files of the system.
-ghost use Rattle.std.specs.Prelude.{◌≡◌, None};
+ghost use Rattle.std.specs.Prelude.{◌≡◌, [], true, Some, None, IfOk, map, string_bytes};
 ghost use Rattle.std.specs.Io.{ReadsAtMost};
+ghost use Rattle.ide_base.specs.Files.{Noted};
+ghost use Rattle.ide_base.specs.Outside.{AsksFor, EndsWith};
 
 use crate::{Shelf, ShelfFault};
 use std::alloc::Global;
@@ -9,21 +11,21 @@ use std::io;
 use std::io::{Read, Seek, SeekFrom};
 use std::rt::Files;
 
-// A file that was read, with its name, and the place where its next read goes on, unless a read or seek has failed.
+// A file that was read, and the place where its next read goes on, unless a read or seek has failed.
 #[derive(Drop)]
 pub(crate) struct OpenFile<F> {
-    pub(crate) name: String,
     pub(crate) file: F,
     pub(crate) place: Option<u64>,
 }
 
-/// Files of the system by path. It tells no contents, and counts each read that fails. The file that was read last
-/// stays open, and is sought only if a read does not go on from the place where the last one ended: so a pipe can be
-/// read from its beginning to its end.
+/// Files of the system by path. It tells no contents, but the names of the files that it opened, and counts each read
+/// that fails. The file that was read last stays open, and is sought only if a read does not go on from the place where
+/// the last one ended: so a pipe can be read from its beginning to its end.
 #[derive(Drop)]
 pub struct FileShelf<R: Files> {
     alloc: Global,
     files: R,
+    asked: Vec<String>,
     last: Option<OpenFile<R::File>>,
     given: u64,
     latest: usize,
@@ -34,6 +36,7 @@ pub struct FileShelf<R: Files> {
 impl<R: Files> FileShelf<R> {
     /// Over the files of the system; none is open yet.
     pub fn new(alloc: Global, files: R) -> FileShelf<R>
+        ensures asked { (⟦<FileShelf<R> as Shelf>⟧.seen result).asked ≡ Some [] }
         ensures given { (⟦<FileShelf<R> as Shelf>⟧.seen result).given ≡ 0 }
         ensures latest { (⟦<FileShelf<R> as Shelf>⟧.seen result).latest ≡ 0 }
         ensures longest { (⟦<FileShelf<R> as Shelf>⟧.seen result).longest ≡ 0 }
@@ -42,6 +45,7 @@ impl<R: Files> FileShelf<R> {
         FileShelf {
             alloc,
             files,
+            asked: Vec::new(alloc),
             last: None,
             given: 0,
             latest: 0,
@@ -69,27 +73,50 @@ pub(crate) fn read_at<F: Read + Seek>(
     Ok(n)
 }
 
-// Reads the file of this name, which then stays open.
+// Whether this name was asked for last.
+fn is_last(asked: &[String], name: &str) -> bool
+    ensures { result ≡ true → EndsWith name.now (Some (map string_bytes asked.now)) }
+{
+    match asked.last() {
+        Some(last) => last.as_str() == name,
+        None => false,
+    }
+}
+
+// Notes a name that is asked for, unless there is no memory.
+fn note(alloc: Global, asked: &mut Vec<String>, name: &str) -> io::Result<()>
+    ensures { Noted name.now (map string_bytes asked.old.items) (map string_bytes asked.new.items) result }
+{
+    let name = String::from_str(alloc, name)?;
+    asked.push(name)?;
+    Ok(())
+}
+
+// Reads the file of this name, which then stays open: it is the one that was asked for last. Its name is noted before it
+// is opened.
 fn read_named<R: Files>(
     alloc: Global,
     files: &R,
+    asked: &mut Vec<String>,
     last: &mut Option<OpenFile<R::File>>,
     name: &str,
     at: u64,
     buf: &mut [u8],
 ) -> io::Result<usize>
-    ensures { ReadsAtMost result buf.new }
+    ensures bound { ReadsAtMost result buf.new }
+    ensures names { AsksFor name.now (Some (map string_bytes asked.old.items))
+        (Some (map string_bytes asked.new.items)) }
+    ensures told { IfOk result (λ n. EndsWith name.now (Some (map string_bytes asked.new.items))) }
 {
-    if let Some(open) = last {
-        if open.name.as_str() == name {
+    if is_last(asked, name) {
+        if let Some(open) = last {
             return read_at(open, at, buf);
         }
     }
     *last = None;
-    let name = String::from_str(alloc, name)?;
-    let file = File::open(files, name.as_str())?;
+    note(alloc, asked, name)?;
+    let file = File::open(files, name)?;
     let mut open = OpenFile {
-        name,
         file,
         place: Some(0),
     };
@@ -101,6 +128,7 @@ fn read_named<R: Files>(
 impl<R: Files> Shelf for FileShelf<R> {
     ghost seen = { λ s. record {
       contents = None;
+      asked = Some (map string_bytes s.asked.items);
       given = s.given;
       latest = s.latest;
       longest = s.longest;
@@ -109,7 +137,15 @@ impl<R: Files> Shelf for FileShelf<R> {
 
     fn read(&mut self, name: &str, at: u64, buf: &mut [u8]) -> Result<usize, ShelfFault> {
         self.longest = self.longest.max(buf.len());
-        match read_named(self.alloc, &self.files, &mut self.last, name, at, buf) {
+        match read_named(
+            self.alloc,
+            &self.files,
+            &mut self.asked,
+            &mut self.last,
+            name,
+            at,
+            buf,
+        ) {
             Ok(n) => {
                 self.given = self.given.saturating_add(n as u64);
                 self.latest = n;

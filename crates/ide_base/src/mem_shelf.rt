@@ -1,7 +1,7 @@
 //! Files in memory: chosen reads fail, or none.
-ghost use Rattle.std.specs.Prelude.{◌≡◌, ◌≤◌, ◌||◌, Some, is_err, is_none, option_map, length, max, IfOk};
+ghost use Rattle.std.specs.Prelude.{◌≡◌, ◌≤◌, ◌||◌, None, Some, is_err, is_none, option_map, length, max, IfOk};
 ghost use Rattle.ide_base.specs.Memory.{IsNew, calls_after, contents_of, fails_now, held_under, reads_of};
-ghost use Rattle.ide_base.specs.Outside.{Given, ReadAt, ReadFrom, ReadOf, ShelfCause, given_by};
+ghost use Rattle.ide_base.specs.Outside.{AsksFor, EndsWith, Given, ReadAt, ReadFrom, ReadOf, ShelfCause, given_by};
 
 use crate::calls::Calls;
 use crate::{Shelf, ShelfFault};
@@ -99,6 +99,7 @@ impl MemShelf {
 impl Shelf for MemShelf {
     ghost seen = { λ s. record {
       contents = Some (contents_of s);
+      asked = None;
       given = s.given;
       latest = s.latest;
       longest = s.longest;
@@ -107,6 +108,9 @@ impl Shelf for MemShelf {
 
     fn read(&mut self, name: &str, at: u64, buf: &mut [u8]) -> Result<usize, ShelfFault>
         ensures same { (⟦<MemShelf as Shelf>⟧.seen self.new).contents ≡ (⟦<MemShelf as Shelf>⟧.seen self.old).contents }
+        ensures names { AsksFor name.now (⟦<MemShelf as Shelf>⟧.seen self.old).asked
+            (⟦<MemShelf as Shelf>⟧.seen self.new).asked }
+        ensures told { IfOk result (λ n. EndsWith name.now (⟦<MemShelf as Shelf>⟧.seen self.new).asked) }
         ensures bound { IfOk result (λ n. n ≤ length buf.new) }
         ensures bytes { ReadFrom (⟦<MemShelf as Shelf>⟧.seen self.old).contents name.now at result buf.new }
         ensures counted { Given (⟦<MemShelf as Shelf>⟧.seen self.old).given (⟦<MemShelf as Shelf>⟧.seen self.new).given
@@ -165,6 +169,7 @@ impl TrueShelf {
 impl Shelf for TrueShelf {
     ghost seen = { λ s. record {
       contents = Some (held_under s.files.items);
+      asked = None;
       given = s.given;
       latest = s.latest;
       longest = s.longest;

@@ -1,6 +1,6 @@
 //! A shelf of files.
 ghost use Rattle.std.specs.Prelude.{◌≡◌, ◌≤◌, length, max, IfOk};
-ghost use Rattle.ide_base.specs.Outside.{Given, ReadFrom, ShelfCause, ShelfSeen, given_by};
+ghost use Rattle.ide_base.specs.Outside.{AsksFor, EndsWith, Given, ReadFrom, ShelfCause, ShelfSeen, given_by};
 
 /// A read gave nothing: the file cannot be read now, or there is no file of this name.
 #[derive(Clone, Copy, Debug, PartialEq, Eq)]
@@ -8,8 +8,9 @@ pub struct ShelfFault;
 
 /// Files that are read by name, in pieces (this profile).
 pub trait Shelf {
-    /// The contents by name, which a shelf need not tell; how many bytes its last read gave; how many one read asked
-    /// for at most; and up to the last value of 64 bits how many bytes the shelf gave, and how many reads failed.
+    /// The contents by name, and the names that the shelf was asked for, neither of which it need tell; how many bytes
+    /// its last read gave; how many one read asked for at most; and up to the last value of 64 bits how many bytes the
+    /// shelf gave, and how many reads failed.
     ghost seen: { Self → ShelfSeen };
 
     /// Reads bytes of the file of this name from place `at` (in bytes, from 0) on into the first bytes of `buf`, and
@@ -17,6 +18,8 @@ pub trait Shelf {
     /// faults rose, or stands at its last value, or the contents are told and lack the name.
     fn read(&mut self, name: &str, at: u64, buf: &mut [u8]) -> Result<usize, ShelfFault>
         ensures same { (seen self.new).contents ≡ (seen self.old).contents }
+        ensures names { AsksFor name.now (seen self.old).asked (seen self.new).asked }
+        ensures told { IfOk result (λ n. EndsWith name.now (seen self.new).asked) }
         ensures bound { IfOk result (λ n. n ≤ length buf.new) }
         ensures bytes { ReadFrom (seen self.old).contents name.now at result buf.new }
         ensures counted { Given (seen self.old).given (seen self.new).given result }

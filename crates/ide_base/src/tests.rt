@@ -51,7 +51,6 @@ fn files_of_the_system(rt: HostRuntime) -> Result<(), Fail> {
 fn pipes(rt: HostRuntime) -> Result<(), Fail> {
     let mut buf = [0u8; 4];
     let mut open = OpenFile {
-        name: String::new(rt.alloc()),
         file: Pipe(b"012345"),
         place: Some(0),
     };

@@ -1,10 +1,10 @@
 -- How far is read if a run ends by itself, by the words. After a sound topology, which was wholly read, the bytes that
 -- were given are its own and then the script's, so what holds of the script holds of both; after any other topology no
 -- more bytes were given than it has.
-use Rattle.std.proofs.Common.{◌≡◌, ◌≤◌, ◌+◌, ◌-◌, ℕ, length, Option, Some, None, Result, Ok, Err, ap, sym, subst}
+use Rattle.std.proofs.Common.{◌≡◌, ◌≤◌, ◌+◌, ◌-◌, ℕ, List, length, Option, Some, None, Result, Ok, Err, ap, sym, subst}
 use Rattle.std.proofs.Common.{arith}
 use Rattle.std.specs.Prelude.{IfOk}
-use Rattle.ide_base.specs.Outside.{Contents, ShelfSeen}
+use Rattle.ide_base.specs.Outside.{AsksOnly, Contents, ShelfSeen}
 use Rattle.ide_words.specs.Words.{Asked, asked}
 use Rattle.ide_plan.specs.declared.plan.Plan.{Plan}
 use Rattle.line_runs.specs.declared.ends.End.{End}
@@ -12,25 +12,13 @@ use Rattle.line_runs.specs.declared.ends.Fault.{Fault}
 use Rattle.line_runs.specs.Front.{GaveOf, bytes_of}
 use Rattle.line_runs.specs.Gain.{Text}
 use Rattle.line_runs.specs.Gathering.{NoFurther, ReadAsFar, ReadAsFarOf}
+use Rattle.line_runs.proofs.Joins.{joined}
 use Rattle.ide_cli.specs.declared.topologies.Loaded.{Loaded}
 use Rattle.ide_cli.specs.declared.topologies.Loaded.TheVariants.{Sound, Faulty, Long}
 use Rattle.ide_cli.specs.Loading.{GaveAllOf, LoadedIn, LoadedOf}
-use Rattle.ide_cli.specs.Reads.{AskedNoFurther, LoadedNoFurther, ReadNoFurther, RunNoFurther, ScriptGoesOn}
+use Rattle.ide_cli.specs.Reads.{AskedNoFurther, LoadedNoFurther, Names, ReadNoFurther, RunNoFurther, ScriptGoesOn}
 use Rattle.ide_cli.specs.Seen.{CallSeen}
 use Rattle.ide_cli.specs.Topologies.{loaded}
-use Rattle.ide_cli.proofs.Loads.{joined}
-
--- of one file, in other words
-pub far_same : (f g : Text → Type 0) (name : Text) (s0 s1 : ShelfSeen) (r : Result End Fault) → ((t : Text) → f t → g t)
-    → IfOk r (λ e. ReadAsFar (λ contents. NoFurther f (bytes_of (contents name))) s0 s1)
-    → IfOk r (λ e. ReadAsFar (λ contents. NoFurther g (bytes_of (contents name))) s0 s1)
-far_same f g name s0 s1 (Err e) same far = tt
-far_same f g name s0 s1 (Ok e) same far = by_told s0.contents far
-  where
-    by_told : (told : Option Contents) → ReadAsFarOf (λ contents. NoFurther f (bytes_of (contents name))) told s0 s1
-        → ReadAsFarOf (λ contents. NoFurther g (bytes_of (contents name))) told s0 s1
-    by_told None far = tt
-    by_told (Some contents) (n, gave, far) = (n, gave, (far.0, same _ far.1))
 
 -- ---- after a sound topology
 
@@ -131,3 +119,9 @@ nothing_read call a is same none = subst
         → IfOk r (λ e. ReadAsFar (AskedNoFurther a) call.shelf_before call.shelf_after)
     by_outcome (Ok e) = by_told call.shelf_before.contents
     by_outcome (Err e) = tt
+
+-- ---- the names that are asked for
+
+pub asked_names : (words : Option Asked) (a : Asked) (before now : Option (List Text)) → words ≡ Some a
+    → AsksOnly (Names (Some a)) before now → AsksOnly (Names words) before now
+asked_names words a before now is asks = subst (λ (o : Option Asked). AsksOnly (Names o) before now) (sym is) asks

@@ -9,16 +9,17 @@ use Rattle.std.proofs.lemmas.Bool.Decides.{nat_tests}
 use Rattle.std.proofs.lemmas.List.{length-take-le, take_all}
 use Rattle.ide_base.specs.Outside.{Contents, Rose, ShelfSeen, SinkSeen}
 use Rattle.ide_plan.specs.declared.plan.Plan.{Plan}
-use Rattle.line_runs.specs.Gain.{Text, Gained, GainedMore}
+use Rattle.line_runs.specs.Gain.{Text, Gained}
 use Rattle.line_runs.specs.Front.{FrontIn, FrontOf, Gave, GaveOf, bytes_of}
 use Rattle.line_runs.specs.Gathering.{GainedAt, WroteEnded, WroteEndedIn, WroteEndedOf, open_line}
-use Rattle.line_runs.specs.Outcome.{Due, Quiet, EndsOn, Ran, SomeFront}
+use Rattle.line_runs.specs.Outcome.{Due, EndsOn, Ran}
 use Rattle.line_runs.specs.declared.ends.Fault.TheVariants as fault
 use Rattle.line_runs.specs.declared.front.Stop.TheVariants as stop
 use Rattle.line_runs.specs.declared.ends.End.{End}
 use Rattle.line_runs.specs.declared.ends.End.TheVariants.{Done, TooLong}
 use Rattle.line_runs.specs.declared.ends.Fault.{Fault}
-use Rattle.line_runs.proofs.WholeFiles.{IsDue, SameDue, gained_nothing, stopped}
+use Rattle.line_runs.proofs.WholeFiles.{IsDue, SameDue, stopped}
+use Rattle.line_runs.proofs.Joins.{gained_none, joined, some_gained}
 use Rattle.ide_cli.specs.declared.topologies.Loaded.{Loaded}
 use Rattle.ide_cli.specs.SoFar.{WroteBy, WroteByIn, WroteByOf, loaded_so_far, run_so_far, script_given, script_so_far}
 use Rattle.ide_cli.specs.declared.topologies.Loaded.TheVariants.{Sound, Faulty, Long}
@@ -66,9 +67,6 @@ pub gave_few : {L : Type 0} (long : L) (r : Result L Fault) (n before now : ℕ)
     → IfOk r (λ l. l ≢ long → n ≤ 1048576) → IfOk r (λ l. l ≢ long → GaveAtMost before 1048576 now)
 gave_few long (Ok l) n before now gave few = λ other. (n, few other, gave)
 gave_few long (Err f) n before now gave few = few
-
-pub joined : (a b c m n : ℕ) → Gave a m b → Gave b n c → Gave a (m + n) c
-joined a b c m n one two = (omega (arith, one.0, two.0), omega (arith, one.1, two.1))
 
 -- a topology that is no longer than counts, and then one byte more of a script than count
 pub gave_more : (r : Result End Fault) (a b c : ℕ) → GaveAtMost a 1048576 b
@@ -124,15 +122,6 @@ cut_by_load told due name s0 s1 write quiet h fault.Memory lacks c = stopped tol
 
 -- ---- what is due, two ways
 
-same_map : (file : Option Text) (f g : Text → Due) → ((t : Text) → f t ≡ g t) → option_map f file ≡ option_map g file
-same_map None f g same = refl
-same_map (Some t) f g same = ap (λ (d : Due). Some d) (same t)
-
-pub same_due : (told : Option Contents) (name : Text) (f g : Text → Due) → ((t : Text) → f t ≡ g t)
-    → SameDue told (λ contents. option_map f (contents name)) (λ contents. option_map g (contents name))
-same_due None name f g same = tt
-same_due (Some contents) name f g same = same_map (contents name) f g same
-
 run_in : (topology script : Option Text) (plan : Plan) → LoadedIn loaded topology (Sound plan)
     → option_map (script_due plan) script ≡ run_due topology script
 run_in None script plan is = absurd is
@@ -145,17 +134,6 @@ pub run_after : (told : Option Contents) (topology script : Text) (plan : Plan)
     (λ contents. run_due (contents topology) (contents script))
 run_after None topology script plan is = tt
 run_after (Some contents) topology script plan is = run_in (contents topology) (contents script) plan is
-
--- what runs after a shelf was read, which kept its contents and its count of faults
-pub later : (told now : Option Contents) (due : Contents → Option Due) (before after end o0 o1 : ℕ)
-    (gained : Text → Type 0) (r : Result End Fault) → now ≡ told → after ≡ before
-    → EndsOn now due (Rose after end) (Rose o0 o1) (Quiet after end o0 o1) gained r
-    → EndsOn told due (Rose before end) (Rose o0 o1) (Quiet before end o0 o1) gained r
-later told now due before after end o0 o1 gained r same quiet ran =
-    let P : Option Contents → Type 0 = λ t. EndsOn t due (Rose before end) (Rose o0 o1) (Quiet before end o0 o1) gained
-    r in
-    let Q : ℕ → Type 0 = λ n. EndsOn now due (Rose n end) (Rose o0 o1) (Quiet n end o0 o1) gained r in
-    subst P same (subst Q quiet ran)
 
 -- ---- if a read fails
 
@@ -172,32 +150,12 @@ gave_all_of : (told : Option Contents) (name read : Text) (before now : ℕ) →
 gave_all_of None name read before now is few gave = tt
 gave_all_of (Some contents) name read before now is few gave = gave_all_in (contents name) read before now is few gave
 
-within_in : (file : Option Text) (read : Text) (most before now : ℕ) → FrontIn most file read
-    → Gave before (length read) now → (n : ℕ) × (n ≤ length (bytes_of file)) × Gave before n now
-within_in None read most before now is gave = absurd is
-within_in (Some file) read most before now is gave =
-    (length read, omega (arith, ap length is, length-take most file), gave)
-
-pub given_within : (told : Option Contents) (name read : Text) (most before now : ℕ) → FrontOf told name most read
-    → Gave before (length read) now → GaveOf told name before now
-given_within None name read most before now is gave = tt
-given_within (Some contents) name read most before now is gave = within_in (contents name) read most before now is gave
-
 pub gave_all : {L : Type 0} (long : L) (told : Option Contents) (name read : Text) (r : Result L Fault) (before now : ℕ)
     → FrontOf told name 1048577 read → Gave before (length read) now → IfOk r (λ l. l ≢ long → length read ≤ 1048576)
     → IfOk r (λ l. l ≢ long → GaveAllOf told name before now)
 gave_all long told name read (Ok l) before now is gave few = λ other. gave_all_of told name read before now is
     (few other) gave
 gave_all long told name read (Err e) before now is gave few = few
-
--- nothing that was gained is due to a line
-gained_none : (e : Fault) (h : Option Text) → GainedAt e h h []
-gained_none fault.Read h = gained_nothing h
-gained_none fault.Write h = ([], gained_nothing h)
-gained_none fault.Memory h = ([], gained_nothing h)
-
-some_gained : (h0 h1 : Option Text) (last : Text) → SomeFront (Gained h0 h1) last → GainedMore h0 h1 []
-some_gained h0 h1 last (front, is, gained) = (front, gained)
 
 -- bytes were given for which no line is due
 abbrev NoLineIn : (text lines : ℕ → Text) → ℕ → ℕ → Type 0
@@ -281,37 +239,6 @@ in_topology told topology script before now gave =
     no_line_in_file (λ contents n. run_so_far (contents topology) (contents script) n)
     (λ contents n. script_given (contents topology) (contents script) n) told topology before now
     (λ contents n le. none_so_far (contents topology) (contents script) n le) gave
-
--- the same text in other words
-same_ended_in : (e : Fault) (f g : Text → Text) (file : Text) (s0 s1 : ShelfSeen) (o0 o1 : SinkSeen)
-    → ((t : Text) → f t ≡ g t) → WroteEndedIn e f file s0 s1 o0 o1 → WroteEndedIn e g file s0 s1 o0 o1
-same_ended_in e f g file s0 s1 o0 o1 same wrote =
-    let gained = subst (λ (t : Text). GainedAt e o0.held o1.held t) (same (take wrote.ran file)) wrote.gained in
-    record {
-      given = wrote.given;
-      ran = wrote.ran;
-      within = wrote.within;
-      gave = wrote.gave;
-      most = wrote.most;
-      all_but
-          = wrote.all_but;
-      short = wrote.short;
-      gained = gained;
-    }
-
-pub same_ended : (e : Fault) (f g : Text → Text) (name : Text) (s0 s1 : ShelfSeen) (o0 o1 : SinkSeen)
-    → ((t : Text) → f t ≡ g t) → WroteEnded e f name s0 s1 o0 o1 → WroteEnded e g name s0 s1 o0 o1
-same_ended e f g name s0 s1 o0 o1 same wrote = by_told s0.contents wrote
-  where
-    by_told : (told : Option Contents) → WroteEndedOf e f told name s0 s1 o0 o1 → WroteEndedOf e g told name s0 s1 o0 o1
-    by_told None wrote = tt
-    by_told (Some contents) wrote = same_ended_in e f g (bytes_of (contents name)) s0 s1 o0 o1 same wrote
-
-pub ended_same : (f g : Text → Text) (name : Text) (s0 s1 : ShelfSeen) (o0 o1 : SinkSeen) (r : Result End Fault)
-    → ((t : Text) → f t ≡ g t) → IfErr r (λ e. WroteEnded e f name s0 s1 o0 o1)
-    → IfErr r (λ e. WroteEnded e g name s0 s1 o0 o1)
-ended_same f g name s0 s1 o0 o1 (Ok e) same wrote = tt
-ended_same f g name s0 s1 o0 o1 (Err e) same wrote = same_ended e f g name s0 s1 o0 o1 same wrote
 
 -- of the one file that is read
 pub ended_by : (text : Text → Text) (name : Text) (s0 s1 : ShelfSeen) (o0 o1 : SinkSeen) (r : Result End Fault)

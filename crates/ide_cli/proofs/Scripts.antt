@@ -7,13 +7,16 @@ use Rattle.std.specs.Prelude.{nat_lt, sum_by}
 use Rattle.std.proofs.lemmas.List.Sums.{sum_by-cons}
 use Rattle.ide_plan.specs.declared.plan.Plan.{Plan}
 use Rattle.link_events.specs.declared.event.Event.{Event}
+use Rattle.link_events.specs.declared.script.ScriptEvent.{ScriptEvent}
 use Rattle.link_verdicts.specs.declared.verdict.Verdict.{Verdict}
 use Rattle.link_verdicts.specs.declared.verdict.Totals.{Totals}
 use Rattle.link_events.specs.declared.fault.LineFault.{LineFault}
 use Rattle.link_events.specs.Parse.{line_meaning}
 use Rattle.link_verdicts.specs.Lines.{line_of}
+use Rattle.link_verdicts.specs.Shown.{shown}
 use Rattle.key_laws.specs.History.{History}
 use Rattle.link_history.specs.Due.{due}
+use Rattle.script_events.specs.{event_of}
 use Rattle.text_laws.specs.Runs.{history_with, history_on, text_on, totals_of, sealed_count, accepted_in, failed_in}
 use Rattle.text_laws.specs.Runs.{blocked_in}
 use Rattle.world.specs.{WorldView, Stands, IsNewWorld, IsStep}
@@ -22,7 +25,7 @@ use Rattle.line_runs.specs.Outcome.{Due}
 use Rattle.line_runs.specs.Pieces.{pieces}
 use Rattle.line_runs.specs.Lines.{after, cut_text, file_due, go_on, is_over, process, unended}
 use Rattle.ide_cli.specs.Script.{Script, AtEnd, stops, with_line, unended_line, script_in, end_of_stop, last_line}
-use Rattle.ide_cli.specs.Script.{due_after}
+use Rattle.ide_cli.specs.Script.{due_after, events_on}
 use Rattle.ide_cli.specs.Script.{script_due}
 use Rattle.line_runs.specs.Gathering.{GoesOn, ended_text}
 use Rattle.ide_cli.specs.Reads.{ScriptGoesOn}
@@ -83,12 +86,15 @@ verdict_comes past t now e old new v follows step more =
     (due_is ∙ ap (λ (p : Plan). due p past.history e) follows.plan_is))
 
 -- the line of that verdict
-pub event_comes : (past : ScriptPast) (e : Event) (r : RunningView) (v : Verdict) (n : ℕ) (text : Text)
-    → VerdictCame past e r v → n ≡ r.world.steps → text ≡ line_of n v → EventCame (ran_event past e) r text
-event_comes past e r v n text came same line =
-    let number : n ≡ length past.history + 1 = omega (arith, same, came.follows.steps_are) in
+pub event_comes : (past : ScriptPast) (e : Event) (r : RunningView) (v : Verdict) (text : Text)
+    → VerdictCame past e r v → text ≡ line_of r.world.steps (shown r.world.plan.peers v)
+    → EventCame (ran_event past e) r text
+event_comes past e r v text came line =
+    let number : r.world.steps ≡ length past.history + 1 = omega (arith, came.follows.steps_are) in
     record {
-      text_is = line ∙ ap (λ (m : ℕ). line_of m v) number ∙ ap (line_of (length past.history + 1)) came.verdict_is;
+      text_is = line ∙ ap (λ (m : ℕ). line_of m (shown r.world.plan.peers v)) number
+          ∙ ap (λ (p : Plan). line_of (length past.history + 1) (shown p.peers v)) came.follows.plan_is
+          ∙ ap (λ (w : Verdict). line_of (length past.history + 1) (shown past.plan.peers w)) came.verdict_is;
       follows = came.follows;
     }
 
@@ -109,7 +115,7 @@ past_of : Plan → History → ScriptPast
 past_of plan h = record { plan = plan; history = h }
 
 -- a line before what comes later
-one_line : (plan : Plan) (n : ℕ) (h : History) (m : Result (Option Event) LineFault)
+one_line : (plan : Plan) (n : ℕ) (h : History) (m : Result (Option ScriptEvent) LineFault)
     (later : ScriptPast → Due) (script : Script)
     → ((g : History) → later (past_of plan g) ≡ due_after plan g script)
     → go_on n (by_meaning (past_of plan h) m) later ≡ due_after plan h (with_line n m script)
@@ -117,11 +123,12 @@ unfolding past_of
 one_line plan n h (Err fault) later script rest = refl
 one_line plan n h (Ok None) later script rest = rest h
 one_line plan n h (Ok (Some e)) later script rest =
-    let g = history_with plan h e in
-    let text = line_of (length h + 1) (due plan h e) in
+    let x = event_of plan e in
+    let g = history_with plan h x in
+    let text = line_of (length h + 1) (shown plan.peers (due plan h x)) in
     ap (after text) (rest g) ∙ ap (λ (t : Text). (end_of_stop script.stop, t))
-    (sym (append_assoc text (text_on plan g script.events)
-    (last_line script.stop (history_on plan g script.events))))
+    (sym (append_assoc text (text_on plan g (events_on plan script))
+    (last_line script.stop (history_on plan g (events_on plan script)))))
 
 unended_is : (plan : Plan) (n : ℕ) (piece : Text) (h : History) (b : Bool) → nat_lt 20000 (length piece) ≡ b
     → unended n piece ≡ due_after plan h (unended_line n piece)

@@ -1,8 +1,8 @@
 -- Each verdict of a history that is written, or of generated events, is the one that is due.
 use Rattle.std.proofs.Common.{◌≡◌, ◌≤◌, List, [], ◌++◌, length, length-append, Option, Some, Result, Ok, Err}
-use Rattle.std.proofs.Common.{option_map, refl, sym, ap, subst, ◌∙◌, ℕ, ◌+◌, ◌∷◌, inl, inr, arith, append_assoc}
+use Rattle.std.proofs.Common.{option_map, refl, sym, ap, subst, ◌∙◌, ℕ, ◌+◌, ◌∷◌, inl, inr, arith}
 use Rattle.std.specs.Prelude.{IfOk}
-use Rattle.std.proofs.lemmas.List.{append-nil, append_cancel_left}
+use Rattle.std.proofs.lemmas.List.{append-nil}
 use Rattle.ide_base.specs.Outside.{Contents}
 use Rattle.ide_plan.specs.declared.plan.Plan.{Plan}
 use Rattle.ide_plan.specs.Fits.{FitsPlan}
@@ -19,51 +19,21 @@ use Rattle.text_laws.specs.Runs.{history_on, history_with, text_on}
 use Rattle.text_laws.specs.Telling.{events_told, lines_told, AreAllowed}
 use Rattle.text_laws.specs.Statements.{LinesTell, AreTold}
 use Rattle.text_laws.proofs.Reading.{length-events}
-use Rattle.line_runs.specs.Gain.{Text, IsFront, Gained}
-use Rattle.line_runs.specs.Outcome.{Due, EndsBy, EndsDue, EndsOn, SomeFront}
+use Rattle.line_runs.specs.Gain.{Text, Gained}
+use Rattle.line_runs.specs.Outcome.{Due, EndsBy, EndsDue, EndsOn}
 use Rattle.line_runs.specs.declared.ends.End.{End}
 use Rattle.line_runs.specs.declared.ends.Fault.{Fault}
-use Rattle.line_runs.specs.declared.ends.Fault.TheVariants as fault
-use Rattle.ide_cli.specs.Script.{Script, last_line, due_after}
+use Rattle.line_runs.proofs.Joins.{front_of_front, gained_front, later}
+use Rattle.ide_cli.specs.Script.{Script, last_line, due_after, events_on}
 use Rattle.ide_cli.specs.Generated.{WentOver, generated_due, generated_history, generated_line}
 use Rattle.ide_cli.specs.Meaning.{Answered, RanGenerated, command_due}
+use Rattle.ide_cli.specs.Laws.{IsDue}
 use Rattle.ide_cli.specs.Headline.{AllCounted, AllWritten, AsksFor, InEvery, Written}
 use Rattle.ide_cli.specs.Seen.{CallSeen}
 use Rattle.ide_cli.proofs.Events.{events_allowed}
 use Rattle.ide_cli.proofs.Plans.{loaded_fits}
 
 -- ---- what was gained is a prefix of the text that is due
-
-front_of_front : (a b c : Text) → IsFront a b → IsFront b c → IsFront a c
-front_of_front a b c one two =
-    (one.0 ++ two.0, sym (append_assoc a one.0 two.0) ∙ (ap (λ (t : Text). t ++ two.0) one.1 ∙ two.1))
-
-whole_front : (a : Text) → IsFront a a
-whole_front a = ([], append-nil a)
-
-same_gain : (before now : Option Text) (held gained text : Text) → before ≡ Some held → now ≡ Some (held ++ gained)
-    → Gained before now text → gained ≡ text
-same_gain before now held gained text one two is =
-    let there : now ≡ Some (held ++ text) = is ∙ ap (option_map (λ (h : Text). h ++ text)) one in
-    let same : held ++ gained ≡ held ++ text = cc (two, there) in
-    append_cancel_left held gained text same
-
-some_front : (before now : Option Text) (held gained text : Text) → before ≡ Some held → now ≡ Some (held ++ gained)
-    → SomeFront (Gained before now) text → IsFront gained text
-some_front before now held gained text one two is = subst (λ (t : Text). IsFront t text)
-    (sym (same_gain before now held gained is.0 one two is.2)) is.1
-
-gained_front : (due : Due) (read write quiet : Type 0) (before now : Option Text) (held gained : Text)
-    (r : Result End Fault) → before ≡ Some held → now ≡ Some (held ++ gained)
-    → EndsBy due read write quiet (Gained before now) r → IsFront gained due.1
-gained_front due read write quiet before now held gained (Ok e) one two ran = subst (λ (t : Text). IsFront t due.1)
-    (sym (same_gain before now held gained due.1 one two ran.1)) (whole_front due.1)
-gained_front due read write quiet before now held gained (Err fault.Read) one two ran = some_front before now held
-    gained due.1 one two (ran.1.0, ran.1.1, ran.1.3)
-gained_front due read write quiet before now held gained (Err fault.Write) one two ran = some_front before now held
-    gained due.1 one two ran.1
-gained_front due read write quiet before now held gained (Err fault.Memory) one two ran = some_front before now held
-    gained due.1 one two ran
 
 -- ---- the run that the words ask for
 
@@ -86,20 +56,15 @@ plan_fits : (call : CallSeen) (plan : Plan) (script : Script) → AsksFor call p
 plan_fits call plan script a = loaded_fits a.topology plan a.plan_is
 
 script_allowed : (call : CallSeen) (plan : Plan) (script : Script) → AsksFor call plan script
-    → AreAllowed script.events
-script_allowed call plan script a = subst (λ (t : Script). AreAllowed t.events) (sym a.read) (events_allowed a.bytes)
+    → AreAllowed (events_on plan script)
+script_allowed call plan script a = subst (λ (t : Script). AreAllowed (events_on plan t)) (sym a.read)
+    (events_allowed plan (plan_fits call plan script a) a.bytes)
 
 -- ---- the verdicts
 
--- what the laws suppose of a history
-pub record IsDue (plan : Plan) (h : History) : Type 0 where
-  pub fits : FitsPlan plan
-  pub cause : CauseLaw plan h
-  pub few : length h ≤ 4294967296
-
-few_written : (h : History) (later : List Event) (script : Script) → events_told h ++ later ≡ script.events
-    → AreAllowed script.events → length h ≤ 4294967296
-few_written h later script same allowed = omega
+few_written : (h : History) (later events : List Event) → events_told h ++ later ≡ events → AreAllowed events
+    → length h ≤ 4294967296
+few_written h later events same allowed = omega
     (arith, length-events h, length-append (events_told h) later, ap length same, allowed.few)
 
 written_is_due : LinesTell → (call : CallSeen) → Answered call → (plan : Plan) (h : History) → Written call plan h
@@ -107,20 +72,20 @@ written_is_due : LinesTell → (call : CallSeen) → Answered call → (plan : P
 written_is_due tell call answered plan h w =
     let script = w.script in
     let due = due_after plan [] script in
-    let last = last_line script.stop (history_on plan [] script.events) in
+    let last = last_line script.stop (history_on plan [] (events_on plan script)) in
     let allowed = script_allowed call plan script w.asks_for in
     let fits = plan_fits call plan script w.asks_for in
     let gained = gained_front due _ _ _ call.sink_before.held call.sink_after.held w.held w.gained call.outcome
     w.held_before w.holds_now
     (ran_script answered.migrated call _ _ _ (Gained call.sink_before.held call.sink_after.held) call.outcome
     answered.ran plan script w.asks_for) in
-    let front = front_of_front (lines_told h) w.gained due.1 w.lines gained in
-    let text : lines_told h ++ front.0 ≡ text_on plan [] (events_told h ++ w.later)
+    let front = front_of_front (lines_told plan h) w.gained due.1 w.lines gained in
+    let text : lines_told plan h ++ front.0 ≡ text_on plan [] (events_told h ++ w.later)
     ++ last = front.1 ∙ ap (λ (es : List Event). text_on plan [] es ++ last) (sym w.events_are) in
     record {
       fits = fits;
       cause = tell plan fits h w.later front.0 last (subst AreAllowed (sym w.events_are) allowed) w.verdicts_fit text;
-      few = few_written h w.later script w.events_are allowed;
+      few = few_written h w.later (events_on plan script) w.events_are allowed;
     }
 
 -- ---- generated events
@@ -135,19 +100,23 @@ so_many : (plan : Plan) (h : History) (events : List Event) → length (history_
 so_many plan h [] = omega arith
 so_many plan h (e ∷ events) = omega (arith, so_many plan (history_with plan h e) events)
 
-few_generated : (seed count : ℕ) → count ≤ 100000 → length (generated_history seed count) ≤ 4294967296
-few_generated seed count few = omega (arith, so_many the_plan [] (generated seed count), few_events seed count, few)
+few_generated : (seed count : ℕ) → count ≤ 100000 → (first later : List Event) → first ++ later ≡ generated seed count
+    → length (history_on the_plan [] first) ≤ 4294967296
+few_generated seed count few first later same = omega
+    (arith, so_many the_plan [] first, length-append first later, ap length same, few_events seed count, few)
 
-generated_is_due : (seed count : ℕ) → count ≤ 100000 → IsDue the_plan (generated_history seed count)
-generated_is_due seed count few = record {
+generated_is_due : (seed count : ℕ) → count ≤ 100000 → (first later : List Event)
+    → first ++ later ≡ generated seed count → IsDue the_plan (history_on the_plan [] first)
+generated_is_due seed count few first later same = record {
   fits = the_plan_fits;
-  cause = caused the_plan [] (generated seed count) tt;
-  few = few_generated seed count few;
+  cause = caused the_plan [] first tt;
+  few = few_generated seed count few first later same;
 }
 
 went_is_due : (call : CallSeen) (plan : Plan) (h : History) → WentOver call plan h → IsDue plan h
 went_is_due call plan h w =
-    let is = generated_is_due w.seed w.count (few_rounds call.words w.seed w.count w.asks).1 in
+    let few = (few_rounds call.words w.seed w.count w.asks).1 in
+    let is = generated_is_due w.seed w.count few w.first w.later w.events_are in
     subst (λ (p : Plan). IsDue p h) (sym w.plan_is) (subst (IsDue the_plan) (sym w.history_is) is)
 
 -- ---- either
@@ -169,12 +138,13 @@ whole_gain due read write quiet gained r e is ran =
 
 pub all_written : AreTold → (call : CallSeen) → Answered call → AllWritten call
 all_written are_told call answered = at_end call.outcome (λ e ended plan script held asks held_before.
-    let is = are_told plan (plan_fits call plan script asks) script.events (script_allowed call plan script asks) in
+    let is = are_told plan (plan_fits call plan script asks) (events_on plan script)
+    (script_allowed call plan script asks) in
     let due = due_after plan [] script in
     let whole = whole_gain due _ _ _ (Gained call.sink_before.held call.sink_after.held) call.outcome e ended
     (ran_script answered.migrated call _ _ _ (Gained call.sink_before.held call.sink_after.held) call.outcome
     answered.ran plan script asks) in
-    let h = history_on plan [] script.events in
+    let h = history_on plan [] (events_on plan script) in
     let last = last_line script.stop h in
     record {
       script = script;
@@ -199,6 +169,9 @@ all_counted call ran = at_end call.outcome (λ e ended seed count held asks held
       count = count;
       asks = asks;
       plan_is = refl;
+      first = generated seed count;
+      later = [];
+      events_are = append-nil (generated seed count);
       history_is = refl;
       held = held;
       held_before = held_before;

@@ -1,10 +1,11 @@
 -- What a run over generated events writes: the totals of their history, in which each verdict is the one that is due.
-use Rattle.std.specs.Prelude.{ℕ, ◌≡◌, ◌++◌, [], length, Some, codes}
+use Rattle.std.specs.Prelude.{ℕ, ◌≡◌, ◌++◌, List, [], length, Some, codes}
 use Rattle.std.specs.Fmt.{decimal}
 use Rattle.ide_plan.specs.declared.plan.Plan.{Plan}
 use Rattle.ide_words.specs.Words.{asked, generate}
 use Rattle.generated_events.specs.Events.{generated}
 use Rattle.generated_events.specs.Topology.{the_plan}
+use Rattle.link_events.specs.declared.event.Event.{Event}
 use Rattle.key_laws.specs.History.{History}
 use Rattle.text_laws.specs.Runs.{history_on, totals_of}
 use Rattle.link_verdicts.specs.Lines.{totals_line_of}
@@ -24,14 +25,17 @@ generated_line h = codes "generated " ++ decimal (length h) ++ codes " " ++ tota
 abbrev pub generated_due : (seed count : ℕ) → Due
 generated_due seed count = (end.Done, generated_line (generated_history seed count))
 
--- The call went over generated events: this is their history, under the plan that is generated for them, and the sink
--- gained its line.
+-- The call went over generated events: this is the history of the first of them, up to some event, under the plan that
+-- is generated for them, and the sink gained the line of the history of all.
 pub record WentOver (call : CallSeen) (plan : Plan) (h : History) : Type 0 where
   pub seed : ℕ
   pub count : ℕ
   pub asks : asked call.words ≡ Some (generate seed count)
   pub plan_is : plan ≡ the_plan
-  pub history_is : h ≡ generated_history seed count
+  pub first : List Event
+  pub later : List Event
+  pub events_are : first ++ later ≡ generated seed count
+  pub history_is : h ≡ history_on the_plan [] first
   pub held : Text
   pub held_before : call.sink_before.held ≡ Some held
-  pub holds_now : call.sink_after.held ≡ Some (held ++ generated_line h)
+  pub holds_now : call.sink_after.held ≡ Some (held ++ generated_line (generated_history seed count))

@@ -6,15 +6,12 @@ use Rattle.generated_events.specs.Topology.{the_plan}
 use Rattle.ide_plan.specs.declared.plan.Plan.{Plan}
 use Rattle.link_events.specs.declared.event.Event.{Event}
 use Rattle.key_laws.specs.History.{History}
-use Rattle.interface_states.specs.Sites.{Site, site_at}
-use Rattle.interface_states.specs.Laws.{ViewHolds}
-use Rattle.link_history.specs.Laws.{NoForgery}
 use Rattle.text_laws.specs.Runs.{history_on}
 use Rattle.text_laws.specs.Telling.{VerdictsFit, events_told, lines_told}
 use Rattle.line_runs.specs.Gain.{Text, IsFront}
 use Rattle.ide_cli.specs.declared.topologies.Loaded.TheVariants.{Sound}
 use Rattle.ide_cli.specs.Generated.{WentOver, generated_history}
-use Rattle.ide_cli.specs.Script.{Script, script_of}
+use Rattle.ide_cli.specs.Script.{Script, events_on, script_of}
 use Rattle.ide_cli.specs.Seen.{CallSeen}
 use Rattle.ide_cli.specs.Topologies.{loaded}
 
@@ -33,37 +30,30 @@ pub record AsksFor (call : CallSeen) (plan : Plan) (script : Script) : Type 0 wh
   pub script_is : contents script_name ≡ Some bytes
   pub read : script ≡ script_of bytes
 
--- The call wrote a history under a plan: its events are the first of the script's; and the sink, which tells what it
--- held before and holds now, gained the lines of its verdicts, numbered from 1, and maybe more after them.
+-- The call wrote a history under a plan: its events are the first of the script's, in this topology; its verdicts name
+-- what the topology has; and the sink, which tells what it held before and holds now, gained the lines of its verdicts,
+-- numbered from 1, and maybe more after them.
 pub record Written (call : CallSeen) (plan : Plan) (h : History) : Type 0 where
   pub script : Script
   pub asks_for : AsksFor call plan script
   pub later : List Event
-  pub events_are : events_told h ++ later ≡ script.events
-  pub verdicts_fit : VerdictsFit h
+  pub events_are : events_told h ++ later ≡ events_on plan script
+  pub verdicts_fit : VerdictsFit plan h
   pub held : Text
   pub held_before : call.sink_before.held ≡ Some held
   pub gained : Text
   pub holds_now : call.sink_after.held ≡ Some (held ++ gained)
-  pub lines : IsFront (lines_told h) gained
+  pub lines : IsFront (lines_told plan h) gained
 
--- the law holds of every history that the call wrote, or went over
+-- the law holds of every history that the call wrote, or went over up to some event
 abbrev pub InEvery : (Plan → History → Type 0) → CallSeen → Type 0
 InEvery law call = (plan : Plan) (h : History) → Written call plan h ⊎ WentOver call plan h → law plan h
-
--- the law holds provided that no tag verified on a unit that its partner had not sealed
-abbrev pub Unforged : (Plan → History → Type 0) → Plan → History → Type 0
-Unforged law plan h = NoForgery plan h → law plan h
-
--- of every interface of the plan, what the manager's view says of it holds
-abbrev pub ViewFacts : Plan → History → Type 0
-ViewFacts plan h = (x : Site) → site_at plan x.number ≡ Some x → ViewHolds plan h x
 
 -- if the call comes to an end of its own, the history of all events of the script was written, each with the verdict
 -- that is due
 abbrev pub AllWritten : CallSeen → Type 0
 AllWritten call = IfOk call.outcome (λ e. (plan : Plan) (script : Script) (held : Text) → AsksFor call plan script
-    → call.sink_before.held ≡ Some held → Written call plan (history_on plan [] script.events))
+    → call.sink_before.held ≡ Some held → Written call plan (history_on plan [] (events_on plan script)))
 
 -- and the line of the history of all generated events, if the words ask for them
 abbrev pub AllCounted : CallSeen → Type 0

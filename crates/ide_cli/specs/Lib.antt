@@ -8,5 +8,6 @@ pub mod LineLaws
 pub mod Generated
 pub mod Meaning
 pub mod Headline
+pub mod Laws
 pub mod Reads
 pub mod SoFar

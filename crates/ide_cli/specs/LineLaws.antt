@@ -3,7 +3,7 @@ use Rattle.std.specs.Prelude.{ℕ, ◌≡◌, nat_lt, true, List, [], ◌∷◌,
 use Rattle.std.specs.Prelude.{IfOk, refl}
 use Rattle.std.proofs.Common.{inl, inr, ap, ◌∙◌, sym, append_assoc}
 use Rattle.ide_types.specs.Names.{joined}
-use Rattle.link_events.specs.declared.event.Event.{Event}
+use Rattle.link_events.specs.declared.script.ScriptEvent.{ScriptEvent}
 use Rattle.link_events.specs.declared.fault.LineFault.{LineFault}
 use Rattle.link_events.specs.declared.fault.LineFault.TheVariants.{TooLong}
 use Rattle.link_events.specs.Words.{line_limit}
@@ -33,7 +33,7 @@ pub long_event : (r : ScriptPast) (n : ℕ) (line : Text) → nat_lt line_limit 
     → ran_line r n line ≡ Err TooLong
 long_event r n line long = rw long refl
 
-event_lines : (r : ScriptPast) (m : Result (Option Event) LineFault)
+event_lines : (r : ScriptPast) (m : Result (Option ScriptEvent) LineFault)
     → IfOk (by_meaning r m) (λ came. IsWholeLines came.1)
 event_lines r (Err fault) = tt
 event_lines r (Ok None) = inl refl

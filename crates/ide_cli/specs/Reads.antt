@@ -17,6 +17,15 @@ use Rattle.ide_cli.specs.Seen.{CallSeen}
 use Rattle.ide_cli.specs.Topologies.{loaded}
 use Rattle.ide_cli.specs.Works.{no_text, shown_line}
 
+-- the names of the files that the words give
+abbrev pub Names : Option Asked → Text → Type 0
+Names None name = ⊥
+Names (Some (run topology script)) name = (name ≡ topology) ⊎ (name ≡ script)
+Names (Some (check topology)) name = name ≡ topology
+Names (Some (migrate topology)) name = name ≡ topology
+Names (Some (show packets)) name = name ≡ packets
+Names (Some (generate seed count)) name = ⊥
+
 -- how many bytes are given at most: of a topology and of a file of lines, one more than those that count
 abbrev pub most_read : Option Asked → ℕ
 most_read None = 0

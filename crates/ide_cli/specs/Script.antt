@@ -1,15 +1,17 @@
 -- A script: the events of its lines, and how its reading ends.
-use Rattle.std.specs.Prelude.{ℕ, ◌+◌, ◌==◌, nat_lt, Bool, List, [], ◌∷◌, ◌++◌, length, Option, Some, None, Result, Ok}
-use Rattle.std.specs.Prelude.{Err, if◌then◌else◌}
+use Rattle.std.specs.Prelude.{ℕ, ◌+◌, ◌==◌, nat_lt, Bool, List, [], ◌∷◌, ◌++◌, length, map, Option, Some, None}
+use Rattle.std.specs.Prelude.{Result, Ok, Err, if◌then◌else◌}
 use Rattle.line_runs.specs.Pieces.{pieces}
 use Rattle.ide_plan.specs.declared.plan.Plan.{Plan}
 use Rattle.link_events.specs.declared.event.Event.{Event}
+use Rattle.link_events.specs.declared.script.ScriptEvent.{ScriptEvent}
 use Rattle.link_events.specs.declared.fault.LineFault.{LineFault}
 use Rattle.link_events.specs.declared.fault.LineFault.TheVariants as line
 use Rattle.link_events.specs.Words.{fault_line_of, line_limit}
 use Rattle.link_events.specs.Parse.{line_meaning}
 use Rattle.link_verdicts.specs.Lines.{totals_line_of}
 use Rattle.key_laws.specs.History.{History}
+use Rattle.script_events.specs.{event_of}
 use Rattle.text_laws.specs.Runs.{history_on, text_on, totals_of}
 use Rattle.line_runs.specs.declared.ends.End.{End}
 use Rattle.line_runs.specs.declared.ends.End.TheVariants as end
@@ -24,14 +26,14 @@ pub data Stop : Type 0 where
   AtLimit : Stop
 
 pub record Script : Type 0 where
-  pub events : List Event
+  pub events : List ScriptEvent
   pub stop : Stop
 
 abbrev pub stops : Stop → Script
 stops stop = record { events = []; stop = stop }
 
 -- a line of this number, before the others: no event, one, or the first that is not spelled
-abbrev pub with_line : ℕ → Result (Option Event) LineFault → Script → Script
+abbrev pub with_line : ℕ → Result (Option ScriptEvent) LineFault → Script → Script
 with_line n (Err fault) later = stops (Refused n fault)
 with_line n (Ok None) later = later
 with_line n (Ok (Some event)) later = record later { events = event ∷ later.events }
@@ -53,6 +55,11 @@ script_in over n (piece ∷ next ∷ rest) = with_line n (line_meaning piece) (s
 abbrev pub script_of : Text → Script
 script_of file = script_in (is_over file) 1 (pieces (cut_text file))
 
+-- the events of a history that its events are, in a topology: of lines and ends in place of links, of hops and of
+-- streams between devices
+abbrev pub events_on : Plan → Script → List Event
+events_on plan script = map (event_of plan) script.events
+
 abbrev pub end_of_stop : Stop → End
 end_of_stop AtEnd = end.Done
 end_of_stop (Refused n fault) = end.Script
@@ -69,8 +76,8 @@ last_line AtLimit h = []
 abbrev pub due_after : Plan → History → Script → Due
 due_after plan h script = (
   end_of_stop script.stop,
-  text_on plan h script.events ++ last_line script.stop
-      (history_on plan h script.events),
+  text_on plan h (events_on plan script) ++ last_line script.stop
+      (history_on plan h (events_on plan script)),
 )
 
 -- the end and the text of a script's file

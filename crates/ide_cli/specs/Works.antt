@@ -2,15 +2,18 @@
 use Rattle.std.specs.Prelude.{ℕ, ◌≡◌, ◌+◌, ◌*◌, ◌<◌, ◌≤◌, [], length, Option, Some, None, Result, Ok, Err}
 use Rattle.ide_plan.specs.declared.plan.Plan.{Plan}
 use Rattle.link_events.specs.declared.event.Event.{Event}
+use Rattle.link_events.specs.declared.script.ScriptEvent.{ScriptEvent}
 use Rattle.link_events.specs.declared.fault.LineFault.{LineFault}
 use Rattle.link_events.specs.Parse.{line_meaning}
-use Rattle.link_events.specs.Spells.{IsAllowed}
+use Rattle.link_events.specs.Spells.{IsAllowedInScript}
 use Rattle.link_verdicts.specs.declared.verdict.Verdict.{Verdict}
 use Rattle.link_verdicts.specs.declared.verdict.Totals.{Totals}
 use Rattle.link_verdicts.specs.Lines.{line_of}
 use Rattle.link_verdicts.specs.Lines.{totals_line_of}
+use Rattle.link_verdicts.specs.Shown.{shown}
 use Rattle.key_laws.specs.History.{History}
 use Rattle.link_history.specs.Due.{due}
+use Rattle.script_events.specs.{event_of}
 use Rattle.text_laws.specs.Runs.{history_with, totals_of, sealed_count, accepted_in, failed_in, blocked_in}
 use Rattle.world.specs.{WorldView, Stands}
 use Rattle.packet_lines.specs.Reading.{packet_meaning}
@@ -47,16 +50,21 @@ pub record Follows (r : RunningView) (past : ScriptPast) : Type 0 where
 abbrev pub past_with : ScriptPast → Event → ScriptPast
 past_with past e = record past { history = history_with past.plan past.history e }
 
+-- the past with an event, and the line of its verdict as it is shown
 abbrev pub ran_event : ScriptPast → Event → ScriptPast × Text
 ran_event past e = (
   past_with past e,
-  line_of (length past.history + 1) (due past.plan past.history e),
+  line_of (length past.history + 1) (shown past.plan.peers (due past.plan past.history e)),
 )
 
-abbrev pub by_meaning : ScriptPast → Result (Option Event) LineFault → Result (ScriptPast × Text) LineFault
+-- the same of an event of a script
+abbrev pub ran_script_event : ScriptPast → ScriptEvent → ScriptPast × Text
+ran_script_event past e = ran_event past (event_of past.plan e)
+
+abbrev pub by_meaning : ScriptPast → Result (Option ScriptEvent) LineFault → Result (ScriptPast × Text) LineFault
 by_meaning past (Err fault) = Err fault
 by_meaning past (Ok None) = Ok (past, [])
-by_meaning past (Ok (Some e)) = Ok (ran_event past e)
+by_meaning past (Ok (Some e)) = Ok (ran_script_event past e)
 
 -- what a line gives
 abbrev pub ran_line : ScriptPast → ℕ → Text → Result (ScriptPast × Text) LineFault
@@ -77,9 +85,9 @@ pub record EventCame (came : ScriptPast × Text) (r : RunningView) (text : Text)
   pub follows : Follows r came.0
 
 -- the event of a line, if it has one, is one that a script may ask for
-abbrev pub MayAsk : Option Event → Type 0
+abbrev pub MayAsk : Option ScriptEvent → Type 0
 MayAsk None = Unit {0}
-MayAsk (Some e) = IsAllowed e
+MayAsk (Some e) = IsAllowedInScript e
 
 -- fewer events than lines, and few packets an event
 pub record IsEarly (r : RunningView) (n : ℕ) : Type 0 where

@@ -2,11 +2,15 @@
 #![tactic(auto)]
 
 mod generate;
+mod laws;
 mod packets;
 mod script;
 mod status;
 mod top;
 mod topologies;
 
+pub use script::{ScriptWork, asked};
 pub use status::Status;
 pub use top::run;
+pub use topologies::{Loaded, judge, refusal};
+pub use world::World;

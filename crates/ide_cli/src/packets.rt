@@ -1,6 +1,7 @@
 //! The command `show`: the lines of a packet file.
 
 ghost use Rattle.std.specs.Prelude.{◌≡◌, ◌≢◌, ◌+◌, ◌≤◌, IfErr, IfOk, option_map, take};
+ghost use Rattle.ide_base.specs.Outside.{AsksFor};
 ghost use Rattle.line_runs.specs.Front.{AskedPieces, Gave, bytes_of};
 ghost use Rattle.line_runs.specs.Gathering.{GoesOn, NoFurther, ReadAsFar};
 ghost use Rattle.line_runs.specs.Lines.{file_limit};
@@ -82,6 +83,7 @@ pub(crate) fn show_packets<S: Shelf, O: Sink>(
         (S.seen shelf.old) (S.seen shelf.new) (O.seen out.old) (O.seen out.new)) }
     ensures no_further { IfOk result (λ e. ReadAsFar (λ contents. NoFurther (GoesOn shown_line no_text tt)
         (bytes_of (contents packets.now))) (S.seen shelf.old) (S.seen shelf.new)) }
+    ensures names { AsksFor packets.now (S.seen shelf.old).asked (S.seen shelf.new).asked }
     ensures cap { (S.seen shelf.new).given ≤ (S.seen shelf.old).given + (file_limit + 1) }
     ensures pieces { AskedPieces (S.seen shelf.old).longest (S.seen shelf.new).longest }
     ensures too_long { IfOk result (λ e. e ≡ End.TooLong → Gave (S.seen shelf.old).given (file_limit + 1)

@@ -1,13 +1,16 @@
 //! Events that are run on the world of a topology, and the command `run`: those of the lines of a script.
 
-ghost use Rattle.std.specs.Prelude.{◌≡◌, ◌≢◌, ◌<◌, ◌≤◌, ◌+◌, ◌^◌, IfErr, IfOk, OnOk, option_map, length, count_by};
+ghost use Rattle.std.specs.Prelude.{◌≡◌, ◌≢◌, ◌<◌, ◌≤◌, ◌+◌, ◌^◌, ◌⊎◌, IfErr, IfOk, OnOk, option_map, length, count_by};
+ghost use Rattle.ide_base.specs.Outside.{AsksFor, AsksOnly};
 ghost use Rattle.ide_plan.specs.Fits.{FitsPlan};
 ghost use Rattle.line_runs.specs.Front.{AskedPieces, Gave, bytes_of};
 ghost use Rattle.line_runs.specs.Gathering.{NoFurther, ReadAsFar, WroteEnded};
 ghost use Rattle.line_runs.specs.Lines.{file_limit};
 ghost use Rattle.line_runs.specs.Outcome.{RanOn};
 ghost use Rattle.link_events.specs.Parse.{line_meaning, IsLineAnswer};
-ghost use Rattle.link_events.specs.Spells.{IsAllowed};
+ghost use Rattle.link_events.specs.Spells.{IsAllowed, IsAllowedInScript};
+ghost use Rattle.link_verdicts.specs.Lines.{line_of};
+ghost use Rattle.link_verdicts.specs.Shown.{shown as shown_of};
 ghost use Rattle.ide_cli.specs.LineLaws.{long_event, whole_event};
 ghost use Rattle.ide_cli.specs.Loading.{topology_limit};
 ghost use Rattle.ide_cli.specs.Meaning.{run_due};
@@ -15,7 +18,7 @@ ghost use Rattle.ide_cli.specs.Reads.{RanPast, RunNoFurther, ScriptGoesOn};
 ghost use Rattle.ide_cli.specs.Script.{script_due};
 ghost use Rattle.ide_cli.specs.SoFar.{WroteBy, run_so_far, script_given, script_so_far};
 ghost use Rattle.ide_cli.specs.Works.{EventCame, Follows, IsEarly, MayAsk, ScriptPast, closing_line, ran_event};
-ghost use Rattle.ide_cli.specs.Works.{ran_line, VerdictCame, totals_with};
+ghost use Rattle.ide_cli.specs.Works.{ran_line, ran_script_event, VerdictCame, totals_with};
 ghost use Rattle.text_laws.specs.Runs.{is_blocked, sealed_count, accepted_in, failed_in, blocked_in};
 
 use crate::topologies::{Loaded, load, refuse};
@@ -23,8 +26,9 @@ use ide_base::{Shelf, Sink};
 use ide_plan::Plan;
 use ide_types::{Bytes, Memory};
 use line_runs::{End, Fault, LineWork, run_file};
-use link_events::{Event, LineError, lines_spell, parse_line};
-use link_verdicts::{Effect, Totals, Verdict, line, totals_line};
+use link_events::{Event, LineError, ScriptEvent, lines_spell, parse_line};
+use link_verdicts::{Effect, Totals, Verdict, line, shown, totals_line};
+use script_events::{event_of, events_are_allowed};
 use std::alloc::Global;
 use std::marker::Model;
 use world::World;
@@ -107,6 +111,14 @@ impl Running {
         }
     }
 
+    /// The topology, which meets every bound and rule.
+    pub(crate) fn plan(&self) -> &Plan
+        ensures plan { result.now ≡ self.now.world.plan }
+        ensures fits { FitsPlan self.now.world.plan }
+    {
+        self.world.plan()
+    }
+
     /// How many events got a verdict.
     pub(crate) fn events(&self) -> u64
         ensures { result ≡ self.now.world.steps }
@@ -138,7 +150,7 @@ impl Running {
 
 /// The world that runs, and the memory for its lines.
 #[derive(Drop)]
-pub(crate) struct ScriptWork {
+pub struct ScriptWork {
     alloc: Global,
     running: Running,
 }
@@ -151,8 +163,8 @@ impl Model for ScriptWork {
     ghost view = { λ w. w.running };
 }
 
-// The event that a line asks for.
-fn asked(alloc: Global, line: &[u8]) -> Result<Option<Event>, LineError>
+/// The event that a line asks for, if it is no comment and not empty.
+pub fn asked(alloc: Global, line: &[u8]) -> Result<Option<ScriptEvent>, LineError>
     ensures gives { IsLineAnswer (line_meaning line.now) result }
     ensures allowed { IfOk result MayAsk }
 {
@@ -162,7 +174,7 @@ fn asked(alloc: Global, line: &[u8]) -> Result<Option<Event>, LineError>
 
 impl ScriptWork {
     /// The world before the first event.
-    pub(crate) fn new(alloc: Global, world: World) -> ScriptWork
+    pub fn new(alloc: Global, world: World) -> ScriptWork
         ensures { result ≡ record {
           world = world;
           totals = record {
@@ -179,7 +191,16 @@ impl ScriptWork {
         }
     }
 
-    // The line of an event's verdict.
+    // The line of a verdict as it is shown: ports stand in place of ends.
+    fn verdict_line(&self, verdict: Verdict) -> Result<Vec<u8>, Memory>
+        ensures { IfOk result (λ text. text.items ≡ line_of self.now.world.steps
+            (shown_of self.now.world.plan.peers verdict)) }
+    {
+        let verdict = shown(self.running.plan().peers.as_slice(), verdict);
+        line(self.alloc, self.running.events(), &verdict)
+    }
+
+    // The line of the verdict of an event of a history.
     fn run_event(&mut self, event: &Event, number: u64) -> Result<Bytes, LineError>
         requires number { number < 2 ^ 26 }
         requires early { IsEarly self.old number }
@@ -192,10 +213,25 @@ impl ScriptWork {
         let Ok(verdict) = self.running.step(event, number) else {
             return Err(LineError::Memory);
         };
-        match line(self.alloc, self.running.events(), &verdict) {
+        match self.verdict_line(verdict) {
             Ok(text) => Ok(Bytes::new(text)),
             Err(_) => Err(LineError::Memory),
         }
+    }
+
+    /// The line of the verdict of an event of a script.
+    pub fn run_script_event(&mut self, event: ScriptEvent, number: u64) -> Result<Bytes, LineError>
+        requires number { number < 2 ^ 26 }
+        requires early { IsEarly self.old number }
+        requires allowed { IsAllowedInScript event }
+        ensures came { (past : ScriptPast) → Follows self.old past → IfOk result (EventCame
+            (ran_script_event past event) self.new) }
+        ensures early { OnOk result (IsEarly self.new (number + 1)) }
+        ensures memory { IfErr result (λ e. e ≡ LineError.Memory) }
+    {
+        events_are_allowed();
+        let event = event_of(self.running.plan(), event);
+        self.run_event(&event, number)
     }
 }
 
@@ -218,7 +254,7 @@ impl LineWork for ScriptWork {
         match asked(self.alloc, line) {
             Err(e) => Err(e),
             Ok(None) => Ok(Bytes::new(Vec::new(self.alloc))),
-            Ok(Some(event)) => self.run_event(&event, number),
+            Ok(Some(event)) => self.run_script_event(event, number),
         }
     }
 
@@ -228,7 +264,7 @@ impl LineWork for ScriptWork {
     }
 }
 
-// Runs the lines of a script on the links of a plan.
+// Runs a script on the links of a plan, their hops and the streams between their devices.
 fn run_script<S: Shelf, O: Sink>(
     alloc: Global,
     plan: Plan,
@@ -244,6 +280,7 @@ fn run_script<S: Shelf, O: Sink>(
         (S.seen shelf.new) (O.seen out.old) (O.seen out.new)) }
     ensures no_further { IfOk result (λ e. ReadAsFar (λ contents. NoFurther (ScriptGoesOn plan)
         (bytes_of (contents script.now))) (S.seen shelf.old) (S.seen shelf.new)) }
+    ensures names { AsksFor script.now (S.seen shelf.old).asked (S.seen shelf.new).asked }
     ensures cap { (S.seen shelf.new).given ≤ (S.seen shelf.old).given + (file_limit + 1) }
     ensures pieces { AskedPieces (S.seen shelf.old).longest (S.seen shelf.new).longest }
     ensures too_long { IfOk result (λ e. e ≡ End.TooLong → Gave (S.seen shelf.old).given (file_limit + 1)
@@ -259,7 +296,7 @@ fn run_script<S: Shelf, O: Sink>(
     }
 }
 
-/// `run TOPOLOGY SCRIPT`: the verdict lines of a script's events on the links of a topology.
+/// `run TOPOLOGY SCRIPT`: the verdict lines of a script's events on the lines of a topology.
 pub(crate) fn run_files<S: Shelf, O: Sink>(
     alloc: Global,
     topology: &str,
@@ -275,6 +312,8 @@ pub(crate) fn run_files<S: Shelf, O: Sink>(
         (S.seen shelf.old) (S.seen shelf.new) (O.seen out.old) (O.seen out.new)) }
     ensures no_further { IfOk result (λ e. ReadAsFar (λ contents. RunNoFurther (contents topology.now)
         (contents script.now)) (S.seen shelf.old) (S.seen shelf.new)) }
+    ensures names { AsksOnly (λ name. (name ≡ topology.now) ⊎ (name ≡ script.now)) (S.seen shelf.old).asked
+        (S.seen shelf.new).asked }
     ensures cap { (S.seen shelf.new).given ≤ (S.seen shelf.old).given + (topology_limit + 1 + (file_limit + 1)) }
     ensures pieces { AskedPieces (S.seen shelf.old).longest (S.seen shelf.new).longest }
     ensures too_long { IfOk result (λ e. e ≡ End.TooLong → RanPast (S.seen shelf.old).given (S.seen shelf.new).given) }

@@ -1,46 +1,41 @@
 //! The whole program.
 
 ghost use Rattle.std.specs.Prelude.{◌≡◌, ◌+◌, ◌≤◌, IfOk, None, map, string_bytes};
-ghost use Rattle.ide_words.specs.Words.{asked};
+ghost use Rattle.byte_laws.specs.{AnswerLaw, AnswersLaw, Attested, ByteOriginLaw, EffectLaw, FailedLaw, KeyStreamFresh};
+ghost use Rattle.byte_laws.specs.{LockLaw, MmioOriginLaw, NamedLaw, OneLockPerKey, Scrubbed, TrustLaw, ViewsAreTrue};
 ghost use Rattle.delivery_laws.specs.PostedCounts.{CountLaw};
-ghost use Rattle.interface_states.specs.Laws.{RunLaw};
+ghost use Rattle.ide_base.specs.Outside.{AsksOnly};
+ghost use Rattle.ide_words.specs.Words.{asked};
+ghost use Rattle.interface_states.specs.Laws.{BindLaw, RunLaw};
 ghost use Rattle.key_laws.specs.Laws.{GosFindKeys, NeverAgain, Settled, StaysSecure, StreamFacts};
 ghost use Rattle.link_history.specs.Cause.{CauseLaw};
 ghost use Rattle.link_history.specs.Delivered.{DeliveryLaw};
+ghost use Rattle.link_history.specs.HopLaws.{HopLaw, ThroughLaw};
 ghost use Rattle.link_history.specs.Laws.{DrawsNeverFall, OrderIsNoForgery, PrefixLaw, WholeLaw};
 ghost use Rattle.link_history.specs.Numbers.{NumbersFresh};
 ghost use Rattle.link_history.specs.Ordered.{OrderLaw};
 ghost use Rattle.line_runs.specs.Front.{AskedPieces};
 ghost use Rattle.line_runs.specs.Outcome.{Ran};
 ghost use Rattle.mmio_laws.specs.Mmio.{MmioLaw};
+ghost use Rattle.origin_laws.specs.Bindings.{BindOriginLaw};
 ghost use Rattle.origin_laws.specs.Origin.{MemoryLaw, OriginLaw};
 ghost use Rattle.origin_laws.specs.ReadLaws.{ReadLaw, ReadOriginLaw};
-ghost use Rattle.ide_cli.specs.Headline.{AllCounted, AllWritten, InEvery, Unforged, ViewFacts};
+ghost use Rattle.ide_cli.specs.Headline.{AllCounted, AllWritten, InEvery};
+ghost use Rattle.ide_cli.specs.Laws.{Unforged, ViewFacts};
 ghost use Rattle.ide_cli.specs.Meaning.{Answered, RanGenerated, usage_line};
 ghost use Rattle.ide_cli.specs.SoFar.{WroteSoFar};
-ghost use Rattle.ide_cli.specs.Reads.{ReadNoFurther, ReadPast, most_counted, most_read};
+ghost use Rattle.ide_cli.specs.Reads.{Names, ReadNoFurther, ReadPast, most_counted, most_read};
 ghost use Rattle.ide_cli.specs.Seen.{call_seen, outcome_of_status, run_seen, said_words};
 
 use crate::generate::generate;
+use crate::laws::laws_hold;
 use crate::packets::show_packets;
 use crate::script::run_files;
 use crate::status::Status;
 use crate::topologies::{check_topology, migrate_topology};
-use delivery_laws::{
-    count_law, delivery_law, draws_never_fall, order_is_no_forgery, order_law, prefix_law,
-    whole_law,
-};
 use ide_base::{Shelf, Sink};
 use ide_words::{Request, WordsError, read_words};
-use interface_states::views_hold;
-use key_states::{gos_find_keys, never_again, settled, stays_secure, stream_facts};
 use line_runs::{End, Fault, finish};
-use link_keys::keys_have_causes;
-use mmio_laws::mmio_law;
-use origin_laws::{
-    interfaces_have_causes, memory_law, origin_law, read_law, read_origin_law, run_law,
-};
-use sealing_laws::{numbers_fresh, totals_fit};
 use std::alloc::Global;
 use text_laws::lines_tell;
 
@@ -58,6 +53,8 @@ fn perform<S: Shelf, O: Sink>(
     ensures answers { Answered (call_seen S.seen O.seen words.now shelf.old shelf.new out.old out.new result) }
     ensures so_far { WroteSoFar (call_seen S.seen O.seen words.now shelf.old shelf.new out.old out.new result) }
     ensures no_further { ReadNoFurther (call_seen S.seen O.seen words.now shelf.old shelf.new out.old out.new result) }
+    ensures names { AsksOnly (Names (asked (map string_bytes words.now))) (S.seen shelf.old).asked
+        (S.seen shelf.new).asked }
     ensures cap { (S.seen shelf.new).given ≤ (S.seen shelf.old).given + most_read (asked (map string_bytes words.now)) }
     ensures pieces { AskedPieces (S.seen shelf.old).longest (S.seen shelf.new).longest }
     ensures too_long { IfOk result (λ e. e ≡ End.TooLong → ReadPast (asked (map string_bytes words.now))
@@ -100,9 +97,10 @@ fn status_of(outcome: Result<End, Fault>) -> Status
 /// `check TOPOLOGY --migrate`, `show PACKETS` or `generate SEED COUNT`. Answers the status that the program ends with.
 ///
 /// If the shelf tells its contents, the text of a run is the verdict lines of the script's events, each verdict the one
-/// that is due after the events before it, and the laws hold of the history that is written. A migration writes a text
-/// that reads to the topology's table with version 2. Generated events are given to the same world one after another,
-/// and one line tells the totals of their history; the laws hold of it too.
+/// that is due after the events before it, and the laws hold of the history that is written: of links, of both segments
+/// of their hops, and of streams between devices. A migration writes a text that reads to the topology's table with
+/// version 2. Generated events are given to the same world one after another, and one line tells the totals of their
+/// history; the laws hold of it too, and of that of the first of these events, up to any of them.
 pub fn run<S: Shelf, O: Sink>(
     alloc: Global,
     words: &Vec<String>,
@@ -130,9 +128,10 @@ pub fn run<S: Shelf, O: Sink>(
     // ends the run.
     ensures no_further { ReadNoFurther (run_seen S.seen O.seen words.now shelf.old shelf.new out.old out.new result) }
 
-    // Of each file that the words name, one byte more is read than count, and of no other any; and no read asks for
-    // more than 4,096 bytes. A file is too long if that byte was given, and a file that was read to its end has no
-    // more than count.
+    // No file is asked for but those that the words name: no other name comes to the list that the shelf tells. Of each
+    // one byte more is read than count, and no read asks for more than 4,096 bytes. A file is too long if that byte was
+    // given, and a file that was read to its end has no more than count.
+    ensures names { AsksOnly (Names (asked (said_words words.now))) (S.seen shelf.old).asked (S.seen shelf.new).asked }
     ensures cap { (S.seen shelf.new).given ≤ (S.seen shelf.old).given + most_read (asked (said_words words.now)) }
     ensures pieces { AskedPieces (S.seen shelf.old).longest (S.seen shelf.new).longest }
     ensures too_long { result ≡ Status.TooLong → ReadPast (asked (said_words words.now)) (S.seen shelf.old).given
@@ -149,9 +148,14 @@ pub fn run<S: Shelf, O: Sink>(
     ensures all_written { AllWritten (run_seen S.seen O.seen words.now shelf.old shelf.new out.old out.new result) }
     ensures all_counted { AllCounted (run_seen S.seen O.seen words.now shelf.old shelf.new out.old out.new result) }
 
-    // In every history that was written, each verdict is the one that is due, the draws of accepted units never fall,
-    // everything that arrived unchanged in order was taken, and is no forgery; an operation on keys ends in the key
-    // state of one without losses, and no move of a refresh takes a port out of Secure.
+    // In every history that was written, each verdict is the one that is due. On every line, which is a link, a segment
+    // of a hop or a stream between devices, the draws of accepted units never fall. A packet that arrives unchanged,
+    // next in the order in which the packets of its draw were sealed, is held or accepted, provided its key is Live at
+    // the receiver, the stream has not failed there, nothing of another key is held, its posted counts are met, and on
+    // a closed stream nothing of an older draw, since the stream was last established, is missing; and what arrives so
+    // is no forgery. The posted counts that a sub-stream got, since its stream was last established, never pass the
+    // posted packets that were got. An operation on keys ends in the key state of one without losses, and no move of a
+    // refresh takes a port out of Secure.
     ensures cause_law { InEvery CauseLaw (run_seen S.seen O.seen words.now shelf.old shelf.new out.old out.new result) }
     ensures draws_never_fall { InEvery (λ p. DrawsNeverFall)
         (run_seen S.seen O.seen words.now shelf.old shelf.new out.old out.new result) }
@@ -165,40 +169,87 @@ pub fn run<S: Shelf, O: Sink>(
         (run_seen S.seen O.seen words.now shelf.old shelf.new out.old out.new result) }
     // A draw is kept in one key set of a place at most and on one stream, an unfinished operation has made its draw On
     // if its GO came, and each GO that reaches a place finds its draw kept there. A draw that was On at a place and
-    // then kept in neither set is never kept there again.
+    // then kept in neither set is never kept there again. While a stream is failed at a port, nothing of it is sealed,
+    // held, accepted or failed there.
     ensures stream_facts { InEvery (λ p. StreamFacts)
         (run_seen S.seen O.seen words.now shelf.old shelf.new out.old out.new result) }
     ensures gos_find_keys { InEvery (λ p. GosFindKeys)
         (run_seen S.seen O.seen words.now shelf.old shelf.new out.old out.new result) }
     ensures never_again { InEvery (λ p. NeverAgain)
         (run_seen S.seen O.seen words.now shelf.old shelf.new out.old out.new result) }
-    // No key is used twice with one IV: packets that have both are of one unit.
+    ensures failed_law { InEvery FailedLaw
+        (run_seen S.seen O.seen words.now shelf.old shelf.new out.old out.new result) }
+    // No key is used twice with one IV: packets that have both are of one unit. No byte of key stream is used twice:
+    // each packet that was sealed masks its payload by a range of the key stream of its key and IV, no two ranges of
+    // one key and IV meet, and no counter block in them comes twice, nor is the one that masks the tag.
     ensures numbers_fresh { InEvery NumbersFresh
+        (run_seen S.seen O.seen words.now shelf.old shelf.new out.old out.new result) }
+    ensures keystream_fresh { InEvery KeyStreamFresh
         (run_seen S.seen O.seen words.now shelf.old shelf.new out.old out.new result) }
     // While an interface is locked or in RUN, its listed registers are those that it had at the lock, which its report
     // shows; a listed change, a level reset, and a firmware update that flag 0 forbids, take it into the error state.
+    // In RUN it was reported since its lock: an earlier verdict shows the report of exactly the registers that are
+    // locked now. Locked or in RUN, the stream of its lock is Secure at its device, and so is each stream between
+    // devices that it is bound to. Whatever takes it back to the unlocked state clears each byte of its closed ranges.
     ensures run_law { InEvery RunLaw (run_seen S.seen O.seen words.now shelf.old shelf.new out.old out.new result) }
+    ensures attested { InEvery Attested (run_seen S.seen O.seen words.now shelf.old shelf.new out.old out.new result) }
+    ensures lock_law { InEvery LockLaw (run_seen S.seen O.seen words.now shelf.old shelf.new out.old out.new result) }
+    ensures scrubbed { InEvery Scrubbed (run_seen S.seen O.seen words.now shelf.old shelf.new out.old out.new result) }
+    // An interface is bound to streams between devices only while it is locked or in RUN: whatever ends a lock ends its
+    // bindings too.
+    ensures bind_law { InEvery BindLaw (run_seen S.seen O.seen words.now shelf.old shelf.new out.old out.new result) }
     // If the manager's view of an interface is unlocked or locked, or if no START was asked since the last LOCK, the
-    // interface is not in RUN, and each packet with T that it sealed is of an older key than the manager needs; if the
-    // view is running, each such packet of a key from the view's floor on was sealed in RUN under the present lock.
+    // interface is not in RUN, and each packet with T that it sealed on its link's stream is of an older key than the
+    // manager needs; if the view is running, each such packet of a key from the view's floor on was sealed in RUN under
+    // the present lock. The view unlocked means that the interface is in CONFIG_UNLOCKED at its device, locked that it
+    // is in CONFIG_LOCKED or ERROR, running that it is in RUN or ERROR.
     ensures view_facts { InEvery ViewFacts
         (run_seen S.seen O.seen words.now shelf.old shelf.new out.old out.new result) }
+    ensures views_are_true { InEvery ViewsAreTrue
+        (run_seen S.seen O.seen words.now shelf.old shelf.new out.old out.new result) }
+    // What is applied and what is queued of one interface under one draw belongs to one lock, and an answer goes to a
+    // read that was queued under the lock that stands.
+    ensures one_lock_per_key { InEvery OneLockPerKey
+        (run_seen S.seen O.seen words.now shelf.old shelf.new out.old out.new result) }
+    ensures answers_law { InEvery AnswersLaw
+        (run_seen S.seen O.seen words.now shelf.old shelf.new out.old out.new result) }
     // Of the packets of an accepted unit exactly those are applied whose write is admitted, and each byte of trusted
-    // memory that is shown is the one that the last admitted write left, or 0 if there was none.
+    // memory that is shown is the one that the last admitted write left, or 0 if there was none. Exactly the trusted
+    // reads that the manager grants are queued, while fewer than 64 wait, and exactly those beyond them are blocked as
+    // full; and exactly the writes that an interface's range takes are stored.
     ensures memory_law { InEvery MemoryLaw
+        (run_seen S.seen O.seen words.now shelf.old shelf.new out.old out.new result) }
+    ensures effect_law { InEvery EffectLaw
         (run_seen S.seen O.seen words.now shelf.old shelf.new out.old out.new result) }
     // Answers take the reads of a link in the order in which they were queued, no more than 64 wait, and each
     // completion has the bytes that stand in memory then, with T, on its interface's bound stream, from its floor on.
+    // The last packet that an answer seals is that completion, and ends its unit.
     ensures read_law { InEvery ReadLaw (run_seen S.seen O.seen words.now shelf.old shelf.new out.old out.new result) }
+    ensures answer_law { InEvery AnswerLaw
+        (run_seen S.seen O.seen words.now shelf.old shelf.new out.old out.new result) }
+    // A host's port sets T only for a send that asks for it and for an answer.
+    ensures trust_law { InEvery TrustLaw (run_seen S.seen O.seen words.now shelf.old shelf.new out.old out.new result) }
     // Each byte of a BAR that is shown is that of the last stored write that enables it since its range was last set to
     // 0, or 0; while an interface is locked or in RUN, a range that is not open changes only by a stored write with T,
-    // in RUN, on the stream that the lock named, from the floor on, which is a draw that was On at the start.
+    // in RUN, on the stream that the lock named or one between devices that it is bound to, from its floor there on;
+    // that of the former is a draw that was On at the start under this lock.
     ensures mmio_law { InEvery MmioLaw (run_seen S.seen O.seen words.now shelf.old shelf.new out.old out.new result) }
+    // What the switch of a hop sealed at one side since the hop was last reset, are the first of the TLPs that it
+    // accepted at the other, in one order over all sub-streams, with their payload and T; and, provided no tag verified
+    // on a unit its partner had not sealed, and each segment had one draw at most since then, what was accepted behind
+    // the hop is in each sub-stream a prefix of what was sealed before it.
+    ensures hop_law { InEvery HopLaw (run_seen S.seen O.seen words.now shelf.old shelf.new out.old out.new result) }
+    // Bytes that go through a switch leave all as it was: what was sealed, keys, failures, what was accepted and what
+    // is held, what waits, memory, views and interfaces.
+    ensures through_law { InEvery ThroughLaw
+        (run_seen S.seen O.seen words.now shelf.old shelf.new out.old out.new result) }
+    // A verdict is `none` exactly if something that its event names does not exist.
+    ensures named_law { InEvery NamedLaw (run_seen S.seen O.seen words.now shelf.old shelf.new out.old out.new result) }
 
     // In every history that was written, provided no tag verified on a unit its partner had not sealed, each sub-stream
-    // got, key by key, a prefix of what was sealed, and delivered a prefix of the TLPs that were sent; and, on a closed
-    // stream or if nothing of an overtaken key is missing, non-posted packets and completions came after the posted
-    // packets that were sealed before them.
+    // of each line got, key by key, a prefix of what was sealed, and delivered a prefix of the TLPs that were sent;
+    // and, of draws since the stream was last established, on a closed stream or if nothing of an overtaken key is
+    // missing, non-posted packets and completions came after the posted packets that were sealed before them.
     ensures prefix_law { InEvery (Unforged PrefixLaw)
         (run_seen S.seen O.seen words.now shelf.old shelf.new out.old out.new result) }
     ensures delivery_law { InEvery (Unforged DeliveryLaw)
@@ -211,31 +262,23 @@ pub fn run<S: Shelf, O: Sink>(
         (run_seen S.seen O.seen words.now shelf.old shelf.new out.old out.new result) }
     ensures read_origin_law { InEvery (Unforged ReadOriginLaw)
         (run_seen S.seen O.seen words.now shelf.old shelf.new out.old out.new result) }
+    // Under it too, each accepted packet with T on a stream between devices was sealed while the interface that owns
+    // its TLP was in RUN and bound to that stream.
+    ensures bind_origin_law { InEvery (Unforged BindOriginLaw)
+        (run_seen S.seen O.seen words.now shelf.old shelf.new out.old out.new result) }
+    // Under it each byte of trusted memory that is shown and is not 0 is a payload byte, at its address, of a memory
+    // write that was given to `send` at the device's port of the link, by the interface of its requester ID, while that
+    // was in the RUN in which the write was admitted.
+    ensures byte_origin { InEvery (Unforged ByteOriginLaw)
+        (run_seen S.seen O.seen words.now shelf.old shelf.new out.old out.new result) }
+    // And each packet with T whose write is stored in the memory of an interface was sealed by a trusted send at the
+    // host's port of its link or, on a stream between devices that the interface is bound to, by a send of the TLP's
+    // owner, which was in RUN and bound to that stream; and since then the interface was in no other RUN.
+    ensures mmio_origin_law { InEvery (Unforged MmioOriginLaw)
+        (run_seen S.seen O.seen words.now shelf.old shelf.new out.old out.new result) }
 {
     lines_tell();
-    totals_fit();
-    keys_have_causes();
-    prefix_law();
-    draws_never_fall();
-    whole_law();
-    delivery_law();
-    order_law();
-    order_is_no_forgery();
-    count_law();
-    settled();
-    stays_secure();
-    stream_facts();
-    gos_find_keys();
-    never_again();
-    numbers_fresh();
-    interfaces_have_causes();
-    run_law();
-    views_hold();
-    memory_law();
-    read_law();
-    mmio_law();
-    origin_law();
-    read_origin_law();
+    laws_hold();
     let words = words.as_slice();
     status_of(perform(alloc, words, shelf, out))
 }

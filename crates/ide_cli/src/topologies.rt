@@ -1,6 +1,7 @@
 //! A topology that is read and checked, or migrated.
 
 ghost use Rattle.std.specs.Prelude.{◌≡◌, ◌≢◌, ◌+◌, ◌<◌, ◌≤◌, IfOk, IfErr, Some, length, option_map, []};
+ghost use Rattle.ide_base.specs.Outside.{AsksFor};
 ghost use Rattle.ide_words.specs.Words.{migrate};
 ghost use Rattle.line_runs.specs.Front.{AskedPieces, Gave, GaveOf, bytes_of};
 ghost use Rattle.line_runs.specs.Gathering.{ReadAsFar};
@@ -29,14 +30,17 @@ const TOPOLOGY_LIMIT: usize = 1_048_576;
 
 /// What a topology's bytes give: its plan, its first fault, or too many of them.
 #[derive(Drop)]
-pub(crate) enum Loaded {
+pub enum Loaded {
+    /// The plan that they mean.
     Sound(Plan),
+    /// Their first fault.
     Faulty(PlanFault),
+    /// There are too many of them.
     Long,
 }
 
-// What the first bytes of a topology give; one byte more than those that count was read.
-fn judge(alloc: Global, front: &[u8]) -> Result<Loaded, Fault>
+/// What the first bytes of a topology give; one byte more than those that count was read.
+pub fn judge(alloc: Global, front: &[u8]) -> Result<Loaded, Fault>
     ensures loaded { IfOk result (λ l. l ≡ loaded front.now) }
     ensures memory { IfErr result (λ e. e ≡ Fault.Memory) }
     ensures fits { IfOk result HasFitting }
@@ -63,6 +67,7 @@ pub(crate) fn load<S: Shelf>(alloc: Global, shelf: &mut S, name: &str) -> Result
     ensures within { GaveOf (S.seen shelf.old).contents name.now (S.seen shelf.old).given (S.seen shelf.new).given }
     ensures all { IfOk result (λ l. l ≢ Loaded.Long → GaveAllOf (S.seen shelf.old).contents name.now
         (S.seen shelf.old).given (S.seen shelf.new).given) }
+    ensures names { AsksFor name.now (S.seen shelf.old).asked (S.seen shelf.new).asked }
     ensures cap { (S.seen shelf.new).given ≤ (S.seen shelf.old).given + (topology_limit + 1) }
     ensures pieces { AskedPieces (S.seen shelf.old).longest (S.seen shelf.new).longest }
     ensures long { IfOk result (λ l. l ≡ Loaded.Long → Gave (S.seen shelf.old).given (topology_limit + 1)
@@ -77,8 +82,8 @@ pub(crate) fn load<S: Shelf>(alloc: Global, shelf: &mut S, name: &str) -> Result
     }
 }
 
-// The line of a fault.
-fn refusal(alloc: Global, fault: &PlanFault) -> Result<Vec<u8>, Memory>
+/// The line of a topology's first fault, with its line feed (this profile).
+pub fn refusal(alloc: Global, fault: &PlanFault) -> Result<Vec<u8>, Memory>
     ensures { IfOk result (λ line. line.items ≡ refusal_of fault.now) }
 {
     let mut line = topology::fault_line(alloc, fault)?.into_vec();
@@ -125,6 +130,7 @@ pub(crate) fn check_topology<S: Shelf, O: Sink>(
         (S.seen shelf.old) (S.seen shelf.new) (O.seen out.old) (O.seen out.new)) }
     ensures no_further { IfOk result (λ e. ReadAsFar (λ contents given ahead. given
         ≤ length (bytes_of (contents topology.now))) (S.seen shelf.old) (S.seen shelf.new)) }
+    ensures names { AsksFor topology.now (S.seen shelf.old).asked (S.seen shelf.new).asked }
     ensures cap { (S.seen shelf.new).given ≤ (S.seen shelf.old).given + (topology_limit + 1) }
     ensures pieces { AskedPieces (S.seen shelf.old).longest (S.seen shelf.new).longest }
     ensures too_long { IfOk result (λ e. e ≡ End.TooLong → Gave (S.seen shelf.old).given (topology_limit + 1)
@@ -169,6 +175,7 @@ pub(crate) fn migrate_topology<S: Shelf, O: Sink>(
         (S.seen shelf.old) (S.seen shelf.new) (O.seen out.old) (O.seen out.new)) }
     ensures no_further { IfOk result (λ e. ReadAsFar (λ contents given ahead. given
         ≤ length (bytes_of (contents topology.now))) (S.seen shelf.old) (S.seen shelf.new)) }
+    ensures names { AsksFor topology.now (S.seen shelf.old).asked (S.seen shelf.new).asked }
     ensures cap { (S.seen shelf.new).given ≤ (S.seen shelf.old).given + (topology_limit + 1) }
     ensures pieces { AskedPieces (S.seen shelf.old).longest (S.seen shelf.new).longest }
     ensures too_long { IfOk result (λ e. e ≡ End.TooLong → Gave (S.seen shelf.old).given (topology_limit + 1)

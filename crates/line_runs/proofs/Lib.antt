@@ -1,8 +1,10 @@
 pub mod Cuts
 pub mod Gains
 pub mod Fronts
+pub mod Names
 pub mod Runs
 pub mod Parts
 pub mod Cuttings
 pub mod WholeFiles
 pub mod FileFronts
+pub mod Joins

@@ -3,7 +3,7 @@
 ghost use Rattle.std.specs.Prelude.{◌≡◌, ◌≢◌, ◌≤◌, ◌<◌, ◌+◌, ◌++◌, ◌^◌, ℕ, [], List, Ok, IsErr, IfOk, IfErr, IfSome};
 ghost use Rattle.std.specs.Prelude.{◌∷◌, MatchOption, OnOk, None, length, nat_lt, option_map, take, vec_capacity};
 ghost use Rattle.std.specs.Prelude.{vec_len};
-ghost use Rattle.ide_base.specs.Outside.{Given, ShelfCause, given_by};
+ghost use Rattle.ide_base.specs.Outside.{AsksFor, Given, ShelfCause, given_by};
 ghost use Rattle.link_events.specs.Words.{line_limit};
 ghost use Rattle.line_runs.specs.Front.{AskedPieces, Gave, IsReadOf, ReadsOn, bytes_of};
 ghost use Rattle.line_runs.specs.Gathering.{CutIn, Gathers, GoesOn, NoFurther, PieceRan, ReadAsFar, WroteEnded};
@@ -43,6 +43,7 @@ fn read_piece<S: Shelf>(
     ensures one { IfOk result (λ n. at ≡ file_limit → n ≤ 1) }
     ensures counted { Given (S.seen shelf.old).given (S.seen shelf.new).given result }
     ensures latest { (S.seen shelf.new).latest ≡ given_by result }
+    ensures names { AsksFor name.now (S.seen shelf.old).asked (S.seen shelf.new).asked }
     ensures pieces { AskedPieces (S.seen shelf.old).longest (S.seen shelf.new).longest }
     ensures cause { ShelfCause (S.seen shelf.old).faults (S.seen shelf.new).faults (S.seen shelf.old).contents name.now
         result }
@@ -86,6 +87,7 @@ pub fn run_file<S: Shelf, O: Sink, W: LineWork>(
     ensures no_further { (past : W.Past) → W.follows work.old past → IfOk result (λ e. ReadAsFar (λ contents. NoFurther
         (GoesOn W.advance W.closing past) (bytes_of (contents name.now))) (S.seen shelf.old) (S.seen shelf.new)) }
     ensures cap { (S.seen shelf.new).given ≤ (S.seen shelf.old).given + (file_limit + 1) }
+    ensures names { AsksFor name.now (S.seen shelf.old).asked (S.seen shelf.new).asked }
     ensures pieces { AskedPieces (S.seen shelf.old).longest (S.seen shelf.new).longest }
     ensures too_long { IfOk result (λ e. e ≡ End.TooLong → Gave (S.seen shelf.old).given (file_limit + 1)
         (S.seen shelf.new).given) }

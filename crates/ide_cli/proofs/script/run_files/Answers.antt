@@ -1,12 +1,14 @@
 use Rattle.std.proofs.Common.{Ok, option_map, refl}
 use Rattle.line_runs.specs.declared.ends.End.TheVariants.{TooLong}
+use Rattle.line_runs.proofs.Names.{asks_both, asks_first}
 use Rattle.line_runs.proofs.WholeFiles.{redue}
+use Rattle.line_runs.proofs.Joins.{later}
 use Rattle.ide_cli.specs.declared.topologies.Loaded.TheVariants.{Faulty, Long}
 use Rattle.ide_cli.specs.Script.{script_due}
 use Rattle.ide_cli.specs.Meaning.{run_due}
 use Rattle.ide_cli.specs.SoFar.{run_so_far, script_given}
 use Rattle.ide_cli.proofs.Furthers.{far_behind, topology_alone}
-use Rattle.ide_cli.proofs.Loads.{cut_by_load, gave_more, in_topology, later, no_line_wrote, nothing_yet, ran_whole}
+use Rattle.ide_cli.proofs.Loads.{cut_by_load, gave_more, in_topology, no_line_wrote, nothing_yet, ran_whole}
 use Rattle.ide_cli.proofs.Loads.{run_after, run_ended, sound_is_short}
 use Rattle.ide_cli.proofs.script.run_files.Goals as goal
 
@@ -86,3 +88,17 @@ returns-in-Ok-Long-clause-no_further g c =
     topology_alone (g.S.Shelf.seen c.args.shelf.now).contents c.args.topology.now c.args.script.now Long
     (g.S.Shelf.seen c.args.shelf.now) (g.S.Shelf.seen c.load.new.shelf) (Ok TooLong) tt
     (rw c.in-Ok-Long.field-0-is at c.in-Ok-Long.ensures.loads) c.in-Ok-Long.ensures.within
+
+pub returns-in-Err-clause-names : goal.returns-in-Err-clause-names
+returns-in-Err-clause-names g c = asks_first c.args.topology.now c.args.script.now _ _ c.in-Err.ensures.names
+
+pub returns-in-Ok-Faulty-clause-names : goal.returns-in-Ok-Faulty-clause-names
+returns-in-Ok-Faulty-clause-names g c = asks_first c.args.topology.now c.args.script.now _ _
+    c.in-Ok-Faulty.ensures.names
+
+pub returns-in-Ok-Long-clause-names : goal.returns-in-Ok-Long-clause-names
+returns-in-Ok-Long-clause-names g c = asks_first c.args.topology.now c.args.script.now _ _ c.in-Ok-Long.ensures.names
+
+pub returns-in-Ok-Sound-clause-names : goal.returns-in-Ok-Sound-clause-names
+returns-in-Ok-Sound-clause-names g c =
+    asks_both c.args.topology.now c.args.script.now _ _ _ c.in-Ok-Sound.ensures.names c.run_script.ensures.names

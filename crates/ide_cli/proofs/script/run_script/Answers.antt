@@ -1,15 +1,15 @@
-use Rattle.std.proofs.Common.{[], option_map}
+use Rattle.std.proofs.Common.{◌≡◌, [], option_map}
 use Rattle.line_runs.specs.declared.ends.Fault.TheVariants as fault
 use Rattle.line_runs.specs.Lines.{file_due}
 use Rattle.line_runs.proofs.FileFronts.{nothing_wrote}
+use Rattle.line_runs.proofs.Names.{asks_none}
 use Rattle.line_runs.proofs.WholeFiles.{out_of_memory, redue}
 use Rattle.line_runs.specs.Gathering.{GoesOn, ended_text}
+use Rattle.line_runs.proofs.Joins.{ended_same, far_same, same_due, same_ended}
 use Rattle.ide_cli.specs.Script.{script_due}
 use Rattle.ide_cli.specs.Reads.{ScriptGoesOn}
 use Rattle.ide_cli.specs.SoFar.{script_so_far}
 use Rattle.ide_cli.specs.Works.{ScriptPast, Follows, closing_line, ran_line}
-use Rattle.ide_cli.proofs.Furthers.{far_same}
-use Rattle.ide_cli.proofs.Loads.{ended_same, same_due, same_ended}
 use Rattle.ide_cli.proofs.Scripts.{ended_runs, file_runs, follows_nothing, script_goes_on}
 use Rattle.ide_cli.proofs.script.run_script.Goals as goal
 
@@ -58,3 +58,6 @@ returns-in-Ok-clause-no_further g c =
     (g.S.Shelf.seen c.args.shelf.now) (g.S.Shelf.seen c.run_file.new.shelf) c.run_file.result
     (λ t goes_on. script_goes_on c.args.plan t goes_on)
     (c.run_file.ensures.no_further past follows)
+
+pub returns-in-Err-clause-names : goal.returns-in-Err-clause-names
+returns-in-Err-clause-names g c = asks_none (λ name. name ≡ c.args.script.now) (g.S.Shelf.seen c.args.shelf.now).asked

@@ -1,4 +1,5 @@
-use Rattle.std.proofs.Common.{[], Err, refl}
+use Rattle.std.proofs.Common.{[], Err, map, refl}
+use Rattle.std.specs.Prelude.{string_bytes}
 use Rattle.line_runs.specs.declared.ends.End.TheVariants as end
 use Rattle.line_runs.specs.declared.ends.Fault.TheVariants as fault
 use Rattle.line_runs.specs.Outcome.{Due}
@@ -8,7 +9,10 @@ use Rattle.ide_cli.specs.Seen.{CallSeen, call_seen}
 use Rattle.ide_cli.proofs.Requests.{answered_check, answered_generate, answered_run, answered_show}
 use Rattle.ide_cli.proofs.Requests.{answered_without_memory, asks_for, asks_for_none, asks_nothing}
 use Rattle.ide_cli.proofs.Requests.{asks_other, asks_these, ran_without_memory}
-use Rattle.ide_cli.proofs.Furthers.{asked_far, nothing_read}
+use Rattle.line_runs.proofs.Names.{asks_none}
+use Rattle.ide_cli.specs.Reads.{Names}
+use Rattle.ide_words.specs.Words.{asked}
+use Rattle.ide_cli.proofs.Furthers.{asked_far, asked_names, nothing_read}
 use Rattle.ide_cli.proofs.Stops.{asked_wrote, wrote_no_line}
 use Rattle.ide_cli.proofs.top.perform.Given.{Over}
 use Rattle.ide_cli.proofs.top.perform.Goals as goal
@@ -160,3 +164,35 @@ pub returns-in-Ok-Generate-clause-generated : goal.returns-in-Ok-Generate-clause
 returns-in-Ok-Generate-clause-generated g c =
     asks_these (seen_generate g c) _ _ (rw c.in-Ok-Generate.field-0-is at c.in-Ok-Generate.ensures.ok)
     c.generate.ensures.ran
+
+pub returns-in-Err-Usage-clause-names : goal.returns-in-Err-Usage-clause-names
+returns-in-Err-Usage-clause-names g c =
+    asks_none (Names (asked (map string_bytes c.args.words.now))) (g.S.Shelf.seen c.args.shelf.now).asked
+
+pub returns-in-Err-Memory-clause-names : goal.returns-in-Err-Memory-clause-names
+returns-in-Err-Memory-clause-names g c =
+    asks_none (Names (asked (map string_bytes c.args.words.now))) (g.S.Shelf.seen c.args.shelf.now).asked
+
+pub returns-in-Ok-Generate-clause-names : goal.returns-in-Ok-Generate-clause-names
+returns-in-Ok-Generate-clause-names g c =
+    asks_none (Names (asked (map string_bytes c.args.words.now))) (g.S.Shelf.seen c.args.shelf.now).asked
+
+pub returns-in-Ok-Run-clause-names : goal.returns-in-Ok-Run-clause-names
+returns-in-Ok-Run-clause-names g c =
+    asked_names (asked (map string_bytes c.args.words.now)) _ _ _
+    (rw c.in-Ok-Run.field-0-is at c.in-Ok-Run.ensures.ok) c.run_files.ensures.names
+
+pub returns-in-Ok-Check-clause-names : goal.returns-in-Ok-Check-clause-names
+returns-in-Ok-Check-clause-names g c =
+    asked_names (asked (map string_bytes c.args.words.now)) _ _ _
+    (rw c.in-Ok-Check.field-0-is at c.in-Ok-Check.ensures.ok) c.check_topology.ensures.names
+
+pub returns-in-Ok-Migrate-clause-names : goal.returns-in-Ok-Migrate-clause-names
+returns-in-Ok-Migrate-clause-names g c =
+    asked_names (asked (map string_bytes c.args.words.now)) _ _ _
+    (rw c.in-Ok-Migrate.field-0-is at c.in-Ok-Migrate.ensures.ok) c.migrate_topology.ensures.names
+
+pub returns-in-Ok-Show-clause-names : goal.returns-in-Ok-Show-clause-names
+returns-in-Ok-Show-clause-names g c =
+    asked_names (asked (map string_bytes c.args.words.now)) _ _ _
+    (rw c.in-Ok-Show.field-0-is at c.in-Ok-Show.ensures.ok) c.show_packets.ensures.names

@@ -1,12 +1,11 @@
 use Rattle.std.proofs.Common.{refl}
-use Rattle.key_laws.specs.Laws.{KeyCauseLaw}
-use Rattle.link_history.specs.Plan.{key_plan}
 use Rattle.line_runs.specs.declared.ends.End.TheVariants as end
 use Rattle.ide_cli.specs.declared.status.Status.TheVariants as status
 use Rattle.ide_cli.specs.Headline.{InEvery}
+use Rattle.ide_cli.specs.Laws.{IsDue, Laws}
 use Rattle.ide_cli.specs.Seen.{CallSeen, run_seen}
 use Rattle.ide_cli.proofs.Requests.{ended}
-use Rattle.ide_cli.proofs.Written.{IsDue, all_counted, all_written, history_is_due}
+use Rattle.ide_cli.proofs.Written.{all_counted, all_written, history_is_due}
 use Rattle.ide_cli.proofs.top.run.Given.{Over}
 use Rattle.ide_cli.proofs.top.run.Goals as goal
 
@@ -45,81 +44,129 @@ returns-clause-all_written g c = all_written c.lines_tell.ensures.told (call g c
 pub returns-clause-all_counted : goal.returns-clause-all_counted
 returns-clause-all_counted g c = all_counted (call g c) (returns-clause-generated g c)
 
--- what the laws suppose of each history that was written
+pub returns-clause-names : goal.returns-clause-names
+returns-clause-names g c = rw c.as_slice-words.ensures.value at c.perform.ensures.names
+
+-- what the laws suppose of each history that was written, and the laws
 is_due : (g : Over) (c : goal.After-status_of g) → InEvery IsDue (call g c)
 is_due g c = history_is_due c.lines_tell.ensures.tell (call g c) (returns-clause-answers g c)
 
-keys_caused : (g : Over) (c : goal.After-status_of g) → InEvery (λ plan h. KeyCauseLaw (key_plan plan) h) (call g c)
-keys_caused g c plan h w = c.keys_have_causes.ensures plan h (is_due g c plan h w).cause
+laws : (g : Over) (c : goal.After-status_of g) → InEvery Laws (call g c)
+laws g c plan h w = c.laws_hold.ensures plan h (is_due g c plan h w)
 
 pub returns-clause-cause_law : goal.returns-clause-cause_law
 returns-clause-cause_law g c plan h w = (is_due g c plan h w).cause
 
 pub returns-clause-draws_never_fall : goal.returns-clause-draws_never_fall
-returns-clause-draws_never_fall g c plan h w = c.draws_never_fall.ensures plan h (is_due g c plan h w).cause
+returns-clause-draws_never_fall g c plan h w = (laws g c plan h w).draws_never_fall
 
 pub returns-clause-whole_law : goal.returns-clause-whole_law
-returns-clause-whole_law g c plan h w = let is = is_due g c plan h w in c.whole_law.ensures plan is.fits h is.cause
+returns-clause-whole_law g c plan h w = (laws g c plan h w).whole_law
 
 pub returns-clause-order_is_no_forgery : goal.returns-clause-order_is_no_forgery
-returns-clause-order_is_no_forgery g c plan h w =
-    let is = is_due g c plan h w in c.order_is_no_forgery.ensures plan is.fits h is.cause
+returns-clause-order_is_no_forgery g c plan h w = (laws g c plan h w).order_is_no_forgery
 
 pub returns-clause-count_law : goal.returns-clause-count_law
-returns-clause-count_law g c plan h w = let is = is_due g c plan h w in c.count_law.ensures plan is.fits h is.cause
-
-pub returns-clause-numbers_fresh : goal.returns-clause-numbers_fresh
-returns-clause-numbers_fresh g c plan h w =
-    let is = is_due g c plan h w in c.numbers_fresh.ensures plan is.fits h is.cause
-
-pub returns-clause-delivery_law : goal.returns-clause-delivery_law
-returns-clause-delivery_law g c plan h w =
-    let is = is_due g c plan h w in c.delivery_law.ensures plan is.fits h is.cause
-
-pub returns-clause-origin_law : goal.returns-clause-origin_law
-returns-clause-origin_law g c plan h w = let is = is_due g c plan h w in c.origin_law.ensures plan is.fits h is.cause
+returns-clause-count_law g c plan h w = (laws g c plan h w).count_law
 
 pub returns-clause-settled : goal.returns-clause-settled
-returns-clause-settled g c plan h w = c.settled.ensures (key_plan plan) h (keys_caused g c plan h w)
+returns-clause-settled g c plan h w = (laws g c plan h w).settled
 
 pub returns-clause-stays_secure : goal.returns-clause-stays_secure
-returns-clause-stays_secure g c plan h w = c.stays_secure.ensures (key_plan plan) h (keys_caused g c plan h w)
+returns-clause-stays_secure g c plan h w = (laws g c plan h w).stays_secure
 
 pub returns-clause-stream_facts : goal.returns-clause-stream_facts
-returns-clause-stream_facts g c plan h w = c.stream_facts.ensures (key_plan plan) h (keys_caused g c plan h w)
+returns-clause-stream_facts g c plan h w = (laws g c plan h w).stream_facts
 
 pub returns-clause-gos_find_keys : goal.returns-clause-gos_find_keys
-returns-clause-gos_find_keys g c plan h w = c.gos_find_keys.ensures (key_plan plan) h (keys_caused g c plan h w)
+returns-clause-gos_find_keys g c plan h w = (laws g c plan h w).gos_find_keys
 
 pub returns-clause-never_again : goal.returns-clause-never_again
-returns-clause-never_again g c plan h w = c.never_again.ensures (key_plan plan) h (keys_caused g c plan h w)
+returns-clause-never_again g c plan h w = (laws g c plan h w).never_again
 
-pub returns-clause-prefix_law : goal.returns-clause-prefix_law
-returns-clause-prefix_law g c plan h w forged =
-    let is = is_due g c plan h w in
-    c.prefix_law.ensures plan is.fits h is.cause forged (c.totals_fit.ensures plan h is.cause is.few)
+pub returns-clause-failed_law : goal.returns-clause-failed_law
+returns-clause-failed_law g c plan h w = (laws g c plan h w).failed_law
 
-pub returns-clause-order_law : goal.returns-clause-order_law
-returns-clause-order_law g c plan h w forged =
-    let is = is_due g c plan h w in
-    c.order_law.ensures plan is.fits h is.cause forged (c.totals_fit.ensures plan h is.cause is.few)
+pub returns-clause-numbers_fresh : goal.returns-clause-numbers_fresh
+returns-clause-numbers_fresh g c plan h w = (laws g c plan h w).numbers_fresh
+
+pub returns-clause-keystream_fresh : goal.returns-clause-keystream_fresh
+returns-clause-keystream_fresh g c plan h w = (laws g c plan h w).keystream_fresh
 
 pub returns-clause-run_law : goal.returns-clause-run_law
-returns-clause-run_law g c plan h w = c.run_law.ensures plan h (is_due g c plan h w).cause
+returns-clause-run_law g c plan h w = (laws g c plan h w).run_law
 
-pub returns-clause-memory_law : goal.returns-clause-memory_law
-returns-clause-memory_law g c plan h w = c.memory_law.ensures plan h (is_due g c plan h w).cause
+pub returns-clause-attested : goal.returns-clause-attested
+returns-clause-attested g c plan h w = (laws g c plan h w).attested
 
-pub returns-clause-read_law : goal.returns-clause-read_law
-returns-clause-read_law g c plan h w = c.read_law.ensures plan h (is_due g c plan h w).cause
+pub returns-clause-lock_law : goal.returns-clause-lock_law
+returns-clause-lock_law g c plan h w = (laws g c plan h w).lock_law
 
-pub returns-clause-mmio_law : goal.returns-clause-mmio_law
-returns-clause-mmio_law g c plan h w = c.mmio_law.ensures plan h (is_due g c plan h w).cause
+pub returns-clause-scrubbed : goal.returns-clause-scrubbed
+returns-clause-scrubbed g c plan h w = (laws g c plan h w).scrubbed
 
-pub returns-clause-read_origin_law : goal.returns-clause-read_origin_law
-returns-clause-read_origin_law g c plan h w =
-    let is = is_due g c plan h w in c.read_origin_law.ensures plan is.fits h is.cause
+pub returns-clause-bind_law : goal.returns-clause-bind_law
+returns-clause-bind_law g c plan h w = (laws g c plan h w).bind_law
 
 pub returns-clause-view_facts : goal.returns-clause-view_facts
-returns-clause-view_facts g c plan h w = c.views_hold.ensures plan (key_plan plan) h (keys_caused g c plan h w)
-    (c.interfaces_have_causes.ensures plan h (is_due g c plan h w).cause)
+returns-clause-view_facts g c plan h w = (laws g c plan h w).view_facts
+
+pub returns-clause-views_are_true : goal.returns-clause-views_are_true
+returns-clause-views_are_true g c plan h w = (laws g c plan h w).views_are_true
+
+pub returns-clause-one_lock_per_key : goal.returns-clause-one_lock_per_key
+returns-clause-one_lock_per_key g c plan h w = (laws g c plan h w).one_lock_per_key
+
+pub returns-clause-answers_law : goal.returns-clause-answers_law
+returns-clause-answers_law g c plan h w = (laws g c plan h w).answers_law
+
+pub returns-clause-memory_law : goal.returns-clause-memory_law
+returns-clause-memory_law g c plan h w = (laws g c plan h w).memory_law
+
+pub returns-clause-effect_law : goal.returns-clause-effect_law
+returns-clause-effect_law g c plan h w = (laws g c plan h w).effect_law
+
+pub returns-clause-read_law : goal.returns-clause-read_law
+returns-clause-read_law g c plan h w = (laws g c plan h w).read_law
+
+pub returns-clause-answer_law : goal.returns-clause-answer_law
+returns-clause-answer_law g c plan h w = (laws g c plan h w).answer_law
+
+pub returns-clause-trust_law : goal.returns-clause-trust_law
+returns-clause-trust_law g c plan h w = (laws g c plan h w).trust_law
+
+pub returns-clause-mmio_law : goal.returns-clause-mmio_law
+returns-clause-mmio_law g c plan h w = (laws g c plan h w).mmio_law
+
+pub returns-clause-hop_law : goal.returns-clause-hop_law
+returns-clause-hop_law g c plan h w = (laws g c plan h w).hop_law
+
+pub returns-clause-through_law : goal.returns-clause-through_law
+returns-clause-through_law g c plan h w = (laws g c plan h w).through_law
+
+pub returns-clause-named_law : goal.returns-clause-named_law
+returns-clause-named_law g c plan h w = (laws g c plan h w).named_law
+
+pub returns-clause-prefix_law : goal.returns-clause-prefix_law
+returns-clause-prefix_law g c plan h w = (laws g c plan h w).prefix_law
+
+pub returns-clause-delivery_law : goal.returns-clause-delivery_law
+returns-clause-delivery_law g c plan h w = (laws g c plan h w).delivery_law
+
+pub returns-clause-order_law : goal.returns-clause-order_law
+returns-clause-order_law g c plan h w = (laws g c plan h w).order_law
+
+pub returns-clause-origin_law : goal.returns-clause-origin_law
+returns-clause-origin_law g c plan h w = (laws g c plan h w).origin_law
+
+pub returns-clause-read_origin_law : goal.returns-clause-read_origin_law
+returns-clause-read_origin_law g c plan h w = (laws g c plan h w).read_origin_law
+
+pub returns-clause-bind_origin_law : goal.returns-clause-bind_origin_law
+returns-clause-bind_origin_law g c plan h w = (laws g c plan h w).bind_origin_law
+
+pub returns-clause-byte_origin : goal.returns-clause-byte_origin
+returns-clause-byte_origin g c plan h w = (laws g c plan h w).byte_origin
+
+pub returns-clause-mmio_origin_law : goal.returns-clause-mmio_origin_law
+returns-clause-mmio_origin_law g c plan h w = (laws g c plan h w).mmio_origin_law

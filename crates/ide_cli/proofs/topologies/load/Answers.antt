@@ -2,9 +2,10 @@ use Rattle.std.proofs.Common.{◌≡◌, ◌≢◌, ◌<◌, ◌≤◌, length, 
 use Rattle.std.specs.Prelude.{IfOk}
 use Rattle.topology.specs.Meaning.{plan_of}
 use Rattle.line_runs.specs.Gain.{Text}
+use Rattle.line_runs.proofs.Joins.{given_within}
 use Rattle.ide_cli.specs.declared.topologies.Loaded.TheVariants.{Long}
 use Rattle.ide_cli.specs.Topologies.{by_plan, loaded}
-use Rattle.ide_cli.proofs.Loads.{gave_all, gave_few, gave_long, given_within, loads_front}
+use Rattle.ide_cli.proofs.Loads.{gave_all, gave_few, gave_long, loads_front}
 use Rattle.ide_cli.proofs.topologies.load.Goals as goal
 
 pub returns-in-Ok-clause-loads : goal.returns-in-Ok-clause-loads

@@ -7,6 +7,7 @@ use Rattle.line_runs.specs.Lines.{file_due}
 use Rattle.line_runs.proofs.FileFronts.{cut_wrote, end_at_limit, end_in_piece, end_of_file, fault_answers, fault_wrote}
 use Rattle.line_runs.proofs.FileFronts.{file_begins, file_goes_on, no_further, nothing_more, nothing_wrote, one_byte}
 use Rattle.line_runs.proofs.FileFronts.{whole_at}
+use Rattle.line_runs.proofs.Names.{asks_more, asks_none}
 use Rattle.line_runs.proofs.WholeFiles.{out_of_memory}
 use Rattle.line_runs.proofs.files.run_file.Goals as goal
 
@@ -22,6 +23,7 @@ loop-n-init g c = record {
   faults = refl;
   given = omega arith;
   cap = omega arith;
+  names = asks_none (λ other. other ≡ c.args.name.now) (g.S.Shelf.seen c.args.shelf.now).asked;
   pieces = le-max_left _ 4096;
   most = omega arith;
   numbered = omega (arith, c.in-Ok.ensures.number);
@@ -202,6 +204,7 @@ loop-n-preserved g c =
       faults = c.in-Ok-read_piece.ensures.cause ∙ inv.faults;
       given = omega (arith, inv.given, c.in-Ok-read_piece.ensures.counted);
       cap = omega (arith, inv.cap, c.in-Ok-read_piece.ensures.counted);
+      names = asks_more (λ other. other ≡ c.args.name.now) _ _ _ inv.names c.in-Ok-read_piece.ensures.names;
       pieces = omega (arith, inv.pieces, c.in-Ok-read_piece.ensures.pieces);
       most = omega (arith, c.in-Ok-read_piece.ensures.counts);
       numbered = omega (arith, number, size, inv.numbered);
@@ -272,3 +275,27 @@ returns-in-Ok-Some-clause-no_further g c = λ past was.
     (Ok c.in-Ok-Some.end) f reads.0 (omega arith)
     (omega (arith, size, c.in-Ok-read_piece.ensures.latest))
     (omega (arith, inv.given, counted, size), omega (arith, inv.cap, counted, size))
+
+pub returns-in_default-clause-names : goal.returns-in_default-clause-names
+returns-in_default-clause-names g c = asks_none (λ other. other ≡ c.args.name.now)
+    (g.S.Shelf.seen c.args.shelf.now).asked
+
+pub returns-in_default-read_piece-clause-names : goal.returns-in_default-read_piece-clause-names
+returns-in_default-read_piece-clause-names g c =
+    asks_more (λ other. other ≡ c.args.name.now) _ _ _ c.loop-n.invariant.names c.in_default-read_piece.ensures.names
+
+pub returns-then-n-eq0-clause-names : goal.returns-then-n-eq0-clause-names
+returns-then-n-eq0-clause-names g c =
+    asks_more (λ other. other ≡ c.args.name.now) _ _ _ c.loop-n.invariant.names c.in-Ok-read_piece.ensures.names
+
+pub returns-then-at-eq-FILE_LIMIT-clause-names : goal.returns-then-at-eq-FILE_LIMIT-clause-names
+returns-then-at-eq-FILE_LIMIT-clause-names g c =
+    asks_more (λ other. other ≡ c.args.name.now) _ _ _ c.loop-n.invariant.names c.in-Ok-read_piece.ensures.names
+
+pub returns-in-Err-clause-names : goal.returns-in-Err-clause-names
+returns-in-Err-clause-names g c =
+    asks_more (λ other. other ≡ c.args.name.now) _ _ _ c.loop-n.invariant.names c.in-Ok-read_piece.ensures.names
+
+pub returns-in-Ok-Some-clause-names : goal.returns-in-Ok-Some-clause-names
+returns-in-Ok-Some-clause-names g c =
+    asks_more (λ other. other ≡ c.args.name.now) _ _ _ c.loop-n.invariant.names c.in-Ok-read_piece.ensures.names

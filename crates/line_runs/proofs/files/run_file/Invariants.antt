@@ -1,5 +1,5 @@
 use Rattle.std.proofs.Common.{◌≡◌, ◌≤◌, ◌-◌, ◌+◌, []}
-use Rattle.ide_base.specs.Outside.{counted}
+use Rattle.ide_base.specs.Outside.{AsksFor, counted}
 use Rattle.line_runs.specs.Front.{AskedPieces}
 use Rattle.line_runs.proofs.FileFronts.{FileSoFarBy}
 use Rattle.line_runs.proofs.files.run_file.Given as goal
@@ -10,6 +10,7 @@ invariant-loop-n g l = record {
   faults : (g.S.Shelf.seen l.shelf).faults ≡ (g.S.Shelf.seen l.initial.shelf).faults;
   given : counted (g.S.Shelf.seen l.initial.shelf).given l.at ≤ (g.S.Shelf.seen l.shelf).given;
   cap : (g.S.Shelf.seen l.shelf).given ≤ (g.S.Shelf.seen l.initial.shelf).given + l.at;
+  names : AsksFor l.name (g.S.Shelf.seen l.initial.shelf).asked (g.S.Shelf.seen l.shelf).asked;
   pieces : AskedPieces (g.S.Shelf.seen l.initial.shelf).longest (g.S.Shelf.seen l.shelf).longest;
   most : l.at ≤ 16777216;
   numbered : l.lines.number ≤ l.at + 1;

@@ -1,6 +1,7 @@
-use Rattle.std.proofs.Common.{arith, length, refl}
+use Rattle.std.proofs.Common.{◌≡◌, arith, length, refl}
 use Rattle.std.proofs.Math.Nat.{le-max_left}
 use Rattle.line_runs.proofs.Fronts.{gave_of, gave_on, start, whole}
+use Rattle.line_runs.proofs.Names.{asks_more, asks_none}
 use Rattle.line_runs.proofs.front.read_front.Goals as goal
 
 pub loop-buf-init : goal.loop-buf-init
@@ -9,6 +10,7 @@ loop-buf-init g c = rw c.new-bytes.ensures.items (record {
   faults = refl;
   given = omega arith;
   cap = omega arith;
+  names = asks_none (λ other. other ≡ c.args.name.now) (g.S.Shelf.seen c.args.shelf.now).asked;
   pieces = le-max_left _ 4096;
   most = omega arith;
   read = start (g.S.Shelf.seen c.args.shelf.now).contents c.args.name.now;
@@ -38,3 +40,11 @@ returns-clause-within g c =
     let inv = c.loop-buf.invariant in
     gave_of (g.S.Shelf.seen c.args.shelf.now).contents c.args.name.now c.loop-buf.bytes.items _ _ inv.read
     (inv.given, inv.cap)
+
+pub returns-in_err-n-clause-names : goal.returns-in_err-n-clause-names
+returns-in_err-n-clause-names g c =
+    asks_more (λ other. other ≡ c.args.name.now) _ _ _ c.loop-buf.invariant.names c.in_err-n.ensures.names
+
+pub returns-then-n-eq0-clause-names : goal.returns-then-n-eq0-clause-names
+returns-then-n-eq0-clause-names g c =
+    asks_more (λ other. other ≡ c.args.name.now) _ _ _ c.loop-buf.invariant.names c.in_ok-n.ensures.names

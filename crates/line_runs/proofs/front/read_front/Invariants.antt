@@ -1,5 +1,5 @@
 use Rattle.std.proofs.Common.{◌≡◌, ◌≤◌, ◌-◌, ◌+◌, length}
-use Rattle.ide_base.specs.Outside.{counted}
+use Rattle.ide_base.specs.Outside.{AsksFor, counted}
 use Rattle.line_runs.specs.Front.{AskedPieces, IsReadOf}
 use Rattle.line_runs.proofs.front.read_front.Given as goal
 
@@ -9,6 +9,7 @@ invariant-loop-buf g l = record {
   faults : (g.S.Shelf.seen l.shelf).faults ≡ (g.S.Shelf.seen l.initial.shelf).faults;
   given : counted (g.S.Shelf.seen l.initial.shelf).given (length l.bytes.items) ≤ (g.S.Shelf.seen l.shelf).given;
   cap : (g.S.Shelf.seen l.shelf).given ≤ (g.S.Shelf.seen l.initial.shelf).given + length l.bytes.items;
+  names : AsksFor l.name (g.S.Shelf.seen l.initial.shelf).asked (g.S.Shelf.seen l.shelf).asked;
   pieces : AskedPieces (g.S.Shelf.seen l.initial.shelf).longest (g.S.Shelf.seen l.shelf).longest;
   most : length l.bytes.items ≤ l.most;
   read : IsReadOf (g.S.Shelf.seen l.initial.shelf).contents l.name l.bytes.items;

@@ -1,0 +1,79 @@
+-- The laws of every history in which each verdict is the one that is due.
+use Rattle.std.specs.Prelude.{◌≡◌, ◌≤◌, Some, length}
+use Rattle.byte_laws.specs.{AnswerLaw, AnswersLaw, Attested, ByteOriginLaw, EffectLaw, FailedLaw, KeyStreamFresh}
+use Rattle.byte_laws.specs.{LockLaw, MmioOriginLaw, NamedLaw, OneLockPerKey, Scrubbed, TrustLaw, ViewsAreTrue}
+use Rattle.delivery_laws.specs.PostedCounts.{CountLaw}
+use Rattle.ide_plan.specs.declared.plan.Plan.{Plan}
+use Rattle.ide_plan.specs.Fits.{FitsPlan}
+use Rattle.interface_states.specs.Laws.{BindLaw, RunLaw, ViewHolds}
+use Rattle.interface_states.specs.Sites.{Site, site_at}
+use Rattle.key_laws.specs.History.{History}
+use Rattle.key_laws.specs.Laws.{GosFindKeys, NeverAgain, Settled, StaysSecure, StreamFacts}
+use Rattle.link_history.specs.Cause.{CauseLaw}
+use Rattle.link_history.specs.Delivered.{DeliveryLaw}
+use Rattle.link_history.specs.HopLaws.{HopLaw, ThroughLaw}
+use Rattle.link_history.specs.Laws.{DrawsNeverFall, NoForgery, OrderIsNoForgery, PrefixLaw, WholeLaw}
+use Rattle.link_history.specs.Numbers.{NumbersFresh}
+use Rattle.link_history.specs.Ordered.{OrderLaw}
+use Rattle.mmio_laws.specs.Mmio.{MmioLaw}
+use Rattle.origin_laws.specs.Bindings.{BindOriginLaw}
+use Rattle.origin_laws.specs.Origin.{MemoryLaw, OriginLaw}
+use Rattle.origin_laws.specs.ReadLaws.{ReadLaw, ReadOriginLaw}
+
+-- the law holds provided that no tag verified on a unit that its partner had not sealed
+abbrev pub Unforged : (Plan → History → Type 0) → Plan → History → Type 0
+Unforged law plan h = NoForgery plan h → law plan h
+
+-- of every interface of the plan, what the manager's view says of it holds
+abbrev pub ViewFacts : Plan → History → Type 0
+ViewFacts plan h = (x : Site) → site_at plan x.number ≡ Some x → ViewHolds plan h x
+
+-- what the laws suppose of a history
+pub record IsDue (plan : Plan) (h : History) : Type 0 where
+  pub fits : FitsPlan plan
+  pub cause : CauseLaw plan h
+  pub few : length h ≤ 4294967296
+
+-- all of them; those that suppose that no tag was forged say so
+pub record Laws (plan : Plan) (h : History) : Type 0 where
+  pub draws_never_fall : DrawsNeverFall h
+  pub whole_law : WholeLaw plan h
+  pub order_is_no_forgery : OrderIsNoForgery plan h
+  pub count_law : CountLaw plan h
+  pub settled : Settled h
+  pub stays_secure : StaysSecure h
+  pub stream_facts : StreamFacts h
+  pub gos_find_keys : GosFindKeys h
+  pub never_again : NeverAgain h
+  pub failed_law : FailedLaw plan h
+  pub numbers_fresh : NumbersFresh plan h
+  pub keystream_fresh : KeyStreamFresh plan h
+  pub run_law : RunLaw plan h
+  pub attested : Attested plan h
+  pub lock_law : LockLaw plan h
+  pub scrubbed : Scrubbed plan h
+  pub bind_law : BindLaw plan h
+  pub view_facts : ViewFacts plan h
+  pub views_are_true : ViewsAreTrue plan h
+  pub one_lock_per_key : OneLockPerKey plan h
+  pub answers_law : AnswersLaw plan h
+  pub memory_law : MemoryLaw plan h
+  pub effect_law : EffectLaw plan h
+  pub read_law : ReadLaw plan h
+  pub answer_law : AnswerLaw plan h
+  pub trust_law : TrustLaw plan h
+  pub mmio_law : MmioLaw plan h
+  pub hop_law : HopLaw plan h
+  pub through_law : ThroughLaw plan h
+  pub named_law : NamedLaw plan h
+  pub prefix_law : Unforged PrefixLaw plan h
+  pub delivery_law : Unforged DeliveryLaw plan h
+  pub order_law : Unforged OrderLaw plan h
+  pub origin_law : Unforged OriginLaw plan h
+  pub read_origin_law : Unforged ReadOriginLaw plan h
+  pub bind_origin_law : Unforged BindOriginLaw plan h
+  pub byte_origin : Unforged ByteOriginLaw plan h
+  pub mmio_origin_law : Unforged MmioOriginLaw plan h
+
+abbrev pub LawsHold : Type 0
+LawsHold = (plan : Plan) (h : History) → IsDue plan h → Laws plan h

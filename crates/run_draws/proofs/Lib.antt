@@ -1,0 +1,5 @@
+pub mod Taken
+pub mod StreamDraws
+pub mod NoOtherRun
+pub mod PeerEnds
+pub mod BindFloors
