@@ -1,0 +1,209 @@
+-- What a session is, and what each call makes of one.
+use Rattle.std.specs.Prelude.{ℕ, ◌≡◌, ◌⊎◌, ◌+◌, ◌<◌, ◌≤◌, length, take, [], Option, Some, None, Result, Ok, Err, IsSome}
+use Rattle.link_events.specs.declared.fault.LineFault.{LineFault}
+use Rattle.link_events.specs.declared.script.ScriptEvent.{ScriptEvent}
+use Rattle.link_events.specs.Parse.{line_meaning}
+use Rattle.link_events.specs.Words.{fault_line_of}
+use Rattle.ide_plan.specs.declared.plan.Plan.{Plan}
+use Rattle.line_runs.specs.declared.ends.End.TheVariants as end
+use Rattle.line_runs.specs.Gain.{Text}
+use Rattle.ide_cli.specs.declared.topologies.Loaded.TheVariants.{Sound}
+use Rattle.ide_cli.specs.Topologies.{check_due, loaded}
+use Rattle.ide_cli.specs.Works.{Follows, RunningView, ScriptPast, by_meaning, closing_line, ran_line}
+use Rattle.ide_session.specs.declared.answer.Answer.{Answer}
+use Rattle.ide_session.specs.declared.answer.Answer.TheVariants.{Done, Topology, Script, Memory, TooLong, Room, Closed}
+use Rattle.ide_session.specs.declared.answer.Answer.TheVariants.{Open}
+use Rattle.ide_session.specs.declared.session.Live.{Live}
+use Rattle.ide_session.specs.declared.session.NotRun.{NotRun}
+use Rattle.ide_session.specs.declared.session.NotRun.TheVariants as not_run
+use Rattle.ide_session.specs.declared.session.Session.{Session}
+
+-- a session that goes on: what runs, how many lines came, and the text of the last one
+pub record Going : Type 0 where
+  pub running : RunningView
+  pub lines : ℕ
+  pub text : Text
+
+abbrev pub going_with : Text → Option Live → Option Going
+going_with text None = None
+going_with text (Some live) = Some (record { running = live.work; lines = live.lines; text = text })
+
+abbrev pub going_of : Session → Option Going
+going_of s = going_with s.text s.slot
+
+-- of what a handle keeps: a session that goes on, or none
+abbrev pub going : Option Session → Option Going
+going None = None
+going (Some s) = going_of s
+
+-- ---- a line
+
+-- the past and the text that are due were given: this text, and the state follows that past
+pub record Gave (due : Result (ScriptPast × Text) LineFault) (new : RunningView) (text : Text) : Type 0 where
+  pub past : ScriptPast
+  pub is : due ≡ Ok (past, text)
+  pub follows : Follows new past
+
+-- after whatever past the state follows, the meaning of a line gives the text that is due, and the state follows the
+-- past with it
+abbrev pub MeaningGave : RunningView → Option ScriptEvent → RunningView → Text → Type 0
+MeaningGave old asked new text =
+    (past : ScriptPast) → Follows old past → Gave (by_meaning past (Ok asked)) new text
+
+-- The line was taken: after whatever past the session follows, its text is the one that is due, it is kept, and the
+-- session follows the past with it.
+pub record TookLine (old : Going) (line : Text) (new : Going) : Type 0 where
+  pub lines_are : new.lines ≡ old.lines + 1
+  pub gave : (past : ScriptPast) → Follows old.running past
+      → Gave (ran_line past (old.lines + 1) line) new.running new.text
+
+abbrev pub KeptGave : Option Going → Text → Option Going → Type 0
+KeptGave (Some old) line (Some new) = TookLine old line new
+KeptGave _ line _ = ⊥
+
+-- what a session makes of the meaning of a line
+pub record Made (old : Going) (asked : Option ScriptEvent) (new : Going) : Type 0 where
+  pub lines_are : new.lines ≡ old.lines + 1
+  pub gave : MeaningGave old.running asked new.running new.text
+
+abbrev pub KeptMade : Option Going → Option ScriptEvent → Option Going → Type 0
+KeptMade (Some old) asked (Some new) = Made old asked new
+KeptMade _ asked _ = ⊥
+
+-- the line is not spelled, and the line of its fault is as said
+abbrev pub MeaningRefused : ℕ → Result (Option ScriptEvent) LineFault → (Text → Type 0) → Type 0
+MeaningRefused n (Ok asked) Said = ⊥
+MeaningRefused n (Err fault) Said = Said (fault_line_of n fault)
+
+abbrev pub IsRefused : Option Going → Text → (Text → Type 0) → Type 0
+IsRefused None line Said = ⊥
+IsRefused (Some s) line Said = MeaningRefused (s.lines + 1) (line_meaning line) Said
+
+-- how many lines a session takes
+abbrev pub most_lines : ℕ
+most_lines = 67108862
+
+abbrev pub IsFull : Option Going → Type 0
+IsFull None = ⊥
+IsFull (Some s) = most_lines ≤ s.lines
+
+abbrev pub EventCame : Option Going → Option ScriptEvent → Option Going → Result (Unit {0}) NotRun → Type 0
+EventCame old asked new (Ok u) = KeptMade old asked new
+EventCame old asked new (Err (not_run.Fault fault)) = ⊥
+EventCame old asked new (Err not_run.Full) = (new ≡ old) × IsFull old
+EventCame old asked new (Err not_run.Memory) = (new ≡ old) ⊎ (new ≡ None)
+
+-- what a session makes of a line
+abbrev pub LineCame : Option Going → Text → Option Going → Result (Unit {0}) NotRun → Type 0
+LineCame old line new (Ok u) = KeptGave old line new
+LineCame old line new (Err (not_run.Fault fault)) = (new ≡ old) × IsSome old × (line_meaning line ≡ Err fault)
+LineCame old line new (Err not_run.Full) = (new ≡ old) × IsFull old
+LineCame old line new (Err not_run.Memory) = (new ≡ old) ⊎ (new ≡ None)
+
+-- ---- a text in the buffer
+
+-- so many bytes the text has, and it is in the buffer if that has room
+pub record Wrote (text : Text) (written : ℕ) (buf : Text) : Type 0 where
+  pub length_is : written ≡ length text
+  pub copied : written ≤ length buf → take written buf ≡ text
+
+-- it has room
+pub record WroteWhole (text : Text) (written : ℕ) (buf : Text) : Type 0 where
+  pub length_is : written ≡ length text
+  pub whole : take written buf ≡ text
+
+-- it has none
+pub record NoRoom (text : Text) (written : ℕ) (buf : Text) : Type 0 where
+  pub length_is : written ≡ length text
+  pub short : length buf < written
+
+abbrev pub TextCame : Answer → Text → ℕ → Text → Type 0
+TextCame Done text written buf = WroteWhole text written buf
+TextCame Room text written buf = NoRoom text written buf
+TextCame _ text written buf = ⊥
+
+-- the text that was given last
+abbrev pub last_text : Option Going → Text
+last_text None = []
+last_text (Some s) = s.text
+
+-- ---- each call: its answer, what the handle kept before and keeps now, and what is in the buffer
+
+-- a session on a plan, with the empty history
+pub record SessionOf (plan : Plan) (s : Going) : Type 0 where
+  pub follows : Follows s.running (record { plan = plan; history = [] })
+  pub lines_are : s.lines ≡ 0
+  pub text_is : s.text ≡ []
+
+abbrev pub IsSessionOf : Plan → Option Going → Type 0
+IsSessionOf plan None = ⊥
+IsSessionOf plan (Some s) = SessionOf plan s
+
+abbrev pub BeginCame : Answer → Plan → Option Going → Type 0
+BeginCame Done plan new = IsSessionOf plan new
+BeginCame Memory plan new = new ≡ None
+BeginCame _ plan new = ⊥
+
+-- the session of the plan that a topology's bytes mean
+pub record Begun (topology : Text) (new : Option Going) : Type 0 where
+  pub plan : Plan
+  pub plan_is : loaded topology ≡ Sound plan
+  pub session : IsSessionOf plan new
+
+-- of a handle with no session
+abbrev pub EmptyCame : Answer → Text → Option Going → ℕ → Text → Type 0
+EmptyCame Done topology new written buf = Begun topology new × (written ≡ 0)
+EmptyCame Topology topology new written buf =
+    (new ≡ None) × ((check_due topology).0 ≡ end.Topology) × Wrote (check_due topology).1 written buf
+EmptyCame TooLong topology new written buf = (new ≡ None) × ((check_due topology).0 ≡ end.TooLong) × (written ≡ 0)
+EmptyCame Memory topology new written buf = (new ≡ None) × (written ≡ 0)
+EmptyCame _ topology new written buf = ⊥
+
+abbrev pub OpenCame : Answer → Option Going → Text → Option Going → ℕ → Text → Type 0
+OpenCame answer None topology new written buf = EmptyCame answer topology new written buf
+OpenCame answer (Some s) topology new written buf = (answer ≡ Open) × (new ≡ Some s) × (written ≡ 0)
+
+abbrev pub StepCame : Answer → Option Going → Text → Option Going → ℕ → Text → Type 0
+StepCame Done old line new written buf = KeptGave old line new × WroteWhole (last_text new) written buf
+StepCame Room old line new written buf = KeptGave old line new × NoRoom (last_text new) written buf
+StepCame Script old line new written buf = (new ≡ old) × IsRefused old line (λ text. Wrote text written buf)
+StepCame TooLong old line new written buf = (new ≡ old) × IsFull old × (written ≡ 0)
+StepCame Memory old line new written buf = ((new ≡ old) ⊎ (new ≡ None)) × (written ≡ 0)
+StepCame Closed old line new written buf = (old ≡ None) × (new ≡ None) × (written ≡ 0)
+StepCame _ old line new written buf = ⊥
+
+abbrev pub IsNotFull : NotRun → Type 0
+IsNotFull not_run.Full = ⊥
+IsNotFull cause = Unit {0}
+
+-- of a line that was not run
+abbrev pub RefusalCame : Answer → ℕ → NotRun → ℕ → Text → Type 0
+RefusalCame Script n (not_run.Fault fault) written buf = Wrote (fault_line_of n fault) written buf
+RefusalCame Memory n cause written buf = (written ≡ 0) × IsNotFull cause
+RefusalCame TooLong n not_run.Full written buf = written ≡ 0
+RefusalCame _ n cause written buf = ⊥
+
+-- a session is as it was, and this is said of it, or there is none
+abbrev pub AsItWas : (Answer → Going → Type 0) → Answer → Option Going → Option Going → ℕ → Type 0
+AsItWas Said answer None new written = (answer ≡ Closed) × (new ≡ None) × (written ≡ 0)
+AsItWas Said answer (Some s) new written = (new ≡ Some s) × Said answer s
+
+abbrev pub LastCame : Answer → Option Going → Option Going → ℕ → Text → Type 0
+LastCame answer old new written buf = AsItWas (λ a s. TextCame a s.text written buf) answer old new written
+
+-- after whatever past the session follows, the text is the line of its totals
+abbrev pub IsTotals : RunningView → Text → Type 0
+IsTotals running text = (past : ScriptPast) → Follows running past → text ≡ closing_line past
+
+-- some text is given that is the line of the totals, or there is no memory
+abbrev pub TotalsSaid : Answer → RunningView → ℕ → Text → Type 0
+TotalsSaid Memory running written buf = written ≡ 0
+TotalsSaid answer running written buf = (text : Text) × IsTotals running text × TextCame answer text written buf
+
+abbrev pub TotalsCame : Answer → Option Going → Option Going → ℕ → Text → Type 0
+TotalsCame answer old new written buf =
+    AsItWas (λ a s. TotalsSaid a s.running written buf) answer old new written
+
+abbrev pub CloseCame : Answer → Option Going → Option Going → Type 0
+CloseCame answer None new = (answer ≡ Closed) × (new ≡ None)
+CloseCame answer (Some s) new = (answer ≡ Done) × (new ≡ None)

@@ -1,0 +1,267 @@
+//! Sessions for C: a session is opened on the bytes of a topology, stepped by one line of a script at a time, and
+//! closed.
+#![tactic(auto)]
+
+ghost use Rattle.std.specs.Prelude.{◌≡◌, IfSome, IsSome, None};
+ghost use Rattle.ide_plan.specs.Fits.{FitsPlan};
+ghost use Rattle.ide_session.specs.Answers.{Answered};
+ghost use Rattle.ide_session.specs.Sessions.{BeginCame, CloseCame, LastCame, OpenCame, RefusalCame, StepCame, TextCame};
+ghost use Rattle.ide_session.specs.Sessions.{TotalsCame, TotalsSaid, going, going_of};
+
+pub mod answer;
+pub mod held;
+mod loose;
+pub mod session;
+
+use answer::Answer;
+use held::{Handle, hold, unhold};
+use ide_cli::{Loaded, World, judge, refusal};
+use ide_plan::Plan;
+use link_events::fault_line;
+use session::{NotRun, Session};
+use std::alloc::Global;
+
+// ---- texts
+
+// Copies a text to the caller's buffer if that has room, and says how many bytes the text has.
+fn give(text: &[u8], buf: &mut [u8], written: &mut usize) -> Answer
+    ensures { TextCame result text.now written.new buf.new }
+{
+    let n = text.len();
+    *written = n;
+    if n > buf.len() {
+        return Answer::Room;
+    }
+    let (front, _) = buf.split_at_mut(n);
+    front.copy_from_slice(text);
+    Answer::Done
+}
+
+// ---- a session is opened
+
+// Begins a session on a plan.
+fn begin(alloc: Global, plan: Plan, s: &mut Handle) -> Answer
+    requires fits { FitsPlan plan }
+    requires empty { s.old.held.kept ≡ None }
+    ensures { BeginCame result plan (going s.new.held.kept) }
+{
+    let Ok(world) = World::make(alloc, plan) else {
+        return Answer::Memory;
+    };
+    match Box::new(alloc, Session::new(alloc, world)) {
+        Err(_) => Answer::Memory,
+        Ok(b) => {
+            hold(s, b);
+            Answer::Done
+        }
+    }
+}
+
+// Opens a session, if the handle has none.
+fn begin_on(
+    alloc: Global,
+    s: &mut Handle,
+    topology: &[u8],
+    buf: &mut [u8],
+    written: &mut usize,
+) -> Answer
+    ensures { OpenCame result (going s.old.held.kept) topology.now (going s.new.held.kept) written.new buf.new }
+{
+    *written = 0;
+    if s.live {
+        return Answer::Open;
+    }
+    match judge(alloc, topology) {
+        Err(_) => Answer::Memory,
+        Ok(Loaded::Long) => Answer::TooLong,
+        Ok(Loaded::Faulty(fault)) => match refusal(alloc, &fault) {
+            Err(_) => Answer::Memory,
+            Ok(line) => {
+                give(&line, buf, written);
+                Answer::Topology
+            }
+        },
+        Ok(Loaded::Sound(plan)) => begin(alloc, plan, s),
+    }
+}
+
+/// Opens a session on the bytes of a topology. If they are no plan, the handle stays empty, and the text is the line
+/// that `ide check` writes.
+#[unsafe(no_mangle)]
+pub extern "C" fn ide_open(
+    alloc: Global,
+    s: &mut Handle,
+    topology: &[u8],
+    buf: &mut [u8],
+    written: &mut usize,
+) -> u32
+    ensures { Answered (λ a. OpenCame a (going s.old.held.kept) topology.now (going s.new.held.kept) written.new
+        buf.new) result }
+{
+    begin_on(alloc, s, topology, buf, written).code()
+}
+
+// ---- a line
+
+// The answer for a line that was not run.
+fn refuse(alloc: Global, number: u64, cause: NotRun, buf: &mut [u8], written: &mut usize) -> Answer
+    requires { written.old ≡ 0 }
+    ensures { RefusalCame result number cause written.new buf.new }
+{
+    match cause {
+        NotRun::Full => Answer::TooLong,
+        NotRun::Memory => Answer::Memory,
+        NotRun::Fault(fault) => match fault_line(alloc, number, fault) {
+            Err(_) => Answer::Memory,
+            Ok(line) => {
+                give(&line, buf, written);
+                Answer::Script
+            }
+        },
+    }
+}
+
+// Steps a session that goes on.
+fn step(
+    alloc: Global,
+    session: &mut Session,
+    line: &[u8],
+    buf: &mut [u8],
+    written: &mut usize,
+) -> Answer
+    requires goes_on { IsSome (going_of session.old) }
+    requires none { written.old ≡ 0 }
+    ensures { StepCame result (going_of session.old) line.now (going_of session.new) written.new buf.new }
+{
+    let number = session.next_number();
+    match session.step(alloc, line) {
+        Ok(()) => give(session.text.as_slice(), buf, written),
+        Err(cause) => refuse(alloc, number, cause, buf, written),
+    }
+}
+
+// Steps the session of a handle, if it has one.
+fn step_on(
+    alloc: Global,
+    s: &mut Handle,
+    line: &[u8],
+    buf: &mut [u8],
+    written: &mut usize,
+) -> Answer
+    ensures { StepCame result (going s.old.held.kept) line.now (going s.new.held.kept) written.new buf.new }
+{
+    *written = 0;
+    match unhold(s, alloc) {
+        None => Answer::Closed,
+        Some(mut b) => {
+            let answer = step(alloc, b.as_mut(), line, buf, written);
+            hold(s, b);
+            answer
+        }
+    }
+}
+
+/// Runs the next line of a script, which stands without its line feed. A line that is not spelled leaves the session as
+/// it was, and the text is the line that `ide run` writes for it.
+#[unsafe(no_mangle)]
+pub extern "C" fn ide_step(
+    alloc: Global,
+    s: &mut Handle,
+    line: &[u8],
+    buf: &mut [u8],
+    written: &mut usize,
+) -> u32
+    ensures { Answered (λ a. StepCame a (going s.old.held.kept) line.now (going s.new.held.kept) written.new buf.new)
+        result }
+{
+    step_on(alloc, s, line, buf, written).code()
+}
+
+// ---- what a session tells
+
+// The text of the line that was taken last, of a handle that may have a session.
+fn last_of(alloc: Global, s: &mut Handle, buf: &mut [u8], written: &mut usize) -> Answer
+    ensures { LastCame result (going s.old.held.kept) (going s.new.held.kept) written.new buf.new }
+{
+    *written = 0;
+    match unhold(s, alloc) {
+        None => Answer::Closed,
+        Some(b) => {
+            let answer = give(b.as_ref().text.as_slice(), buf, written);
+            hold(s, b);
+            answer
+        }
+    }
+}
+
+/// The text of the line that was taken last, again.
+#[unsafe(no_mangle)]
+pub extern "C" fn ide_text(
+    alloc: Global,
+    s: &mut Handle,
+    buf: &mut [u8],
+    written: &mut usize,
+) -> u32
+    ensures { Answered (λ a. LastCame a (going s.old.held.kept) (going s.new.held.kept) written.new buf.new) result }
+{
+    last_of(alloc, s, buf, written).code()
+}
+
+// The line of the totals of a session.
+fn totals(session: &Session, buf: &mut [u8], written: &mut usize) -> Answer
+    requires { written.old ≡ 0 }
+    ensures { IfSome (going_of session.now) (λ s. TotalsSaid result s.running written.new buf.new) }
+{
+    match session.totals() {
+        Err(_) => Answer::Memory,
+        Ok(text) => give(text.as_slice(), buf, written),
+    }
+}
+
+// The same of a handle that may have a session.
+fn totals_of(alloc: Global, s: &mut Handle, buf: &mut [u8], written: &mut usize) -> Answer
+    ensures { TotalsCame result (going s.old.held.kept) (going s.new.held.kept) written.new buf.new }
+{
+    *written = 0;
+    match unhold(s, alloc) {
+        None => Answer::Closed,
+        Some(b) => {
+            let answer = totals(b.as_ref(), buf, written);
+            hold(s, b);
+            answer
+        }
+    }
+}
+
+/// The line of the totals of all lines so far.
+#[unsafe(no_mangle)]
+pub extern "C" fn ide_totals(
+    alloc: Global,
+    s: &mut Handle,
+    buf: &mut [u8],
+    written: &mut usize,
+) -> u32
+    ensures { Answered (λ a. TotalsCame a (going s.old.held.kept) (going s.new.held.kept) written.new buf.new) result }
+{
+    totals_of(alloc, s, buf, written).code()
+}
+
+// ---- a session ends
+
+// Frees the session of a handle, if it has one.
+fn end_of(alloc: Global, s: &mut Handle) -> Answer
+    ensures { CloseCame result (going s.old.held.kept) (going s.new.held.kept) }
+{
+    match unhold(s, alloc) {
+        None => Answer::Closed,
+        Some(_) => Answer::Done,
+    }
+}
+
+/// Ends a session and frees its memory.
+#[unsafe(no_mangle)]
+pub extern "C" fn ide_close(alloc: Global, s: &mut Handle) -> u32
+    ensures { Answered (λ a. CloseCame a (going s.old.held.kept) (going s.new.held.kept)) result }
+{
+    end_of(alloc, s).code()
+}

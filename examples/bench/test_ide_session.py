@@ -1,0 +1,116 @@
+"""Tests of sessions, written as cocotb's are: under cocotb they are its tests, and by themselves they run without it.
+
+A bench does the same with its own design in the place of the stored lines: it drives an event, steps the session by the
+line of that event, and compares what the design did with the verdict.
+"""
+import asyncio
+import ctypes
+import os
+
+from ide_session import CLOSED, DONE, SCRIPT, TOPOLOGY, Refused, Session
+
+try:
+    import cocotb
+
+    test = cocotb.test()
+except ImportError:
+    test = None
+
+EXAMPLES = os.path.join(os.path.dirname(os.path.abspath(__file__)), "..")
+TESTS = []
+
+
+def bench_test(function):
+    TESTS.append(function)
+    return test(function) if test else function
+
+
+def contents(name):
+    with open(os.path.join(EXAMPLES, name), "rb") as file:
+        return file.read()
+
+
+def lines(name):
+    return contents(name).split(b"\n")[:-1]
+
+
+def refused(answer, call):
+    """The line of a call that must be refused with this answer."""
+    try:
+        call()
+    except Refused as e:
+        assert e.answer == answer, e
+        return e.text
+    raise AssertionError("it was taken")
+
+
+async def stepped(name, room):
+    text = b""
+    with Session(contents("one_link.toml"), room=room) as session:
+        for line in lines(name + ".script"):
+            text += session.step(line)
+        return text + session.totals()
+
+
+@bench_test
+async def verdicts_are_those_of_the_examples(dut):
+    for name in ("first", "interface"):
+        for room in (4096, 1):
+            assert await stepped(name, room) == contents(name + ".expected"), (name, room)
+
+
+@bench_test
+async def line_that_is_not_spelled_leaves_the_session(dut):
+    text = b""
+    with Session(contents("one_link.toml")) as session:
+        for number, line in enumerate(lines("first.script"), 1):
+            cause = refused(SCRIPT, lambda: session.step(b"jump 0"))
+            assert cause.startswith(b"refused %d " % number), cause
+            step = session.step(line)
+            assert session.text() == step
+            text += step
+        assert text + session.totals() == contents("first.expected")
+
+
+@bench_test
+async def faulty_topology_has_the_line_of_check(dut):
+    assert refused(TOPOLOGY, lambda: Session(b"version = 3\n")).startswith(b"topology ")
+    assert refused(TOPOLOGY, lambda: Session(b"version = 3\n", room=1)).startswith(b"topology ")
+
+
+@bench_test
+async def closed_session_answers_nothing(dut):
+    session = Session(contents("one_link.toml"))
+    assert session.close() == DONE
+    assert session.close() == CLOSED
+    refused(CLOSED, lambda: session.step(b""))
+    refused(CLOSED, session.totals)
+
+
+@bench_test
+async def strings_for_systemverilog(dut):
+    """What ide_session_pkg.sv imports, if ide_dpi.c is linked with the library."""
+    library = ctypes.CDLL(os.environ.get("IDE_SESSION") or os.path.join(os.path.dirname(__file__), "libide_session.so"))
+    if not hasattr(library, "ide_dpi_open"):
+        return
+    library.ide_dpi_open.restype = ctypes.c_void_p
+    answer, text = ctypes.c_int(), ctypes.c_char_p()
+    path = os.path.join(EXAMPLES, "one_link.toml").encode()
+    handle = ctypes.c_void_p(library.ide_dpi_open(path, ctypes.byref(answer), ctypes.byref(text)))
+    assert handle and answer.value == DONE, answer
+    written = []
+    for line in lines("first.script"):
+        assert library.ide_dpi_step(handle, line, ctypes.byref(text)) == DONE, text.value
+        if text.value:
+            written.append(text.value)
+    assert library.ide_dpi_step(handle, b"jump 0", ctypes.byref(text)) == SCRIPT
+    assert text.value.startswith(b"refused "), text.value
+    assert library.ide_dpi_totals(handle, ctypes.byref(text)) == DONE
+    assert [*written, text.value] == lines("first.expected")
+    library.ide_dpi_close(handle)
+
+
+if __name__ == "__main__":
+    for function in TESTS:
+        asyncio.run(function(None))
+    print(f"bench: {len(TESTS)} tests passed")
