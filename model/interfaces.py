@@ -8,13 +8,13 @@ import struct
 from typing import Callable, Dict, List, Optional
 
 from guarded import GuardedMemory
-from links import DEVICE, HOST, PR, Links, Loss
+from links import DEVICE, HOST, PR, Line, Links, Loss
 from memory import PAGE
 from plan import InterfacePlan
 
 UNLOCKED, LOCKED, RUN, ERROR = range(4)
-NO_FIRMWARE, KEEP_CACHE_LINE, LOCK_MSIX = 1, 2, 4
-LOCK_FLAGS = 0x17
+NO_FIRMWARE, KEEP_CACHE_LINE, LOCK_MSIX, BINDS_PEERS = 1, 2, 4, 8
+LOCK_FLAGS = 0x1F
 MEMORY_SPACE = 2
 ANY_TIME = {"tph", "lnr", "pasid", "ats", "bar0", "bar1", "bar2", "bar3", "bar4", "bar5"}
 ERROR_REQUEST, ERROR_STATE, ERROR_NONCE, NO_NONCE, NOT_LOCKABLE = 1, 4, 0x102, 0x103, 0x104
@@ -67,7 +67,7 @@ class Interface:
     def goes_wrong(self):
         """What CONFIG_LOCKED and RUN do not bear; else nothing."""
         if self.state in (LOCKED, RUN):
-            self.state, self.nonce = ERROR, None
+            self.state, self.nonce, self.bindings = ERROR, None, {}
 
     # -- requests
 
@@ -112,7 +112,26 @@ class Interface:
 
     def stop(self):
         self.state, self.stream, self.nonce, self.flags, self.kept_report = UNLOCKED, None, None, 0, b""
+        # the streams between devices that it is bound to, by ID, each with the draw that was Live then
+        self.bindings: Dict[int, int] = {}
         self.guarded.stopped()
+
+    def bind(self, stream: int, draw: Optional[int]):
+        """The draw is None if the device has no such stream to another one, or it is not Secure there."""
+        if self.state not in (LOCKED, RUN):
+            raise DeviceRefused(ERROR_STATE)
+        if not self.flags & BINDS_PEERS or stream in self.bindings:
+            raise DeviceRefused(ERROR_REQUEST)
+        if draw is None:
+            raise DeviceRefused(NOT_LOCKABLE)
+        self.bindings[stream] = draw
+
+    def unbind(self, stream: int):
+        if self.state not in (LOCKED, RUN):
+            raise DeviceRefused(ERROR_STATE)
+        if stream not in self.bindings:
+            raise DeviceRefused(ERROR_REQUEST)
+        del self.bindings[stream]
 
     def shown_state(self) -> int:
         return self.state
@@ -156,9 +175,10 @@ class Interface:
             return None if self.guarded.is_open(bar) or self.state == UNLOCKED else "nottrusted"
         if self.state != RUN:
             return "notrunning"
-        if stream != self.stream:
+        floors = {**self.bindings, self.stream: self.floor}
+        if stream not in floors:
             return "wrongstream"
-        return "stale" if draw < self.floor else None
+        return "stale" if draw < floors[stream] else None
 
 
 # ---- the manager's end
@@ -195,19 +215,25 @@ class Handle:
         self.view = "unlocked"
         self.nonce: Optional[bytes] = None
         self.is_reported = self.start_was_asked = False
+        # the streams between devices whose BIND was asked since LOCK_INTERFACE last was
+        self.asked: List[Line] = []
         self.floor = self.needs = 0
 
     def breaks(self):
         if self.view in ("locked", "running", "doubt"):
             self.view = "broken"
 
-    def status(self, side: int) -> str:
-        return self.links.ends[self.link, side, self.plan.stream].status()
+    # its own stream
+    line = property(lambda self: self.links.streams[self.link, self.plan.stream])
 
-    def operate(self, operation: str, lost: Loss) -> str:
-        begin = dict(lock=self.lock, report=self.report, start=self.start, halt=self.halt, state=self.state)[operation]
+    def status(self, side: int) -> str:
+        return self.line.ends[side].status()
+
+    def operate(self, operation: str, lost: Loss, *peer: int) -> str:
+        """`peer` is the number of the stream between devices that bind and unbind name."""
+        begin = getattr(self, operation)
         try:
-            return begin(Session(lost))
+            return begin(Session(lost), *peer)
         except Stays as stays:
             return str(stays)
 
@@ -223,14 +249,14 @@ class Handle:
     def only_secure(self):
         self.only_if(self.status(HOST) == "secure", f"notsecure {self.status(HOST)}")
 
-    # -- the five operations
+    # -- the operations
 
     def lock(self, session: Session) -> str:
         self.only_in("unlocked")
         self.only_secure()
         session.ask(lambda: "version")
         session.ask(lambda: "capabilities")
-        self.start_was_asked = False
+        self.start_was_asked, self.asked = False, []
         plan, is_secure = self.plan, self.status(DEVICE) == "secure"
         try:
             self.nonce = session.ask(self.interface.lock, plan.flags, plan.stream, plan.offset, is_secure)
@@ -253,10 +279,10 @@ class Handle:
         self.only_in("locked")
         self.only_if(self.is_reported, "notreported")
         self.only_secure()
-        draw = self.links.stream_draws[self.link, self.plan.stream]
+        draw = self.line.draw
         self.only_if(draw >= self.needs, f"refreshfirst {draw} {self.needs}")
         self.start_was_asked = True
-        live = self.links.ends[self.link, DEVICE, self.plan.stream].rx[PR].live_draw()
+        live = self.line.ends[DEVICE].rx[PR].live_draw()
         try:
             session.ask(self.interface.start, self.nonce, live or 0)
         except Stays as stays:
@@ -282,6 +308,23 @@ class Handle:
         if self.view == "locked" and state != LOCKED or self.view == "running" and state != RUN:
             self.view = "broken"
         return f"state {self.number} {state}"
+
+    def bind(self, session: Session, peer: int) -> str:
+        self.only_in("locked", "running")
+        line = self.links.peers[peer]
+        state = line.operation.name
+        self.only_if(state == "up", f"notsecure {'idle' if state == 'idle' else 'partial'}")
+        self.only_if(line.draw >= self.needs, f"refreshfirst {line.draw} {self.needs}")
+        self.asked.append(line)
+        end = next(end for end in line.ends if end.link == self.link)
+        live = end.rx[PR].live_draw() if end.status() == "secure" else None
+        session.ask(self.interface.bind, line.plan.id, live)
+        return f"bound {self.number} {peer}"
+
+    def unbind(self, session: Session, peer: int) -> str:
+        self.only_in("locked", "running")
+        session.ask(self.interface.unbind, self.links.peers[peer].plan.id)
+        return f"unbound {self.number} {peer}"
 
     def after_loss(self, stays: Stays):
         """The device may have acted or not."""

@@ -1,4 +1,5 @@
-"""A second model of keyed links, in Python, written from the rules alone (docs/RULES.md, docs/FORMATS.md).
+"""A second model of keyed lines, in Python, written from the rules alone (docs/RULES.md, docs/FORMATS.md): the streams
+of links, the segments of a hop through a switch, and streams between two devices.
 
 It keeps counters and slots and walks through every exchange, while the proved definitions filter whole histories; the
 two share no code and no form. Interfaces and trusted memory stand beside it, in world.py. AES and GCM come from the
@@ -6,14 +7,15 @@ two share no code and no form. Interfaces and trusted memory stand beside it, in
 """
 
 from dataclasses import dataclass, field
-from typing import List, Optional, Tuple
+from typing import Dict, List, Optional, Tuple
 
 from cryptography.hazmat.primitives.ciphers import Cipher, algorithms, modes
 from cryptography.hazmat.primitives.ciphers.aead import AESGCM
 
-from plan import Plan, StreamPlan
+from plan import LinkPlan, Plan, StreamPlan
 
-HOST, DEVICE = 0, 1
+# the two ends of a line, by the direction that they seal: a host and a device are the ends of a link
+NEAR, FAR = HOST, DEVICE = 0, 1
 PR, NPR, CPL = 0, 1, 2
 SUB_NAMES = ["pr", "npr", "cpl"]
 LANES = [(direction, sub) for direction in (0, 1) for sub in (PR, NPR, CPL)]
@@ -216,13 +218,18 @@ class Lane:
 
 
 class End:
-    """A stream at a port."""
+    """One of the two ends of a line: its stream at a port, which has its name in scripts, as h0, d0, u0 or w0."""
 
-    def __init__(self, plan: StreamPlan, link: int, side: int):
-        self.plan, self.link, self.side = plan, link, side
+    def __init__(self, line: "Line", side: int):
+        self.line, self.plan, self.port, self.side = line, line.plan, line.ports[side], side
         self.tx = [Lane() for _ in SUB_NAMES]
         self.rx = [Lane() for _ in SUB_NAMES]
         self.failed = False
+
+    link = property(lambda self: link_of(self.port))
+    is_at_host = property(lambda self: self.port[0] == "h")
+    is_at_device = property(lambda self: self.port[0] == "d")
+    is_at_switch = property(lambda self: self.port[0] in "uw")
 
     def lane(self, direction: int, sub: int) -> Lane:
         return (self.tx if direction == self.side else self.rx)[sub]
@@ -284,12 +291,70 @@ class Operation:
     exchange: int = 1
 
 
-EXCHANGES = {
-    "establish": [("query", None)] + [("program", lane) for lane in LANES] + [("go", lane) for lane in LANES],
-    "refresh": [("program", lane) for lane in LANES] + [("go", lane) for lane in LANES],
-    "stop": [("stop", lane) for lane in LANES] * 2,
+@dataclass
+class Exchange:
+    """A message to one end of a line; of a STOP it names the key set, else the set is the operation's."""
+
+    what: str
+    side: int
+    lane: Tuple[int, int] = (0, PR)
+    key_set: int = 0
+
+
+def to_lanes(what: str, side: int, lanes: List[Tuple[int, int]]) -> List[Exchange]:
+    return [Exchange(what, side, lane) for lane in lanes]
+
+
+def stops(side: int) -> List[Exchange]:
+    return [Exchange("stop", side, lane, key_set) for key_set in (0, 1) for lane in received_first(side)]
+
+
+def received_first(side: int) -> List[Tuple[int, int]]:
+    """All six lanes, those first that this end receives."""
+    return LANES[3:] + LANES[:3] if side == NEAR else LANES
+
+
+# the near end is a host's port, which is keyed by calls
+HOSTED = {
+    "establish": [Exchange("query", FAR)] + to_lanes("program", FAR, LANES) + to_lanes("go", FAR, LANES),
+    "refresh": to_lanes("program", FAR, LANES) + to_lanes("go", FAR, LANES),
+    "stop": stops(FAR),
 }
-ENDS = {"establish": "established", "refresh": "refreshed"}
+# both ends are keyed by messages
+PAIRED = {
+    "establish": to_lanes("program", NEAR, received_first(NEAR))
+    + to_lanes("program", FAR, received_first(FAR))
+    + to_lanes("go", NEAR, LANES[3:])
+    + to_lanes("go", FAR, LANES[:3])
+    + to_lanes("go", NEAR, LANES[:3])
+    + to_lanes("go", FAR, LANES[3:]),
+    "stop": stops(NEAR) + stops(FAR),
+}
+ENDS = {"establish": "established", "refresh": "refreshed", "stop": "stopped"}
+
+
+class Line:
+    """A stream with its two ends. `name` is what a script calls it by after an event's word: `0 5` is stream 5 of link
+    0, `0 1` segment 1 of the hop of link 0, `3` the fourth stream between devices; `letter` is before its operations'
+    words: none, h or p."""
+
+    def __init__(self, plan: StreamPlan, ports: Tuple[str, str], letter: str, name: str):
+        self.plan, self.ports, self.letter, self.name = plan, ports, letter, name
+        self.operation = Operation()
+        # of the last establish that began, or of the last refresh since then that came to its end
+        self.draw = 0
+        self.ends = [End(self, side) for side in (NEAR, FAR)]
+
+    is_hosted = property(lambda self: self.ports[NEAR][0] == "h")
+
+    @property
+    def exchanges(self) -> Dict[str, List[Exchange]]:
+        """Of each operation; there is a refresh of streams of links alone."""
+        table = HOSTED if self.is_hosted else PAIRED
+        return {name: exchanges for name, exchanges in table.items() if name != "refresh" or not self.letter}
+
+    def clear(self, side: int):
+        self.ends[side] = End(self, side)
 
 
 # ---- all links
@@ -304,79 +369,107 @@ def loss(words: List[str]) -> Loss:
     return (number(words[1]), words[2]) if words else None
 
 
+def link_of(port: str) -> int:
+    return int(port[1:])
+
+
 class Links:
-    """The ports of all links. What has no interfaces and no trusted memory is these four: `sets_t`, `effect`,
-    `stop_begins` and `device_moved`; world.py has them with both."""
+    """The ports of all links and of the switches on them. What has no interfaces and no trusted memory is these four:
+    `sets_t`, `effect`, `stop_begins` and `ends_moved`; world.py has them with both."""
 
     def __init__(self, plan: Plan):
         self.plan = plan
-        self.ends = {}
-        self.operations = {}
-        self.stream_draws = {}
-        for link in range(len(plan.links)):
-            self.clear(link)
+        self.streams: Dict[Tuple[int, int], Line] = {}
+        self.segments: Dict[Tuple[int, int], Line] = {}
+        self.peers: List[Line] = []
+        self.waiting: Dict[Tuple[int, int], List[Tuple[bytes, bool]]] = {}
         self.draws = 0
-        self.packets: List[Tuple[int, int, bytes]] = []
+        # each with the ports at which it was sealed and to which it is on its way
+        self.packets: List[Tuple[str, str, bytes]] = []
         self.totals = {"sealed": 0, "accepted": 0, "failed": 0, "blocked": 0}
+        for link, link_plan in enumerate(plan.links):
+            self.add_link(link, link_plan)
+        for number, peer in enumerate(plan.p2p):
+            stream = StreamPlan(peer.id, mode=peer.mode)
+            self.peers.append(Line(stream, (f"d{peer.a}", f"d{peer.b}"), "p", str(number)))
 
-    def clear(self, link: int):
-        for stream in self.plan.links[link].streams:
-            for side in (HOST, DEVICE):
-                self.ends[link, side, stream.id] = End(stream, link, side)
-            self.operations[link, stream.id] = Operation()
+    def add_link(self, link: int, link_plan: LinkPlan):
+        for stream in link_plan.streams:
+            self.streams[link, stream.id] = Line(stream, (f"h{link}", f"d{link}"), "", f"{link} {stream.id}")
+        if link_plan.hop is not None:
+            stream = StreamPlan(link_plan.hop)
+            for segment, ports in enumerate([(f"h{link}", f"u{link}"), (f"w{link}", f"d{link}")]):
+                self.segments[link, segment] = Line(stream, ports, "h", f"{link} {segment}")
+                self.waiting[link, segment] = []
+
+    def lines(self) -> List[Line]:
+        return [*self.streams.values(), *self.segments.values(), *self.peers]
+
+    def end_at(self, port: str, stream: int) -> Optional[End]:
+        """What has this stream ID at a port."""
+        ends = [end for line in self.lines() if line.plan.id == stream for end in line.ends if end.port == port]
+        return ends[0] if ends else None
 
     # -- what stands beside the links
 
     def sets_t(self, end: End, header: bytes, trusted: bool) -> bool:
         """Whether the packet of a TLP has T."""
-        return end.side == HOST and trusted
+        return not end.is_at_device and trusted
 
     def effect(self, end: End, draw: int, packet: Packet, payload: bytes) -> str:
-        """What a TLP gives that a port accepted."""
-        if end.side == HOST and kind_of(packet.header[0]).name == "memwrite":
+        """What a TLP gives that a host's or a device's port accepted."""
+        if end.is_at_host and kind_of(packet.header[0]).name == "memwrite":
             return "blocked:notrunning" if packet.t else "blocked:nottrusted"
         return "delivered"
 
-    def stop_begins(self, link: int, stream: int):
+    def stop_begins(self, line: Line):
         """Before the first exchange of a stop."""
 
-    def device_moved(self, link: int, stream: int):
-        """After whatever may take the stream out of Secure at the device's port."""
+    def ends_moved(self, line: Line):
+        """After whatever may take the stream out of Secure at an end."""
 
     def key(self, draw: int, direction: int, sub: int) -> bytes:
         return self.plan.pool[6 * draw + 3 * direction + sub]
 
     # -- sends
 
-    def chosen(self, link: int, side: int, kind: Kind, header: bytes) -> Optional[int]:
+    def chosen(self, port: str, kind: Kind, header: bytes) -> Optional[int]:
         pair = lambda place: header[place] << 8 | header[place + 1]
         by_id = kind.name.startswith("cfg") or kind.name == "message" and header[0] & 0x1F == 18
-        if side == DEVICE:
+        if port[0] == "d":
             identity = pair(4)
         else:
             identity = pair(8) if by_id or kind.name == "completion" else None
         address = int.from_bytes(header[8:], "big") if kind.name.startswith("mem") else None
-        streams = self.plan.links[link].streams
+        link = self.plan.links[link_of(port)]
         selective = [
             s.id
-            for s in streams
+            for s in link.streams
             if identity is not None and s.rid and s.rid[0] <= identity <= s.rid[1]
             or address is not None and any(base <= address <= limit for base, limit in s.ranges)
         ]
-        default = [s.id for s in streams if s.default]
-        by_class = [s.id for s in streams if header[1] >> 4 & 7 in s.tcs]
+        default = [s.id for s in link.streams if s.default]
+        traffic_class = header[1] >> 4 & 7
+        by_class = [s.id for s in link.streams if traffic_class in s.tcs]
+        by_class += [link.hop] if traffic_class in link.hop_tcs else []
         return min(selective) if selective else (default + by_class + [None])[0]
 
-    def send(self, link: int, side: int, data: bytes, more: bool, trusted: bool) -> str:
-        port = "hd"[side] + str(link)
+    def send(self, port: str, data: bytes, more: bool, trusted: bool) -> str:
+        try:
+            kind, header, _ = read_tlp(data)
+        except Malformed as fault:
+            return f"malformed {port} {fault.fault} {fault.place}"
+        stream = self.chosen(port, kind, header)
+        if stream is None:
+            return f"plain {port}"
+        return self.send_on(self.end_at(port, stream), data, more, trusted)
+
+    def send_on(self, end: End, data: bytes, more: bool, trusted: bool) -> str:
+        """On the end's own stream, whatever the TLP is."""
         try:
             kind, header, payload = read_tlp(data)
         except Malformed as fault:
-            return f"malformed {port} {fault.fault} {fault.place}"
-        stream = self.chosen(link, side, kind, header)
-        if stream is None:
-            return f"plain {port}"
-        end = self.ends[link, side, stream]
+            return f"malformed {end.port} {fault.fault} {fault.place}"
         refusal, syncs = self.refusal(end, kind.sub)
         if refusal:
             return f"refused {refusal}"
@@ -427,9 +520,9 @@ class Links:
         for counting in end.tx[NPR:] if sub == PR else []:
             counting.posted += 1
         lane.posted = 0
-        self.packets.append((end.link, end.side, prefix + header + body + packet.tag))
+        self.packets.append((end.port, end.line.ports[1 - end.side], prefix + header + body + packet.tag))
         return (
-            f"{len(self.packets)} {'hd'[end.side]}{end.link} {end.plan.id} {SUB_NAMES[sub]} draw {draw} unit {unit}"
+            f"{len(self.packets)} {end.port} {end.plan.id} {SUB_NAMES[sub]} draw {draw} unit {unit}"
             f" m{int(last)} k{key_set} t{int(trusted)} p{posted}{' sync' if sync else ''}"
         )
 
@@ -441,22 +534,22 @@ class Links:
 
     # -- arrivals
 
-    def arrive(self, link: int, side: int, data: bytes) -> str:
-        port = f"{'hd'[side]}{link}"
+    def arrive(self, port: str, data: bytes) -> str:
+        if port[0] in "uw" and data[:1] == b"\x92" and len(data) > 2 and data[2] != self.plan.links[link_of(port)].hop:
+            return f"through {port}"
         try:
             packet = cut(data)
         except Malformed as fault:
             return f"malformed {port} {fault.fault} {fault.place}"
         if packet is None:
             return f"plain {port}"
-        end = self.ends.get((link, side, packet.stream))
+        end = self.end_at(port, packet.stream)
         if end is None:
             return f"unknown {port} {packet.stream}"
         if end.failed:
             return f"insecure {port} {packet.stream}"
         verdict = self.take(end, packet, f"{port} {packet.stream} {SUB_NAMES[packet.sub]}")
-        if side == DEVICE:
-            self.device_moved(link, packet.stream)
+        self.ends_moved(end.line)
         return verdict
 
     def take(self, end: End, packet: Packet, where: str) -> str:
@@ -503,124 +596,178 @@ class Links:
         for packet in slot.packets:
             payload = masked(key, iv, place, packet.body)
             place += len(payload)
-            effects.append("sync" if packet.sync else self.effect(end, slot.draw, packet, payload))
+            if packet.sync:
+                effects.append("sync")
+            elif end.is_at_switch:
+                self.waiting[end.link, 1 - end.side].append((packet.header + payload, bool(packet.t)))
+                effects.append("waiting")
+            else:
+                effects.append(self.effect(end, slot.draw, packet, payload))
         return effects
 
     # -- operations
 
-    def begins(self, name: str, link: int, stream: int) -> Optional[str]:
+    def begins(self, name: str, line: Line) -> Optional[str]:
         """Begins an operation, or says why not; one that is unfinished goes on."""
-        operation, host = self.operations[link, stream], self.ends[link, HOST, stream]
+        operation = line.operation
         if operation.name == name:
             return None
         if name == "stop":
-            for key_set in (0, 1):
-                for direction, sub in LANES:
-                    host.halt(key_set, direction, sub)
-            self.operations[link, stream] = Operation("stop")
-            self.stop_begins(link, stream)
+            if line.is_hosted:
+                for key_set in (0, 1):
+                    for lane in LANES:
+                        line.ends[NEAR].halt(key_set, *lane)
+            line.operation = Operation("stop")
             return None
-        if operation.name in EXCHANGES:
-            return f"busy {operation.name}"
+        if operation.name in line.exchanges:
+            return f"busy {line.letter}{operation.name}"
         if name == "establish" and operation.name == "up":
             return "notidle"
-        key_set = 0
-        if name == "refresh":
-            if operation.name != "up" or host.status() != "secure":
-                return f"notsecure {host.status()}"
-            key_set = 1 - operation.key_set
-            for sub in (PR, NPR, CPL):
-                if host.tx[sub].live() == key_set:
-                    return f"unitopen {SUB_NAMES[sub]}"
-        if 6 * self.draws == len(self.plan.pool):
-            return f"poolempty {self.draws}"
-        self.operations[link, stream] = Operation(name, key_set, self.draws)
+        key_set = 1 - operation.key_set if name == "refresh" else 0
+        refusal = self.no_refresh(line, key_set) if name == "refresh" else None
+        if not refusal and 6 * self.draws == len(self.plan.pool):
+            refusal = f"poolempty {self.draws}"
+        if refusal:
+            return refusal
+        line.operation = Operation(name, key_set, self.draws)
         if name == "establish":
-            self.stream_draws[link, stream] = self.draws
-        for direction, sub in LANES:
-            host.program(key_set, direction, sub, self.draws)
+            line.draw = self.draws
+        for lane in LANES if line.is_hosted else []:
+            line.ends[NEAR].program(key_set, *lane, self.draws)
         self.draws += 1
         return None
 
-    def operate(self, name: str, link: int, stream: int, lost: Loss) -> str:
-        refusal = self.begins(name, link, stream)
+    def no_refresh(self, line: Line, key_set: int) -> Optional[str]:
+        """Why a stream of a link gets no newer keys in this set."""
+        host = line.ends[HOST]
+        if line.operation.name != "up" or host.status() != "secure":
+            return f"notsecure {host.status()}"
+        open_units = [sub for sub in (PR, NPR, CPL) if host.tx[sub].live() == key_set]
+        return f"unitopen {SUB_NAMES[open_units[0]]}" if open_units else None
+
+    def operate(self, name: str, line: Line, lost: Loss) -> str:
+        was_unfinished = line.operation.name == name
+        refusal = self.begins(name, line)
         if refusal:
             return f"refused {refusal}"
-        operation = self.operations[link, stream]
-        exchanges = EXCHANGES[name]
+        if name == "stop" and (not was_unfinished or line.letter == "p"):
+            self.stop_begins(line)
+        operation, exchanges = line.operation, line.exchanges[name]
         while operation.exchange <= len(exchanges):
-            stays = self.exchange(operation, link, stream, lost)
+            stays = self.exchange(line, exchanges[operation.exchange - 1], lost)
             if stays:
                 return stays
             operation.exchange += 1
-        self.operations[link, stream] = Operation("idle" if name == "stop" else "up", operation.key_set, operation.draw)
+        line.operation = Operation("idle" if name == "stop" else "up", operation.key_set, operation.draw)
+        shown = f"{line.letter}{ENDS[name]} {line.name}"
         if name == "stop":
-            return f"stopped {link} {stream}"
-        self.stream_draws[link, stream] = operation.draw
-        return f"{ENDS[name]} {link} {stream} draw {operation.draw}"
+            return shown
+        line.draw = operation.draw
+        return f"{shown} draw {operation.draw}"
 
-    def exchange(self, operation: Operation, link: int, stream: int, lost: Loss) -> Optional[str]:
-        host, device = (self.ends[link, side, stream] for side in (HOST, DEVICE))
-        place = operation.exchange
-        what, lane = EXCHANGES[operation.name][place - 1]
-        if lost == (place, "request"):
-            return f"lost request {place}"
+    def exchange(self, line: Line, exchange: Exchange, lost: Loss) -> Optional[str]:
+        operation, end = line.operation, line.ends[exchange.side]
+        if lost == (operation.exchange, "request"):
+            return f"lost request {operation.exchange}"
         well = True
-        if what == "program":
-            well = device.program(operation.key_set, *lane, operation.draw)
-        elif what == "go":
-            device.go(operation.key_set, *lane)
-        elif what == "stop":
-            device.halt((place - 1) // 6, *lane)
-        self.device_moved(link, stream)
-        if lost == (place, "reply"):
-            return f"lost reply {place}"
+        if exchange.what == "program":
+            well = end.program(operation.key_set, *exchange.lane, operation.draw)
+        elif exchange.what == "go":
+            end.go(operation.key_set, *exchange.lane)
+        elif exchange.what == "stop":
+            end.halt(exchange.key_set, *exchange.lane)
+        self.ends_moved(line)
+        if lost == (operation.exchange, "reply"):
+            return f"lost reply {operation.exchange}"
         if not well:
-            return f"refused devicerefused {place} 3"
-        if (what, lane) == ("go", (0, CPL)):
-            for direction, sub in LANES[3:] + LANES[:3]:
-                host.go(operation.key_set, direction, sub)
+            return f"refused devicerefused {operation.exchange} 3"
+        if line.is_hosted and (exchange.what, exchange.lane) == ("go", (0, CPL)):
+            for lane in received_first(NEAR):
+                line.ends[NEAR].go(operation.key_set, *lane)
         return None
 
-    # -- lines
+    # -- a switch
+
+    def forward(self, link: int, direction: int) -> str:
+        """The oldest TLP that waits at the switch in this direction is sealed on its other side, or stays."""
+        if (link, direction) not in self.waiting:
+            return "none"
+        waiting = self.waiting[link, direction]
+        if not waiting:
+            return f"empty {link}"
+        leaving = self.segments[link, 1 - direction].ends[direction]
+        data, t = waiting[0]
+        verdict = self.send_on(leaving, data, more=False, trusted=t)
+        if verdict.startswith("sealed"):
+            waiting.pop(0)
+        return verdict
+
+    # -- lines of a script
 
     def verdict(self, line: str) -> str:
         words = line.split()
         event, rest = words[0], words[1:]
-        if event in EXCHANGES or event == "status":
-            return self.on_stream(event, number(rest[0]), number(rest[1]), rest[2:])
         if event == "reset":
             return self.reset(number(rest[0]))
+        if event == "forward":
+            return self.forward(*map(number, rest))
         if event in ("send", "arrive"):
             return self.on_port(event, rest[0], bytes.fromhex(rest[1].strip("-")), rest[2:])
-        return self.on_packet(event, number(rest[0]), rest[1:])
+        if event == "psend":
+            return self.on_peer(number(rest[0]), rest[1], bytes.fromhex(rest[2].strip("-")), rest[3:])
+        if event in ("pass", "alter", "cut", "dump"):
+            return self.on_packet(event, number(rest[0]), rest[1:])
+        return self.on_line(event, rest)
+
+    def on_line(self, event: str, rest: List[str]) -> str:
+        letter = event[0] if event[0] in "ph" else ""
+        names = 1 if letter == "p" else 2
+        line = self.line_of(letter, [number(word) for word in rest[:names]])
+        if line is None:
+            return "none"
+        if event == "status":
+            return f"status {line.name} {line.ends[HOST].status()} {line.ends[DEVICE].status()}"
+        return self.operate(event[len(letter):], line, loss(rest[names:]))
+
+    def line_of(self, letter: str, numbers: List[int]) -> Optional[Line]:
+        if letter == "p":
+            return self.peers[numbers[0]] if numbers[0] < len(self.peers) else None
+        return (self.segments if letter == "h" else self.streams).get(tuple(numbers))
 
     def reset(self, link: int) -> str:
         if link >= len(self.plan.links):
             return "none"
-        self.clear(link)
+        for line in self.lines():
+            cut_ends = [side for side in (NEAR, FAR) if link_of(line.ports[side]) == link]
+            for side in cut_ends:
+                line.clear(side)
+            if cut_ends:
+                line.operation = Operation("stop" if line.letter == "p" else "idle")
+        for direction in (0, 1):
+            if (link, direction) in self.waiting:
+                self.waiting[link, direction] = []
         return f"reset {link}"
 
+    def has_port(self, port: str) -> bool:
+        link = link_of(port)
+        return link < len(self.plan.links) and (port[0] in "hd" or self.plan.links[link].hop is not None)
+
     def on_port(self, event: str, port: str, data: bytes, words: List[str]) -> str:
-        side, link = "hd".index(port[0]), int(port[1])
-        if link >= len(self.plan.links):
+        if not self.has_port(port):
             return "none"
         if event == "arrive":
-            return self.arrive(link, side, data)
-        return self.send(link, side, data, "more" in words, "trusted" in words)
+            return self.arrive(port, data)
+        return self.send(port, data, "more" in words, "trusted" in words)
 
-    def on_stream(self, event: str, link: int, stream: int, lose: List[str]) -> str:
-        if (link, stream) not in self.operations:
+    def on_peer(self, place: int, end: str, data: bytes, words: List[str]) -> str:
+        if place >= len(self.peers):
             return "none"
-        if event == "status":
-            host, device = (self.ends[link, side, stream].status() for side in (HOST, DEVICE))
-            return f"status {link} {stream} {host} {device}"
-        return self.operate(event, link, stream, loss(lose))
+        return self.send_on(self.peers[place].ends["ab".index(end)], data, "more" in words, False)
 
     def on_packet(self, event: str, place: int, rest: List[str]) -> str:
         if not 1 <= place <= len(self.packets):
             return "none"
-        link, side, data = self.packets[place - 1]
+        _, port, data = self.packets[place - 1]
         if event == "dump":
             return f"packet {place} {data.hex()}"
         if event == "alter":
@@ -632,7 +779,7 @@ class Links:
             if number(rest[0]) > len(data):
                 return "none"
             data = data[: number(rest[0])]
-        return self.arrive(link, 1 - side, data)
+        return self.arrive(port, data)
 
     def total(self) -> str:
         return "total " + " ".join(f"{name} {count}" for name, count in self.totals.items())

@@ -66,6 +66,8 @@ class LinkPlan:
     streams: List[StreamPlan]
     interfaces: List[InterfacePlan] = field(default_factory=list)
     nonces: List[bytes] = field(default_factory=list)
+    hop: Optional[int] = None
+    hop_tcs: List[int] = field(default_factory=list)
 
 
 @dataclass
@@ -75,25 +77,44 @@ class RegionPlan:
 
 
 @dataclass
+class PeerPlan:
+    """A stream between the devices of the links a and b."""
+
+    id: int
+    a: int
+    b: int
+    mode: int = 1
+
+
+@dataclass
 class Plan:
     pool: List[bytes]
     links: List[LinkPlan]
     portion: int = 64
     units_per_key: int = 4294967296
     memory: List[RegionPlan] = field(default_factory=list)
+    p2p: List[PeerPlan] = field(default_factory=list)
+
+    def version(self) -> int:
+        interfaces = [interface for link in self.links for interface in link.interfaces]
+        has_hop = any(link.hop is not None for link in self.links)
+        return 2 if self.p2p or has_hop or any(table.pasid or table.ats for table in interfaces) else 1
 
     def toml(self) -> str:
-        version = 2 if any(table.pasid or table.ats for link in self.links for table in link.interfaces) else 1
-        rows = pairs(version=version, portion=self.portion, units_per_key=self.units_per_key)
+        rows = pairs(version=self.version(), portion=self.portion, units_per_key=self.units_per_key)
         rows += pairs(pool=[key.hex() for key in self.pool])
         for link in self.links:
             rows.append("[[link]]")
             if link.nonces:
                 rows += pairs(nonces=[nonce.hex() for nonce in link.nonces])
+            if link.hop is not None:
+                rows += pairs(hop=link.hop) + (pairs(hop_tcs=link.hop_tcs) if link.hop_tcs else [])
             for table in link.streams + link.interfaces:
                 rows += table.rows()
         for region in self.memory:
             rows += ["[[memory]]"] + pairs(base=region.base, size=region.size)
+        for peer in self.p2p:
+            rows += ["[[p2p]]"] + pairs(id=peer.id, a=peer.a, b=peer.b, mode=peer.mode)
         return "\n".join(rows) + "\n"
 
 
@@ -109,13 +130,15 @@ def read_plan(text: str) -> Plan:
     pool = [bytes.fromhex(key) for key in table.pop("pool")]
     links = [read_link(link) for link in table.pop("link")]
     memory = [RegionPlan(**region) for region in table.pop("memory", [])]
-    return Plan(pool, links, memory=memory, **table)
+    peers = [PeerPlan(**peer) for peer in table.pop("p2p", [])]
+    return Plan(pool, links, memory=memory, p2p=peers, **table)
 
 
 def read_link(table: dict) -> LinkPlan:
     streams = [StreamPlan(**stream) for stream in table["stream"]]
     interfaces = [read_interface(interface) for interface in table.get("interface", [])]
-    return LinkPlan(streams, interfaces, [bytes.fromhex(nonce) for nonce in table.get("nonces", [])])
+    nonces = [bytes.fromhex(nonce) for nonce in table.get("nonces", [])]
+    return LinkPlan(streams, interfaces, nonces, table.get("hop"), table.get("hop_tcs", []))
 
 
 def read_interface(table: dict) -> InterfacePlan:

@@ -8,15 +8,17 @@ script.
 import random
 from typing import Callable, List, Optional, Tuple
 
-from interfaces import MEMORY_SPACE, UNLOCKED, Handle, Interface, first_registers
-from links import DEVICE, HOST, PR, End, Packet, Slot, kind_of, masked, nonce
+from interfaces import BINDS_PEERS, MEMORY_SPACE, UNLOCKED, Handle, Interface, first_registers
+from links import DEVICE, HOST, PR, End, Line, Packet, Slot, kind_of, link_of, masked, nonce
 from memory import MOST_WAITING
-from plan import BarPlan, InterfacePlan, LinkPlan, Plan, RegionPlan, StreamPlan
+from plan import BarPlan, InterfacePlan, LinkPlan, PeerPlan, Plan, RegionPlan, StreamPlan
 from words import WIDTHS
 from world import OPERATIONS, World
 
 CLOSE = 0x10000000
 FAR = 0x2_0000_0000
+# of and for a requester that no stream has
+COMPLETION = bytes.fromhex("0a0000003000000430000700")
 MEGABYTE = 1 << 20
 
 
@@ -43,7 +45,30 @@ def random_link(r: random.Random) -> LinkPlan:
     free_classes = r.sample(range(8), 8)
     ids = r.sample(range(256), r.choice([1, 1, 2, 4]))
     nonces = [r.randbytes(32) for _ in range(r.choice([0, 1, 3, 100, 100, 100, 100]))]
-    return LinkPlan([random_stream(r, id, id == ids[0], free_classes) for id in ids], nonces=nonces)
+    link = LinkPlan([random_stream(r, id, id == ids[0], free_classes) for id in ids], nonces=nonces)
+    if r.random() < 0.3:
+        with_switch(r, link, free_classes)
+    return link
+
+
+def with_switch(r: random.Random, link: LinkPlan, free_classes: list):
+    """A hop; mostly no default stream takes what it should carry."""
+    link.hop = r.choice([id for id in range(256) if id not in [stream.id for stream in link.streams]])
+    link.hop_tcs = free_classes[:r.choice([0, 1, 2, 6, 6])]
+    if r.random() < 0.8:
+        for stream in link.streams:
+            stream.default = False
+
+
+def random_peers(r: random.Random, links: List[LinkPlan]) -> List[PeerPlan]:
+    peers: List[PeerPlan] = []
+    for _ in range(r.choice([0, 1, 1, 2, 4]) if len(links) < 8 else 8):
+        a, b = r.sample(range(len(links)), 2)
+        taken = [stream.id for link in (links[a], links[b]) for stream in link.streams]
+        taken += [links[a].hop, links[b].hop] + [peer.id for peer in peers]
+        free = [id for id in range(256) if id not in taken]
+        peers.append(PeerPlan(r.choice(free), a, b, r.choice([1, 1, 2, 4, 8])))
+    return peers
 
 
 def random_bars(r: random.Random) -> List[BarPlan]:
@@ -60,7 +85,7 @@ def random_interface(r: random.Random, link: LinkPlan) -> InterfacePlan:
     taken = [interface.rid for interface in link.interfaces]
     lowest, highest = stream.rid if stream.rid and r.random() < 0.9 else (0, 0x400)
     free = [rid for rid in range(lowest, highest + 1) if rid not in taken] or [max(taken, default=0) + 0x1000]
-    flags = r.choice([0, 0, 0, 1, 2, 4, 7, 16, r.randrange(8) | r.choice([0, 16])])
+    flags = r.choice([0, 0, 0, 1, 2, 4, 7, 16, r.randrange(8) | r.choice([0, 16])]) | r.choice([0, BINDS_PEERS])
     interface = InterfacePlan(r.choice(free), stream.id, flags, info=r.randbytes(r.choice([0, 3, 64, 1024])))
     interface.offset = 4096 * r.choice([0, 0, 1, 2**40, r.randrange(2**51)])
     interface.command, interface.cacheline = r.choice([0, 6, 7, 0xFFFF]), r.choice([0, 16, 255])
@@ -68,6 +93,17 @@ def random_interface(r: random.Random, link: LinkPlan) -> InterfacePlan:
     interface.pasid, interface.ats = (r.choice([0] * 9 + [r.randrange(2**16)]) for _ in range(2))
     interface.bars = random_bars(r)
     return interface
+
+
+def with_bound_pair(r: random.Random, links: List[LinkPlan], peer: PeerPlan):
+    """At each end of a stream between devices an interface that may be bound to it, with memory behind a BAR."""
+    for link in (links[peer.a], links[peer.b]):
+        link.nonces = link.nonces or [r.randbytes(32) for _ in range(30)]
+        interface = random_interface(r, link)
+        interface.flags |= BINDS_PEERS
+        interface.command |= MEMORY_SPACE
+        interface.bars = interface.bars or [BarPlan(0x4000_0000, 16, r.randrange(16))]
+        link.interfaces.append(interface)
 
 
 def takes_bars(r: random.Random, link: LinkPlan, interface: InterfacePlan):
@@ -101,7 +137,7 @@ def random_memory(r: random.Random) -> List[RegionPlan]:
 
 
 def random_plan(r: random.Random) -> Plan:
-    links = [random_link(r) for _ in range(r.choice([1, 1, 2, 3]))]
+    links = [random_link(r) for _ in range(r.choice([1, 1, 2, 2, 3] * 4 + [8]))]
     for _ in range(r.choice([0, 1, 1, 2, 3, 4])):
         link = r.choice(links)
         interface = random_interface(r, link)
@@ -113,7 +149,10 @@ def random_plan(r: random.Random) -> Plan:
     pool = [r.randbytes(32) for _ in range(6 * r.choice([2, 16] + [100] * 4 + [300] * 6))]
     portion = r.choice([16, 17, 64, 64, 1024, 65535])
     units_per_key = r.choice([1, 3, 50] + [4294967296] * 12)
-    return Plan(pool, links, portion, units_per_key, random_memory(r))
+    peers = random_peers(r, links) if len(links) > 1 and r.random() < 0.8 else []
+    if peers and r.random() < 0.5:
+        with_bound_pair(r, links, r.choice(peers))
+    return Plan(pool, links, portion, units_per_key, random_memory(r), peers)
 
 
 # ---- TLPs
@@ -221,7 +260,7 @@ def forged(r: random.Random, world: World, end: End, tlp: bytes, t: bool) -> Opt
     key_set = r.choice(live)
     slot = lane.slots[key_set]
     head_bytes = kind_of(tlp[0]).head_bytes
-    m = len(slot.packets) + 1 == end.plan.mode or r.random() < 0.8
+    m = r.random() < (0.97 if len(slot.packets) + 1 == end.plan.mode else 0.8)
     posted = 0 if sub == PR else max(0, min(255, end.rx[PR].got - lane.carried - sum(p.posted for p in slot.packets)))
     prefix = bytes([0x92, m << 7 | key_set << 6 | t << 5 | sub, end.plan.id, posted])
     key, iv = world.key(slot.draw, 1 - end.side, sub), nonce(sub, slot.units + 1)
@@ -235,31 +274,36 @@ def forged(r: random.Random, world: World, end: End, tlp: bytes, t: bool) -> Opt
 
 # ---- scripts
 
-Line = Callable[[], str]
-EXCHANGE_COUNTS = dict(establish=13, refresh=12, stop=12, lock=3, report=8, start=1, halt=1, state=1)
+Text = Callable[[], str]
+EXCHANGE_COUNTS = dict(lock=3, report=8, start=1, halt=1, state=1, bind=1, unbind=1)
 
 
 class Script:
     def __init__(self, r: random.Random, plan: Plan, world: World):
         self.r, self.plan, self.world = r, plan, world
-        self.streams = [(link, s.id) for link, link_plan in enumerate(plan.links) for s in link_plan.streams]
+        self.keyed = world.lines()
+        self.posting = r.choice([self.keyed[0], r.choice(self.keyed)])
         self.is_posting = r.random() < 0.08
         self.hostility = r.choice([0.0, 0.02, 0.2]) if not self.is_posting else 0.001
+        # how often what is sent is no TLP
+        self.breaking = self.hostility * 0.3
         self.forgery = r.choice([0.0, 0.05, 0.2]) if not self.is_posting else 0.0
         self.losses = r.choice([0.0, 0.05, 0.3])
         self.changes = r.choice([0.0, 0.02, 0.15]) if not self.is_posting else 0.001
         self.reading = r.choice([0.0, 0.2, 0.5]) if not self.is_posting else 0.0
         self.answering = r.choice([0.0, 0.02, 0.3, 0.6])
         self.is_flooding = r.random() < 0.1
-        self.queue: List[Line] = []
+        self.beside = r.choice([0.05, 0.3, 0.6]) if not self.is_posting else 0.0
+        self.binding = r.choice([0.02, 0.2, 0.4])
+        self.queue: List[Text] = []
         self.waiting: List[Tuple[int, int]] = []
         self.sealed = 0
         self.marked = 0
 
     def lines(self, count: int):
-        for link, stream in self.streams:
+        for line in self.keyed:
             if self.r.random() < 0.9:
-                yield f"establish {link} {stream}"
+                yield self.operation("establish", line)
         for _ in range(1500 if self.is_posting else count):
             if self.is_dead() and self.r.random() < 0.1:
                 return
@@ -271,15 +315,15 @@ class Script:
 
     def is_dead(self) -> bool:
         """Whether no stream has keys, and none is left."""
-        has_keys = any(operation.name != "idle" for operation in self.world.operations.values())
+        has_keys = any(line.operation.name != "idle" for line in self.keyed)
         return not has_keys and 6 * self.world.draws == len(self.plan.pool)
 
     def line(self) -> str:
         r, what = self.r, self.r.random()
         if self.world.handles and r.random() < 0.4:
             return self.interface_line(r.choice(self.world.handles))
-        link, stream = r.choice(self.streams) if r.random() < 0.98 else (r.randrange(9), r.randrange(300))
-        repair = self.repair(link, stream)
+        line = r.choice(self.keyed)
+        repair = self.repair(line)
         if repair and r.random() < 0.5:
             return repair
         if self.is_posting:
@@ -290,10 +334,26 @@ class Script:
             return self.attack() if r.random() < self.hostility else self.next_packet()
         if what < 0.90:
             name = r.choice(["refresh"] * 6 + ["establish"] * 2 + ["stop"])
-            return f"{name} {link} {stream}{self.lose(name)}"
+            return self.operation(name, line) if r.random() < 0.95 else self.strange_operation()
         if what < 0.93:
-            return f"status {link} {stream}"
-        return self.rare_line(link)
+            return f"status {line.name}" if not line.letter else self.forward(line.ends[0].link)
+        return self.rare_line(line.ends[0].link)
+
+    def operation(self, name: str, line: Line) -> str:
+        """Of a line that cannot be refreshed another one in place of a refresh."""
+        if name not in line.exchanges:
+            name = self.r.choice(["establish", "stop"])
+        if self.is_posting and line is self.posting and name == "stop" and line.operation.name == "up":
+            return self.post()
+        return f"{line.letter}{name} {line.name}{self.lose(name, line)}"
+
+    def strange_operation(self) -> str:
+        """Of numbers that mostly name nothing."""
+        r, peers = self.r, self.plan.p2p
+        link, number = r.randrange(9), r.choice([r.randrange(300), r.randrange(3)] + [peer.id for peer in peers])
+        name = r.choice(["establish", "refresh", "stop", "status", "hestablish", "hstop", "forward"])
+        alone = r.choice(["pestablish", "pstop", "reset", "answer"])
+        return r.choice([f"{name} {link} {number}", f"{alone} {number}"])
 
     def rare_line(self, link: int) -> str:
         r = self.r
@@ -303,6 +363,10 @@ class Script:
                 f"reset {link}" if r.random() < 0.3 else f"view {number}",
                 f"dump {r.randrange(self.sealed + 2)}",
                 f"{r.choice(['send', 'arrive'])} {r.choice('hd')}{r.randrange(8)} -",
+                f"arrive {r.choice('uw')}{r.randrange(8)} {r.choice(['-', '92', '928000', '9280'])}",
+                f"psend {r.choice([r.randrange(9), 2**64 - 1])} {r.choice('ab')} {r.choice(['-', '45'])}",
+                f"{r.choice(['bind', 'unbind'])} {number} {r.randrange(9)}",
+                self.forward(r.randrange(len(self.plan.links))),
                 self.show_memory(),
                 self.show_guarded(number),
                 f"answer {link}",
@@ -315,30 +379,31 @@ class Script:
     def numbered(self, name: str, number: int) -> str:
         return f"{name} {number}{self.lose(name)}"
 
-    def lose(self, name: str) -> str:
+    def lose(self, name: str, line: Optional[Line] = None) -> str:
         """What is lost of an operation, mostly of its last exchange, seldom of none that there is."""
         if self.r.random() >= self.losses:
             return ""
-        exchanges = EXCHANGE_COUNTS[name]
+        exchanges = len(line.exchanges[name]) if line else EXCHANGE_COUNTS[name]
         number = self.r.choice([0, 1, exchanges + 1] + [exchanges] * 6 + list(range(1, exchanges)) * 2)
         return f" lose {number} {self.r.choice(['request', 'reply'])}"
 
     # -- streams and packets
 
-    def repair(self, link: int, stream: int) -> Optional[str]:
+    def repair(self, line: Line) -> Optional[str]:
         """What gives a stream without keys, or that is insecure, its keys again."""
-        operation = self.world.operations.get((link, stream))
-        if operation is None or operation.name == "idle" and 6 * self.world.draws == len(self.plan.pool):
+        name = line.operation.name
+        if name == "idle" and 6 * self.world.draws == len(self.plan.pool):
             return None
-        if operation.name == "up":
-            ends = [self.world.ends[link, side, stream] for side in (HOST, DEVICE)]
-            if any(end.failed for end in ends):
-                return f"stop {link} {stream}"
-            return f"refresh {link} {stream}" if any(self.is_worn(end) for end in ends) else None
-        name = "establish" if operation.name == "idle" else operation.name
+        if name == "up":
+            if any(end.failed for end in line.ends):
+                return self.operation("stop", line)
+            if not any(self.is_worn(end) for end in line.ends):
+                return None
+            return self.operation("stop" if line.letter else "refresh", line)
+        name = "establish" if name == "idle" else name
         if self.r.random() < 0.1:
             name = self.r.choice(["establish", "refresh", "stop"])
-        return f"{name} {link} {stream}{self.lose(name)}"
+        return self.operation(name, line)
 
     def is_worn(self, end: End) -> bool:
         return any(slot.units == self.plan.units_per_key for lane in end.tx for slot in lane.slots)
@@ -352,14 +417,15 @@ class Script:
     def send(self) -> str:
         r, link = self.r, self.r.randrange(len(self.plan.links))
         if self.is_posting:
-            lowest, _ = self.plan.links[0].streams[0].rid or (0, 0)
-            return f"send d0 {memory_write(r, lowest, self.plan.memory, [1]).hex()}"
+            return self.post()
+        if r.random() < self.beside:
+            return self.send_beside(link)
         side = r.choice("hdd")
         requester = self.requester(link)
         if side == "h" and r.random() < 0.5:
             return self.host_write(link)
         data = memory_write(r, requester, self.plan.memory) if r.random() < 0.5 else random_tlp(r, requester)
-        if r.random() < self.hostility * 0.3:
+        if r.random() < self.breaking:
             data = broken(r, data)
         more = r.choice(["", "", " more"])
         trusted = " trusted" if side == "h" and r.random() < 0.3 else ""
@@ -367,34 +433,88 @@ class Script:
 
     def host_write(self, link: int) -> str:
         """A write of the host into a BAR of an interface of the link."""
-        r, handles = self.r, self.world.on_link(link)
-        data = bar_write(r, r.choice([0, self.requester(link)]), r.choice(handles).interface) if handles else None
-        data = data or random_tlp(r, self.requester(link))
+        r = self.r
+        data = self.into_bar(link, r.choice([0, self.requester(link)])) or random_tlp(r, self.requester(link))
         return f"send h{link} {data.hex()}{r.choice(['', '', ' more'])}{r.choice(['', ' trusted'])}"
+
+    def post(self) -> str:
+        """One of many writes on one line."""
+        link = self.posting.ends[1].link
+        requester, _ = self.plan.links[link].streams[0].rid or (0, 0)
+        data = bytearray(memory_write(self.r, requester, self.plan.memory, [1]))
+        if self.posting.letter == "p":
+            return f"psend {self.posting.name} a {data.hex()}"
+        if self.posting.letter == "h" and self.plan.links[link].hop_tcs:
+            data = bytearray.fromhex("400000013000000f7000000011223344")
+            data[1] = self.plan.links[link].hop_tcs[0] << 4
+        return f"send d{link} {data.hex()}"
+
+    def send_beside(self, link: int) -> str:
+        """On a stream between devices, or for the hop of the link; else something is forwarded."""
+        r = self.r
+        if self.world.peers and r.random() < 0.5:
+            return self.peer_send(r.choice(self.world.peers))
+        return self.forward(link) if self.world.waiting and r.random() < 0.4 else self.hop_send(link)
+
+    def peer_send(self, line: Line, handle: Optional[Handle] = None) -> str:
+        """Mostly a write into a BAR of the other device."""
+        r, side = self.r, self.r.randrange(2)
+        if handle:
+            side = 0 if line.ends[0].link == handle.link else 1
+        requester = handle.plan.rid if handle else self.requester(line.ends[side].link)
+        data = self.into_bar(line.ends[1 - side].link, requester, line.plan.id) if r.random() < 0.7 else None
+        data = data or random_tlp(r, requester)
+        if r.random() < self.breaking:
+            data = broken(r, data)
+        return f"psend {line.name} {'ab'[side]} {data.hex() or '-'}{r.choice(['', '', ' more'])}"
+
+    def into_bar(self, link: int, requester: int, stream: Optional[int] = None) -> Optional[bytes]:
+        """A write into a BAR of an interface of the link, of one that is bound to the stream if there is one."""
+        handles = self.world.on_link(link)
+        handles = [handle for handle in handles if stream in handle.interface.bindings] or handles
+        return bar_write(self.r, requester, self.r.choice(handles).interface) if handles else None
+
+    def hop_send(self, link: int) -> str:
+        """A TLP of a traffic class of the hop, if it lists one."""
+        r, side, classes = self.r, self.r.choice("hd"), self.plan.links[link].hop_tcs
+        requester = r.choice([0x3000, 0x3000, self.requester(link)])
+        data = self.into_bar(link, requester) if side == "h" and r.random() < 0.5 else None
+        data = bytearray(data or r.choice([random_tlp(r, requester)] * 4 + [COMPLETION]))
+        if classes:
+            data[1] = data[1] & 0x8F | r.choice(classes) << 4
+        return f"send {side}{link} {data.hex()}{r.choice(['', ' trusted']) if side == 'h' else ''}"
+
+    def forward(self, link: int) -> str:
+        """Mostly where something waits."""
+        full = [place for place, tlps in self.world.waiting.items() if tlps] or list(self.world.waiting)
+        place = self.r.choice(full) if full and self.r.random() < 0.9 else (link, self.r.choice([0, 0, 1, 1, 2]))
+        return f"forward {place[0]} {place[1]}"
 
     def notice_sealed(self):
         """Packets that were sealed wait to arrive, in their order."""
         while self.sealed < len(self.world.packets):
             self.sealed += 1
-            link, side, data = self.world.packets[self.sealed - 1]
+            port, _, data = self.world.packets[self.sealed - 1]
             key_set, sub = data[1] >> 6 & 1, data[1] & 7
-            draw = self.world.ends[link, side, data[2]].tx[sub].slots[key_set].draw
+            draw = self.world.end_at(port, data[2]).tx[sub].slots[key_set].draw
             self.waiting.append((self.sealed, draw))
 
     def next_packet(self) -> str:
-        """The next packet, mostly one that its receiver can take."""
+        """The next packet, mostly one that its receiver can take; or what waits at a switch goes on."""
         r = self.r
-        if self.hostility and r.random() < 0.01 and len(self.waiting) > 1:
+        if any(self.world.waiting.values()) and r.random() < 0.15:
+            return self.forward(0)
+        if r.random() < min(self.hostility, 0.01) and len(self.waiting) > 1:
             self.waiting.pop(0)
         while self.waiting:
             number, draw = self.waiting.pop(0)
-            if self.can_take(number, draw) or r.random() < 0.03:
+            if self.can_take(number, draw) or r.random() < (0.03 if not self.is_posting else 0.0):
                 return f"pass {number}"
         return self.send()
 
     def can_take(self, number: int, draw: int) -> bool:
-        link, side, data = self.world.packets[number - 1]
-        end, key_set = self.world.ends[link, 1 - side, data[2]], data[1] >> 6 & 1
+        _, port, data = self.world.packets[number - 1]
+        end, key_set = self.world.end_at(port, data[2]), data[1] >> 6 & 1
         slot = end.rx[data[1] & 7].slots[key_set]
         return not end.failed and (slot.state, slot.draw) == ("live", draw)
 
@@ -410,22 +530,21 @@ class Script:
             return f"cut {number} {r.randrange(45)}"
         if what < 0.8 and self.forgery:
             return self.forge()
-        side, link = r.choice("hd"), r.randrange(len(self.plan.links))
-        return f"arrive {side}{link} {broken(r, r.choice(packets)[2]).hex() or '-'}"
+        port = r.choice([port for line in self.keyed for port in line.ports])
+        return f"arrive {port} {broken(r, r.choice(packets)[2]).hex() or '-'}"
 
     def forge(self) -> str:
         """A memory write or another TLP, on any stream, under any draw that is Live there, with T or without."""
         r = self.r
-        link, stream = r.choice(self.streams)
-        end = self.world.ends[link, r.choice([HOST, HOST, HOST, DEVICE]), stream]
-        requester, handles = self.requester(link), self.world.on_link(link)
-        if end.side == DEVICE and handles:
-            tlp = bar_write(r, requester, r.choice(handles).interface) or random_tlp(r, requester)
-        else:
+        end = r.choice(self.keyed).ends[r.choice([HOST, HOST, HOST, DEVICE])]
+        requester, tlp = self.requester(end.link), None
+        if end.is_at_device:
+            tlp = self.into_bar(end.link, requester)
+        elif end.is_at_host:
             write, read = (make(r, requester, self.plan.memory) for make in (memory_write, memory_read))
-            tlp = r.choice([write, write, read, read, random_tlp(r, requester)])
-        data = forged(r, self.world, end, tlp, r.random() < 0.8)
-        return f"arrive {'hd'[end.side]}{link} {data.hex()}" if data else self.send()
+            tlp = r.choice([write, write, read, read, None])
+        data = forged(r, self.world, end, tlp or random_tlp(r, requester), r.random() < 0.8)
+        return f"arrive {end.port} {data.hex()}" if data else self.send()
 
     # -- interfaces
 
@@ -437,15 +556,89 @@ class Script:
             return self.forge()
         if r.random() < 0.07:
             return f"{r.choice(OPERATIONS + ['view', 'view'])} {handle.number}"
+        peers = [line for line in self.world.peers if handle.link in map(link_of, line.ports)]
+        if peers and r.random() < (self.binding if handle.view in ("locked", "running") else 0.03):
+            return self.peer_line(handle, r.choice(peers))
+        if peers and not self.queue and not self.is_posting and r.random() < self.binding * 0.1:
+            self.queue = self.bind_both(r.choice(peers))
         if handle.view == "running":
             return self.in_run(handle)
         return self.towards_run(handle)
 
+    def peer_line(self, handle: Handle, line: Line) -> str:
+        """What an interface does with a stream to another device: mostly it is bound first."""
+        r, number = self.r, handle.number
+        if handle.view not in ("locked", "running"):
+            return f"{r.choice(['bind', 'unbind'])} {number} {line.name}"
+        repair = self.repair(line)
+        if repair and r.random() < (0.6 if line.operation.name == "up" else 0.8):
+            return repair
+        is_bound = line.plan.id in handle.interface.bindings
+        if not is_bound and r.random() < 0.8 or r.random() < 0.1:
+            if handle.needs > line.draw and r.random() < 0.6:
+                return self.operation("stop", line)
+            if r.random() < self.changes:
+                self.queue = self.queue or [lambda: f"{r.choice(['bind', 'unbind'])} {number} {line.name}"]
+                return self.write_register(number)
+            return f"{r.choice(['bind'] * 9 + ['unbind'])} {number} {line.name}{self.lose('bind')}"
+        if r.random() < 0.9:
+            self.queue = self.queue or [self.next_packet] * 2
+            return self.peer_send(line, handle)
+        return r.choice([f"unbind {number} {line.name}{self.lose('unbind')}"] * 3 + [self.operation("stop", line)])
+
+    def bind_both(self, line: Line) -> List[Text]:
+        """Interfaces at both ends of a stream between devices come into RUN and are bound to it, then they write into
+        each other's BARs; seldom one of them is not bound."""
+        pair = [self.bindable(end.link) for end in line.ends]
+        if None in pair:
+            return []
+        keys = [lambda: f"pstop {line.name}", lambda: f"pestablish {line.name}"]
+        binds = [lambda: f"bind {pair[0].number} {line.name}", lambda: f"bind {pair[1].number} {line.name}"]
+        if self.r.random() < 0.2:
+            binds.pop(self.r.randrange(2))
+        writes = [lambda: self.marked_peer_write(line, pair, self.r.randrange(2)), self.pass_marked] * 4
+        runs = self.comes_into_run(pair[0]) + self.comes_into_run(pair[1])
+        return runs + keys + binds + writes + self.write_around_lock(line, pair)
+
+    def write_around_lock(self, line: Line, pair: List[Handle]) -> List[Text]:
+        """Of two interfaces that are bound to the stream one writes to the other, which is locked anew before the write
+        arrives; sometimes the stream has new keys then, and the write comes between halt and lock."""
+        side = self.r.randrange(2)
+        source, target = pair[side], pair[1 - side]
+        write, halt = [lambda: self.marked_peer_write(line, pair, side)], [self.of_handle(target, "halt")]
+        ends = self.comes_to_bind(target, line) + [self.pass_marked]
+        if self.r.random() < 0.5:
+            return write + halt + ends
+        keys = [lambda: f"pstop {line.name}", lambda: f"pestablish {line.name}"]
+        return halt + [self.of_handle(source, "halt")] + keys + self.comes_to_bind(source, line) + write + ends
+
+    def comes_to_bind(self, handle: Handle, line: Line) -> List[Text]:
+        """After a halt."""
+        events = [self.of_handle(handle, name) for name in ("refresh", "lock", "report", "start")]
+        return events + [lambda: f"bind {handle.number} {line.name}"]
+
+    def bindable(self, link: int) -> Optional[Handle]:
+        handles = [handle for handle in self.world.on_link(link) if handle.plan.flags & BINDS_PEERS]
+        return handles[-1] if handles else None
+
+    def comes_into_run(self, handle: Handle) -> List[Text]:
+        if handle.view == "running":
+            return []
+        keys = lambda: self.repair(handle.line) or f"refresh {handle.line.name}"
+        names = ["lock", "report", "start"]
+        begins = [self.of_handle(handle, "halt"), lambda: f"flr {handle.number}", keys]
+        return begins + [self.of_handle(handle, name) for name in names]
+
+    def marked_peer_write(self, line: Line, pair: List[Handle], side: int) -> str:
+        self.marked = self.sealed + 1
+        data = bar_write(self.r, pair[side].plan.rid, pair[1 - side].interface)
+        return f"psend {line.name} {'ab'[side]} {data.hex()}" if data else f"view {pair[side].number}"
+
     def towards_run(self, handle: Handle) -> str:
-        r, stream = self.r, (handle.link, handle.plan.stream)
+        r, line = self.r, handle.line
         if handle.view in ("doubt", "broken"):
             if r.random() < 0.1:
-                return r.choice([f"view {handle.number}", f"stop {stream[0]} {stream[1]}"])
+                return r.choice([f"view {handle.number}", f"stop {line.name}"])
             return self.numbered(r.choice(["halt"] * 7 + OPERATIONS), handle.number)
         interface = handle.interface
         if interface.bars_overlap() and interface.registers != first_registers(handle.plan) and r.random() < 0.6:
@@ -453,16 +646,16 @@ class Script:
         if handle.status(HOST) != "secure" or handle.status(DEVICE) != "secure":
             if r.random() < 0.1:
                 return self.numbered(r.choice(["lock", "start"]), handle.number)
-            return self.repair(*stream) or self.next_packet()
-        if handle.view == "unlocked" and self.world.operations[stream].name == "establish":
+            return self.repair(line) or self.next_packet()
+        if handle.view == "unlocked" and line.operation.name == "establish":
             self.queue = [lambda: f"report {handle.number}", lambda: f"start {handle.number}"]
         if handle.view == "unlocked":
             has_nonce = handle.interface.nonces or r.random() < 0.1
             return self.numbered("lock", handle.number) if has_nonce else self.send()
         if not handle.is_reported and r.random() < 0.9:
             return self.numbered("report", handle.number)
-        if self.world.stream_draws[stream] < handle.needs and r.random() < 0.8:
-            return f"refresh {stream[0]} {stream[1]}{self.lose('refresh')}"
+        if line.draw < handle.needs and r.random() < 0.8:
+            return self.operation("refresh", line)
         return self.numbered("start", handle.number)
 
     def in_run(self, handle: Handle) -> str:
@@ -481,16 +674,19 @@ class Script:
         if what < 0.84:
             return r.choice([self.show_memory(), self.show_guarded(handle.number)])
         if what < 0.88:
-            return f"refresh {handle.link} {handle.plan.stream}{self.lose('refresh')}"
+            return self.operation("refresh", handle.line)
         if what < 0.92:
             return self.numbered(r.choice(["state", "report"]), handle.number)
         if what < 0.95:
             return self.numbered("halt", handle.number)
         if what < 0.97:
-            self.queue = r.choice([self.late_request, self.late_request, self.late_answer])(handle)
+            late = [self.late_request, self.late_request, self.late_answer, self.early_write]
+            self.queue = r.choice(late)(handle)
             return self.queue.pop(0)()
         if what < 0.98 and not self.is_posting:
-            return f"stop {handle.link} {handle.plan.stream}{self.lose('stop')}"
+            return self.operation("stop", handle.line)
+        if what < 0.982 and not self.is_posting:
+            return f"reset {handle.link}"
         return f"view {handle.number}"
 
     def device_request(self, handle: Handle) -> str:
@@ -499,41 +695,51 @@ class Script:
         more = self.r.choice(["", "", " more"])
         return f"send d{handle.link} {make(self.r, handle.plan.rid, self.plan.memory).hex()}{more}"
 
-    def late_request(self, handle: Handle) -> List[Line]:
+    def late_request(self, handle: Handle) -> List[Text]:
         """A write or a read, of the device or of the host, that is sealed in one run and arrives in the next one, or
         after it; a read may have waited since the first."""
-        r, number = self.r, handle.number
         again = self.run_again(handle)
-        make = r.choice([memory_write, memory_read, bar_write])
+        make = self.r.choice([memory_write, memory_read, bar_write])
+        request, ends = self.marked_request(handle, make), [lambda: f"answer {handle.link}"] * 2
+        if make is memory_read and self.r.random() < 0.5:
+            return [request, self.pass_marked] + again + ends
+        return [request] + again + [self.pass_marked] + ends
 
-        def marked_request():
+    def early_write(self, handle: Handle) -> List[Text]:
+        """A trusted write of the host that is sealed before the lock of the run in which it arrives."""
+        names = ["halt", "refresh", "lock", "report", "start"]
+        again = [self.of_handle(handle, name) for name in names]
+        return again[:2] + [self.marked_request(handle, bar_write)] + again[2:] + [self.pass_marked]
+
+    def marked_request(self, handle: Handle, make: Callable) -> Text:
+        """A request of the device, or of the host into a BAR, whose packet is passed later."""
+        r = self.r
+
+        def request():
             self.marked = self.sealed + 1
             if make is bar_write:
                 data = bar_write(r, 0, handle.interface)
-                return f"send h{handle.link} {data.hex()} trusted" if data else f"view {number}"
+                return f"send h{handle.link} {data.hex()} trusted" if data else f"view {handle.number}"
             return f"send d{handle.link} {make(r, handle.plan.rid, self.plan.memory).hex()}"
 
-        def passes():
-            return f"pass {self.marked}"
+        return request
 
-        ends = [lambda: f"answer {handle.link}"] * 2
-        if make is memory_read and r.random() < 0.5:
-            return [marked_request, passes] + again + ends
-        return [marked_request] + again + [passes] + ends
+    def pass_marked(self) -> str:
+        return f"pass {self.marked}"
 
-    def run_again(self, handle: Handle) -> List[Line]:
+    def run_again(self, handle: Handle) -> List[Text]:
         """From the halt to the next start; seldom something is left out."""
         names = ["halt", "lock", "report", "refresh", "start"]
         if self.r.random() < 0.2:
             names.remove(self.r.choice(names[1:]))
         return [self.of_handle(handle, name) for name in names]
 
-    def of_handle(self, handle: Handle, name: str) -> Line:
+    def of_handle(self, handle: Handle, name: str) -> Text:
         if name == "refresh":
-            return lambda: f"refresh {handle.link} {handle.plan.stream}"
+            return lambda: f"refresh {handle.line.name}"
         return lambda: f"{name} {handle.number}"
 
-    def late_answer(self, handle: Handle) -> List[Line]:
+    def late_answer(self, handle: Handle) -> List[Text]:
         """The host has a unit of completions open over a refresh, so that it still seals under the older key."""
         r, link = self.r, handle.link
         completion = bytes.fromhex("0a00000000000004") + handle.plan.rid.to_bytes(2, "big") + b"\0\0"
@@ -541,7 +747,7 @@ class Script:
         reads = [lambda: f"send d{link} {memory_read(r, handle.plan.rid, self.plan.memory).hex()}", self.next_packet]
         return opens + self.run_again(handle) + reads * 3 + [lambda: f"answer {link}"] * 2
 
-    def flood(self, handle: Handle) -> List[Line]:
+    def flood(self, handle: Handle) -> List[Text]:
         """More reads than may wait."""
         r, many = self.r, self.r.choice([5, 20, 70, 70])
         read = lambda: f"send d{handle.link} {self.good_read(handle).hex()}{r.choice(['', ' more'])}"

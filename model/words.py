@@ -3,14 +3,19 @@
 import re
 from typing import List, Optional
 
-OPERATIONS = ["establish", "refresh", "stop"]
+OPERATIONS = ["establish", "refresh", "stop", "hestablish", "hstop"]
+PEER_OPERATIONS = ["pestablish", "pstop"]
 ASKED = ["lock", "report", "start", "halt", "state"]
+BINDINGS = ["bind", "unbind"]
+LOSABLE = OPERATIONS + PEER_OPERATIONS + ASKED + BINDINGS
 # of each event the kinds of its words; what may follow them is in `options`
 KINDS = {
-    **{event: ["number", "number"] for event in OPERATIONS + ["status"]},
-    **{event: ["number"] for event in ASKED + ["reset", "pass", "dump", "flr", "firmware", "view", "answer"]},
+    **{event: ["number", "number"] for event in OPERATIONS + BINDINGS + ["status", "forward"]},
+    **{event: ["number"] for event in ASKED + PEER_OPERATIONS},
+    **{event: ["number"] for event in ["reset", "pass", "dump", "flr", "firmware", "view", "answer"]},
     "send": ["port", "bytes"],
-    "arrive": ["port", "bytes"],
+    "psend": ["number", "end", "bytes"],
+    "arrive": ["any port", "bytes"],
     "alter": ["number", "number", "byte"],
     "cut": ["number", "number"],
     "write": ["number", "register", "value"],
@@ -47,14 +52,15 @@ def read_words(line: bytes) -> Optional[List[str]]:
 
 
 def option_counts(event: str) -> List[int]:
-    if event in OPERATIONS + ASKED:
+    if event in LOSABLE:
         return [0, 3]
-    return [0, 1, 2] if event == "send" else [0]
+    return {"send": [0, 1, 2], "psend": [0, 1]}.get(event, [0])
 
 
 def check(kind: str, word: str, register: str):
     """Refuses a word that is not of its kind; a value is to have room in the register."""
-    if kind == "port" and not re.fullmatch("[hd][0-7]", word) or kind == "register" and word not in WIDTHS:
+    names = {"port": "[hd][0-7]", "any port": "[hduw][0-7]", "end": "[ab]", "register": "|".join(WIDTHS)}
+    if not re.fullmatch(names.get(kind, ".*"), word):
         raise LineFault("word")
     spelling = {"bytes": "-|([0-9a-fA-F]{2})+", "byte": "[0-9a-fA-F]{2}"}.get(kind, ".*")
     if not re.fullmatch(spelling, word):
@@ -75,7 +81,7 @@ def read_number(word: str) -> int:
 
 
 def check_options(event: str, port: str, words: List[str]):
-    if event == "send":
+    if event in ("send", "psend"):
         allowed = [[], ["more"]] + ([["trusted"], ["more", "trusted"]] if port[0] == "h" else [])
         if words not in allowed:
             raise LineFault("word")

@@ -1,14 +1,15 @@
-"""Keyed links with device interfaces, the manager's views, trusted memory with the reads of it that wait, and the
+"""Keyed lines with device interfaces, the manager's views, trusted memory with the reads of it that wait, and the
 guarded memory of devices: the verdict of every line of a script."""
 
 from typing import Dict, List, Optional
 
 from interfaces import RUN, Handle, Interface
-from links import CPL, DEVICE, HOST, End, Links, Packet, kind_of, loss, number, read_tlp
+from links import CPL, HOST, End, Line, Links, Packet, kind_of, link_of, loss, number, read_tlp
 from memory import MOST_WAITING, Memory, WaitingRead, crosses
 from plan import Plan
 
 OPERATIONS = ["lock", "report", "start", "halt", "state"]
+BINDINGS = ["bind", "unbind"]
 CHANGES = ["write", "flr", "firmware"]
 
 
@@ -37,22 +38,22 @@ class World(Links):
     # -- what stands beside the links
 
     def sets_t(self, end: End, header: bytes, trusted: bool) -> bool:
-        if end.side == HOST:
+        if not end.is_at_device:
             return trusted
-        owners = self.on_link(end.link, requester=header[4] << 8 | header[5])
-        return any(owner.interface.state == RUN and owner.interface.stream == end.plan.id for owner in owners)
+        owners = [owner.interface for owner in self.on_link(end.link, requester=header[4] << 8 | header[5])]
+        return any(owner.state == RUN and end.plan.id in (owner.stream, *owner.bindings) for owner in owners)
 
     def effect(self, end: End, draw: int, packet: Packet, payload: bytes) -> str:
         header, kind = packet.header, kind_of(packet.header[0]).name
         address = int.from_bytes(header[8:], "big")
         if kind == "memwrite":
-            if end.side == DEVICE:
+            if end.is_at_device:
                 return self.guarded_effect(end, draw, packet, payload)
             cause = self.not_granted(end, draw, packet) or self.memory.blocks(address, len(payload))
             if not cause:
                 self.memory.write(address, payload, header[7] & 15, header[7] >> 4)
             return f"blocked:{cause}" if cause else "applied"
-        if kind == "memread" and end.side == HOST and packet.t:
+        if kind == "memread" and end.is_at_host and packet.t:
             return self.read_effect(end, draw, packet)
         return "delivered"
 
@@ -92,16 +93,17 @@ class World(Links):
             return "wrongstream"
         return "stale" if draw < running[0].floor else None
 
-    def stop_begins(self, link: int, stream: int):
-        for handle in self.on_link(link, stream=stream):
-            handle.breaks()
+    def stop_begins(self, line: Line):
+        for handle in self.handles:
+            if line in (handle.line, *handle.asked):
+                handle.breaks()
 
-    def device_moved(self, link: int, stream: int):
-        if self.ends[link, DEVICE, stream].status() == "secure":
-            return
-        for handle in self.on_link(link):
-            if handle.interface.stream == stream:
-                handle.interface.goes_wrong()
+    def ends_moved(self, line: Line):
+        for end in line.ends:
+            if end.is_at_device and end.status() != "secure":
+                for interface in [handle.interface for handle in self.on_link(end.link)]:
+                    if end.plan.id in (interface.stream, *interface.bindings):
+                        interface.goes_wrong()
 
     # -- lines
 
@@ -115,7 +117,7 @@ class World(Links):
             return self.show_guarded(*map(number, rest))
         if event == "answer":
             return self.answer(number(rest[0]))
-        if event in OPERATIONS + CHANGES + ["view"]:
+        if event in OPERATIONS + BINDINGS + CHANGES + ["view"]:
             return self.on_interface(event, number(rest[0]), rest[1:])
         return super().verdict(line)
 
@@ -127,6 +129,10 @@ class World(Links):
             return f"view {place} {handle.view}"
         if event in OPERATIONS:
             return handle.operate(event, loss(words))
+        if event in BINDINGS:
+            peer = number(words[0])
+            is_here = peer < len(self.peers) and handle.link in map(link_of, self.peers[peer].ports)
+            return handle.operate(event, loss(words[1:]), peer) if is_here else "none"
         return self.change(event, place, handle.interface, words)
 
     def change(self, event: str, place: int, interface: Interface, words: List[str]) -> str:
@@ -164,10 +170,10 @@ class World(Links):
         if cause:
             waiting.pop(0)
             return f"dropped {owner.number} {cause}"
-        draw = self.ends[link, HOST, owner.plan.stream].tx[CPL].live_draw()
+        draw = owner.line.ends[HOST].tx[CPL].live_draw()
         if draw is not None and draw < owner.floor:
             return f"refused refreshfirst {draw} {owner.floor}"
-        verdict = self.send(link, HOST, completion, more=False, trusted=True)
+        verdict = self.send_on(owner.line.ends[HOST], completion, more=False, trusted=True)
         if verdict.startswith("sealed"):
             waiting.pop(0)
         return verdict
@@ -176,7 +182,7 @@ class World(Links):
         if owner.view != "running":
             return "notrunning"
         kind, header, _ = read_tlp(completion)
-        if self.chosen(owner.link, HOST, kind, header) != owner.plan.stream:
+        if self.chosen(f"h{owner.link}", kind, header) != owner.plan.stream:
             return "wrongstream"
         return "stale" if read.draw < owner.floor else None
 

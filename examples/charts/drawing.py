@@ -55,6 +55,10 @@ svg .white { fill: #ffffff; }
 .cross { stroke: #c03a00; stroke-width: 2.2; stroke-linecap: round; }
 .band { stroke: #6d6d74; stroke-width: 0.8; }
 .legend { display: flex; flex-wrap: wrap; gap: 7px 20px; margin: 7px 0; font-size: 12.5px; align-items: center; }
+summary { margin: 6px 0; cursor: pointer; font-size: 13px; }
+details[open] > summary span { display: none; }
+.grey { color: #5f5f66; }
+.contents { margin: 8px 0; padding-left: 18px; max-width: 1100px; }
 .legend span { display: inline-flex; align-items: center; gap: 7px; }
 """
 
@@ -139,7 +143,8 @@ class Chip:
     css: str
 
     def width(self) -> float:
-        return width_of(self.text) + 12
+        """The word of a failed check is bold."""
+        return width_of(self.text) * (1.14 if self.css == "bad" else 1) + 12
 
 
 def total_width(row: list) -> float:

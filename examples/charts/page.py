@@ -1,4 +1,4 @@
-"""The page: the totals, the legend, and a chart for each link."""
+"""The page: the totals, the legend, and a chart for each link, each segment of a hop, each stream between devices."""
 
 import textwrap
 from dataclasses import dataclass, field
@@ -8,12 +8,14 @@ from typing import Dict, List
 from charts import drawing
 from charts.bands import UNKNOWN, Bands, Key, Stream
 from charts.drawing import Chip, arrow, box, chips, cross, dot, draw_colour, group, label, line, tip, upright
-from charts.reading import DEVICE, HOST, Row, Run, is_arrival, packet_named
+from charts.reading import DEVICE, HOST, Line, Row, Run, is_arrival, packet_named
 from charts.rows import Drawn, Fates, Places, draw_row, draw_text, fates_of
 
 MOST_ROWS, UNRUN_ROWS = 2000, 5
+# a chart of more rows than this folds; a phase that no comment ends has at most so many
+UNFOLDED_ROWS, PHASE_ROWS = 20, 50
 GUTTER, BAND, GAP, ROOM, HALF_LANE = 116, 24, 20, 266, 280
-HEAD_HEIGHT, TAIL = 46, 62
+TITLE_HEIGHT, HEAD_HEIGHT, TAIL = 24, 46, 30
 LABEL_STEP = 620
 STATE_FILLS = {"unlocked": "#ffffff", "locked": "#fdebc2", "running": "#b5e0e8", "run": "#b5e0e8"}
 STATE_FILLS.update({"doubt": "url(#hatch)", UNKNOWN: "url(#hatch)"})
@@ -55,29 +57,53 @@ def name_of(key: Key) -> List[str]:
     return ["stream", str(key[3])] if key[0] == "stream" else [key[0], str(key[1])]
 
 
-def band_keys(bands: Bands, link: int, side: str) -> List[Key]:
-    """The bands at this side: the streams that the run speaks of, and the interfaces if it speaks of any."""
-    streams = sorted(key for key in bands.values if key[:3] == ("stream", link, side))
+def band_keys(bands: Bands, on: Line, side: str) -> List[Key]:
+    """The bands at this side: the streams that the run speaks of, and of a link the interfaces if it speaks of any."""
+    streams = sorted((key for key in bands.values if key[:3] == ("stream", on, side)), key=lambda key: key[3])
     kind = "view" if side == HOST else "state"
-    faces = [place for place, face in enumerate(bands.run.topology.faces) if face.link == link]
+    faces = [place for place, face in enumerate(bands.run.topology.faces) if Line("link", face.link) == on]
     moved = any(len(bands.changes[kind, place]) > 1 for kind in ("view", "state") for place in faces)
     return streams + [(kind, place) for place in faces if moved]
 
 
-# ---- one link
+# ---- one line
+
+
+@dataclass
+class Phase:
+    """Rows of a chart that fold as one: from which height, part and event on, and the comment before them."""
+
+    y: float
+    part: int
+    first: int
+    comment: str
+    rows: int = 0
+    last: int = 0
+
+    def title(self) -> str:
+        return f"Event {self.first}" if self.first == self.last else f"Events {self.first} to {self.last}"
 
 
 @dataclass
 class Chart:
-    """The picture of one link while it is made, from its top downwards."""
+    """The picture of one line while it is made, from its top downwards."""
 
-    link: int
+    line: Line
     places: Places
     columns: Dict[Key, float]
     width: float
     parts: List[str] = field(default_factory=list)
     y: float = 8
     heights: Dict[int, float] = field(default_factory=dict)
+    phases: List[Phase] = field(default_factory=list)
+    # rows that belong to no other line
+    own_rows: int = 0
+
+    def begin_phase(self, row: Row):
+        """A comment begins a phase, and so does the row after one that is long."""
+        if not self.phases or row.comment or self.phases[-1].rows == PHASE_ROWS:
+            top = self.y if self.phases else 0
+            self.phases.append(Phase(top, len(self.parts), row.number, " ".join(row.comment.split())))
 
     def add_comment(self, comment: str):
         room = int((self.places.device - self.places.host + ROOM) / 6.4)
@@ -99,32 +125,59 @@ class Chart:
         self.parts.append(f'<g class="{css}" transform="translate(0 {self.y:g})">{inner}</g>')
         self.heights[row.number] = self.y + drawn.middle
         self.y += drawn.height
+        self.phases[-1].rows += 1
+        self.phases[-1].last = row.number
+        self.own_rows += row.line_drawn is not None
 
     def add_note(self, text: str):
         self.y += 24
         self.parts.append(label(self.places.host + 14, self.y, text, "strong grey"))
         self.y += 10
 
-    def svg(self, bands: Bands, window: "Window") -> str:
-        bottom = self.y + TAIL
-        back = [box(self.places.edge(HOST), 0, 2 * self.places.half, bottom, "link")]
-        back += [line(x, 0, x, bottom, "lifeline") for x in (self.places.host, self.places.device)]
-        for key, x in self.columns.items():
-            back += self.band(bands.changes[key], x, bottom, window)
-        return svg(self.width, bottom, back + self.parts, f"The events of link {self.link}")
+    def folds(self) -> bool:
+        return len(self.phases) > 1 and sum(phase.rows for phase in self.phases) > UNFOLDED_ROWS
 
-    def band(self, changes: List[tuple], x: float, bottom: float, window: "Window") -> List[str]:
-        """The stretches of a band: each from the event that began it to the one that ended it."""
+    def pictures(self, bands: Bands, window: "Window") -> str:
+        """The chart, in a part for each phase if it is long."""
+        if not self.folds():
+            return self.svg(bands, window, 0, self.bottom(), self.parts)
+        ends = [(phase.y, phase.part) for phase in self.phases[1:]] + [(self.bottom(), len(self.parts))]
+        parts = []
+        for place, (phase, (bottom, end)) in enumerate(zip(self.phases, ends)):
+            picture = self.svg(bands, window, phase.y, bottom, self.parts[phase.part:end])
+            words = f'<summary>{phase.title()}<span class="grey"> {escape(phase.comment)}</span></summary>'
+            id = f'id="{self.line.mark()}-{place + 1}"'
+            parts.append(f'<details open="open" {id}>{words}{picture}</details>')
+        return "\n".join(parts)
+
+    def bottom(self) -> float:
+        return self.y + TAIL
+
+    def svg(self, bands: Bands, window: "Window", top: float, bottom: float, parts: List[str]) -> str:
+        """What stands between two heights."""
+        name = f"The events of: {self.line.title()}"
+        return svg(self.width, top, bottom, self.back(bands, window, top, bottom) + parts, name)
+
+    def back(self, bands: Bands, window: "Window", top: float, bottom: float) -> List[str]:
+        back = [box(self.places.edge(HOST), top, 2 * self.places.half, bottom - top, "link")]
+        back += [line(x, top, x, bottom, "lifeline") for x in (self.places.host, self.places.device)]
+        for key, x in self.columns.items():
+            back += self.band(bands.changes[key], x, top, bottom, window)
+        return back
+
+    def band(self, changes: List[tuple], x: float, first: float, last: float, window: "Window") -> List[str]:
+        """The stretches of a band between two heights: each from the event that began it to the one that ended it."""
         shown = [(self.height_of(event, window.first()), value) for event, value in changes if event <= window.last()]
         parts = []
         for place, (top, value) in enumerate(shown):
-            end = shown[place + 1][0] if place + 1 < len(shown) else bottom
+            end = shown[place + 1][0] if place + 1 < len(shown) else last
+            top, end = max(top, first), min(end, last)
             if end - top >= 1:
                 parts += stretch(x, top, end, look_of(value))
         return parts
 
     def height_of(self, event: int, first: int) -> float:
-        """Where an event stands; one that this link's chart does not show stands before the next one that it does."""
+        """Where an event stands; one that this chart does not show stands before the next one that it does."""
         if event < first:
             return 0
         later = [y for number, y in self.heights.items() if number >= event]
@@ -150,38 +203,43 @@ def stretch(x: float, top: float, end: float, look: Look) -> List[str]:
     return [group("stretch", parts)]
 
 
-def svg(width: float, height: float, parts: List[str], name: str) -> str:
-    size = f'width="{width:g}" height="{height:g}" viewBox="0 0 {width:g} {height:g}"'
+def svg(width: float, top: float, bottom: float, parts: List[str], name: str) -> str:
+    height = bottom - top
+    size = f'width="{width:g}" height="{height:g}" viewBox="0 {top:g} {width:g} {height:g}"'
     start = f'<svg xmlns="http://www.w3.org/2000/svg" role="img" aria-label="{escape(name)}" {size}>'
     return "\n".join([start, *parts, "</svg>"])
 
 
-def laid_out(link: int, bands: Bands) -> Chart:
+def laid_out(on: Line, bands: Bands) -> Chart:
     """An empty chart with its columns: numbers, the host's bands, its texts, the lanes, and the same at the device."""
     columns, x = {}, float(GUTTER + GAP / 2)
-    for key in band_keys(bands, link, HOST):
+    for key in band_keys(bands, on, HOST):
         columns[key], x = x, x + BAND + GAP
     host = x + ROOM
     device = host + 2 * HALF_LANE
     x = device + ROOM + GAP
-    for key in band_keys(bands, link, DEVICE):
+    for key in band_keys(bands, on, DEVICE):
         columns[key], x = x, x + BAND + GAP
-    return Chart(link, Places(host, host + HALF_LANE, device, ROOM - 14), columns, x)
+    return Chart(on, Places(host, host + HALF_LANE, device, ROOM - 14), columns, x)
 
 
-def head_svg(chart: Chart) -> str:
+def head_svg(chart: Chart, run: Run) -> str:
     """The names of the columns, which stay in sight while the page moves."""
-    places = chart.places
+    return svg(chart.width, 0, HEAD_HEIGHT, head_parts(chart, run), f"The columns of: {chart.line.title()}")
+
+
+def head_parts(chart: Chart, run: Run) -> List[str]:
+    places, (left, right) = chart.places, run.topology.ends(chart.line)
     parts = [label(46, 40, "event", "small grey", "end")]
-    parts.append(label(places.host, 40, "Host", "lane", "middle"))
+    parts.append(label(places.host, 40, left, "lane", "middle"))
     parts.append(label(places.link, 22, "Link", "lane", "middle"))
     parts.append(label(places.link, 40, "nobody trusts it", "small grey", "middle"))
-    parts.append(label(places.device, 40, "Device", "lane", "middle"))
+    parts.append(label(places.device, 40, right, "lane", "middle"))
     for key, x in chart.columns.items():
         name, place = name_of(key)
         parts.append(label(x + BAND / 2, 24, name, "small grey", "middle"))
         parts.append(label(x + BAND / 2, 40, place, "strong", "middle"))
-    return svg(chart.width, HEAD_HEIGHT, parts, f"The columns of link {chart.link}")
+    return parts
 
 
 # ---- all links
@@ -216,10 +274,9 @@ def window_of(run: Run, first: int) -> Window:
     return Window(drawn, note)
 
 
-def draw_all(run: Run, window: Window) -> List[str]:
-    """A section for each link. The bands follow all events, those before the window too."""
-    bands = follow_all(Bands(run), run)
-    fates, charts = fates_of(run), [laid_out(link, bands) for link in range(run.links())]
+def draw_all(run: Run, window: Window, bands: Bands) -> List[Chart]:
+    """A chart for each line that has events of its own, or for the first one if none has."""
+    fates, charts = fates_of(run), [laid_out(on, bands) for on in run.lines()]
     drawn, again, follower = {row.number for row in window.rows}, set(), Bands(run)
     for row in run.rows:
         begun = follower.begun(row)
@@ -231,7 +288,7 @@ def draw_all(run: Run, window: Window) -> List[str]:
                 add_row(chart, row, run, fates, begun, is_again)
         if packet and row.verb() == "pass":
             again.add(packet.number)
-    return [section(chart, bands, run, window) for chart in charts]
+    return [chart for chart in charts if chart.own_rows] or charts[:1]
 
 
 def follow(bands: Bands, row: Row):
@@ -249,9 +306,10 @@ def follow_all(bands: Bands, run: Run) -> Bands:
 
 
 def add_row(chart: Chart, row: Row, run: Run, fates: Fates, begun: int, is_again: bool):
-    """Adds an event to the chart of its link; one that belongs to no one link stands on every chart."""
-    if row.link not in (None, chart.link):
+    """Adds an event to the chart of its line, or to those of all its lines."""
+    if not run.stands_on(row, chart.line):
         return
+    chart.begin_phase(row)
     if row.comment:
         chart.add_comment(row.comment)
     try:
@@ -265,8 +323,47 @@ def section(chart: Chart, bands: Bands, run: Run, window: Window) -> str:
     left = len(run.rows) - window.last()
     if left:
         chart.add_note(f"{left} more {'event is' if left == 1 else 'events are'} not drawn")
-    head = f'<div class="head">{head_svg(chart)}</div>'
-    return f"<section><h2>Link {chart.link}</h2>{head}{chart.svg(bands, window)}</section>"
+    head = f'<div class="head">{head_svg(chart, run)}</div>'
+    title = f'<h2 id="{chart.line.mark()}">{escape(chart.line.title())}</h2>'
+    return f"<section>{title}{head}{chart.pictures(bands, window)}</section>"
+
+
+def contents(charts: List[Chart]) -> str:
+    """The charts of the page and their phases, if there is more than one."""
+    if len(charts) < 2 and not any(chart.folds() for chart in charts):
+        return ""
+    rows = []
+    for chart in charts:
+        count, mark = sum(phase.rows for phase in chart.phases), chart.line.mark()
+        row = f'<a href="#{mark}">{escape(chart.line.title())}</a>: {count} {"event" if count == 1 else "events"}'
+        if chart.folds():
+            names = [f'<a href="#{mark}-{place}">{phase.first}</a>' for place, phase in enumerate(chart.phases, 1)]
+            row += f', from {", ".join(names)} on'
+        rows.append(f"<li>{row}</li>")
+    return f'<ul class="contents">{"".join(rows)}</ul>'
+
+
+def picture(run: Run, first: int) -> str:
+    """The charts below each other, as one picture that needs no page."""
+    window, bands = window_of(run, first), follow_all(Bands(run), run)
+    y, parts, width = 0.0, [], 0.0
+    charts = draw_all(run, window, bands)
+    for chart in charts:
+        if len(charts) > 1:
+            y += TITLE_HEIGHT
+            parts.append(label(14, y, chart.line.title(), "lane"))
+        rows = head_parts(chart, run) + [line(0, HEAD_HEIGHT, chart.width, HEAD_HEIGHT, "rule")]
+        body = chart.back(bands, window, 0, chart.bottom()) + chart.parts
+        parts.append(moved(y, rows + [moved(HEAD_HEIGHT, body)]))
+        y += HEAD_HEIGHT + chart.bottom()
+        width = max(width, chart.width)
+    style = f"<style>{drawing.STYLE}</style>{drawing.PATTERNS}"
+    white = box(0, 0, width, y, more=' fill="#ffffff"')
+    return svg(width, 0, y, [style, white] + parts, "The events of a run") + "\n"
+
+
+def moved(y: float, parts: List[str]) -> str:
+    return f'<g transform="translate(0 {y:g})">' + "\n".join(parts) + "</g>"
 
 
 # ---- the top of the page
@@ -327,16 +424,17 @@ def band_keys_of(run: Run) -> List[str]:
 
 
 def draws_given(run: Run) -> set:
-    given = [row.verdict[-1] for row in run.rows if row.answer() in ("established", "refreshed")]
+    given = [row.verdict[-1] for row in run.rows if row.answer().endswith(("established", "refreshed"))]
     return {int(word) for word in given if word.isdigit()}
 
 
 def page(run: Run, title: str, first: int) -> str:
-    window = window_of(run, first)
+    window, bands = window_of(run, first), follow_all(Bands(run), run)
+    charts = draw_all(run, window, bands)
     parts = [f"<h1>{escape(title)}</h1>"]
     parts += [f'<p class="opening">{escape(text)}</p>' for text in run.opening.split("\n\n") if text.strip()]
     parts += [f'<p class="fault">{escape(fault)}</p>' for fault in run.faults[:6]] + [total_text(run)]
     parts += [f"<p>{window.note}</p>"] if window.note else []
-    parts += [legend(run)] + draw_all(run, window)
+    parts += [contents(charts), legend(run)] + [section(chart, bands, run, window) for chart in charts]
     head = f'<head><meta charset="utf-8"/><title>{escape(title)}</title><style>{drawing.STYLE}</style></head>'
     return f'<!DOCTYPE html>\n<html lang="en">{head}\n<body>\n' + "\n".join(parts) + "\n</body></html>\n"

@@ -17,6 +17,7 @@ from charts.reading import (
     Packet,
     Row,
     Run,
+    end_of,
     is_arrival,
     number,
     packet_named,
@@ -26,6 +27,16 @@ from charts.reading import (
 ARROW_HEIGHT, BAR_HEIGHT, PLAIN_HEIGHT = 36, 46, 32
 PLAIN_COLOUR = "#5f5f66"
 SUBS = {"pr": "PR", "npr": "NPR", "cpl": "CPL"}
+PAIR_EXCHANGES = {
+    "establish": [f"KEY_PROG of a {end}, {at}" for at in ("left", "right") for end in ["receiver"] * 3 + ["sender"] * 3]
+    + [f"GO of a {end}, {at}" for end in ("receiver", "sender") for at in ["left"] * 3 + ["right"] * 3],
+    "stop": [
+        f"STOP of key set {keys}, a {end}, {at}"
+        for at in ("left", "right")
+        for keys in (0, 1)
+        for end in ["receiver"] * 3 + ["sender"] * 3
+    ],
+}
 EXCHANGES = {
     "establish": ["QUERY"] + ["KEY_PROG of a receiver"] * 3 + ["KEY_PROG of a sender"] * 3
     + ["GO of a receiver"] * 3 + ["GO of a sender"] * 3,
@@ -36,10 +47,13 @@ EXCHANGES = {
     "start": ["START_INTERFACE"],
     "halt": ["STOP_INTERFACE"],
     "state": ["GET_DEVICE_INTERFACE_STATE"],
+    "bind": ["BIND_P2P"],
+    "unbind": ["UNBIND_P2P"],
 }
 CHANGES = {"flr": "function level reset", "firmware": "firmware update"}
 DULL = {"plain": "plain: no packet", "unknown": "unknown stream", "notkeyed": "not keyed"}
 DULL["none"] = "none: there is no such thing"
+DULL["through"] = "through: left unread"
 TLPS = {0x00: "read", 0x20: "read", 0x40: "write", 0x60: "write"}
 TLPS.update({0x04: "configuration read", 0x05: "configuration read", 0x44: "configuration write"})
 TLPS.update({0x45: "configuration write", 0x0A: "completion", 0x4A: "completion with data"})
@@ -150,12 +164,14 @@ def fates_of(run: Run) -> Fates:
 
 
 def sent_text(row: Row) -> str:
-    """What goes out: the bytes of a send, or the completion of an answer."""
-    return "completion of the oldest read" if row.verb() == "answer" else tlp_text(row.words[2])
+    """What goes out: the bytes of a send, the completion of an answer, or what waits at a switch."""
+    others = {"answer": "completion of the oldest read", "forward": "the oldest TLP that waits"}
+    return others.get(row.verb()) or tlp_text(row.words[3 if row.verb() == "psend" else 2])
 
 
-def draw_send(row: Row, places: Places, fates: Fates) -> Drawn:
-    side = HOST if row.verb() == "answer" else row.words[1][0]
+def draw_send(row: Row, run: Run, places: Places, fates: Fates) -> Drawn:
+    end = end_of(row, run)
+    side = end[1] if end else HOST
     if row.packets:
         return draw_sealed(row, side, places, fates)
     y, lifeline = 22, places.lifeline(side)
@@ -256,12 +272,22 @@ def verdict_chips(row: Row, room: float = 0) -> List[Chip]:
 # ---- operations
 
 
-def exchange_name(verb: str, place: int) -> str:
-    names = EXCHANGES.get(verb, [])
+def exchanges_of(row: Row) -> List[str]:
+    """The names of the operation's exchanges; a line without a host's port has both ends keyed by messages."""
+    verb = row.verb()
+    if verb in KEY_OPERATIONS:
+        line, plain = row.line_drawn, verb.lstrip("ph")
+        is_paired = line.kind == "peer" or (line.kind, line.segment) == ("hop", 1)
+        return (PAIR_EXCHANGES if is_paired else EXCHANGES)[plain]
+    return EXCHANGES.get(verb, [])
+
+
+def exchange_name(row: Row, place: int) -> str:
+    verb, names = row.verb(), exchanges_of(row)
     name = names[place - 1] if place <= len(names) else "GET_DEVICE_INTERFACE_REPORT" if verb == "report" else ""
     sub = ""
     if verb in KEY_OPERATIONS and name != "QUERY":
-        sub = " " + list(SUBS.values())[(place - (2 if verb == "establish" else 1)) % 3]
+        sub = " " + list(SUBS.values())[(place - (2 if names[0] == "QUERY" else 1)) % 3]
     return f"exchange {place}: {name}{sub}"
 
 
@@ -269,7 +295,7 @@ def exchange_count(row: Row, run: Run) -> int:
     """How many exchanges the operation has, as far as the verdict shows it."""
     stuck = stuck_at(row)
     if row.verb() != "report":
-        return len(EXCHANGES[row.verb()])
+        return len(exchanges_of(row))
     if row.answer() == "reported":
         return -(-len(row.verdict[-1]) // 2 // run.topology.portion)
     return stuck or 1
@@ -292,7 +318,7 @@ def draw_operation(row: Row, run: Run, places: Places, begun: int) -> Drawn:
     for place in range(1, count + 1):
         css = cell_css(place, begun, stuck, ended)
         x = left + (place - 1) * width
-        cell = [drawing.tip(f"{exchange_name(row.verb(), place)}\n{row.raw()}")]
+        cell = [drawing.tip(f"{exchange_name(row, place)}\n{row.raw()}")]
         cell.append(box(x, top, width - 2, 15, f"cell {css}", ' rx="2"'))
         if css == "stuck":
             cell.append(cross(x + width - 12, top + 7.5, 4))
@@ -312,15 +338,21 @@ def cell_css(place: int, begun: int, stuck: Optional[int], ended: bool) -> str:
 
 def operation_text(row: Row) -> str:
     words = row.words
-    return f"{words[0]} stream {words[2]}" if row.verb() in KEY_OPERATIONS else f"{words[0]} interface {words[1]}"
+    if row.verb() in ("bind", "unbind"):
+        return f"{words[0]} interface {words[1]}, stream {words[2]} between devices"
+    if row.verb() not in KEY_OPERATIONS:
+        return f"{words[0]} interface {words[1]}"
+    if row.line_drawn.kind == "link":
+        return f"{words[0]} stream {words[2]}"
+    return " ".join(words[:3 if row.line_drawn.kind == "hop" else 2])
 
 
 def operation_chips(row: Row) -> List[Chip]:
     answer, verdict = row.answer(), row.verdict or []
-    if answer in ("established", "refreshed"):
+    if answer.endswith(("established", "refreshed")):
         return [Chip(f"{answer} · draw {verdict[-1]}", "good")]
-    if answer == "stopped":
-        return [Chip("stopped", "good")]
+    if answer.endswith("stopped") or answer in ("bound", "unbound"):
+        return [Chip(answer, "good")]
     if answer == "locked":
         return [Chip(f"locked · nonce {verdict[-1][:8]}…", "good")]
     if answer == "reported":
@@ -390,7 +422,10 @@ def draw_change(row: Row, places: Places) -> Drawn:
 
 
 def draw_read(row: Row, places: Places) -> Drawn:
-    """An `answer` that no completion comes of: no read waits, or the oldest is dropped."""
+    """An `answer` that no completion comes of, no read waits, or the oldest is dropped; or a `forward` of nothing."""
+    if row.verb() == "forward":
+        side = DEVICE if number(row.words[2]) else HOST
+        return draw_plain(places, side, Chip("nothing waits", "dull"), "forward of the oldest TLP")
     if row.answer() == "empty":
         return draw_plain(places, HOST, Chip("no read waits", "dull"), "answer to the oldest read")
     chip = Chip(f"dropped: {row.verdict[-1]}", "blocked")
@@ -420,11 +455,11 @@ def draw_row(row: Row, run: Run, places: Places, fates: Fates, begun: int, is_ag
         return draw_arrival(row, run, places, is_again)
     if verb in KEY_OPERATIONS + ASKED:
         return draw_operation(row, run, places, begun)
-    drawn = {"send": lambda: draw_send(row, places, fates), "status": lambda: draw_status(row, places)}
+    drawn = {"send": lambda: draw_send(row, run, places, fates), "status": lambda: draw_status(row, places)}
     drawn.update(reset=lambda: draw_reset(row, places), packet=lambda: draw_dump(row, places))
     drawn.update({shown: lambda: draw_shown(row, places) for shown in ("memory", "view", "mmio")})
     drawn.update({ended: lambda: draw_read(row, places) for ended in ("empty", "dropped")})
     drawn.update({changed: lambda: draw_change(row, places) for changed in ("written", "flr", "firmware")})
-    is_sending = verb == "send" or verb == "answer" and answer in ("sealed", "refused")
+    is_sending = verb in ("send", "psend") or verb in ("answer", "forward") and answer in ("sealed", "refused")
     name = "send" if is_sending else answer
     return drawn.get(name, lambda: draw_text(row, places, "dull"))()
