@@ -7,8 +7,6 @@
 mod blank;
 mod queue;
 mod queues;
-#[cfg(test)]
-mod tests;
 
 pub use queue::{HopQueue, HopTlp, MOST_BYTES};
 pub use queues::HopQueues;

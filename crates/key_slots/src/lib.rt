@@ -2,7 +2,7 @@
 //! Express Base 6.0 section 6.33, in this profile).
 //!
 //! A key is moved from place to place, and never copied: in a slot it stands beside its prepared cipher, and
-//! leaves with it. Only `KeyPool::make` takes memory. No key is erased from memory.
+//! leaves with it. Only `KeyPool::make` and `Slots::make` take memory. No key is erased from memory.
 #![tactic(auto)]
 
 mod key;

@@ -2,7 +2,7 @@
 
 ghost use Rattle.std.specs.Prelude.{◌≡◌};
 ghost use Rattle.std.specs.Option.{option_copied};
-ghost use Rattle.key_slots.specs.Slots.{slot_state, held_key, live_draw, woken, is_empty};
+ghost use Rattle.key_slots.specs.Slots.{slot_state, held_key, live_draw, woken, is_empty, is_armed};
 
 use crate::Key;
 use gcm_seal::Gcm;
@@ -119,6 +119,13 @@ impl Slot {
             Slot::Live(held) => Some(held.draw()),
             _ => None,
         }
+    }
+
+    /// Whether its key waits for the end of a unit.
+    pub fn is_armed(&self) -> bool
+        ensures { result ≡ is_armed self.now }
+    {
+        matches!(self, Slot::Armed(_))
     }
 
     /// Whether it has no key.

@@ -1,6 +1,6 @@
 //! The two slots of one sub-stream in one direction.
 
-ghost use Rattle.std.specs.Prelude.{◌≡◌, true, false, not, is_ok, if◌then◌else◌};
+ghost use Rattle.std.specs.Prelude.{◌≡◌, true, false, not, is_ok, if◌then◌else◌, IfOk, ◌||◌};
 ghost use Rattle.std.specs.Option.{option_copied, option_map};
 ghost use Rattle.ide_types.specs.KeySets.{is_one};
 ghost use Rattle.key_slots.specs.Slots.{is_newer_than, is_older, live_draw, after_go, after_end};
@@ -8,7 +8,8 @@ ghost use Rattle.key_slots.specs.Slots.{is_newer_than, is_older, live_draw, afte
 use crate::Key;
 use crate::slot::{HeldKey, Slot, SlotState};
 use gcm_seal::Gcm;
-use ide_types::KeySet;
+use ide_types::{KeySet, Memory};
+use std::alloc::Global;
 use std::marker::Model;
 use std::mem;
 
@@ -22,13 +23,19 @@ pub struct OnlyLive {
 #[derive(Clone, Copy, PartialEq, Eq)]
 pub struct SlotEmpty;
 
+// The slots of key set 0 and of key set 1.
+#[derive(Drop)]
+struct Both {
+    zero: Slot,
+    one: Slot,
+}
+
 /// The slots of key set 0 and of key set 1, of a sender or of a receiver (PCI Express Base 6.0 section 6.33, in
-/// this profile).
+/// this profile). They are boxed, since prepared keys are large.
 #[derive(Drop)]
 pub struct Slots {
     sender: bool,
-    zero: Slot,
-    one: Slot,
+    both: Box<Both>,
 }
 
 impl Model for Slots {
@@ -37,9 +44,9 @@ impl Model for Slots {
 
     ghost Value = { SlotPair };
 
-    ghost view = { λ s. record { sender = s.sender; zero = s.zero; one = s.one } };
+    ghost view = { λ s. record { sender = s.sender; zero = s.both.value.zero; one = s.both.value.one } };
 
-    ghost invariant = { λ s. may_stand s.sender s.zero s.one ≡ true };
+    ghost invariant = { λ s. may_stand s.sender s.both.value.zero s.both.value.one ≡ true };
 }
 
 impl Slots {
@@ -54,6 +61,7 @@ impl Slots {
       program_answer,
       programmed,
       is_empty,
+      is_armed,
       armed,
       halted,
       ended_pair,
@@ -65,23 +73,32 @@ impl Slots {
       shown_key,
     };
 
-    /// Both slots empty.
-    pub fn make(sender: bool) -> Slots
-        ensures { result ≡ empty_pair sender }
+    /// Both slots empty. It alone takes memory.
+    pub fn make(alloc: Global, sender: bool) -> Result<Slots, Memory>
+        ensures { IfOk result (λ s. s ≡ empty_pair sender) }
     {
-        Slots {
-            sender,
+        let both = Both {
             zero: Slot::Empty,
             one: Slot::Empty,
-        }
+        };
+        let both = Box::new(alloc, both)?;
+        Ok(Slots { sender, both })
+    }
+
+    /// Empties both slots.
+    pub fn clear(&mut self)
+        ensures { self.new ≡ empty_pair self.old.sender }
+    {
+        self.both.zero = Slot::Empty;
+        self.both.one = Slot::Empty;
     }
 
     fn slot_ref(&self, set: KeySet) -> &Slot
         ensures { result.now ≡ slot_in self.now (is_one set) }
     {
         match set {
-            KeySet::Zero => &self.zero,
-            KeySet::One => &self.one,
+            KeySet::Zero => &self.both.zero,
+            KeySet::One => &self.both.one,
         }
     }
 
@@ -92,8 +109,8 @@ impl Slots {
         ensures may_stand { may_stand self.old.sender result.0 result.1 ≡ true }
         ensures left { self.new ≡ empty_pair self.old.sender }
     {
-        let zero = mem::replace(&mut self.zero, Slot::Empty);
-        let one = mem::replace(&mut self.one, Slot::Empty);
+        let zero = mem::replace(&mut self.both.zero, Slot::Empty);
+        let one = mem::replace(&mut self.both.one, Slot::Empty);
         ordered(set.is_one(), zero, one)
     }
 
@@ -103,12 +120,12 @@ impl Slots {
     {
         match set {
             KeySet::Zero => {
-                self.zero = mine;
-                self.one = other;
+                self.both.zero = mine;
+                self.both.one = other;
             }
             KeySet::One => {
-                self.zero = other;
-                self.one = mine;
+                self.both.zero = other;
+                self.both.one = mine;
             }
         }
     }
@@ -131,8 +148,11 @@ impl Slots {
         if self.is_only_live(set) {
             return Err(OnlyLive { key });
         }
-        let (_, other) = self.take(set);
-        self.put(set, Slot::Programmed(HeldKey::new(key, draw)), other);
+        let programmed = Slot::Programmed(HeldKey::new(key, draw));
+        match set {
+            KeySet::Zero => self.both.zero = programmed,
+            KeySet::One => self.both.one = programmed,
+        }
         Ok(())
     }
 
@@ -161,13 +181,21 @@ impl Slots {
         self.put(set, Slot::Empty, other.woken());
     }
 
+    fn any_armed(&self) -> bool
+        ensures { result ≡ (is_armed self.now.zero || is_armed self.now.one) }
+    {
+        self.both.zero.is_armed() || self.both.one.is_armed()
+    }
+
     /// Notes that a sender's unit ended: an Armed slot becomes Live, and the other is emptied.
     pub fn ended(&mut self)
         ensures { self.new ≡ ended_pair self.old }
     {
-        let (zero, one) = self.take(KeySet::Zero);
-        let (zero, one) = after_end(zero, one);
-        self.put(KeySet::Zero, zero, one);
+        if self.any_armed() {
+            let (zero, one) = self.take(KeySet::Zero);
+            let (zero, one) = after_end(zero, one);
+            self.put(KeySet::Zero, zero, one);
+        }
     }
 
     /// Notes that a unit was accepted under this Live slot of a receiver: an older Live one is emptied.
@@ -198,7 +226,7 @@ impl Slots {
         // A sender has at most one Live slot, and a receiver no Armed one.
         ensures sound { is_sound self.now ≡ true }
     {
-        match (self.zero.live_draw(), self.one.live_draw()) {
+        match (self.both.zero.live_draw(), self.both.one.live_draw()) {
             (None, None) => None,
             (None, Some(_)) => Some(KeySet::One),
             (Some(zero), one) => Some(KeySet::of_bit(is_newer_than(KeySet::Zero, zero, one))),

@@ -79,13 +79,14 @@ fn check(
 }
 
 // A port whose sender of stream 5's non-posted requests has no key.
-fn empty_port() -> OnePort {
-    OnePort {
+fn empty_port(alloc: Global) -> Result<OnePort, AllocError> {
+    let slots = Slots::make(alloc, true).map_err(|_| AllocError)?;
+    Ok(OnePort {
         direction: Direction::Upstream,
         sub: 1,
         unfinished: false,
-        slots: Slots::make(true),
-    }
+        slots,
+    })
 }
 
 // A KEY_PROG that is refused, and its reply. A wrong length comes before a wrong port index, and that before a wrong
@@ -93,7 +94,7 @@ fn empty_port() -> OnePort {
 #[test]
 fn keys_refused(rt: HostRuntime) -> Result<(), Fail> {
     let alloc = rt.alloc();
-    let mut port = empty_port();
+    let mut port = empty_port(alloc)?;
     let rows = [
         (7, 1, [0, 3, 0, 0, 5, 2, 0x12, 1]),
         (4, 6, [0, 3, 0, 0, 6, 3, 0x12, 0]),
@@ -118,7 +119,7 @@ fn keys_refused(rt: HostRuntime) -> Result<(), Fail> {
 // Fields that a prefix of a KEY_PROG lacks are given back as 0.
 #[test]
 fn prefixes_of_a_key(rt: HostRuntime) -> Result<(), Fail> {
-    let mut port = empty_port();
+    let mut port = empty_port(rt.alloc())?;
     for length in 2..48 {
         let reply = match length {
             2..=4 => [0, 3, 0, 0, 0, 1, 0, 0],
@@ -166,7 +167,7 @@ const UNANSWERED: [&[u8]; 21] = [
 #[test]
 fn nothing_to_answer(rt: HostRuntime) -> Result<(), Fail> {
     let alloc = rt.alloc();
-    let mut port = empty_port();
+    let mut port = empty_port(alloc)?;
     // Bits 3 and 2 of the selector are ignored, and given back.
     let reply = [0, 3, 0, 0, 5, 0, 0x1e, 0];
     let key_prog = with_byte(6, 0x1e);
@@ -195,7 +196,7 @@ const DONE: [u8; 8] = [0, 6, 0, 0, 5, 0, 0x12, 0];
 #[test]
 fn key_comes_and_goes(rt: HostRuntime) -> Result<(), Fail> {
     let alloc = rt.alloc();
-    let mut port = empty_port();
+    let mut port = empty_port(alloc)?;
     let (go, stop, done, key_prog) = (SET_GO, SET_STOP, DONE, KEY_PROG);
     let rows: [(&[u8], &[u8], SlotState); 8] = [
         (

@@ -13,3 +13,5 @@ pub mod AccessFaults
 pub mod PairedFaults
 pub mod FirstFaults
 pub mod Sevens
+pub mod Cuts
+mod FirstWords

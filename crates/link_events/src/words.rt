@@ -1,7 +1,8 @@
 //! Words, numbers, bytes and ports in a line of a script.
 
-ghost use Rattle.std.specs.Prelude.{◌≡◌, ◌≤◌, ◌==◌, false, map, slice_index, take};
-ghost use Rattle.std.specs.List.{list_all};
+ghost use Rattle.std.specs.Prelude.{◌≡◌, ◌≤◌, ◌==◌, ◌+◌, ◌∷◌, ◌++◌, [], false, not, map, filter, slice_index, take};
+ghost use Rattle.std.specs.Prelude.{IfSome, MatchOption, length};
+ghost use Rattle.std.specs.List.{list_all, slice_split};
 ghost use Rattle.std.specs.Option.{ok_or};
 ghost use Rattle.link_events.specs.declared.event.Lost.{Lost};
 ghost use Rattle.link_events.specs.declared.fault.LineFault.TheVariants as fault;
@@ -14,29 +15,66 @@ use crate::{LineError, LineFault, Lost};
 use arrayvec::ArrayVec;
 use hex::FromHexError;
 use ide_types::{Bytes, PortName, Side};
+use memchr::memchr;
 use std::alloc::Global;
 
-/// Whether each byte is a space or a printed character.
+/// Whether each byte is a space or a printed character. All bytes are looked at, so that many are at once.
 pub fn is_printed(line: &[u8]) -> bool
     ensures { result ≡ list_all is_printable line.now }
 {
-    line.iter().all(|b| 0x20 <= *b && *b <= 0x7e)
+    let mut printed = true;
+    for byte in line {
+        printed &= 0x20 <= *byte && *byte <= 0x7e;
+    }
+    printed
+}
+
+/// The bytes before the first one of a value and those after it; `None` if there is none.
+#[tactic(auto, using(crate::proofs::Cuts::cut_at, crate::proofs::Cuts::uncut, crate::proofs::Cuts::within))]
+pub fn split_at_byte(value: u8, bytes: &[u8]) -> Option<(&[u8], &[u8])>
+    ensures parts { MatchOption result (slice_split (λ b. b == value) bytes.now ≡ bytes.now ∷ [])
+        (λ p. slice_split (λ b. b == value) bytes.now ≡ p.0.now ∷ slice_split (λ b. b == value) p.1.now) }
+    ensures shorter { IfSome result (λ p. length p.0.now + 1 + length p.1.now ≡ length bytes.now) }
+{
+    match memchr(value, bytes) {
+        Some(end) => {
+            let (before, _) = bytes.split_at(end);
+            let (_, after) = bytes.split_at(end + 1);
+            Some((before, after))
+        }
+        None => None,
+    }
 }
 
 /// The first words of a line.
 pub type Words<'a> = ArrayVec<&'a [u8], 7>;
 
+// Adds what stands between two spaces, if it is a word and there is room.
+#[tactic(auto, using(crate::proofs::FirstWords::none_more))]
+fn push_word<'a>(words: &mut Words<'a>, word: &'a [u8])
+    ensures { map (λ w. w.now) words.new.items ≡ take 7 (map (λ w. w.now) words.old.items
+        ++ filter (λ w. not (length w == 0)) (word.now ∷ [])) }
+{
+    if words.is_full() {
+        return;
+    }
+    if !word.is_empty() {
+        words.push(word);
+    }
+}
+
 /// The words between the spaces of a line, and of more than seven the first seven.
 pub fn words_of(line: &[u8]) -> Words<'_>
     ensures { map (λ w. w.now) result.items ≡ take 7 (words_in line.now) }
 {
-    let mut all = ArrayVec::new();
-    for word in line.split(|b| *b == b' ') {
-        if !word.is_empty() && !all.is_full() {
-            all.push(word);
-        }
+    let mut words = ArrayVec::new();
+    let mut rest = line;
+    while let Some((word, after)) = split_at_byte(b' ', rest) {
+        push_word(&mut words, word);
+        rest = after;
     }
-    all
+    push_word(&mut words, rest);
+    words
 }
 
 // Whether std would read a sign, which no number here has.

@@ -20,6 +20,9 @@ fn sync_text(sync: bool) -> &'static str
     if sync { " sync" } else { "" }
 }
 
+// Room for most lines.
+const LINE_ROOM: usize = 96;
+
 fn push_packet(text: &mut String, packet: &SealedPacket) -> Result<(), AllocError>
     ensures { OnOk result ((after : List Text) → string_bytes text.new ++ joined after ≡ string_bytes text.old
         ++ joined (sealed_words packet.now after)) }
@@ -82,7 +85,8 @@ fn sealed_text(alloc: Global, number: u64, packets: &[SealedPacket]) -> Result<S
     ensures { IfOk result (λ s. string_bytes s ≡ decimal number
         ++ joined (codes "sealed" ∷ packets_words packets.now)) }
 {
-    let mut text = format!(in alloc; "{number} sealed")?;
+    let mut text = String::with_capacity(alloc, LINE_ROOM)?;
+    write!(text, "{number} sealed")?;
     push_packets(&mut text, packets)?;
     Ok(text)
 }
@@ -120,7 +124,9 @@ fn accepted_text(
         draw,
         unit,
     } = unit;
-    let mut text = format!(in alloc;
+    let mut text = String::with_capacity(alloc, LINE_ROOM)?;
+    write!(
+        text,
         "{number} accepted {port} {stream} {sub} draw {draw} unit {unit}"
     )?;
     push_effects(&mut text, effects)?;

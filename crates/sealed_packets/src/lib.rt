@@ -6,4 +6,4 @@
 
 mod packets;
 
-pub use packets::{Mark, Packets};
+pub use packets::Packets;

@@ -1,11 +1,11 @@
 //! Packets by their numbers, joined.
 
-ghost use Rattle.std.specs.Prelude.{◌≡◌, ◌+◌, ◌<◌, ◌≤◌, ◌^◌, ◌++◌, [], OnOk, length, map, option_map, sum_by, vec_len};
-ghost use Rattle.std.specs.Prelude.{vec_capacity};
+ghost use Rattle.std.specs.Prelude.{◌≡◌, ◌+◌, ◌<◌, ◌≤◌, ◌^◌, ◌++◌, ◌∷◌, [], OnOk, length, map, option_map, sum_by};
+ghost use Rattle.std.specs.Prelude.{Some, slice_get, slice_index, slice_range, vec_len, vec_capacity};
 ghost use Rattle.link_ports.specs.Machine.{LinkPacket, packet_numbered};
 ghost use Rattle.sub_stream.specs.declared.answer.SealedPacket.{SealedPacket};
 ghost use Rattle.sealed_packets.specs.Cuts.{cut_packets};
-ghost use Rattle.sealed_packets.specs.Packets.{marks_from};
+ghost use Rattle.sealed_packets.specs.Packets.{ends_from, port_for_each};
 
 use ide_types::{Memory, PortName};
 use std::alloc::Global;
@@ -18,35 +18,29 @@ const MOST_PACKETS: usize = 3;
 /// The most bytes that one send seals.
 const MOST_BYTES: usize = 4184;
 
-/// Where a packet stands among the bytes of all, and the port that sealed it.
-#[derive(Clone, Copy)]
-pub struct Mark {
-    pub port: PortName,
-    pub start: usize,
-    pub end: usize,
-}
-
-/// Packets by their numbers from 1, each with the port that sealed it. A packet costs its length and a mark of 24
-/// bytes, and room for as much again.
+/// Packets by their numbers from 1, each with the port that sealed it. A packet costs its length and 10 bytes, and room
+/// for as much again.
 #[derive(Drop)]
 pub struct Packets {
     bytes: Vec<u8>,
-    marks: Vec<Mark>,
+    ports: Vec<PortName>,
+    // where each packet ends among the bytes of all; it begins where the one before it ends
+    ends: Vec<usize>,
 }
 
 impl Model for Packets {
-    ghost use Rattle.std.specs.Prelude.{◌-◌, All, map, vec_len, vec_capacity};
-    ghost use Rattle.sealed_packets.specs.Packets.{KeptPackets, marked_packet, IsWithin};
+    ghost use Rattle.std.specs.Prelude.{◌-◌, length, min, vec_len, vec_capacity};
+    ghost use Rattle.sealed_packets.specs.Packets.{KeptPackets, packets_ending, EndThere};
 
     ghost Value = { KeptPackets };
 
     ghost view = { λ p. record {
-      packets = map (marked_packet p.bytes.items) p.marks.items;
+      packets = packets_ending 0 p.ports.items p.ends.items p.bytes.items;
       byte_room = vec_capacity p.bytes - vec_len p.bytes;
-      mark_room = vec_capacity p.marks - vec_len p.marks;
+      mark_room = min (vec_capacity p.ports - vec_len p.ports) (vec_capacity p.ends - vec_len p.ends);
     } };
 
-    ghost invariant = { λ p. All (IsWithin p.bytes.items) p.marks.items };
+    ghost invariant = { λ p. EndThere 0 p.ports.items p.ends.items (length p.bytes.items) };
 }
 
 impl Packets {
@@ -56,7 +50,8 @@ impl Packets {
     {
         Packets {
             bytes: Vec::new(alloc),
-            marks: Vec::new(alloc),
+            ports: Vec::new(alloc),
+            ends: Vec::new(alloc),
         }
     }
 
@@ -65,7 +60,7 @@ impl Packets {
         ensures value { result ≡ length self.now.packets }
         ensures small { result < 2 ^ 63 }
     {
-        self.marks.len()
+        self.ports.len()
     }
 
     /// Takes room for what one send seals. For want of memory no packet changes.
@@ -74,7 +69,8 @@ impl Packets {
         ensures marks { OnOk result (3 ≤ self.new.mark_room) }
         ensures bytes { OnOk result (4184 ≤ self.new.byte_room) }
     {
-        self.marks.reserve(MOST_PACKETS)?;
+        self.ports.reserve(MOST_PACKETS)?;
+        self.ends.reserve(MOST_PACKETS)?;
         self.bytes.reserve(MOST_BYTES)?;
         Ok(())
     }
@@ -89,7 +85,7 @@ impl Packets {
     {
         let start = self.bytes.len();
         self.bytes.extend_from_slice(bytes).unwrap();
-        add_marks(&mut self.marks, port, packets, start);
+        add_ends(&mut self.ports, &mut self.ends, port, packets, start);
     }
 
     /// The packet of this number, counted from 1, with the port that sealed it; `None` if there is no such packet.
@@ -97,26 +93,61 @@ impl Packets {
         ensures { option_map (λ p. record { port = p.0; bytes = p.1.now }) result ≡ packet_numbered
             self.now.packets number }
     {
-        if number == 0 || number > self.marks.len() as u64 {
+        if number == 0 || number > self.count() as u64 {
             None
         } else {
-            let mark = self.marks[number as usize - 1];
-            Some((mark.port, &self.bytes[mark.start..mark.end]))
+            Some(self.at(number as usize - 1))
         }
+    }
+
+    // Packet `i`, counted from 0, with the port that sealed it.
+    fn at(&self, i: usize) -> (PortName, &[u8])
+        requires { i < length self.now.packets }
+        ensures { slice_get self.now.packets i ≡ Some (record { port = result.0; bytes = result.1.now }) }
+    {
+        let start = start_of(&self.ends, i);
+        let end = self.ends[i];
+        (self.ports[i], part(&self.bytes, start, end))
     }
 }
 
-// Marks packets, the first of which begins at byte `start`.
-fn add_marks(marks: &mut Vec<Mark>, port: PortName, packets: &[SealedPacket], start: usize)
-    requires room { vec_len marks.old + length packets.now ≤ vec_capacity marks.old }
+// The bytes from one place to another.
+fn part(bytes: &[u8], start: usize, end: usize) -> &[u8]
+    requires low { start ≤ end }
+    requires high { end ≤ length bytes.now }
+    ensures { result.now ≡ slice_range bytes.now start end }
+{
+    &bytes[start..end]
+}
+
+// Where packet `i` begins, counted from 0.
+fn start_of(ends: &[usize], i: usize) -> usize
+    requires { i < length ends.now }
+    ensures { result ≡ slice_index (0 ∷ ends.now) i }
+{
+    if i == 0 { 0 } else { ends[i - 1] }
+}
+
+// Adds the port and the end of each of these packets, the first of which begins at byte `start`.
+fn add_ends(
+    ports: &mut Vec<PortName>,
+    ends: &mut Vec<usize>,
+    port: PortName,
+    packets: &[SealedPacket],
+    start: usize,
+)
+    requires ports_room { vec_len ports.old + length packets.now ≤ vec_capacity ports.old }
+    requires ends_room { vec_len ends.old + length packets.now ≤ vec_capacity ends.old }
     requires fits { start + sum_by (λ (p : SealedPacket). p.length) packets.now < 2 ^ 63 }
-    ensures { marks.new.items ≡ marks.old.items ++ marks_from port start (map (λ (p : SealedPacket). p.length)
+    ensures ports { ports.new.items ≡ ports.old.items ++ port_for_each port (map (λ (p : SealedPacket). p.length)
+        packets.now) }
+    ensures ends { ends.new.items ≡ ends.old.items ++ ends_from start (map (λ (p : SealedPacket). p.length)
         packets.now) }
 {
-    let mut start = start;
+    let mut end = start;
     for packet in packets {
-        let end = start + packet.length;
-        marks.push(Mark { port, start, end }).unwrap();
-        start = end;
+        end += packet.length;
+        ports.push(port).unwrap();
+        ends.push(end).unwrap();
     }
 }

@@ -93,20 +93,25 @@ fn count(taken: &Taken, posted: u64, sum: &mut u64, got: &mut u64, total: &mut u
 
 impl ReceiveLane {
     /// A receiver with no key, for whose units `buf` was reserved.
-    pub fn make(fixed: Fixed, sub: SubKind, buf: UnitBuf) -> ReceiveLane
+    pub fn make(
+        alloc: Global,
+        fixed: Fixed,
+        sub: SubKind,
+        buf: UnitBuf,
+    ) -> Result<ReceiveLane, Memory>
         requires some { 1 ≤ fixed.mode }
         requires few { fixed.mode ≤ 8 }
         requires same { buf.mode ≡ fixed.mode }
-        ensures { result ≡ new_receive_end sub fixed.mode fixed.closed }
+        ensures { IfOk result (λ s. s ≡ new_receive_end sub fixed.mode fixed.closed) }
     {
-        ReceiveLane {
-            rx: Rx::make(fixed.stream, sub, fixed.mode, buf),
+        Ok(ReceiveLane {
+            rx: Rx::make(alloc, fixed.stream, sub, fixed.mode, buf)?,
             sub,
             closed: fixed.closed,
             sum: 0,
             got: 0,
             total: 0,
-        }
+        })
     }
 
     /// Whether a slot is Live.
@@ -347,9 +352,9 @@ impl ReceiveLanes {
         let npr = UnitBuf::reserve(alloc, fixed.mode)?;
         let cpl = UnitBuf::reserve(alloc, fixed.mode)?;
         Ok(ReceiveLanes {
-            pr: ReceiveLane::make(fixed, SubKind::Pr, pr),
-            npr: ReceiveLane::make(fixed, SubKind::Npr, npr),
-            cpl: ReceiveLane::make(fixed, SubKind::Cpl, cpl),
+            pr: ReceiveLane::make(alloc, fixed, SubKind::Pr, pr)?,
+            npr: ReceiveLane::make(alloc, fixed, SubKind::Npr, npr)?,
+            cpl: ReceiveLane::make(alloc, fixed, SubKind::Cpl, cpl)?,
             lent: None,
             takes: 0,
         })

@@ -80,19 +80,19 @@ fn count(m: bool, posted: &mut u8, total: &mut u64)
 
 impl SendLane {
     /// A sender with no key, for whose units `buf` was reserved.
-    pub fn make(fixed: Fixed, sub: SubKind, buf: UnitBuf) -> SendLane
+    pub fn make(alloc: Global, fixed: Fixed, sub: SubKind, buf: UnitBuf) -> Result<SendLane, Memory>
         requires some { 1 ≤ fixed.mode }
         requires few { fixed.mode ≤ 8 }
         requires same { buf.mode ≡ fixed.mode }
-        ensures { result ≡ new_send_end fixed sub }
+        ensures { IfOk result (λ s. s ≡ new_send_end fixed sub) }
     {
-        SendLane {
-            tx: Tx::make(fixed.stream, sub, fixed.mode, fixed.limit, buf),
+        Ok(SendLane {
+            tx: Tx::make(alloc, fixed.stream, sub, fixed.mode, fixed.limit, buf)?,
             limit: fixed.limit,
             closed: fixed.closed,
             posted: 0,
             total: 0,
-        }
+        })
     }
 
     /// Whether a slot is Live.
@@ -296,9 +296,9 @@ impl SendLanes {
         let cpl = UnitBuf::reserve(alloc, fixed.mode)?;
         Ok(SendLanes {
             fixed,
-            pr: SendLane::make(fixed, SubKind::Pr, pr),
-            npr: SendLane::make(fixed, SubKind::Npr, npr),
-            cpl: SendLane::make(fixed, SubKind::Cpl, cpl),
+            pr: SendLane::make(alloc, fixed, SubKind::Pr, pr)?,
+            npr: SendLane::make(alloc, fixed, SubKind::Npr, npr)?,
+            cpl: SendLane::make(alloc, fixed, SubKind::Cpl, cpl)?,
         })
     }
 

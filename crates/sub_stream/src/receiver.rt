@@ -1,7 +1,7 @@
 //! The receiver of one sub-stream, what it holds, and the checks of a packet under a Live key.
 
 ghost use Rattle.std.specs.Prelude.{◌≡◌, ◌+◌, ◌<◌, ◌≤◌, ◌^◌, ◌*◌, ◌&&◌, Some, None, is_ok, is_some, not, true, false};
-ghost use Rattle.std.specs.Prelude.{[], length, nat_lt, if◌then◌else◌};
+ghost use Rattle.std.specs.Prelude.{[], length, nat_lt, if◌then◌else◌, IfOk};
 ghost use Rattle.gcm_seal.specs.Gcm.{verifies};
 ghost use Rattle.ide_prefix.specs.Cut.{packet_of_view, lent_tag, IsView};
 ghost use Rattle.ide_prefix.specs.Units.{encrypted};
@@ -22,8 +22,9 @@ use crate::sender::begin_where_empty;
 use crate::unit_packets::UnitPackets;
 use gcm_seal::Gcm;
 use ide_prefix::{PacketView, carried_head, unit_iv};
-use ide_types::{FailCause, KeySet, SubKind};
+use ide_types::{FailCause, KeySet, Memory, SubKind};
 use key_slots::{Key, OnlyLive, SlotEmpty, SlotState, Slots};
+use std::alloc::Global;
 use std::marker::Model;
 use unit_aggregation::UnitBuf;
 
@@ -187,23 +188,29 @@ impl Rx {
     };
 
     /// A receiver with no key. `mode` is 1, 2, 4 or 8, with which `buf` was reserved.
-    pub fn make(stream: u8, sub: SubKind, mode: u8, buf: UnitBuf) -> Rx
+    pub fn make(
+        alloc: Global,
+        stream: u8,
+        sub: SubKind,
+        mode: u8,
+        buf: UnitBuf,
+    ) -> Result<Rx, Memory>
         requires some { 1 ≤ mode }
         requires few { mode ≤ 8 }
         requires same { buf.mode ≡ mode }
-        ensures { result ≡ new_receiver stream sub mode }
+        ensures { IfOk result (λ s. s ≡ new_receiver stream sub mode) }
     {
-        Rx {
+        Ok(Rx {
             stream,
             sub,
             mode,
             zero: 0,
             one: 0,
-            slots: Slots::make(false),
+            slots: Slots::make(alloc, false)?,
             holds: Holds::Nothing,
             unit: UnitPackets::new(buf),
             takes: 0,
-        }
+        })
     }
 
     // The answer that needs no look at the tag, if there is one.
@@ -332,7 +339,7 @@ impl Rx {
             { takes = self.old.takes } }
     {
         self.holds = Holds::Nothing;
-        self.slots = Slots::make(false);
+        self.slots.clear();
     }
 
     /// The greatest draw of a Live key; `None` if no slot is Live.

@@ -1,7 +1,7 @@
 //! The sender of one sub-stream, and the bytes of the packets that it seals.
 
 ghost use Rattle.std.specs.Prelude.{◌≡◌, ◌==◌, ◌&&◌, ◌||◌, ◌^◌, false, ℕ, ◌+◌, ◌<◌, ◌≤◌, List, ◌++◌, [], length};
-ghost use Rattle.std.specs.Prelude.{vec_len, vec_capacity, is_ok, not, true, if◌then◌else◌};
+ghost use Rattle.std.specs.Prelude.{vec_len, vec_capacity, is_ok, not, true, if◌then◌else◌, IfOk};
 ghost use Rattle.std.specs.Result.{result_map_both};
 ghost use Rattle.gcm_seal.specs.Gcm.{masked, tag_of};
 ghost use Rattle.ide_prefix.specs.Packet.{prefix_bytes, sync_head};
@@ -20,8 +20,9 @@ use crate::answer::{SealedPacket, TxRefusal};
 use crate::unit_packets::UnitPackets;
 use gcm_seal::{Gcm, MAX_BYTES};
 use ide_prefix::{Prefix, SYNC_FIRST, unit_iv, write_prefix};
-use ide_types::{KeySet, SubKind};
+use ide_types::{KeySet, Memory, SubKind};
 use key_slots::{Key, OnlyLive, SlotEmpty, SlotState, Slots};
+use std::alloc::Global;
 use std::marker::Model;
 use unit_aggregation::UnitBuf;
 
@@ -196,21 +197,28 @@ impl Tx {
 
     /// A sender with no key. `mode` is 1, 2, 4 or 8, with which `buf` was reserved; `limit` is how many units one key
     /// may seal.
-    pub fn make(stream: u8, sub: SubKind, mode: u8, limit: u64, buf: UnitBuf) -> Tx
+    pub fn make(
+        alloc: Global,
+        stream: u8,
+        sub: SubKind,
+        mode: u8,
+        limit: u64,
+        buf: UnitBuf,
+    ) -> Result<Tx, Memory>
         requires some { 1 ≤ mode }
         requires few { mode ≤ 8 }
         requires same { buf.mode ≡ mode }
-        ensures { result ≡ new_sender stream sub mode limit }
+        ensures { IfOk result (λ s. s ≡ new_sender stream sub mode limit) }
     {
-        Tx {
+        Ok(Tx {
             stream,
             sub,
             mode,
             limit,
             units: 0,
-            slots: Slots::make(true),
+            slots: Slots::make(alloc, true)?,
             unit: UnitPackets::new(buf),
-        }
+        })
     }
 
     /// Whether the next packet would be sealed, and if not, why.
@@ -391,7 +399,7 @@ impl Tx {
     {
         self.units = 0;
         self.unit.clear();
-        self.slots = Slots::make(true);
+        self.slots.clear();
     }
 
     /// The draw of the Live key; `None` if no slot is Live.

@@ -67,6 +67,15 @@ impl Page {
         self.bytes[i]
     }
 
+    /// Copies the bytes from `start` on into `buf`.
+    pub fn read(&self, start: usize, buf: &mut [u8])
+        requires { start + length buf.old ≤ PAGE_BYTES }
+        ensures bytes { (k : ℕ) → k < length buf.old → slice_index buf.new k ≡ slice_index self.now (start + k) }
+        ensures long { length buf.new ≡ length buf.old }
+    {
+        buf.copy_from_slice(&self.bytes[start..start + buf.len()]);
+    }
+
     /// Sets byte `i`.
     pub fn set(&mut self, i: usize, value: u8)
         requires { i < PAGE_BYTES }

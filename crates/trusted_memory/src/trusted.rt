@@ -213,12 +213,39 @@ impl Trusted {
         }
     }
 
-    /// Copies the bytes from an address on into `buf`, 0 of each that no region has.
-    pub fn copy(&self, at: u64, buf: &mut [u8])
+    // Copies the bytes if they lie in one region and in one page that is there; else it is false.
+    fn copy_page(&self, at: u64, buf: &mut [u8]) -> bool
+        ensures bytes { OnTrue result (buf.new ≡ bytes_from (byte_at self.now.contents) at (length buf.old)) }
+        ensures others { OnFalse result (buf.new ≡ buf.old) }
+    {
+        let start = (at % PAGE_BYTES as u64) as usize;
+        if buf.len() > PAGE_BYTES - start || !in_one_region(&self.regions, at, buf.len()) {
+            return false;
+        }
+        match self.pages.get(&(at / PAGE_BYTES as u64)) {
+            None => false,
+            Some(page) => {
+                page.read(start, buf);
+                true
+            }
+        }
+    }
+
+    // Copies them one by one.
+    fn copy_bytes(&self, at: u64, buf: &mut [u8])
         ensures { buf.new ≡ bytes_from (byte_at self.now.contents) at (length buf.old) }
     {
         for (i, byte) in buf.iter_mut().enumerate() {
             *byte = self.byte_behind(at, i);
+        }
+    }
+
+    /// Copies the bytes from an address on into `buf`, 0 of each that no region has.
+    pub fn copy(&self, at: u64, buf: &mut [u8])
+        ensures { buf.new ≡ bytes_from (byte_at self.now.contents) at (length buf.old) }
+    {
+        if !self.copy_page(at, buf) {
+            self.copy_bytes(at, buf);
         }
     }
 

@@ -10,4 +10,14 @@ pub use Rattle.lock_laws.specs.Locks.{Attested, LockLaw, Scrubbed, ViewsAreTrue}
 pub use Rattle.lock_laws.specs.Runs.{AnswersLaw, OneLockPerKey}
 -- what crates above cite
 pub use Rattle.lock_laws.specs.Fronts.{AtEach, AtPairs}
-pub use Rattle.lock_laws.specs.{CameFrom, Carries, IsBoundPacket, claimed_write, if_claims, if_stored, stored_to, stores, write_read}
+pub use Rattle.lock_laws.specs.{
+  CameFrom,
+  Carries,
+  IsBoundPacket,
+  claimed_write,
+  if_claims,
+  if_stored,
+  stored_to,
+  stores,
+  write_read,
+}

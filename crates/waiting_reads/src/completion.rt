@@ -44,11 +44,27 @@ fn ends_with(span: Span, ends: Option<(usize, usize)>, i: usize) -> Option<(usiz
     }
 }
 
+// Whether all byte enables are set, and there is a byte.
+fn enables_all(span: Span) -> bool
+    ensures { result ≡ true → (1 ≤ span.length) × ((i : ℕ) → is_enabled span i ≡ true) }
+{
+    if span.length == 0 {
+        false
+    } else if span.first_be != 15 {
+        false
+    } else {
+        span.last_be == 15
+    }
+}
+
 // The places of the first enabled byte and of the last.
 fn enabled_ends(span: Span) -> Option<(usize, usize)>
     ensures ends { result ≡ first_and_last (enabled_places span) }
     ensures within { IfSome result (λ ends. (ends.0 ≤ ends.1) × (ends.1 < span_byte_count span)) }
 {
+    if enables_all(span) {
+        return Some((0, span.bytes() - 1));
+    }
     let mut ends = None;
     for i in 0..span.bytes() {
         ends = ends_with(span, ends, i);

@@ -1,19 +1,21 @@
-use Rattle.std.proofs.Common.{◌==◌, ◌∙◌, ℕ, ap, sym, not, length, take, rules, tests}
-use Rattle.std.specs.Prelude.{filter}
-use Rattle.std.proofs.lemmas.Iterator.Consumers.{YieldsList-end}
-use Rattle.std.proofs.lemmas.Iterator.Splits.{YieldsList-from_slice_split}
-use Rattle.ide_types.specs.Names.{Text}
+use Rattle.std.proofs.Common.{rules, ◌≡◌, ◌==◌, ◌∷◌, ◌∙◌, [], map, sym}
+use Rattle.std.specs.List.{slice_split}
+use Rattle.link_events.proofs.FirstWords.{more_words, last_word}
 use Rattle.link_events.proofs.words.words_of.Goals as goal
 
 pub returns : goal.returns
 returns c =
-    let split = c.split-word-items.ensures in
-    let same = sym c.into_iter-word-iterator.ensures.into_iter_gives in
-    let rest = rw same at split.rest in
-    let done = rw same at split.done in
-    let closure = rw same at split.closure in
-    let all = YieldsList-end
-    (YieldsList-from_slice_split _ (λ (b : ℕ). b == 32) c.args.line.now rest done closure
-    (λ x b q k. search (rules, tests)))
-    c.loop-word.yielded _ c.loop-word.yielded_by _ _ c.in-None.is c.next.ensures.steps in
-    c.loop-word.invariant ∙ ap (λ ws. take 7 (filter (λ (w : Text). not (length w == 0)) ws)) all.0
+    let is : slice_split (λ b. b == 32) c.loop-word.rest.now ≡ c.loop-word.rest.now ∷ [] =
+    rw c.in_default.is at c.split_at_byte.ensures.parts in
+    c.push_word-2.ensures ∙ last_word (map (λ w. w.now) c.loop-word.words.items) c.loop-word.rest.now is
+    ∙ c.loop-word.invariant
+
+pub loop-word-preserved : goal.loop-word-preserved
+loop-word-preserved c =
+    let is : slice_split (λ b. b == 32) c.loop-word.rest.now
+    ≡ c.in-Some.word.now ∷ slice_split (λ b. b == 32) c.in-Some.after.now =
+    rw c.in-Some.is at c.split_at_byte.ensures.parts in
+    rw c.push_word.ensures
+    (more_words (map (λ w. w.now) c.loop-word.words.items) c.in-Some.word.now c.loop-word.rest.now c.in-Some.after.now
+    is
+    ∙ c.loop-word.invariant)

@@ -1,6 +1,8 @@
-use Rattle.std.proofs.Common.{ℕ, ◌+◌, cond, Option, Some, sym, ap, ◌∙◌, subst}
-use Rattle.trusted_memory.specs.Spans.{is_enabled}
-use Rattle.waiting_reads.specs.Completions.{first_or}
+use Rattle.std.proofs.Common.{◌≡◌, ℕ, ◌+◌, ◌-◌, ◌*◌, ◌≤◌, cond, filter, Option, Some, sym, ap, ◌∙◌, subst, arith}
+use Rattle.std.specs.List.{range_with_len}
+use Rattle.trusted_memory.specs.Spans.{span_byte_count, is_enabled}
+use Rattle.waiting_reads.specs.Completions.{first_and_last, first_or}
+use Rattle.waiting_reads.proofs.Full.{all_places}
 use Rattle.waiting_reads.proofs.Places.{Within, first_and_last-more, within-more}
 use Rattle.waiting_reads.proofs.completion.enabled_ends.Goals as goal
 
@@ -15,3 +17,13 @@ loop-i-preserved c =
       within = subst (Within (i + 1)) (sym c.ends_with-ends.ensures)
           (within-more enabled c.loop-i.ends i c.loop-i.invariant.within);
     }
+
+pub returns-then-enables_all-clause-ends : goal.returns-then-enables_all-clause-ends
+returns-then-enables_all-clause-ends c =
+    let s = c.args.span in
+    let all = c.enables_all.ensures (c.if-enables_all.true) in
+    let some : 1 ≤ s.length = all.0 in
+    let same : c.bytes.result ≡ span_byte_count s = c.bytes.ensures in
+    let n : (c.bytes.result - 1) + 1 ≡ span_byte_count s = omega arith in
+    sym (subst (λ (m : ℕ). first_and_last (filter (is_enabled s) (range_with_len 0 m)) ≡ Some (0, c.bytes.result - 1)) n
+    (all_places (is_enabled s) (c.bytes.result - 1) all.1))

@@ -1,7 +1,7 @@
 use Rattle.std.proofs.Common.{◌≡◌, ◌≤◌, length, ap, ◌∙◌, arith}
 use Rattle.trusted_memory.specs.Memory.{byte_at, bytes_from}
 use Rattle.trusted_memory.proofs.Seen.{is_bytes_from}
-use Rattle.trusted_memory.proofs.trusted.Trusted.copy.Goals as goal
+use Rattle.trusted_memory.proofs.trusted.Trusted.copy_bytes.Goals as goal
 
 pub returns : goal.returns
 returns c =

@@ -1,6 +1,6 @@
 use Rattle.std.proofs.Common.{◌≡◌, ℕ, ◌+◌, ◌<◌, get_or}
 use Rattle.trusted_memory.specs.Memory.{byte_at}
-use Rattle.trusted_memory.proofs.trusted.Trusted.copy.Given as goal
+use Rattle.trusted_memory.proofs.trusted.Trusted.copy_bytes.Given as goal
 
 -- the bytes before place i stand
 abbrev pub invariant-loop-i : goal.invariant-loop-i
