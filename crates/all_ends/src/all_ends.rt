@@ -2,12 +2,9 @@
 
 ghost use Rattle.std.specs.Prelude.{◌≡◌, ◌==◌, ◌<◌, ◌≤◌, ◌^◌, ◌-◌, ℕ, Some, true, not, IfOk, IfSome, IsSome, is_some};
 ghost use Rattle.std.specs.Prelude.{length, option_map, slice_get, slice_set};
-ghost use Rattle.std.specs.Option.{option_and_then};
 ghost use Rattle.ide_types.specs.Ports.{host_port};
-ghost use Rattle.ide_plan.specs.Fits.{FitsPlan};
-ghost use Rattle.association.specs.Outgoing.{outgoing_of, stream_taken};
 ghost use Rattle.ide_prefix.specs.Reading.{cut_of};
-ghost use Rattle.ide_port.specs.{PortEnd, sealing_draw_in, receiving_draw_in, take_step};
+ghost use Rattle.ide_port.specs.{PortEnd, take_step};
 ghost use Rattle.arrival_verdicts.specs.Verdicts.{grants_in};
 ghost use Rattle.tsm_host.specs.Operations.{op_name};
 ghost use Rattle.tsm_host.specs.Managers.{named};
@@ -29,7 +26,7 @@ use accesses::{Accesses, LinkAccesses};
 use arrival_verdicts::{ReceivingPort, switch_verdict, taken_verdict};
 use device_side::PeerStreams;
 use hop_queues::HopQueues;
-use ide_plan::{BarPlan, PeerPlan, Plan};
+use ide_plan::{BarPlan, PeerPlan};
 use ide_port::{Arrival, Port, Sent};
 use ide_types::{Direction, Memory, PortName, Side, StreamStatus, SubKind};
 use interface_words::Register;
@@ -43,6 +40,7 @@ use tdi_ends::InterfaceKeeper;
 use tdi_host::InterfaceOp;
 use trusted_memory::Trusted;
 use tsm_host::{Op, Outcome};
+use valid_plan::ValidPlan;
 
 /// How many lines of hops come before those of streams between devices, among those that are keyed by messages at both
 /// ends.
@@ -101,10 +99,10 @@ impl AllEnds {
     };
 
     /// The ends of the plan's lines, without keys. Returns `Memory` for want of memory.
-    pub fn make(alloc: Global, plan: &Plan) -> Result<AllEnds, Memory>
-        requires { FitsPlan plan.now }
+    pub fn make(alloc: Global, plan: &ValidPlan) -> Result<AllEnds, Memory>
         ensures { IfOk result (λ a. a ≡ new_all_ends plan.now) }
     {
+        let plan = plan.plan();
         let limit = plan.units_per_key;
         let links = link_ends(alloc, plan.links.as_slice(), limit)?;
         let mut rows = hop_rows(alloc, plan.links.as_slice())?;
@@ -127,6 +125,14 @@ impl AllEnds {
         ensures small { result < 2 ^ 63 }
     {
         self.links.len()
+    }
+
+    /// The two ends of a link, lent.
+    pub fn link(&self, link: u8) -> &LinkEnds
+        requires { link < length self.now.links }
+        ensures { slice_get self.now.links link ≡ Some result.now }
+    {
+        &self.links[link as usize]
     }
 
     /// What stands at an end, lent; `None` if there is no such end.
@@ -329,28 +335,6 @@ impl AllEnds {
         let arrival = self.take(end, bytes);
         let packets = self.port(end).unwrap().delivered();
         switch_verdict(end, end, arrival, &packets, queues, direction)
-    }
-
-    /// The draw of the Live key of a stream's sender in a sub-stream at an end; `None` if none is Live.
-    pub fn sealing_draw(&self, end: PortName, stream: u8, sub: SubKind) -> Option<u32>
-        ensures { result ≡ option_and_then (λ e. sealing_draw_in e stream sub) (port_on self.now end) }
-    {
-        self.port(end)?.sealing_draw(stream, sub)
-    }
-
-    /// The greatest draw of a Live key of a stream's receiver in a sub-stream at an end; `None` if none is Live.
-    pub fn receiving_draw(&self, end: PortName, stream: u8, sub: SubKind) -> Option<u32>
-        ensures { result ≡ option_and_then (λ e. receiving_draw_in e stream sub) (port_on self.now end) }
-    {
-        self.port(end)?.receiving_draw(stream, sub)
-    }
-
-    /// The stream that a TLP with these bytes takes at an end, if it is one and takes one.
-    pub fn outgoing_stream(&self, end: PortName, tlp: &[u8]) -> Option<u8>
-        ensures { result ≡ option_and_then (λ e. stream_taken (outgoing_of e.plans e.name.side tlp.now))
-            (port_on self.now end) }
-    {
-        self.port(end)?.outgoing_stream(tlp)
     }
 
     /// The states of a stream at the near end of its line and at the far end; `None` if the line has no such stream.

@@ -10,12 +10,11 @@ use Rattle.all_links.proofs.Terms.{EndsWith, Stepped, Interface, answer_of_links
 use Rattle.all_links.proofs.Terms.{AreLinks, PortEnd, Side, Host, Device, port_in, state_of, nat_lt, true, ◌++◌, ◌≤◌}
 use Rattle.all_links.proofs.Terms.{if◌then◌else◌}
 use Rattle.interface_answers.specs.{changed_at, in_sixteen, pair_ports, NamesPeer, operated_on, HostKeeper, IsThere}
-use Rattle.interface_answers.specs.{CallsAt, AsksAt, located, code_behind, asked_as, op_event, report_of}
+use Rattle.interface_answers.specs.{CallsAt, AsksAt, located, code_behind, asked_as, report_of}
 use Rattle.all_links.specs.Sides.{with_device}
-use Rattle.ide_types.specs.Ports.{device_port}
-use Rattle.ide_types.specs.Lines.{peer_line, is_peer_line}
-use Rattle.interface_states.specs.Views.{peer_of}
 use Rattle.tdi_host.specs.declared.operation.PeerStream.{PeerStream}
+use Rattle.ide_types.specs.Lines.{is_peer_line}
+use Rattle.interface_states.specs.Views.{peer_of}
 use Rattle.interface_answers.specs.Shown.{NamesPeerIn}
 use Rattle.interface_answers.proofs.PeerNames.{operated_names}
 use Rattle.std.specs.Prelude.{IfSome}
@@ -31,7 +30,6 @@ use Rattle.link_verdicts.specs.declared.verdict.Verdict.TheVariants as v
 use Rattle.tdi_state.specs.Machine.{Tdi, Call, state_code}
 use Rattle.tdi_device.specs.Replies.{DeviceTdis, called_at}
 use Rattle.tdi_host.specs.declared.operation.InterfaceOp.{InterfaceOp}
-use Rattle.tdi_host.specs.declared.operation.InterfaceOp.TheVariants as op
 use Rattle.tdi_host.specs.declared.operation.Outcome.{Outcome}
 use Rattle.tdi_host.specs.declared.operation.Outcome.TheVariants.{Next, Done, Refused}
 use Rattle.tdi_host.specs.Views.{HostTdi}
@@ -39,7 +37,8 @@ use Rattle.tdi_ends.specs.Keepers.{Ended}
 use Rattle.link_events.specs.declared.event.InterfaceEvent.{InterfaceEvent}
 use Rattle.link_events.specs.declared.event.Loss.{Loss}
 use Rattle.all_links.specs.Interfaces.{interface_named, tdi_named, tdi_of_ends, ended_in, ended_at, ended_on}
-use Rattle.all_links.specs.Interfaces.{verdict_in, link_named, AsksPeer, IsPeerOf, has_peer_in, peer_stream}
+use Rattle.all_links.specs.Besides.{op_verdict}
+use Rattle.all_links.specs.Interfaces.{verdict_in, link_named, has_peer_in, peer_stream}
 use Rattle.all_links.specs.Interfaces.{peer_verdict_in}
 use Rattle.all_links.proofs.Finds.{answers, nothing_changes, only_says}
 use Rattle.all_links.proofs.Terms.{true-lt}
@@ -195,34 +194,16 @@ called plan old n at call code ends new verdict e w named calls due says new_is 
 
 -- ---- operations
 
-by_operation : (old : Links) (n : ℕ) (o : InterfaceOp) (loss : Option Loss) → AsksPeer old.keeper old.ends n o
-    → verdict_in n o loss (ended_in old.keeper old.ends n o loss) ≡ answer_of_links old (op_event o n loss)
-by_operation old n op.Lock loss asked = refl
-by_operation old n op.Report loss asked = refl
-by_operation old n op.Start loss asked = refl
-by_operation old n op.Halt loss asked = refl
-by_operation old n op.State loss asked = refl
-by_operation old n (op.Bind peer) loss asked =
-    let kept : PeerStream = peer_stream old.keeper (peer_line peer.number) peer.id in
-    ap (λ (q : PeerStream). verdict_in n (op.Bind q) loss (ended_in old.keeper old.ends n (op.Bind q) loss)) asked.is
-    ∙ sym (ap (λ (b : Bool). if b then verdict_in n (op.Bind kept) loss (ended_in old.keeper old.ends n (op.Bind kept)
-    loss) else Some v.Nothing) asked.has)
-by_operation old n (op.Unbind peer) loss asked =
-    let kept : PeerStream = peer_stream old.keeper (peer_line peer.number) peer.id in
-    ap (λ (q : PeerStream). verdict_in n (op.Unbind q) loss (ended_in old.keeper old.ends n (op.Unbind q) loss))
-    asked.is
-    ∙ sym (ap (λ (b : Bool). if b then verdict_in n (op.Unbind kept) loss (ended_in old.keeper old.ends n
-    (op.Unbind kept) loss) else Some v.Nothing) asked.has)
-
 -- on no interface
 pub asked_nowhere : {verdict : Verdict} {old new : Links} (plan : Plan) (n : ℕ) (o : InterfaceOp) (loss : Option Loss)
-    → AsksPeer old.keeper old.ends n o → None ≡ interface_named old.keeper.interfaces old.ends.links n
+    (e : InterfaceEvent) → answer_of_links old e ≡ op_verdict old n o loss
+    → None ≡ interface_named old.keeper.interfaces old.ends.links n
     → verdict ≡ v.Nothing → new ≡ record old { steps = old.steps + 1 }
-    → IsBounded old.ends old.packets.packets old.steps → EndsWith plan verdict old new (Interface (op_event o n loss))
-asked_nowhere {verdict} {old} {new} plan n o loss asked nowhere says is bounded =
-    only_says plan (op_event o n loss)
-    (ap (λ (p : Option (ℕ × ℕ)). verdict_in n o loss (ended_at old.keeper old.ends n o loss p)) nowhere
-    ∙ by_operation old n o loss asked) says is bounded
+    → IsBounded old.ends old.packets.packets old.steps → EndsWith plan verdict old new (Interface e)
+asked_nowhere {verdict} {old} {new} plan n o loss e same nowhere says is bounded =
+    only_says plan e
+    (ap (λ (p : Option (ℕ × ℕ)). verdict_in n o loss (ended_at old.keeper old.ends n o loss p)) nowhere ∙ sym same) says
+    is bounded
 
 -- a stream between devices that the plan has has a byte for its ID
 peer_small : (plan : Plan) (v : EndsView) (k : KeeperView) (line stream : ℕ) (o : Option (ℕ × ℕ)) → AreLinks plan v k
@@ -262,13 +243,12 @@ record CameTo (old : Links) (n : ℕ) (o : InterfaceOp) (loss : Option Loss) (ou
     Type 0 where
   ended : Ended
   manager_is : k.interfaces ≡ ended.manager
-  due_is : asked_as n loss (report_of o ended) outcome ≡ answer_of_links old (op_event o n loss)
+  due_is : asked_as n loss (report_of o ended) outcome ≡ op_verdict old n o loss
 
 came_to : (old : Links) (n : ℕ) (at : ℕ × ℕ) (o : InterfaceOp) (loss : Option Loss) (outcome : Outcome)
-    (ends : EndsView) (k : HostKeeper) → AsksPeer old.keeper old.ends n o
-    → Some at ≡ interface_named old.keeper.interfaces old.ends.links n
+    (ends : EndsView) (k : HostKeeper) → Some at ≡ interface_named old.keeper.interfaces old.ends.links n
     → AsksAt old.ends at.0 old.keeper n o loss outcome ends k → CameTo old n o loss outcome k
-came_to old n at o loss outcome ends k asked named asks =
+came_to old n at o loss outcome ends k named asks =
     let x = is_found old.keeper.interfaces old.ends n at named in
     let e : Ended = operated_on n o loss old.keeper.keys (live_on old.ends at.0) old.keeper.interfaces x.ends_at x.kept
     in
@@ -280,8 +260,7 @@ came_to old n at o loss outcome ends k asked named asks =
       due_is = ap (λ (z : Outcome). asked_as n loss (report_of o e) z) is.outcome_is
           ∙ sym (λ i. verdict_in n o loss (ended_on old.keeper old.ends n o loss at.0 (x.link_there i)
           (x.kept_there i)))
-          ∙ ap (λ (p : Option (ℕ × ℕ)). verdict_in n o loss (ended_at old.keeper old.ends n o loss p)) named
-          ∙ by_operation old n o loss asked;
+          ∙ ap (λ (p : Option (ℕ × ℕ)). verdict_in n o loss (ended_at old.keeper old.ends n o loss p)) named;
     }
 
 -- it names a stream between devices by its number
@@ -309,33 +288,32 @@ link_of None link is = absurd (none-some link is)
 link_of (Some at) link is = (at, refl, same_Some at.0 link is)
 
 pub answered : (old : Links) (n link : ℕ) (o : InterfaceOp) (loss : Option Loss) (outcome : Outcome)
-    (ends : EndsView) (k : HostKeeper) → AsksPeer old.keeper old.ends n o
-    → link_named old.keeper.interfaces old.ends.links n ≡ Some link
-    → AsksAt old.ends link old.keeper n o loss outcome ends k → IsSome (answer_of_links old (op_event o n loss))
+    (ends : EndsView) (k : HostKeeper) → link_named old.keeper.interfaces old.ends.links n ≡ Some link
+    → AsksAt old.ends link old.keeper n o loss outcome ends k → IsSome (op_verdict old n o loss)
     → (report : List ℕ) → IsSome (asked_as n loss report outcome)
-answered old n link o loss outcome ends k asked here asks some report =
+answered old n link o loss outcome ends k here asks some report =
     let at = link_of (interface_named old.keeper.interfaces old.ends.links n) link here in
-    let x = came_to old n at.0 o loss outcome ends k asked at.1
+    let x = came_to old n at.0 o loss outcome ends k at.1
     (subst (λ (i : ℕ). AsksAt old.ends i old.keeper n o loss outcome ends k) (sym at.2) asks) in
     any_report n loss (report_of o x.ended) report outcome
     (subst (λ (y : Option Verdict). IsSome y) (sym x.due_is) some)
 
 pub operated_as : (plan : Plan) (old : Links) (n : ℕ) (at : ℕ × ℕ) (o : InterfaceOp) (loss : Option Loss)
     (outcome : Outcome) (ends : EndsView) (k : HostKeeper) (new : Links) (verdict : Verdict) (report : List ℕ)
-    → AsksPeer old.keeper old.ends n o → Some at ≡ interface_named old.keeper.interfaces old.ends.links n
+    (event : InterfaceEvent) → answer_of_links old event ≡ op_verdict old n o loss
+    → Some at ≡ interface_named old.keeper.interfaces old.ends.links n
     → AsksAt old.ends at.0 old.keeper n o loss outcome ends k
     → asked_as n loss report outcome ≡ Some verdict → ((e : Ended) → k.interfaces ≡ e.manager → report ≡ report_of o e)
     → new ≡ record old { ends = ends; keeper = k; steps = old.steps + 1 }
-    → IsBounded old.ends old.packets.packets old.steps
-    → EndsWith plan verdict old new (Interface (op_event o n loss))
-operated_as plan old n at o loss outcome ends k new verdict report asked named asks says reads new_is bounded =
+    → IsBounded old.ends old.packets.packets old.steps → EndsWith plan verdict old new (Interface event)
+operated_as plan old n at o loss outcome ends k new verdict report event same named asks says reads new_is bounded =
     let x = is_found old.keeper.interfaces old.ends n at named in
     let a = asks x.ends_at x.link_there in
-    let came = came_to old n at o loss outcome ends k asked named asks in
-    let due : Some verdict ≡ answer_of_links old (op_event o n loss) =
-    sym says ∙ ap (λ (r : List ℕ). asked_as n loss r outcome) (reads came.ended came.manager_is) ∙ came.due_is in
-    interfaces_change plan old new at.0 x.ends_at a.0.device.interfaces ends k verdict (op_event o n loss) due
-    x.link_there
+    let came = came_to old n at o loss outcome ends k named asks in
+    let due : Some verdict ≡ answer_of_links old event =
+    sym says ∙ ap (λ (r : List ℕ). asked_as n loss r outcome) (reads came.ended came.manager_is) ∙ came.due_is
+    ∙ sym same in
+    interfaces_change plan old new at.0 x.ends_at a.0.device.interfaces ends k verdict event due x.link_there
     (a.1 ∙ ap (λ (y : LinkEnds). record old.ends { links = slice_set old.ends.links at.0 y }) a.2.ends) a.2.keys new_is
     bounded
 
@@ -365,20 +343,14 @@ runs_at s n at b named says =
     ∙ run_code x.tdi.state
     ∙ sym (ap (λ (o : Option Tdi). option_map_or (λ (t : Tdi). is_run t.state) o false) x.named_is)
 
-pub draw_is : (s : Links) (i link stream : ℕ) (l : LinkEnds) (x : HostTdi) (o : Option ℕ) → length s.ends.links ≤ 8
+pub draw_is : (s : Links) (i link stream : ℕ) (l : LinkEnds) (x : HostTdi) (o : Option ℕ)
     → slice_get s.ends.links link ≡ Some l → slice_get s.keeper.interfaces.interfaces i ≡ Some x → stream ≡ x.stream
-    → o ≡ option_and_then (λ (e : PortEnd). receiving_draw_in e stream Pr) (port_on s.ends (device_port link))
-    → option_map_or (λ (d : ℕ). d) o 0 ≡ device_draw s i link
-draw_is s i link stream l x o few l_is x_is stream_is says =
+    → o ≡ receiving_draw_in l.device.port stream Pr → option_map_or (λ (d : ℕ). d) o 0 ≡ device_draw s i link
+draw_is s i link stream l x o l_is x_is stream_is says =
     let named : stream ≡ planned_stream s i =
     stream_is ∙ sym (ap (λ (p : Option HostTdi). option_map_or (λ (y : HostTdi). y.stream) p 0) x_is) in
-    let within = slice_get_within s.ends.links link l l_is in
-    let low : nat_lt link 8 ≡ true = grind (arith, nat_tests, within, few) in
-    let on : port_on s.ends (device_port link) ≡ Some l.device.port =
-    rw low (ap (λ (p : Option LinkEnds). option_map (λ (y : LinkEnds). port_in Device y) p) l_is) in
     ap (λ (p : Option ℕ). option_map_or (λ (d : ℕ). d) p 0)
-    (says ∙ ap (λ (p : Option PortEnd). option_and_then (λ (e : PortEnd). receiving_draw_in e stream Pr) p) on
-    ∙ (λ j. receiving_draw_in l.device.port (named j) Pr)
+    (says ∙ (λ j. receiving_draw_in l.device.port (named j) Pr)
     ∙ sym (ap (λ (p : Option LinkEnds). option_and_then (λ (y : LinkEnds).
     receiving_draw_in y.device.port (planned_stream s i) Pr) p) l_is))
 
@@ -392,42 +364,37 @@ pub some_if : {A : Type 0} (b : Bool) (x y : A) → Some y ≡ (if b then Some x
 some_if true x y is = (refl, same_Some y x is)
 some_if false x y is = absurd (none-some y (sym is))
 
-line_back : (line : ℕ) → is_peer_line line ≡ true → peer_line (peer_of line) ≡ line
-line_back line is = (let least : 24 ≤ line = grind (arith, nat_tests, is) in omega (arith, least))
-
 number_few : (line : ℕ) → is_peer_line line ≡ true → peer_of line < 8
 number_few line is = (let most : line < 32 = grind (arith, nat_tests, is) in
     let least : 24 ≤ line = grind (arith, nat_tests, is) in omega (arith, most, least))
 
 -- the stream between devices of a line and an ID, where the interface's device has it
-pub record Names (k : HostKeeper) (v : EndsView) (n line stream : ℕ) (peer : PeerStream) : Type 0 where
+pub record IsPeer (k : HostKeeper) (v : EndsView) (n line stream : ℕ) (peer : PeerStream) : Type 0 where
   pub small : stream < 256
   pub has : has_peer_in k v n line stream ≡ true
   pub peer_is : peer ≡ peer_stream k line stream
-  pub line_is : peer_line peer.number ≡ line
-  pub id_is : peer.id ≡ stream
   pub few : peer.number < 8
-  pub is_peer : IsPeerOf k v n peer
 
-pub names_peer : (k : HostKeeper) (v : EndsView) (n line stream : ℕ) (peer : PeerStream) → is_peer_line line ≡ true
+pub is_peer : (k : HostKeeper) (v : EndsView) (n line stream : ℕ) (peer : PeerStream) → is_peer_line line ≡ true
     → Some peer ≡ (if nat_lt stream 256 && has_peer_in k v n line stream then Some (peer_stream k line stream) else
     None)
-    → Names k v n line stream peer
-names_peer k v n line stream peer late is =
+    → IsPeer k v n line stream peer
+is_peer k v n line stream peer late is =
     let parts = some_if (nat_lt stream 256 && has_peer_in k v n line stream) (peer_stream k line stream) peer is in
     let both = and_parts (nat_lt stream 256) (has_peer_in k v n line stream) parts.0 in
-    let number : peer.number ≡ peer_of line = ap (λ (p : PeerStream). p.number) parts.1 in
-    let line_is : peer_line peer.number ≡ line = ap (λ (i : ℕ). peer_line i) number ∙ line_back line late in
-    let id_is : peer.id ≡ stream = ap (λ (p : PeerStream). p.id) parts.1 in
     record {
       small = true-lt stream 256 both.0;
       has = both.1;
       peer_is = parts.1;
-      line_is = line_is;
-      id_is = id_is;
-      few = subst (λ (i : ℕ). i < 8) (sym number) (number_few line late);
-      is_peer = record {
-        has = (λ i. has_peer_in k v n (line_is i) (id_is i)) ∙ both.1;
-        is = parts.1 ∙ (λ i. peer_stream k (sym line_is i) (sym id_is i));
-      };
+      few = subst (λ (p : PeerStream). p.number < 8) (sym parts.1) (number_few line late);
     }
+
+-- an event on it has the verdict of its operation
+pub peer_verdict : (k : HostKeeper) (ends : EndsView) (n line stream : ℕ) (peer : PeerStream) (o : PeerStream
+    → InterfaceOp) (loss : Option Loss) → IsPeer k ends n line stream peer
+    → peer_verdict_in k ends n line stream (o (peer_stream k line stream)) loss
+    ≡ verdict_in n (o peer) loss (ended_in k ends n (o peer) loss)
+peer_verdict k ends n line stream peer o loss p =
+    let kept : PeerStream = peer_stream k line stream in
+    ap (λ (b : Bool). if b then verdict_in n (o kept) loss (ended_in k ends n (o kept) loss) else Some v.Nothing) p.has
+    ∙ sym (ap (λ (q : PeerStream). verdict_in n (o q) loss (ended_in k ends n (o q) loss)) p.peer_is)

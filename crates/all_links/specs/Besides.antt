@@ -1,18 +1,20 @@
 -- What all links say beside their ports: T of what is sent, and the answers to events on interfaces.
-use Rattle.std.specs.Prelude.{◌≡◌, List, Option, Some, IsSome}
+use Rattle.std.specs.Prelude.{ℕ, ◌≡◌, List, Option, Some, IsSome}
 use Rattle.ide_plan.specs.declared.plan.Plan.{Plan}
 use Rattle.link_events.specs.declared.event.Event.{Event}
 use Rattle.link_events.specs.declared.event.Event.TheVariants.{Interface}
 use Rattle.link_events.specs.declared.event.InterfaceEvent.{InterfaceEvent}
+use Rattle.link_events.specs.declared.event.Loss.{Loss}
 use Rattle.link_verdicts.specs.declared.verdict.Verdict.{Verdict}
 use Rattle.link_history.specs.Memory.{effects_by}
 use Rattle.link_history.specs.Ports.{port_of}
 use Rattle.link_ports.specs.Machine.{Beside}
+use Rattle.tdi_host.specs.declared.operation.InterfaceOp.{InterfaceOp}
 use Rattle.accesses.specs.declared.link.LinkAccesses.{LinkAccesses}
 use Rattle.interface_answers.specs.{trusting_on}
 use Rattle.all_links.specs.declared.links.Links.{Links}
 use Rattle.all_links.specs.Accesses.{policy_in}
-use Rattle.all_links.specs.Interfaces.{verdict_at_ends}
+use Rattle.all_links.specs.Interfaces.{ended_in, verdict_at_ends, verdict_in}
 
 -- T is theirs; all else is said elsewhere
 abbrev pub beside_in : Links → Beside → Beside
@@ -23,6 +25,10 @@ beside_in s b = record b { t = λ port head stream trusted. trusting_on s.ends p
 -- the verdict of an event on an interface, if it has one
 abbrev pub answer_of_links : Links → InterfaceEvent → Option Verdict
 answer_of_links s e = verdict_at_ends s.ends s.keeper s.trusted.contents e
+
+-- that of an operation on an interface
+abbrev pub op_verdict : Links → ℕ → InterfaceOp → Option Loss → Option Verdict
+op_verdict s n o loss = verdict_in n o loss (ended_in s.keeper s.ends n o loss)
 
 -- If the event is one on an interface, it has a verdict: it is no operation with a bad reply, nor one that lost an
 -- exchange none of whose messages is lost.

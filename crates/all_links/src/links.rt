@@ -3,7 +3,6 @@
 ghost use Rattle.std.specs.Prelude.{◌≡◌, ◌+◌, ◌<◌, ◌≤◌, ◌^◌, ℕ, Some, None, [], IfOk, OnOk, IsSome, Vec, option_map};
 ghost use Rattle.std.specs.Prelude.{true, List, length, nat_lt, if◌then◌else◌, ◌&&◌};
 ghost use Rattle.std.specs.declared.alloc.Global.{Global};
-ghost use Rattle.ide_plan.specs.Fits.{FitsPlan};
 ghost use Rattle.ide_types.specs.Lines.{is_peer_line};
 ghost use Rattle.link_events.specs.Interfaces.{IsAllowedInterface};
 ghost use Rattle.interface_words.specs.RegisterNames.{width_of};
@@ -18,7 +17,6 @@ ghost use Rattle.all_links.specs.Events.{altered_bytes, operation_event};
 ghost use Rattle.all_links.specs.Sides.{works_on};
 
 use accesses::Accesses;
-use ide_plan::Plan;
 use ide_port::Sent;
 use ide_types::{Bytes, Memory, PortName, Side, SubKind};
 use interface_answers::{
@@ -34,6 +32,7 @@ use std::alloc::Global;
 use tdi_host::{InterfaceOp, PeerStream};
 use trusted_memory::Trusted;
 use tsm_host::{Op, Outcome};
+use valid_plan::ValidPlan;
 
 /// The ends of all lines, the manager, the packets that were sealed, trusted memory, and how many events came (PCI
 /// Express Base 6.0 section 6.33 and chapter 11, in this profile).
@@ -79,26 +78,25 @@ fn works_on(operation: Operation, line: u8) -> bool
 
 impl Links {
     ghost use Rattle.ide_plan.specs.declared.plan.Plan.{Plan as PlanView};
-    ghost use Rattle.interface_answers.specs.{IsBounded, OperatesAt, told_at, drawn_at, AsksAt, report_of, op_event};
+    ghost use Rattle.interface_answers.specs.{IsBounded, OperatesAt, told_at, drawn_at, AsksAt, report_of};
     ghost use Rattle.interface_answers.specs.{asked_as, NoBadInterfaceReply};
     ghost use Rattle.all_links.specs.Links.{IsFirst, StandsForSome, EndsWith, EndsOr, EndsAs, EndsAsOr};
     ghost use Rattle.all_links.specs.Links.{EndsArrivingOr, EndsSending, EndsSendingOr};
     ghost use Rattle.all_links.specs.Accesses.{AccessesArriveOr, is_sending, runs_in, device_draw};
     ghost use Rattle.all_links.specs.Sides.{SidesKeep, SidesArrive, SidesOperate, SidesReset, SidesAsk, SidesCall};
     ghost use Rattle.all_links.specs.Sides.{SidesInterface, SidesPeer, SidesArriveAt, arrival_at};
-    ghost use Rattle.all_links.specs.Besides.{answer_of_links};
-    ghost use Rattle.all_links.specs.Interfaces.{interface_named, link_named, has_peer_in, peer_stream, AsksPeer};
+    ghost use Rattle.all_links.specs.Besides.{answer_of_links, op_verdict};
+    ghost use Rattle.all_links.specs.Interfaces.{interface_named, link_named, has_peer_in, peer_stream};
     ghost use Rattle.interface_answers.specs.Shown.{NamesPeerIn};
 
     /// The lines of the plan before the first event: no stream has keys, no interface is locked, and memory is 0.
     /// Returns `Memory` for want of memory.
-    pub fn make(alloc: Global, plan: &Plan) -> Result<Links, Memory>
-        requires { FitsPlan plan.now }
+    pub fn make(alloc: Global, plan: &ValidPlan) -> Result<Links, Memory>
         ensures { IfOk result (λ s. IsFirst plan.now s) }
     {
         let ends = AllEnds::make(alloc, plan)?;
         let keeper = HostKeeper::make(alloc, plan)?;
-        let trusted = Trusted::make(alloc, plan.memory.as_slice())?;
+        let trusted = Trusted::make(alloc, plan.plan().memory.as_slice())?;
         let packets = Packets::new(alloc);
         Ok(Links {
             ends,
@@ -142,13 +140,12 @@ impl Links {
     /// nothing is sent so. For want of memory nothing changes.
     pub fn send(
         &mut self,
-        plan: &Plan,
+        plan: &ValidPlan,
         port: PortName,
         bytes: &[u8],
         more: bool,
         trusted: bool,
     ) -> Result<Verdict, Memory>
-        requires fits { FitsPlan plan.now }
         requires steps { self.old.steps < 2 ^ 28 }
         requires bounded { IsBounded self.old.ends self.old.packets.packets self.old.steps }
         ensures ends { EndsOr plan.now result self.old self.new (Event.Send port bytes.now more trusted) }
@@ -165,7 +162,7 @@ impl Links {
     /// Sends a TLP's bytes at an end of a line of the topology, on that line. For want of memory nothing changes.
     pub fn send_at(
         &mut self,
-        plan: &Plan,
+        plan: &ValidPlan,
         end: PortName,
         bytes: &[u8],
         more: bool,
@@ -187,7 +184,7 @@ impl Links {
     // A send at an end that exists; there is room for what it seals.
     fn seal(
         &mut self,
-        plan: &Plan,
+        plan: &ValidPlan,
         end: PortName,
         bytes: &[u8],
         more: bool,
@@ -219,12 +216,11 @@ impl Links {
     pub fn arrive(
         &mut self,
         alloc: Global,
-        plan: &Plan,
+        plan: &ValidPlan,
         port: PortName,
         bytes: &[u8],
         accesses: &mut Accesses,
     ) -> Result<Verdict, Memory>
-        requires fits { FitsPlan plan.now }
         requires steps { self.old.steps < 2 ^ 28 }
         requires bounded { IsBounded self.old.ends self.old.packets.packets self.old.steps }
         requires many { length accesses.old ≡ length self.old.ends.links }
@@ -259,11 +255,10 @@ impl Links {
     pub fn pass(
         &mut self,
         alloc: Global,
-        plan: &Plan,
+        plan: &ValidPlan,
         packet: u64,
         accesses: &mut Accesses,
     ) -> Result<Verdict, Memory>
-        requires fits { FitsPlan plan.now }
         requires steps { self.old.steps < 2 ^ 28 }
         requires bounded { IsBounded self.old.ends self.old.packets.packets self.old.steps }
         requires many { length accesses.old ≡ length self.old.ends.links }
@@ -301,13 +296,12 @@ impl Links {
     pub fn alter(
         &mut self,
         alloc: Global,
-        plan: &Plan,
+        plan: &ValidPlan,
         packet: u64,
         at: u64,
         mask: u8,
         accesses: &mut Accesses,
     ) -> Result<Verdict, Memory>
-        requires fits { FitsPlan plan.now }
         requires steps { self.old.steps < 2 ^ 28 }
         requires bounded { IsBounded self.old.ends self.old.packets.packets self.old.steps }
         requires many { length accesses.old ≡ length self.old.ends.links }
@@ -348,12 +342,11 @@ impl Links {
     pub fn cut(
         &mut self,
         alloc: Global,
-        plan: &Plan,
+        plan: &ValidPlan,
         packet: u64,
         len: u64,
         accesses: &mut Accesses,
     ) -> Result<Verdict, Memory>
-        requires fits { FitsPlan plan.now }
         requires steps { self.old.steps < 2 ^ 28 }
         requires bounded { IsBounded self.old.ends self.old.packets.packets self.old.steps }
         requires many { length accesses.old ≡ length self.old.ends.links }
@@ -583,22 +576,19 @@ impl Links {
     /// The greatest draw under which the device of a link opens posted requests on the stream of the interface of a
     /// number, 0 if there is none.
     pub fn device_draw(&self, link: u8, number: u64) -> u32
-        requires few { length self.now.ends.links ≤ 8 }
         requires here { link < length self.now.ends.links }
         requires interface { number < length self.now.keeper.interfaces.interfaces }
         ensures { result ≡ device_draw self.now number link }
     {
         let stream = self.keeper.interfaces.manager().stream(number as usize);
-        let side = Side::Device;
-        let end = PortName { side, link };
-        match self.ends.receiving_draw(end, stream, SubKind::Pr) {
+        let port = &self.ends.link(link).device.port;
+        match port.receiving_draw(stream, SubKind::Pr) {
             None => 0,
             Some(draw) => draw,
         }
     }
 
-    // Carries an operation on the interface of this number, which is on this link. If the event has a verdict no reply
-    // is bad.
+    // Carries an operation on the interface of this number, which is on this link. If it has a verdict no reply is bad.
     fn carry_interface(
         &mut self,
         link: u8,
@@ -608,13 +598,11 @@ impl Links {
     ) -> tdi_host::Outcome
         requires here { link_named self.old.keeper.interfaces self.old.ends.links number ≡ Some link }
         requires peer { NamesPeer op }
-        requires asked { AsksPeer self.old.keeper self.old.ends number op }
         ensures links { self.new ≡ record self.old { ends = self.new.ends; keeper = self.new.keeper } }
         ensures asks { AsksAt self.old.ends link self.old.keeper number op loss result self.new.ends self.new.keeper }
-        ensures answered { IsSome (answer_of_links self.old (op_event op number loss))
+        ensures answered { IsSome (op_verdict self.old number op loss)
             → (report : List ℕ) → IsSome (asked_as number loss report result) }
-        ensures no_bad_reply { IsSome (answer_of_links self.old (op_event op number loss))
-            → NoBadInterfaceReply loss result }
+        ensures no_bad_reply { IsSome (op_verdict self.old number op loss) → NoBadInterfaceReply loss result }
         ensures shows { NamesPeerIn result }
     {
         let interface = number as usize;
@@ -622,8 +610,8 @@ impl Links {
             .operate_on(link, &mut self.keeper, interface, op, loss)
     }
 
-    /// An operation on an interface that reads no report. It has no verdict if a reply is bad, or if an exchange is
-    /// lost none of whose messages is lost.
+    /// An operation on an interface that reads no report, of any event that has its verdict. It has none if a reply is
+    /// bad, or if an exchange is lost none of whose messages is lost.
     pub fn operate_interface(
         &mut self,
         alloc: Global,
@@ -635,9 +623,9 @@ impl Links {
         requires bounded { IsBounded self.old.ends self.old.packets.packets self.old.steps }
         requires short { report_of op ≡ (λ e. []) }
         requires peer { NamesPeer op }
-        requires asked { AsksPeer self.old.keeper self.old.ends number op }
-        ensures ends { (plan : PlanView) → EndsAs plan result self.old self.new
-            (Event.Interface (op_event op number loss)) }
+        ensures ends { (plan : PlanView) (event : InterfaceEvent)
+            → answer_of_links self.old event ≡ op_verdict self.old number op loss
+            → EndsAs plan result self.old self.new (Event.Interface event) }
         ensures sides { IfSome result (λ v. SidesAsk number op loss self.old self.new) }
     {
         match self.interface(number) {

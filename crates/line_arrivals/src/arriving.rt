@@ -1,14 +1,12 @@
 //! Where arriving bytes land.
 
 ghost use Rattle.std.specs.Prelude.{◌≡◌, ◌<◌, ◌≤◌, ◌^◌, IfOk, IsSome, OnErr, Some, length};
-ghost use Rattle.ide_plan.specs.Fits.{FitsPlan};
 ghost use Rattle.link_history.specs.Ports.{port_of as port_of_end};
 ghost use Rattle.link_steps.specs.{port_on, CallsBelow, way_of};
 ghost use Rattle.link_steps.specs.Accesses.{AccessesStay, Brings};
 ghost use Rattle.line_arrivals.specs.Landing.{ComesTo, Lands};
 
 use accesses::Accesses;
-use ide_plan::Plan;
 use ide_types::{Direction, Memory, PortName, Side};
 use line_routes::{goes_through, port_of, reached};
 use link_steps::{AllEnds, bring};
@@ -16,12 +14,13 @@ use link_verdicts::Verdict;
 use std::alloc::Global;
 use tdi_ends::InterfaceKeeper;
 use trusted_memory::Trusted;
+use valid_plan::ValidPlan;
 
 /// Bytes that arrive at the port of an end, and what their verdict depends on beside the ends (this profile).
 #[derive(Clone, Copy)]
 pub struct Arriving<'a> {
     /// The topology.
-    pub plan: &'a Plan,
+    pub plan: &'a ValidPlan,
     /// What the manager says of interfaces.
     pub keeper: &'a InterfaceKeeper,
     /// An end that is at the port.
@@ -76,7 +75,6 @@ pub fn land(
     trusted: &mut Trusted,
     accesses: &mut Accesses,
 ) -> Result<Verdict, Memory>
-    requires fits { FitsPlan arriving.now.plan.now }
     requires few { CallsBelow (2 ^ 40) ends.old }
     requires many { length accesses.old ≡ length ends.old.links }
     ensures lands { IfOk result (λ v. Lands arriving.now.plan.now arriving.now.keeper.now arriving.now.end

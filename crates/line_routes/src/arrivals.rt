@@ -1,7 +1,6 @@
 //! Which ends arriving bytes meet.
 
 ghost use Rattle.std.specs.Prelude.{◌≡◌, ◌≤◌, length, slice_get};
-ghost use Rattle.ide_plan.specs.Fits.{FitsPlan};
 ghost use Rattle.ide_plan.specs.Plans.{has_stream_id, hop_has_id as hop_has_its};
 ghost use Rattle.ide_plan.specs.Ends.{end_on as end_on_port, peer_end as end_of_peer};
 ghost use Rattle.ide_plan.specs.Ends.{link_hop, own_has_id as own_has_its, peer_end_at as end_of_peer_at};
@@ -13,6 +12,7 @@ use crate::sends::hop_end;
 use ide_plan::{PeerPlan, Plan, StreamPlan, port_at};
 use ide_prefix::PACKET_FIRST;
 use ide_types::{PortName, Side};
+use valid_plan::ValidPlan;
 
 // The stream ID of a packet's bytes.
 #[tactic(auto, unfolding(link_history::specs::Ports::id_in))]
@@ -110,13 +110,15 @@ fn end_on(plan: &Plan, port: PortName, id: u8) -> PortName
 /// link, then of its hop, then of a stream between devices; the port if there is none. At a switch nothing is looked up
 /// (PCI Express Base 6.0 section 6.33, in this profile).
 #[tactic(auto, unfolding(link_history::specs::Ports::reached))]
-pub fn reached(plan: &Plan, end: PortName, bytes: &[u8]) -> PortName
-    requires { FitsPlan plan.now }
+pub fn reached(plan: &ValidPlan, end: PortName, bytes: &[u8]) -> PortName
     ensures { result ≡ reached_by plan.now end bytes.now }
 {
     match id_in(bytes) {
         None => port_of(plan, end),
-        Some(id) => end_on(plan, port_at(plan.peers.as_slice(), end), id),
+        Some(id) => {
+            let plan = plan.plan();
+            end_on(plan, port_at(plan.peers.as_slice(), end), id)
+        }
     }
 }
 
@@ -145,12 +147,11 @@ fn lacks_stream(plan: &Plan, end: PortName, bytes: &[u8]) -> bool
 /// Whether bytes that arrive at this end go through a switch unread: they are of another stream than the hop's (PCI
 /// Express Base 6.0 section 6.33, in this profile).
 #[tactic(auto, using(crate::proofs::Rows::lacks_is, crate::proofs::Rows::switch_line), unfolding(link_history::specs::Ports::goes_through))]
-pub fn goes_through(plan: &Plan, end: PortName, bytes: &[u8]) -> bool
-    requires { FitsPlan plan.now }
+pub fn goes_through(plan: &ValidPlan, end: PortName, bytes: &[u8]) -> bool
     ensures { result ≡ is_through plan.now end bytes.now }
 {
     if at_switch(plan, end) {
-        lacks_stream(plan, end, bytes)
+        lacks_stream(plan.plan(), end, bytes)
     } else {
         false
     }

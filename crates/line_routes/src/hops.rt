@@ -9,14 +9,14 @@ ghost use Rattle.link_history.specs.Hops.{
 };
 
 use crate::ports::hop;
-use ide_plan::Plan;
 use ide_types::{Direction, PortName, Side};
+use valid_plan::ValidPlan;
 
 /// Whether a link has a hop (this profile).
-pub fn has_hop(plan: &Plan, link: u64) -> bool
+pub fn has_hop(plan: &ValidPlan, link: u64) -> bool
     ensures { result ≡ has_hop_in plan.now link }
 {
-    link < 8 && hop(plan, link as u8).is_some()
+    link < 8 && hop(plan.plan(), link as u8).is_some()
 }
 
 /// The end at the switch at which TLPs of a direction are sealed again (PCI Express Base 6.0 section 6.33, in this

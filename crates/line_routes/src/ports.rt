@@ -1,7 +1,6 @@
 //! Ends of lines, and the ports at which they are.
 
 ghost use Rattle.std.specs.Prelude.{◌≡◌, ◌<◌, ◌≤◌, length, option_map, slice_get};
-ghost use Rattle.ide_plan.specs.Fits.{FitsPlan};
 ghost use Rattle.ide_plan.specs.Ends.{link_hop};
 ghost use Rattle.link_history.specs.Plan.{has_link, has_port as has_end, partner as partner_of};
 ghost use Rattle.link_history.specs.Ports.{port_of as port_of_end, at_switch as is_at_switch, may_send as sends_at};
@@ -9,6 +8,7 @@ ghost use Rattle.line_routes.specs.Rows.{has_line_by};
 
 use ide_plan::{HopPlan, Plan, port_at};
 use ide_types::{PortName, Side};
+use valid_plan::ValidPlan;
 
 /// The other end of its line.
 pub fn partner(end: PortName) -> PortName
@@ -42,9 +42,10 @@ pub(crate) fn hop(plan: &Plan, link: u8) -> Option<&HopPlan>
 
 /// The port of an end: of a host or a device it is the end of their link, of a switch the end itself (this profile).
 #[tactic(auto, unfolding(link_history::specs::Ports::port_of))]
-pub fn port_of(plan: &Plan, end: PortName) -> PortName
+pub fn port_of(plan: &ValidPlan, end: PortName) -> PortName
     ensures { result ≡ port_of_end plan.now end }
 {
+    let plan = plan.plan();
     if has_link(plan, end.link) {
         end
     } else {
@@ -54,10 +55,10 @@ pub fn port_of(plan: &Plan, end: PortName) -> PortName
 
 /// Whether an end is at a switch: the far end of a hop's segment towards the host, the near end of the one towards the
 /// device (this profile).
-pub fn at_switch(plan: &Plan, end: PortName) -> bool
+pub fn at_switch(plan: &ValidPlan, end: PortName) -> bool
     ensures { result ≡ is_at_switch plan.now end }
 {
-    if has_link(plan, end.link) {
+    if has_link(plan.plan(), end.link) {
         return false;
     }
     match end.side {
@@ -80,16 +81,14 @@ fn has_line(plan: &Plan, line: u8) -> bool
 
 /// Whether the topology has the line of this end (this profile).
 #[tactic(auto, using(crate::proofs::Rows::line_is))]
-pub fn has_port(plan: &Plan, end: PortName) -> bool
-    requires { FitsPlan plan.now }
+pub fn has_port(plan: &ValidPlan, end: PortName) -> bool
     ensures { result ≡ has_end plan.now end }
 {
-    has_line(plan, end.link)
+    has_line(plan.plan(), end.link)
 }
 
 /// Whether TLPs are sent at the end: it exists, and is not at a switch, which sends none of its own (this profile).
-pub fn may_send(plan: &Plan, end: PortName) -> bool
-    requires { FitsPlan plan.now }
+pub fn may_send(plan: &ValidPlan, end: PortName) -> bool
     ensures { result ≡ sends_at plan.now end }
 {
     has_port(plan, end) && !at_switch(plan, end)

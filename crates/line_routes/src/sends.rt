@@ -4,7 +4,6 @@ ghost use Rattle.std.specs.Prelude.{◌≡◌, ◌&&◌, ◌<◌};
 ghost use Rattle.tlp_layout.specs.Reading.{read_of};
 ghost use Rattle.association.specs.Choice.{chosen};
 ghost use Rattle.association.specs.Outgoing.{outgoing_of, outgoing_on};
-ghost use Rattle.ide_plan.specs.Fits.{FitsPlan};
 ghost use Rattle.ide_plan.specs.Plans.{is_among};
 ghost use Rattle.ide_plan.specs.Ends.{hop_end as end_of_hop};
 ghost use Rattle.link_history.specs.Ports.{takes_none, hop_lists, sealing_end as sealing_end_of};
@@ -14,6 +13,7 @@ use association::{Choice, choose};
 use ide_plan::{HopPlan, LinkPlan, Plan};
 use ide_types::{PortName, Side};
 use tlp_layout::read;
+use valid_plan::ValidPlan;
 
 fn is_plain(choice: Choice) -> bool
     ensures { result ≡ is_no_choice choice }
@@ -85,11 +85,10 @@ pub(crate) fn hop_end(side: Side, link: u8) -> PortName
 /// link takes it and the hop lists its traffic class; else this end (PCI Express Base 6.0 section 6.33, in this
 /// profile).
 #[tactic(auto, using(crate::proofs::Rows::to_hop_is, crate::proofs::Rows::to_hop_low), unfolding(link_history::specs::Ports::sealing_end))]
-pub fn sealing_end(plan: &Plan, end: PortName, bytes: &[u8]) -> PortName
-    requires { FitsPlan plan.now }
+pub fn sealing_end(plan: &ValidPlan, end: PortName, bytes: &[u8]) -> PortName
     ensures { result ≡ sealing_end_of plan.now end bytes.now }
 {
-    if goes_to_hop(plan, end, bytes) {
+    if goes_to_hop(plan.plan(), end, bytes) {
         hop_end(end.side, end.link)
     } else {
         end

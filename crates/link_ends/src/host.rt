@@ -21,7 +21,6 @@ ghost use Rattle.link_ends.specs.Hosts.{peer_number, pair_told, peer_drawn};
 use crate::ends::LinkEnds;
 use crate::keeper::Keeper;
 use device_side::PeerStreams;
-use ide_plan::Plan;
 use ide_types::{Memory, PortName, StreamStatus};
 use line_ends::PairEnds;
 use link_events::Loss;
@@ -30,6 +29,7 @@ use tdi_device::StreamSaid;
 use tdi_ends::InterfaceKeeper;
 use tdi_host::InterfaceOp;
 use tsm_host::{Op, Outcome, Shown};
+use valid_plan::ValidPlan;
 
 /// The first line of a stream between devices.
 const FIRST_PEER_LINE: u8 = 24;
@@ -154,12 +154,9 @@ impl HostKeeper {
     ghost use Rattle.link_ends.specs.PairKeepers.{PairOperates, HasPairCalls};
     ghost use Rattle.link_ends.specs.Hosts.{operated_on};
 
-    /// A manager of the plan's links, and the plan's keys, none of them drawn; no interface is locked. Returns `Memory`
+    /// A manager of the plan's lines, and the plan's keys, none of them drawn; no interface is locked. Returns `Memory`
     /// for want of memory.
-    pub fn make(alloc: Global, plan: &Plan) -> Result<HostKeeper, Memory>
-        requires links { length plan.now.links ≤ 8 }
-        requires peers { length plan.now.peers ≤ 8 }
-        requires pool { length plan.now.pool ≤ 6144 }
+    pub fn make(alloc: Global, plan: &ValidPlan) -> Result<HostKeeper, Memory>
         ensures { IfOk result (λ k. k ≡ record {
           keys = record { manager = new_manager plan.now.links plan.now.peers; pool = new_pool plan.now.pool };
           interfaces = new_interfaces plan.now.links plan.now.portion;
@@ -167,6 +164,7 @@ impl HostKeeper {
         }) }
     {
         let keys = Keeper::make(alloc, plan)?;
+        let plan = plan.plan();
         let interfaces = InterfaceKeeper::make(alloc, &plan.links, plan.portion)?;
         Ok(HostKeeper {
             keys,

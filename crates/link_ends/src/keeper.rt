@@ -17,7 +17,6 @@ ghost use Rattle.key_laws.specs.Due.{lost_in};
 
 use crate::ends::LinkEnds;
 use device_side::Device;
-use ide_plan::Plan;
 use ide_types::{Memory, PortName, StreamStatus};
 use key_slots::KeyPool;
 use line_ends::PairEnds;
@@ -25,6 +24,7 @@ use link_events::{Loss, Lost};
 use std::alloc::Global;
 use std::marker::Model;
 use tsm_host::{Carried, Manager, Op, Outcome};
+use valid_plan::ValidPlan;
 
 /// The room that a request needs, in bytes.
 const REQUEST_ROOM: usize = 49;
@@ -129,18 +129,15 @@ impl Keeper {
     ghost use Rattle.link_ends.specs.Keepers.{Exchanges, Walks, Operates, SameCalls};
     ghost use Rattle.link_ends.specs.PairKeepers.{PairExchanges, PairWalks, PairOperates, HasPairCalls};
 
-    /// A manager of the plan's links, and the plan's keys, none of them drawn. Returns `Memory` for want of memory.
-    pub fn make(alloc: Global, plan: &Plan) -> Result<Keeper, Memory>
-        requires links { length plan.now.links ≤ 8 }
-        requires peers { length plan.now.peers ≤ 8 }
-        requires pool { length plan.now.pool ≤ 6144 }
+    /// A manager of the plan's lines, and the plan's keys, none of them drawn. Returns `Memory` for want of memory.
+    pub fn make(alloc: Global, plan: &ValidPlan) -> Result<Keeper, Memory>
         ensures { IfOk result (λ k. k ≡ record {
           manager = new_manager plan.now.links plan.now.peers;
           pool = new_pool plan.now.pool;
         }) }
     {
-        let manager = Manager::make(alloc, &plan.links, &plan.peers)?;
-        let pool = KeyPool::make(alloc, plan.pool.as_slice())?;
+        let manager = Manager::make(alloc, plan)?;
+        let pool = KeyPool::make(alloc, plan.plan().pool.as_slice())?;
         let request = Vec::with_capacity(alloc, REQUEST_ROOM)?;
         let reply = Vec::with_capacity(alloc, REPLY_ROOM)?;
         Ok(Keeper {

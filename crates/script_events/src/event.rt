@@ -1,7 +1,6 @@
 //! The event of a script's event.
 
 ghost use Rattle.std.specs.Prelude.{◌≡◌, ◌<◌, IfSome};
-ghost use Rattle.ide_plan.specs.Fits.{FitsPlan};
 ghost use Rattle.script_events.specs.Events.{event_of as event_in, established, refreshed, stopped, shown, sent, bound};
 ghost use Rattle.script_events.specs.Events.{unbound, forwarded, arrived, reset as reset_of, peer_event_in};
 ghost use Rattle.script_events.specs.Events.{hop_event_in};
@@ -12,6 +11,7 @@ use crate::streams::{bound_stream, has_port, hop, hop_stream, own_stream, peer_s
 use ide_plan::Plan;
 use ide_types::{Bytes, Direction, PortName, Side};
 use link_events::{Event, HopEvent, InterfaceEvent, Loss, PeerEvent, ScriptEvent};
+use valid_plan::ValidPlan;
 
 fn establish(stream: Option<(u64, u64)>, lose: Option<Loss>) -> Event
     ensures { result ≡ established lose stream }
@@ -131,19 +131,17 @@ fn arrive(plan: &Plan, port: PortName, bytes: Bytes) -> Event
     }
 }
 
-fn reset(plan: &Plan, link: u64) -> Event
-    requires { FitsPlan plan.now }
+fn reset(plan: &ValidPlan, link: u64) -> Event
     ensures { result ≡ reset_of plan.now link }
 {
-    if link as usize >= plan.links.as_slice().len() {
+    if link as usize >= plan.plan().links.as_slice().len() {
         return Event::Absent;
     }
     let ends = reset_ends(plan, link as u8);
     Event::Reset { link, ends }
 }
 
-fn of_peer(plan: &Plan, event: PeerEvent) -> Event
-    requires { FitsPlan plan.now }
+fn of_peer(plan: &ValidPlan, event: PeerEvent) -> Event
     ensures { result ≡ peer_event_in plan.now event }
 {
     match event {
@@ -162,8 +160,7 @@ fn of_peer(plan: &Plan, event: PeerEvent) -> Event
     }
 }
 
-fn of_hop(plan: &Plan, event: HopEvent) -> Event
-    requires { FitsPlan plan.now }
+fn of_hop(plan: &ValidPlan, event: HopEvent) -> Event
     ensures { result ≡ hop_event_in plan.now event }
 {
     match event {
@@ -177,25 +174,26 @@ fn of_hop(plan: &Plan, event: HopEvent) -> Event
             segment,
             lose,
         } => stop(hop_stream(plan, link, segment), lose),
-        HopEvent::Forward { link, direction } => forward(plan, link, direction),
+        HopEvent::Forward { link, direction } => forward(plan.plan(), link, direction),
     }
 }
 
 /// The event of a history that an event of a script is in a topology: lines and ends in place of links, of hops and of
 /// streams between devices. What the topology does not have comes to `Absent`. It takes no memory (this profile).
 #[tactic(auto, unfolding(crate::specs::Events::event_of))]
-pub fn event_of(plan: &Plan, event: ScriptEvent) -> Event
-    requires { FitsPlan plan.now }
+pub fn event_of(plan: &ValidPlan, event: ScriptEvent) -> Event
     ensures { result ≡ event_in plan.now event }
 {
     match event {
         ScriptEvent::Establish { link, stream, lose } => {
-            establish(own_stream(plan, link, stream), lose)
+            establish(own_stream(plan.plan(), link, stream), lose)
         }
         ScriptEvent::Refresh { link, stream, lose } => {
-            refresh(own_stream(plan, link, stream), lose)
+            refresh(own_stream(plan.plan(), link, stream), lose)
         }
-        ScriptEvent::Stop { link, stream, lose } => stop(own_stream(plan, link, stream), lose),
+        ScriptEvent::Stop { link, stream, lose } => {
+            stop(own_stream(plan.plan(), link, stream), lose)
+        }
         ScriptEvent::Send {
             port,
             bytes,
@@ -216,10 +214,10 @@ pub fn event_of(plan: &Plan, event: ScriptEvent) -> Event
         ScriptEvent::Pass { packet } => Event::Pass { packet },
         ScriptEvent::Alter { packet, at, mask } => Event::Alter { packet, at, mask },
         ScriptEvent::Cut { packet, length } => Event::Cut { packet, length },
-        ScriptEvent::Arrive { port, bytes } => arrive(plan, port, bytes),
+        ScriptEvent::Arrive { port, bytes } => arrive(plan.plan(), port, bytes),
         ScriptEvent::Dump { packet } => Event::Dump { packet },
         ScriptEvent::Reset { link } => reset(plan, link),
-        ScriptEvent::Status { link, stream } => status(own_stream(plan, link, stream)),
+        ScriptEvent::Status { link, stream } => status(own_stream(plan.plan(), link, stream)),
         ScriptEvent::Interface { event } => Event::Interface { event },
         ScriptEvent::Access { event } => Event::Access { event },
         ScriptEvent::Peer { event } => of_peer(plan, event),

@@ -8,6 +8,7 @@ use crate::streams::hop;
 use ide_plan::{PeerPlan, Plan};
 use ide_types::{PortName, Side};
 use link_events::Ends;
+use valid_plan::ValidPlan;
 
 fn host(line: u8) -> PortName
     ensures { result ≡ host_port line }
@@ -68,11 +69,11 @@ fn push_peer_ends(ends: &mut Ends, peers: &[PeerPlan], link: u8)
 }
 
 /// The ends of the link, of its hop, and at its device those of streams between devices.
-pub(crate) fn reset_ends(plan: &Plan, link: u8) -> Ends
-    requires link { link < 8 }
-    requires few { length plan.now.peers ≤ 8 }
+pub(crate) fn reset_ends(plan: &ValidPlan, link: u8) -> Ends
+    requires { link < 8 }
     ensures { result ≡ reset_ends_of plan.now link }
 {
+    let plan = plan.plan();
     let mut ends = link_ends(plan, link);
     push_peer_ends(&mut ends, plan.peers.as_slice(), link);
     ends

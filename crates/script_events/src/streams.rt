@@ -1,6 +1,6 @@
 //! Streams that a script names, by their lines and their IDs.
 
-ghost use Rattle.std.specs.Prelude.{◌≡◌, ◌≤◌, ◌<◌, Some, length, option_map, slice_get, IfSome};
+ghost use Rattle.std.specs.Prelude.{◌≡◌, ◌<◌, Some, option_map, slice_get, IfSome};
 ghost use Rattle.ide_plan.specs.Plans.{has_stream_id};
 ghost use Rattle.ide_plan.specs.Ends.{own_has_id, link_hop, has_port as has_port_in};
 ghost use Rattle.ide_plan.specs.Ends.{interface_link as link_of_interface};
@@ -11,6 +11,7 @@ ghost use Rattle.script_events.specs.Events.{bound_stream as bound_stream_of};
 
 use ide_plan::{HopPlan, LinkPlan, PeerPlan, Plan, StreamPlan};
 use ide_types::PortName;
+use valid_plan::ValidPlan;
 
 fn has_stream(streams: &[StreamPlan], id: u64) -> bool
     ensures { result ≡ has_stream_id streams.now id }
@@ -49,12 +50,11 @@ pub(crate) fn own_stream(plan: &Plan, link: u64, stream: u64) -> Option<(u64, u6
 }
 
 // A stream between devices, by its number.
-pub(crate) fn peer_stream(plan: &Plan, peer: u64) -> Option<(u64, u64)>
-    requires { length plan.now.peers ≤ 8 }
+pub(crate) fn peer_stream(plan: &ValidPlan, peer: u64) -> Option<(u64, u64)>
     ensures value { result ≡ peer_stream_of plan.now peer }
     ensures small { IfSome result (λ s. s.0 < 32) }
 {
-    match plan.peers.as_slice().get(peer as usize) {
+    match plan.plan().peers.as_slice().get(peer as usize) {
         None => None,
         Some(plan) => Some((24 + peer, u64::from(plan.id))),
     }
@@ -73,10 +73,10 @@ fn on_segment(hop: &HopPlan, link: u64, segment: u64) -> Option<(u64, u64)>
 }
 
 // The stream of a hop on a segment of its link.
-pub(crate) fn hop_stream(plan: &Plan, link: u64, segment: u64) -> Option<(u64, u64)>
-    requires { length plan.now.links ≤ 8 }
+pub(crate) fn hop_stream(plan: &ValidPlan, link: u64, segment: u64) -> Option<(u64, u64)>
     ensures { result ≡ hop_stream_of plan.now link segment }
 {
+    let plan = plan.plan();
     if link >= 8 {
         return None;
     }
@@ -112,12 +112,12 @@ fn ends_at(peer: Option<PeerPlan>, link: Option<usize>) -> bool
 }
 
 // A stream between devices that ends at the device of the interface.
-pub(crate) fn bound_stream(plan: &Plan, interface: u64, peer: u64) -> Option<(u64, u64)>
-    requires { length plan.now.peers ≤ 8 }
+pub(crate) fn bound_stream(plan: &ValidPlan, interface: u64, peer: u64) -> Option<(u64, u64)>
     ensures { result ≡ bound_stream_of plan.now interface peer }
 {
-    let link = interface_link(plan.links.as_slice(), interface);
-    if ends_at(plan.peers.as_slice().get(peer as usize).copied(), link) {
+    let topology = plan.plan();
+    let link = interface_link(topology.links.as_slice(), interface);
+    if ends_at(topology.peers.as_slice().get(peer as usize).copied(), link) {
         peer_stream(plan, peer)
     } else {
         None

@@ -16,10 +16,11 @@ use crate::stage::Asked;
 use crate::stream::StreamKeys;
 use ide_km::km_write;
 use ide_plan::{HopPlan, LinkPlan, PeerPlan, StreamPlan};
-use ide_types::{Items, Memory, PortName, Side, StreamStatus};
+use ide_types::{Memory, PortName, Side, StreamStatus};
 use key_slots::KeyPool;
 use std::alloc::Global;
 use std::marker::Model;
+use valid_plan::ValidPlan;
 
 /// The host's manager of key management, for all lines (PCI Express Base 6.0 section 6.33, in this profile). It has at
 /// most one exchange under way: that of the operation which `begin` began last or went on with.
@@ -118,22 +119,16 @@ impl Manager {
       asked_now,
     };
 
-    /// A manager of all lines of these links, up to 8 of them, and of up to 8 streams between their devices; no stream
-    /// has keys. Returns `Memory` for want of memory.
-    pub fn make(
-        alloc: Global,
-        links: &Items<LinkPlan>,
-        peers: &Items<PeerPlan>,
-    ) -> Result<Manager, Memory>
-        requires links { length links.now ≤ 8 }
-        requires peers { length peers.now ≤ 8 }
-        ensures { IfOk result (λ m. m ≡ new_manager links.now peers.now) }
+    /// A manager of all lines of a topology; no stream has keys. Returns `Memory` for want of memory.
+    pub fn make(alloc: Global, plan: &ValidPlan) -> Result<Manager, Memory>
+        ensures { IfOk result (λ m. m ≡ new_manager plan.now.links plan.now.peers) }
     {
+        let plan = plan.plan();
         let mut streams = Vec::new(alloc);
-        add_links(&mut streams, links.as_slice())?;
-        add_hops(&mut streams, 8, links.as_slice())?;
-        add_hops(&mut streams, 16, links.as_slice())?;
-        add_peers(&mut streams, peers.as_slice())?;
+        add_links(&mut streams, plan.links.as_slice())?;
+        add_hops(&mut streams, 8, plan.links.as_slice())?;
+        add_hops(&mut streams, 16, plan.links.as_slice())?;
+        add_peers(&mut streams, plan.peers.as_slice())?;
         Ok(Manager {
             streams,
             asking: None,

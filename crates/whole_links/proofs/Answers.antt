@@ -73,11 +73,6 @@ host_on v link l few is =
     let low : nat_lt link 8 ≡ true = grind (arith, nat_tests, within, few) in
     rw low (ap (λ (o : Option LinkEnds). option_map (λ (x : LinkEnds). port_in Host x) o) is)
 
--- what is read there
-pub read_on : {A : Type 0} (f : PortEnd → Option A) (v : EndsView) (link : ℕ) (l : LinkEnds) → length v.links ≤ 8
-    → slice_get v.links link ≡ Some l → option_and_then f (port_on v (port_at Host link)) ≡ f l.host
-read_on f v link l few is = ap (λ (o : Option PortEnd). option_and_then f o) (host_on v link l few is)
-
 -- ---- the machine's step
 
 answer_step : (plan : Plan) (b : Beside) (st : LinkState) (link : ℕ) (o : Result BoundCompletion Verdict)

@@ -3,7 +3,6 @@
 ghost use Rattle.std.specs.Prelude.{◌≡◌, ◌≤◌, ◌<◌, ◌^◌, ◌&&◌, not, true, [], Ok, Some, IfOk, IfSome, length, slice_get};
 ghost use Rattle.std.specs.Prelude.{◌+◌, vec_len, vec_capacity};
 ghost use Rattle.std.specs.Bool.{OnTrue};
-ghost use Rattle.ide_plan.specs.Fits.{FitsPlan};
 ghost use Rattle.link_events.specs.Spells.{IsAllowed};
 ghost use Rattle.link_events.specs.Interfaces.{IsAllowedInterface};
 ghost use Rattle.link_events.specs.Accesses.{IsAllowedAccess};
@@ -22,7 +21,6 @@ use crate::verdicts::{changes_device, dropped, empty, is_sealed, reaches, takes_
 use access_turns::clear_hops;
 use accesses::Accesses;
 use all_links::Links;
-use ide_plan::Plan;
 use ide_types::{Bytes, Direction, Memory, PortName, Side, SubKind};
 use interface_words::InterfaceVerdict;
 use line_routes::{has_hop, leaving_end};
@@ -30,6 +28,7 @@ use link_events::{AccessEvent, Event, InterfaceEvent, Loss};
 use link_verdicts::{AccessVerdict, BlockCause, Operation, Verdict};
 use std::alloc::Global;
 use tdi_host::InterfaceOp;
+use valid_plan::ValidPlan;
 use waiting_reads::{COMPLETION_BYTES, WaitingRead, complete};
 
 /// All links of a topology, the trusted reads of each that wait for their answer, the memory of each device's
@@ -54,12 +53,11 @@ impl WholeLinks {
     /// The links of the plan before the first event, with no read and no TLP that waits, and 0 in all ranges of its
     /// devices.
     /// Returns `Memory` for want of memory.
-    pub fn make(alloc: Global, plan: &Plan) -> Result<WholeLinks, Memory>
-        requires { FitsPlan plan.now }
+    pub fn make(alloc: Global, plan: &ValidPlan) -> Result<WholeLinks, Memory>
         ensures { IfOk result (λ s. IsFirstWhole plan.now s) }
     {
         let links = Links::make(alloc, plan)?;
-        let accesses = Accesses::make(alloc, plan)?;
+        let accesses = Accesses::make(alloc, plan.plan())?;
         Ok(WholeLinks { links, accesses })
     }
 
@@ -75,7 +73,6 @@ impl WholeLinks {
         bytes: &mut Vec<u8>,
     ) -> Result<(u8, u32), Verdict>
         requires here { link < length self.now.links.ends.links }
-        requires few { length self.now.links.ends.links ≤ 8 }
         requires fits { FitsRead waiting.now.read }
         requires empty { bytes.old.items ≡ [] }
         requires room { vec_len bytes.old + 4108 ≤ vec_capacity bytes.old }
@@ -94,11 +91,7 @@ impl WholeLinks {
             None => Err(dropped(interface, BlockCause::NotRunning)),
             Some(bound) => {
                 complete(&self.links.trusted, &waiting.read, bytes);
-                let side = Side::Host;
-                let taken = self
-                    .links
-                    .ends
-                    .outgoing_stream(PortName { side, link }, bytes);
+                let taken = self.links.ends.link(link).host.outgoing_stream(bytes);
                 judged(taken, interface, waiting.draw, bound)
             }
         }
@@ -140,20 +133,18 @@ impl WholeLinks {
     // The draw that completions of the stream are sealed under at the host's port, if it is less than the floor.
     fn older_draw(&self, link: u8, bound: (u8, u32)) -> Option<u32>
         requires here { link < length self.now.links.ends.links }
-        requires few { length self.now.links.ends.links ≤ 8 }
         ensures { (l : LinkEnds) → slice_get self.now.links.ends.links link ≡ Some l → result
             ≡ draw_below (sealing_draw_in l.host bound.0 SubKind.Cpl) bound.1 }
     {
-        let side = Side::Host;
-        let port = PortName { side, link };
-        let draw = self.links.ends.sealing_draw(port, bound.0, SubKind::Cpl);
+        let host = &self.links.ends.link(link).host;
+        let draw = host.sealing_draw(bound.0, SubKind::Cpl);
         draw_below(draw, bound.1)
     }
 
     // Sends the completion as any TLP is sent, with T, unless that would be under too old a draw.
     fn send_reply(
         &mut self,
-        plan: &Plan,
+        plan: &ValidPlan,
         link: u8,
         bound: (u8, u32),
         bytes: &[u8],
@@ -182,7 +173,7 @@ impl WholeLinks {
     }
 
     // The answer to the oldest read of a link that exists.
-    fn answered(&mut self, alloc: Global, plan: &Plan, link: u8) -> Result<Verdict, Memory>
+    fn answered(&mut self, alloc: Global, plan: &ValidPlan, link: u8) -> Result<Verdict, Memory>
         requires steps { self.old.links.steps < 2 ^ 28 }
         requires bounded { IsBoundedWhole self.old }
         requires here { link < length self.old.links.ends.links }
@@ -200,7 +191,7 @@ impl WholeLinks {
     }
 
     // Answers the oldest read of a link that waits. Once its completion is sealed, or it is dropped, it waits no more.
-    fn answer_read(&mut self, alloc: Global, plan: &Plan, link: u64) -> Result<Verdict, Memory>
+    fn answer_read(&mut self, alloc: Global, plan: &ValidPlan, link: u64) -> Result<Verdict, Memory>
         requires steps { self.old.links.steps < 2 ^ 28 }
         requires bounded { IsBoundedWhole self.old }
         ensures ends { WholeEndsOr plan.now result self.old self.new (Event.Access (AccessEvent.Answer link)) }
@@ -372,6 +363,7 @@ impl WholeLinks {
         verdict
     }
 
+    #[inline(never)]
     fn ask(&mut self, alloc: Global, event: &InterfaceEvent) -> Result<Option<Verdict>, Memory>
         requires steps { self.old.links.steps < 2 ^ 28 }
         requires bounded { IsBoundedWhole self.old }
@@ -390,6 +382,7 @@ impl WholeLinks {
 
     // ---- a reset
 
+    #[inline(never)]
     fn reset(&mut self, link: u64, ends: &[PortName]) -> Verdict
         requires steps { self.old.links.steps < 2 ^ 28 }
         requires bounded { IsBoundedWhole self.old }
@@ -409,7 +402,12 @@ impl WholeLinks {
     // ---- what waits at switches
 
     // Seals the first TLP that waits in a direction at the switch of a link behind it, as it came.
-    fn forwarded(&mut self, plan: &Plan, link: u8, direction: Direction) -> Result<Verdict, Memory>
+    fn forwarded(
+        &mut self,
+        plan: &ValidPlan,
+        link: u8,
+        direction: Direction,
+    ) -> Result<Verdict, Memory>
         requires steps { self.old.links.steps < 2 ^ 28 }
         requires bounded { IsBoundedWhole self.old }
         requires here { link < length self.old.links.ends.links }
@@ -432,7 +430,12 @@ impl WholeLinks {
     }
 
     // Forwards the first TLP that waits in a direction at the switch of a link. Once it is sealed it waits no more.
-    fn forward(&mut self, plan: &Plan, link: u64, direction: Direction) -> Result<Verdict, Memory>
+    fn forward(
+        &mut self,
+        plan: &ValidPlan,
+        link: u64,
+        direction: Direction,
+    ) -> Result<Verdict, Memory>
         requires steps { self.old.links.steps < 2 ^ 28 }
         requires bounded { IsBoundedWhole self.old }
         ensures ends { WholeEndsOr plan.now result self.old self.new (Event.Forward link direction) }
@@ -455,7 +458,13 @@ impl WholeLinks {
 
     // ---- all events
 
-    fn access(&mut self, alloc: Global, plan: &Plan, event: &AccessEvent) -> Result<Verdict, Memory>
+    #[inline(never)]
+    fn access(
+        &mut self,
+        alloc: Global,
+        plan: &ValidPlan,
+        event: &AccessEvent,
+    ) -> Result<Verdict, Memory>
         requires steps { self.old.links.steps < 2 ^ 28 }
         requires bounded { IsBoundedWhole self.old }
         requires allowed { IsAllowedAccess event.now }
@@ -499,10 +508,9 @@ impl WholeLinks {
     pub fn answer(
         &mut self,
         alloc: Global,
-        plan: &Plan,
+        plan: &ValidPlan,
         event: &Event,
     ) -> Result<Option<Verdict>, Memory>
-        requires fits { FitsPlan plan.now }
         requires steps { self.old.links.steps < 2 ^ 28 }
         requires bounded { IsBoundedWhole self.old }
         requires allowed { IsAllowed event.now }

@@ -13,6 +13,7 @@ use link_verdicts::Verdict;
 use port_operations::points_stand;
 use std::alloc::Global;
 use std::marker::Model;
+use valid_plan::ValidPlan;
 use whole_machine::{whole_begins, whole_steps};
 
 /// All links of a topology with their devices' interfaces, their hops and the streams between devices: the keys, the
@@ -21,7 +22,7 @@ use whole_machine::{whole_begins, whole_steps};
 #[derive(Drop)]
 pub struct World {
     alloc: Global,
-    plan: Plan,
+    plan: ValidPlan,
     links: WholeLinks,
 }
 
@@ -44,13 +45,14 @@ impl World {
         requires { FitsPlan plan }
         ensures { IfOk result (λ w. IsNewWorld plan w) }
     {
+        let plan = ValidPlan::new(plan);
         let links = WholeLinks::make(alloc, &plan)?;
         whole_begins();
         Ok(World { alloc, plan, links })
     }
 
     /// The topology, which meets every bound and rule.
-    pub fn plan(&self) -> &Plan
+    pub fn plan(&self) -> &ValidPlan
         ensures plan { result.now ≡ self.now.plan }
         ensures fits { FitsPlan self.now.plan }
     {

@@ -1,9 +1,29 @@
 use Rattle.std.proofs.lemmas.Result.{err_from_is_err_and}
 use Rattle.ide_types.specs.declared.memory.Memory.{Memory}
-use Rattle.all_links.proofs.Terms.{sym, subst, EndsWith, Interface, Option, Result, Verdict}
+use Rattle.all_links.proofs.Terms.{ap, sym, subst, EndsWith, Interface, Option, Result, Verdict, answer_of_links}
 use Rattle.all_links.specs.Links.{EndsAsOr}
 use Rattle.link_events.specs.declared.event.InterfaceEvent.{InterfaceEvent}
 use Rattle.all_links.proofs.links.Links.ask.Goals as goal
+
+pub returns-in-Lock-clause-ends : goal.returns-in-Lock-clause-ends
+returns-in-Lock-clause-ends c plan =
+    c.operate_interface.ensures.ends plan c.args.event.now
+    (ap (λ (e : InterfaceEvent). answer_of_links c.args.self.now e) c.in-Lock.is)
+
+pub returns-in-Start-clause-ends : goal.returns-in-Start-clause-ends
+returns-in-Start-clause-ends c plan =
+    c.operate_interface-in-Start.ensures.ends plan c.args.event.now
+    (ap (λ (e : InterfaceEvent). answer_of_links c.args.self.now e) c.in-Start.is)
+
+pub returns-in-Halt-clause-ends : goal.returns-in-Halt-clause-ends
+returns-in-Halt-clause-ends c plan =
+    c.operate_interface-in-Halt.ensures.ends plan c.args.event.now
+    (ap (λ (e : InterfaceEvent). answer_of_links c.args.self.now e) c.in-Halt.is)
+
+pub returns-in-State-clause-ends : goal.returns-in-State-clause-ends
+returns-in-State-clause-ends c plan =
+    c.operate_interface-in-State.ensures.ends plan c.args.event.now
+    (ap (λ (e : InterfaceEvent). answer_of_links c.args.self.now e) c.in-State.is)
 
 pub returns-in-View-clause-ends : goal.returns-in-View-clause-ends
 returns-in-View-clause-ends c plan =

@@ -1,12 +1,12 @@
 use Rattle.std.proofs.Common.{◌&&◌}
-use Rattle.all_links.proofs.Terms.{nat_lt, ℕ, refl, subst, Verdict, EndsAs, Interface}
+use Rattle.all_links.proofs.Terms.{nat_lt, refl, subst, Verdict}
 use Rattle.link_events.specs.declared.event.InterfaceEvent.TheVariants as ie
 use Rattle.tdi_host.specs.declared.operation.InterfaceOp.TheVariants as op
 use Rattle.tdi_host.specs.declared.operation.PeerStream.{PeerStream}
 use Rattle.all_links.specs.Interfaces.{has_peer_in, peer_stream}
 use Rattle.all_links.specs.Sides.{SidesAsk}
 use Rattle.all_links.proofs.Finds.{if_some}
-use Rattle.all_links.proofs.Asked.{if_some as some_is, names_peer, no_peer, none_if}
+use Rattle.all_links.proofs.Asked.{if_some as some_is, is_peer, no_peer, none_if, peer_verdict}
 use Rattle.all_links.proofs.Sides.{no_peer_beside, peer_beside}
 use Rattle.all_links.proofs.links.Links.bind.Goals as goal
 
@@ -15,13 +15,8 @@ operate_interface-requires-clause-short c = refl
 
 pub operate_interface-requires-clause-peer : goal.operate_interface-requires-clause-peer
 operate_interface-requires-clause-peer c =
-    (names_peer c.args.self.now.keeper c.args.self.now.ends c.args.number c.args.line c.args.stream c.in-Some.peer
+    (is_peer c.args.self.now.keeper c.args.self.now.ends c.args.number c.args.line c.args.stream c.in-Some.peer
     c.requires.peer c.in-Some.ensures).few
-
-pub operate_interface-requires-clause-asked : goal.operate_interface-requires-clause-asked
-operate_interface-requires-clause-asked c =
-    (names_peer c.args.self.now.keeper c.args.self.now.ends c.args.number c.args.line c.args.stream c.in-Some.peer
-    c.requires.peer c.in-Some.ensures).is_peer
 
 pub returns-in-None-clause-ends : goal.returns-in-None-clause-ends
 returns-in-None-clause-ends c plan =
@@ -35,11 +30,11 @@ returns-in-None-clause-ends c plan =
 pub returns-in-Some-clause-ends : goal.returns-in-Some-clause-ends
 returns-in-Some-clause-ends c plan =
     let s = c.args.self.now in
-    let n = names_peer s.keeper s.ends c.args.number c.args.line c.args.stream c.in-Some.peer c.requires.peer
-    c.in-Some.ensures in
-    subst (λ (p : ℕ × ℕ). EndsAs plan c.operate_interface.result s c.operate_interface.new.self
-    (Interface (ie.Bind c.args.number p.0 p.1 c.args.loss)))
-    (λ i. (n.line_is i, n.id_is i)) (c.operate_interface.ensures.ends plan)
+    c.operate_interface.ensures.ends plan (ie.Bind c.args.number c.args.line c.args.stream c.args.loss)
+    (peer_verdict s.keeper s.ends c.args.number c.args.line c.args.stream c.in-Some.peer
+    (λ (p : PeerStream). op.Bind p) c.args.loss
+    (is_peer s.keeper s.ends c.args.number c.args.line c.args.stream c.in-Some.peer c.requires.peer
+    c.in-Some.ensures))
 
 pub returns-in-None-clause-sides : goal.returns-in-None-clause-sides
 returns-in-None-clause-sides c =
@@ -52,12 +47,12 @@ returns-in-None-clause-sides c =
 pub returns-in-Some-clause-sides : goal.returns-in-Some-clause-sides
 returns-in-Some-clause-sides c =
     let s = c.args.self.now in
-    let n = names_peer s.keeper s.ends c.args.number c.args.line c.args.stream c.in-Some.peer c.requires.peer
+    let p = is_peer s.keeper s.ends c.args.number c.args.line c.args.stream c.in-Some.peer c.requires.peer
     c.in-Some.ensures in
     if_some c.operate_interface.result _
     (λ verdict is. peer_beside s c.operate_interface.new.self c.args.number c.args.line c.args.stream
-    (op.Bind (peer_stream s.keeper c.args.line c.args.stream)) c.args.loss n.small
-    n.has
-    (subst (λ (p : PeerStream). SidesAsk c.args.number (op.Bind p) c.args.loss s c.operate_interface.new.self) n.peer_is
+    (op.Bind (peer_stream s.keeper c.args.line c.args.stream)) c.args.loss p.small
+    p.has
+    (subst (λ (q : PeerStream). SidesAsk c.args.number (op.Bind q) c.args.loss s c.operate_interface.new.self) p.peer_is
     (some_is (λ (w : Verdict). SidesAsk c.args.number (op.Bind c.in-Some.peer) c.args.loss s
     c.operate_interface.new.self) c.operate_interface.result verdict is c.operate_interface.ensures.sides)))

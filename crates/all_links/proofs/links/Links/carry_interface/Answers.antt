@@ -22,13 +22,13 @@ operate_on-requires-clause-interface c =
 pub returns-clause-answered : goal.returns-clause-answered
 returns-clause-answered c some =
     answered c.args.self.now c.args.number c.args.link c.args.op c.args.loss c.operate_on.result
-    c.operate_on.new.self c.operate_on.new.keeper c.requires.asked c.requires.here c.operate_on.ensures some
+    c.operate_on.new.self c.operate_on.new.keeper c.requires.here c.operate_on.ensures some
 
 pub returns-clause-no_bad_reply : goal.returns-clause-no_bad_reply
 returns-clause-no_bad_reply c some =
     answered_no_bad_reply c.args.number c.args.loss [] c.operate_on.result
     (answered c.args.self.now c.args.number c.args.link c.args.op c.args.loss c.operate_on.result
-    c.operate_on.new.self c.operate_on.new.keeper c.requires.asked c.requires.here c.operate_on.ensures some [])
+    c.operate_on.new.self c.operate_on.new.keeper c.requires.here c.operate_on.ensures some [])
 
 pub returns-clause-shows : goal.returns-clause-shows
 returns-clause-shows c =

@@ -8,23 +8,23 @@ use Rattle.all_links.proofs.links.Links.device_draw.Goals as goal
 pub returns-in-None : goal.returns-in-None
 returns-in-None c =
     let s = c.args.self.now in
-    let l = there s.ends.links c.args.link c.requires.here in
     let x = there s.keeper.interfaces.interfaces c.args.number c.requires.interface in
     let stream : c.stream-stream.result ≡ x.0.stream =
     if_some (λ (y : HostTdi). c.stream-stream.result ≡ y.stream)
     (slice_get s.keeper.interfaces.interfaces c.args.number) x.0
     x.1 (subst (λ (m : InterfacesView). IfSome (slice_get m.interfaces c.args.number)
     (λ (y : HostTdi). c.stream-stream.result ≡ y.stream)) c.manager.ensures c.stream-stream.ensures) in
-    draw_is s c.args.number c.args.link c.stream-stream.result l.0 x.0 _ c.requires.few l.1 x.1 stream c.in-None.ensures
+    draw_is s c.args.number c.args.link c.stream-stream.result c.link.result.now x.0 _ c.link.ensures x.1 stream
+    c.in-None.ensures
 
 pub returns-in-Some : goal.returns-in-Some
 returns-in-Some c =
     let s = c.args.self.now in
-    let l = there s.ends.links c.args.link c.requires.here in
     let x = there s.keeper.interfaces.interfaces c.args.number c.requires.interface in
     let stream : c.stream-stream.result ≡ x.0.stream =
     if_some (λ (y : HostTdi). c.stream-stream.result ≡ y.stream)
     (slice_get s.keeper.interfaces.interfaces c.args.number) x.0
     x.1 (subst (λ (m : InterfacesView). IfSome (slice_get m.interfaces c.args.number)
     (λ (y : HostTdi). c.stream-stream.result ≡ y.stream)) c.manager.ensures c.stream-stream.ensures) in
-    draw_is s c.args.number c.args.link c.stream-stream.result l.0 x.0 _ c.requires.few l.1 x.1 stream c.in-Some.ensures
+    draw_is s c.args.number c.args.link c.stream-stream.result c.link.result.now x.0 _ c.link.ensures x.1 stream
+    c.in-Some.ensures

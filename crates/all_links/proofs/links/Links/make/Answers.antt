@@ -1,4 +1,4 @@
-use Rattle.all_links.proofs.Terms.{◌∙◌, List, ap, refl, Region}
+use Rattle.all_links.proofs.Terms.{◌∙◌, List, ap, refl, Plan, Region}
 use Rattle.trusted_memory.specs.{new_memory}
 use Rattle.interface_answers.specs.{HostKeeper}
 use Rattle.all_links.proofs.links.Links.make.Goals as goal
@@ -10,15 +10,7 @@ returns c = record {
   interfaces = ap (λ (k : HostKeeper). k.interfaces) c.in_ok-keeper.ensures;
   peer_draws = ap (λ (k : HostKeeper). k.peer_draws) c.in_ok-keeper.ensures;
   packets = c.new-packets.ensures;
-  trusted = c.in_ok-trusted.ensures.new ∙ ap (λ (rs : List Region). new_memory rs) c.as_slice.ensures;
+  trusted = c.in_ok-trusted.ensures.new ∙ ap (λ (rs : List Region). new_memory rs) c.as_slice.ensures
+      ∙ ap (λ (p : Plan). new_memory p.memory) c.plan.ensures.value;
   steps = refl;
 }
-
-pub make-requires-2-clause-links : goal.make-requires-2-clause-links
-make-requires-2-clause-links c = c.requires.links_most
-
-pub make-requires-2-clause-peers : goal.make-requires-2-clause-peers
-make-requires-2-clause-peers c = c.requires.peers_most
-
-pub make-requires-2-clause-pool : goal.make-requires-2-clause-pool
-make-requires-2-clause-pool c = c.requires.pool_most

@@ -1,5 +1,5 @@
-use Rattle.all_links.proofs.Terms.{ap, refl, sym, ◌∙◌, ◌+◌, List, ℕ, option_map, Links, Interface}
-use Rattle.interface_answers.specs.{op_event}
+use Rattle.all_links.proofs.Terms.{ap, refl, sym, subst, ◌∙◌, ◌+◌, List, ℕ, option_map, Links, Interface, Option}
+use Rattle.all_links.proofs.Terms.{IsSome, Verdict}
 use Rattle.tdi_ends.specs.Keepers.{Ended}
 use Rattle.all_links.proofs.Asked.{asked_nowhere, operated_as}
 use Rattle.all_links.proofs.Finds.{ends_as, if_some, some_none}
@@ -10,23 +10,23 @@ pub carry_interface-outcome-requires-clause-here : goal.carry_interface-outcome-
 carry_interface-outcome-requires-clause-here c = ap (option_map (λ (at : ℕ × ℕ). at.0)) (sym c.in-Some.ensures)
 
 pub returns-in-None-clause-ends : goal.returns-in-None-clause-ends
-returns-in-None-clause-ends c plan =
-    asked_nowhere plan c.args.number c.args.op c.args.loss c.requires.asked c.in-None.ensures c.only.ensures.value
+returns-in-None-clause-ends c plan event same =
+    asked_nowhere plan c.args.number c.args.op c.args.loss event same c.in-None.ensures c.only.ensures.value
     c.only.ensures.links c.requires.bounded
 
 pub returns-in-Some-clause-ends : goal.returns-in-Some-clause-ends
-returns-in-Some-clause-ends c plan =
+returns-in-Some-clause-ends c plan event same =
     let after : Links = c.carry_interface-outcome.new.self in
-    let event = op_event c.args.op c.args.number c.args.loss in
     ends_as plan c.asked_verdict.result c.args.self.now (record after { steps = after.steps + 1 }) (Interface event)
     (λ verdict is. operated_as plan c.args.self.now c.args.number (c.in-Some.link, c.in-Some.field-0-1) c.args.op
     c.args.loss c.carry_interface-outcome.result after.ends after.keeper (record after { steps = after.steps + 1 })
-    verdict c.new-none.result c.requires.asked c.in-Some.ensures c.carry_interface-outcome.ensures.asks
+    verdict c.new-none.result event same c.in-Some.ensures c.carry_interface-outcome.ensures.asks
     (sym c.asked_verdict.ensures ∙ is)
     (λ e same. c.new-none.ensures ∙ c.new.ensures.items ∙ sym (ap (λ (f : Ended → List ℕ). f e) c.requires.short))
     (ap (λ (s : Links). record s { steps = s.steps + 1 }) c.carry_interface-outcome.ensures.links) c.requires.bounded)
     (λ none stands answered. some_none
-    (c.carry_interface-outcome.ensures.answered (answered event refl) c.new-none.result)
+    (c.carry_interface-outcome.ensures.answered
+    (subst (λ (o : Option Verdict). IsSome o) same (answered event refl)) c.new-none.result)
     (sym c.asked_verdict.ensures ∙ none))
 
 pub returns-in-None-clause-sides : goal.returns-in-None-clause-sides

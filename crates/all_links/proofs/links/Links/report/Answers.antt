@@ -11,9 +11,8 @@ carry_interface-outcome-requires-clause-here c = ap (option_map (λ (at : ℕ ×
 
 pub returns-in-None-clause-ends : goal.returns-in-None-clause-ends
 returns-in-None-clause-ends c plan =
-    asked_nowhere plan c.args.number op.Report c.args.loss tt c.in-None.ensures c.only.ensures.value
-    c.only.ensures.links
-    c.requires.bounded
+    asked_nowhere plan c.args.number op.Report c.args.loss (ie.Report c.args.number c.args.loss) refl c.in-None.ensures
+    c.only.ensures.value c.only.ensures.links c.requires.bounded
 
 pub returns-in_ok-report-in-Some-clause-ends : goal.returns-in_ok-report-in-Some-clause-ends
 returns-in_ok-report-in-Some-clause-ends c plan =
@@ -23,7 +22,8 @@ returns-in_ok-report-in-Some-clause-ends c plan =
     (λ verdict is. operated_as plan c.args.self.now c.args.number (c.in-Some.link, c.in-Some.field-0-1) op.Report
     c.args.loss
     c.carry_interface-outcome.result after.ends after.keeper (record after { steps = after.steps + 1 }) verdict
-    c.new-report.result tt c.in-Some.ensures c.carry_interface-outcome.ensures.asks (sym c.asked_verdict.ensures ∙ is)
+    c.new-report.result event refl c.in-Some.ensures c.carry_interface-outcome.ensures.asks
+    (sym c.asked_verdict.ensures ∙ is)
     (λ e same. c.new-report.ensures ∙ (rw c.unwrap.ensures at c.extend_from_slice.ensures.items)
     ∙ (λ i. c.in_ok-report-in-Some.ensures.items i ++
     (c.report.ensures.value ∙ ap (λ (m : InterfacesView). m.read.bytes) (c.manager.ensures ∙ same)) i))

@@ -1,13 +1,12 @@
-use Rattle.std.proofs.Common.{ℕ, ◌≡◌, ◌++◌, List, ap, ◌∙◌}
+use Rattle.std.proofs.Common.{ℕ, ◌≡◌, ◌++◌, List, ap, sym, ◌∙◌}
+use Rattle.std.proofs.lemmas.Option.{same_Some}
 use Rattle.std.specs.Prelude.{Option, Some, Err}
 use Rattle.link_verdicts.specs.declared.verdict.Verdict.{Verdict}
 use Rattle.tdi_host.specs.Managers.{InterfaceManagerView, granted}
 use Rattle.trusted_memory.specs.{byte_at}
 unfoldable use Rattle.waiting_reads.specs.{completion_bytes}
-use Rattle.association.specs.Outgoing.{outgoing_of, stream_taken}
-use Rattle.ide_port.specs.{PortEnd}
+use Rattle.all_links.specs.{LinkEnds}
 use Rattle.whole_links.specs.Besides.{judged_bound, replied, host_stream}
-use Rattle.whole_links.proofs.Answers.{read_on}
 use Rattle.whole_links.proofs.whole.WholeLinks.granted.Goals as goal
 
 pub returns-in-None : goal.returns-in-None
@@ -27,8 +26,8 @@ returns-in-Some c = λ l is.
     c.complete.ensures.bytes ∙ ap (λ (bs : List ℕ). bs ++ bytes) c.requires.empty in
     let taken : c.outgoing_stream-taken.result ≡ host_stream l bytes =
     c.outgoing_stream-taken.ensures
-    ∙ (read_on (λ (e : PortEnd). stream_taken (outgoing_of e.plans e.name.side c.deref.result.now))
-    c.args.self.now.links.ends c.args.link l c.requires.few is
+    ∙ (ap (λ (e : LinkEnds). host_stream e c.deref.result.now)
+    (same_Some c.link.result.now l (sym c.link.ensures ∙ is))
     ∙ ap (host_stream l) (c.deref.ensures.value ∙ made)) in
     let bound : Some c.in-Some.bound ≡ granted c.args.self.now.links.keeper.interfaces c.args.link
     c.args.waiting.now.read.requester =

@@ -1,4 +1,10 @@
+use Rattle.std.proofs.Common.{◌∙◌, ap}
+use Rattle.ide_plan.specs.declared.plan.Plan.{Plan}
+use Rattle.accesses.specs.{new_accesses}
 use Rattle.whole_links.proofs.whole.WholeLinks.make.Goals as goal
 
 pub returns : goal.returns
-returns c = record { links = c.in_ok-links.ensures; accesses = c.in_ok-accesses.ensures }
+returns c = record {
+  links = c.in_ok-links.ensures;
+  accesses = c.in_ok-accesses.ensures ∙ ap (λ (p : Plan). new_accesses p.links) c.plan.ensures.value;
+}

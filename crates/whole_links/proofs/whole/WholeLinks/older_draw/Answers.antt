@@ -1,9 +1,10 @@
-use Rattle.std.proofs.Common.{ℕ, ap, ◌∙◌}
+use Rattle.std.proofs.Common.{ℕ, ap, sym, ◌∙◌}
+use Rattle.std.proofs.lemmas.Option.{same_Some}
 use Rattle.std.specs.Prelude.{Option}
 use Rattle.ide_types.specs.declared.sub.SubKind.TheVariants.{Cpl}
-use Rattle.ide_port.specs.{PortEnd, sealing_draw_in}
+use Rattle.ide_port.specs.{sealing_draw_in}
+use Rattle.all_links.specs.{LinkEnds}
 use Rattle.whole_links.specs.Besides.{draw_below}
-use Rattle.whole_links.proofs.Answers.{read_on}
 use Rattle.whole_links.proofs.whole.WholeLinks.older_draw.Goals as goal
 
 pub returns : goal.returns
@@ -11,5 +12,5 @@ returns c = λ l is.
     c.draw_below.ensures
     ∙ ap (λ (o : Option ℕ). draw_below o c.args.bound.1)
     (c.sealing_draw-draw.ensures
-    ∙ read_on (λ (e : PortEnd). sealing_draw_in e c.args.bound.0 Cpl) c.args.self.now.links.ends c.args.link l
-    c.requires.few is)
+    ∙ ap (λ (e : LinkEnds). sealing_draw_in e.host c.args.bound.0 Cpl)
+    (same_Some c.link.result.now l (sym c.link.ensures ∙ is)))
