@@ -33,9 +33,10 @@ fn key_numbered(n: u64) -> [u8; 32]
     key
 }
 
-/// The keys of the numbers from 0 on, so many of them.
+/// The keys of the numbers from 0 on, so many of them: 24 zero bytes, and the number in 8 bytes, most significant first
+/// (this profile).
 #[tactic(auto, using(crate::proofs::NumberedKeys::next_key, crate::proofs::NumberedKeys::no_keys))]
-pub(crate) fn numbered_keys(alloc: Global, count: u64) -> Result<Items<[u8; 32]>, Memory>
+pub fn numbered_keys(alloc: Global, count: u64) -> Result<Items<[u8; 32]>, Memory>
     ensures { IfOk result (λ keys. keys ≡ keys_below count) }
 {
     let mut all = Vec::new(alloc);

@@ -11,5 +11,6 @@ mod step;
 
 pub use generator::Generator;
 pub use ide_types::Memory;
+pub use keys::numbered_keys;
 pub use laws::events_are_allowed;
 pub use plan::topology;

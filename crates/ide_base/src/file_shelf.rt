@@ -1,5 +1,5 @@
 //! Files of the system.
-ghost use Rattle.std.specs.Prelude.{◌≡◌, [], true, Some, None, IfOk, map, string_bytes};
+ghost use Rattle.std.specs.Prelude.{◌≡◌, [], true, Some, None, IfOk, IfSome, map, string_bytes};
 ghost use Rattle.std.specs.Io.{ReadsAtMost};
 ghost use Rattle.ide_base.specs.Files.{Noted};
 ghost use Rattle.ide_base.specs.Outside.{AsksFor, EndsWith};
@@ -31,6 +31,7 @@ pub struct FileShelf<R: Files> {
     latest: usize,
     longest: usize,
     faults: u64,
+    failed: Option<io::Error>,
 }
 
 impl<R: Files> FileShelf<R> {
@@ -51,7 +52,21 @@ impl<R: Files> FileShelf<R> {
             latest: 0,
             longest: 0,
             faults: 0,
+            failed: None,
         }
+    }
+
+    /// The name that was asked for last, unless there was no memory to note it.
+    pub fn last_name(&self) -> Option<&str>
+        ensures { IfSome result (λ name. EndsWith name.now (⟦<FileShelf<R> as Shelf>⟧.seen self.now).asked) }
+    {
+        last_of(&self.asked)
+    }
+
+    /// Why the last read failed, if it did: the system's error of the file that was asked for last. None too if there
+    /// was no memory to note that name.
+    pub fn failure(&self) -> Option<io::Error> {
+        self.failed
     }
 }
 
@@ -73,6 +88,16 @@ pub(crate) fn read_at<F: Read + Seek>(
     Ok(n)
 }
 
+// The name that was asked for last.
+fn last_of(asked: &[String]) -> Option<&str>
+    ensures { IfSome result (λ name. EndsWith name.now (Some (map string_bytes asked.now))) }
+{
+    match asked.last() {
+        Some(last) => Some(last.as_str()),
+        None => None,
+    }
+}
+
 // Whether this name was asked for last.
 fn is_last(asked: &[String], name: &str) -> bool
     ensures { result ≡ true → EndsWith name.now (Some (map string_bytes asked.now)) }
@@ -80,6 +105,15 @@ fn is_last(asked: &[String], name: &str) -> bool
     match asked.last() {
         Some(last) => last.as_str() == name,
         None => false,
+    }
+}
+
+// Why a read of this name failed, if it is the one that was asked for last.
+fn failed_under(asked: &[String], name: &str, error: io::Error) -> Option<io::Error> {
+    if is_last(asked, name) {
+        Some(error)
+    } else {
+        None
     }
 }
 
@@ -92,8 +126,8 @@ fn note(alloc: Global, asked: &mut Vec<String>, name: &str) -> io::Result<()>
     Ok(())
 }
 
-// Reads the file of this name, which then stays open: it is the one that was asked for last. Its name is noted before it
-// is opened.
+// Reads the file of this name, which then stays open: it is the one that was asked for last. Its name is noted before
+// it is opened.
 fn read_named<R: Files>(
     alloc: Global,
     files: &R,
@@ -149,10 +183,12 @@ impl<R: Files> Shelf for FileShelf<R> {
             Ok(n) => {
                 self.given = self.given.saturating_add(n as u64);
                 self.latest = n;
+                self.failed = None;
                 Ok(n)
             }
-            Err(_) => {
+            Err(error) => {
                 self.latest = 0;
+                self.failed = failed_under(&self.asked, name, error);
                 self.faults = self.faults.saturating_add(1);
                 Err(ShelfFault)
             }

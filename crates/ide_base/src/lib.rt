@@ -15,6 +15,3 @@ pub use mem_sink::{MemSink, TrueSink};
 pub use out_sink::OutSink;
 pub use shelf::{Shelf, ShelfFault};
 pub use sink::{Sink, SinkFault};
-
-#[cfg(test)]
-mod tests;

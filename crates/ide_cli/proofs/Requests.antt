@@ -1,9 +1,28 @@
--- What is asked for is answered, and generated events whatever the shelf tells.
-use Rattle.std.proofs.Common.{◌≡◌, ℕ, [], Option, Some, None, Result, Ok, Err, option_map, refl, sym, subst}
-use Rattle.std.proofs.Common.{◌∙◌, ap, inr}
+-- What is asked for is answered, and generated events whatever the shelf tells; who is told that a text differs.
+use Rattle.std.proofs.Common.{
+  ◌≡◌,
+  ◌≢◌,
+  ◌∙◌,
+  ◌≤◌,
+  ◌+◌,
+  ℕ,
+  [],
+  Option,
+  Some,
+  None,
+  Result,
+  Ok,
+  Err,
+  option_map,
+  refl,
+  sym,
+  ap,
+  subst,
+}
 use Rattle.std.specs.Prelude.{IfOk}
 use Rattle.ide_base.specs.Outside.{Contents, ShelfSeen, SinkSeen}
-use Rattle.ide_words.specs.Words.{Asked, asked, run, check, migrate, show, generate}
+use Rattle.ide_words.specs.Words.{Asked, asked, run, judge, check, migrate, show, generate, generate_script}
+use Rattle.ide_words.specs.Words.{generate_topology}
 use Rattle.line_runs.specs.declared.ends.End.{End}
 use Rattle.line_runs.specs.declared.ends.End.TheVariants as end
 use Rattle.line_runs.specs.declared.ends.Fault.{Fault}
@@ -12,10 +31,16 @@ use Rattle.line_runs.specs.Gain.{Text, Gained}
 use Rattle.line_runs.specs.Outcome.{Due, Ran, RanOn}
 use Rattle.line_runs.proofs.WholeFiles.{IsDue, gained_nothing, out_of_memory, ran_after}
 use Rattle.ide_cli.specs.declared.status.Status.{Status}
-use Rattle.ide_cli.specs.Generated.{generated_due}
-use Rattle.ide_cli.specs.Meaning.{AnsweredFor, MigratesTo, RanGenerated, command_due, run_due, show_due, usage_line}
+use Rattle.ide_runs.specs.Generated.{generated_due}
+use Rattle.ide_runs.specs.Judge.{judge_due}
+use Rattle.ide_runs.specs.Migrating.{MigratedFor}
+use Rattle.ide_runs.specs.Script.{run_due}
+use Rattle.ide_runs.specs.Topologies.{check_due}
+use Rattle.ide_runs.proofs.{failed_migration}
+use Rattle.ide_cli.specs.Meaning.{AnsweredFor, MigratesTo, RanAlone, RanGenerated, command_due, show_due, usage_line}
+use Rattle.ide_cli.specs.Meaning.{script_text_due, topology_text_due}
+use Rattle.ide_cli.specs.Reads.{AsksToJudge, most_counted}
 use Rattle.ide_cli.specs.Seen.{CallSeen, outcome_of_status}
-use Rattle.ide_cli.specs.Topologies.{check_due}
 
 pub asks_for : {request : Option Asked} {a : Asked} {s0 s1 : ShelfSeen} {o0 o1 : SinkSeen} {r : Result End Fault}
     → request ≡ Some a → AnsweredFor (Some a) s0 s1 o0 o1 r → AnsweredFor request s0 s1 o0 o1 r
@@ -26,6 +51,15 @@ pub answered_run : (topology script : Text) (s0 s1 : ShelfSeen) (o0 o1 : SinkSee
     → RanOn (λ contents. run_due (contents topology) (contents script)) s0 s1 o0 o1 r
     → AnsweredFor (Some (run topology script)) s0 s1 o0 o1 r
 answered_run topology script s0 s1 o0 o1 r ran = record { migrated = []; migrates = tt; ran = ran }
+
+pub answered_judge : (topology script verdicts : Text) (s0 s1 : ShelfSeen) (o0 o1 : SinkSeen) (r : Result End Fault)
+    → RanOn (λ contents. judge_due (contents topology) (contents script) (contents verdicts)) s0 s1 o0 o1 r
+    → AnsweredFor (Some (judge topology script verdicts)) s0 s1 o0 o1 r
+answered_judge topology script verdicts s0 s1 o0 o1 r ran = record { migrated = []; migrates = tt; ran = ran }
+
+pub answered_migrate : (topology : Text) (s0 s1 : ShelfSeen) (o0 o1 : SinkSeen) (r : Result End Fault)
+    → MigratedFor topology s0 s1 o0 o1 r → AnsweredFor (Some (migrate topology)) s0 s1 o0 o1 r
+answered_migrate topology s0 s1 o0 o1 r m = record { migrated = m.migrated; migrates = m.migrates; ran = m.ran }
 
 pub answered_check : (topology : Text) (s0 s1 : ShelfSeen) (o0 o1 : SinkSeen) (r : Result End Fault)
     → RanOn (λ contents. option_map check_due (contents topology)) s0 s1 o0 o1 r
@@ -43,14 +77,23 @@ always : (told : Option Contents) (due : Due) → IsDue told (λ contents. Some 
 always None due = tt
 always (Some contents) due = refl
 
-pub answered_generate : (seed count : ℕ) (s : ShelfSeen) (o0 o1 : SinkSeen) (r : Result End Fault)
-    → Ran (generated_due seed count) o0 o1 r → AnsweredFor (Some (generate seed count)) s s o0 o1 r
-answered_generate seed count s o0 o1 r ran = record {
+abbrev pub AsksAlone : Asked → Due → Type 0
+AsksAlone a due = ((contents : Contents) → command_due [] (Some a) contents ≡ Some due)
+    × ((told : Option Contents) (r : Result End Fault) → MigratesTo (Some a) told [] r)
+
+-- of generated events
+pub answered_alone : (a : Asked) (due : Due) (s : ShelfSeen) (o0 o1 : SinkSeen) (r : Result End Fault) → AsksAlone a due
+    → Ran due o0 o1 r → AnsweredFor (Some a) s s o0 o1 r
+answered_alone a due s o0 o1 r asks ran = record {
   migrated = [];
-  migrates = tt;
-  ran = ran_after s.contents (λ contents. Some (generated_due seed count)) (generated_due seed count) s.faults s.faults
-      o0.faults o1.faults (Gained o0.held o1.held) r (always s.contents (generated_due seed count)) refl ran;
+  migrates = asks.1 s.contents r;
+  ran = ran_after s.contents (command_due [] (Some a)) due s.faults s.faults o0.faults o1.faults
+      (Gained o0.held o1.held) r (there s.contents) refl ran;
 }
+  where
+    there : (told : Option Contents) → IsDue told (command_due [] (Some a)) due
+    there None = tt
+    there (Some contents) = asks.0 contents
 
 answered_nothing : (s : ShelfSeen) (o0 o1 : SinkSeen) (r : Result End Fault) → Ran (end.Usage, usage_line) o0 o1 r
     → AnsweredFor None s s o0 o1 r
@@ -75,11 +118,13 @@ no_memory = Err fault.Memory
 no_text : (request : Option Asked) (told : Option Contents) → MigratesTo request told [] no_memory
 no_text None told = tt
 no_text (Some (run topology script)) told = tt
+no_text (Some (judge topology script verdicts)) told = tt
 no_text (Some (check topology)) told = tt
-no_text (Some (migrate topology)) None = tt
-no_text (Some (migrate topology)) (Some contents) = λ bytes plan is sound. inr (refl, tt)
+no_text (Some (migrate topology)) told = failed_migration told topology fault.Memory
 no_text (Some (show packets)) told = tt
 no_text (Some (generate seed count)) told = tt
+no_text (Some (generate_script seed count)) told = tt
+no_text (Some (generate_topology seed count)) told = tt
 
 pub answered_without_memory : (request : Option Asked) (s : ShelfSeen) (o : SinkSeen)
     → AnsweredFor request s s o o no_memory
@@ -94,29 +139,45 @@ ran_without_memory due o = ([], (due.1, refl), gained_nothing o.held)
 
 -- ---- of generated events
 
-same_numbers : (a b c d : ℕ) → Some (generate a b) ≡ Some (generate c d) → (a ≡ c) × (b ≡ d)
-same_numbers a b c d is = (cc, cc)
+pub asks_alone : (call : CallSeen) (a : Option Asked) → asked call.words ≡ a
+    → RanAlone a call.sink_before call.sink_after call.outcome → RanGenerated call
+asks_alone call a is ran = subst (λ (o : Option Asked). RanAlone o call.sink_before call.sink_after call.outcome)
+    (sym is) ran
 
-pub asks_these : (call : CallSeen) (seed count : ℕ) → asked call.words ≡ Some (generate seed count)
-    → Ran (generated_due seed count) call.sink_before call.sink_after call.outcome → RanGenerated call
-asks_these call seed count is ran = λ other most asks.
-    let same = same_numbers seed count other most (sym is ∙ asks) in
-    let P : ℕ → ℕ → Type 0 = λ n m. Ran (generated_due n m) call.sink_before call.sink_after call.outcome in
-    subst (λ (n : ℕ). P n most) same.0 (subst (P seed) same.1 ran)
+pub alone_without_memory : (a : Option Asked) (o : SinkSeen) → RanAlone a o o no_memory
+alone_without_memory None o = tt
+alone_without_memory (Some (run topology script)) o = tt
+alone_without_memory (Some (judge topology script verdicts)) o = tt
+alone_without_memory (Some (check topology)) o = tt
+alone_without_memory (Some (migrate topology)) o = tt
+alone_without_memory (Some (show packets)) o = tt
+alone_without_memory (Some (generate seed count)) o = ran_without_memory (generated_due seed count) o
+alone_without_memory (Some (generate_script seed count)) o = ran_without_memory (script_text_due seed count) o
+alone_without_memory (Some (generate_topology seed count)) o = ran_without_memory topology_text_due o
 
-other_request : (a b : Asked) → Some a ≡ Some b → a ≡ b
-other_request a b is = cc
+-- ---- a text that is judged
 
-none_some : (a : Asked) → None ≡ Some a → ⊥
-none_some a is = cc
+pub asks_to_judge : (words : Option Asked) (a : Asked) (r : Result End Fault) (before now : ℕ) → words ≡ Some a
+    → IfOk r (λ e. e ≡ end.Differs → AsksToJudge (Some a) × (now ≤ before + most_counted (Some a)))
+    → IfOk r (λ e. e ≡ end.Differs → AsksToJudge words × (now ≤ before + most_counted words))
+asks_to_judge words a r before now is other = subst
+    (λ (o : Option Asked). IfOk r (λ e. e ≡ end.Differs → AsksToJudge o × (now ≤ before + most_counted o))) (sym is)
+    other
 
-pub asks_other : (call : CallSeen) (a : Asked) → asked call.words ≡ Some a
-    → ((seed count : ℕ) → a ≡ generate seed count → ⊥) → RanGenerated call
-asks_other call a is other = λ seed count asks.
-    absurd (other seed count (other_request a (generate seed count) (sym is ∙ asks)))
+pub said : (r : Result End Fault) (A : Type 0) → IfOk r (λ e. e ≡ end.Differs → A)
+    → IfOk r (λ e. e ≡ end.Differs → Unit {0} × A)
+said (Ok e) A holds = λ is. (tt, holds is)
+said (Err f) A holds = tt
 
-pub asks_for_none : (call : CallSeen) → asked call.words ≡ None → RanGenerated call
-asks_for_none call is = λ seed count asks. absurd (none_some (generate seed count) (sym is ∙ asks))
+-- nothing was judged
+pub judges_nothing : (words : Option Asked) (r : Result End Fault) (before now : ℕ) → IfOk r (λ e. e ≢ end.Differs)
+    → IfOk r (λ e. e ≡ end.Differs → AsksToJudge words × (now ≤ before + most_counted words))
+judges_nothing words (Ok e) before now other = λ is. absurd (other is)
+judges_nothing words (Err f) before now other = tt
+
+pub ends_as : (r : Result End Fault) (e : End) → IfOk r (λ x. x ≡ e) → e ≢ end.Differs → IfOk r (λ x. x ≢ end.Differs)
+ends_as (Ok x) e is other = λ same. other (sym is ∙ same)
+ends_as (Err f) e is other = tt
 
 -- ---- the status tells how the run ended
 

@@ -2,11 +2,13 @@
 use Rattle.std.proofs.Common.{◌≡◌, [], Option, Some, None, refl, sym, subst, arith}
 use Rattle.std.specs.Prelude.{IfErr}
 use Rattle.ide_base.specs.Outside.{Contents, ShelfSeen}
-use Rattle.ide_words.specs.Words.{Asked, run, check, migrate, show, generate, asked}
+use Rattle.ide_words.specs.Words.{Asked, run, judge, check, migrate, show, generate, generate_script, generate_topology}
+use Rattle.ide_words.specs.Words.{asked}
 use Rattle.line_runs.specs.Outcome.{Due, Ran}
 use Rattle.ide_cli.specs.Seen.{CallSeen}
-use Rattle.ide_cli.specs.SoFar.{WroteBy, WroteSoFar, asked_so_far, lines_given}
-use Rattle.ide_cli.proofs.Loads.{NoLineOf, no_line_at_first, no_line_wrote, none_so_far}
+use Rattle.ide_cli.specs.SoFar.{WroteSoFar, asked_so_far, lines_given}
+use Rattle.ide_runs.specs.SoFar.{WroteBy}
+use Rattle.ide_runs.proofs.Loads.{NoLineOf, no_line_at_first, no_line_wrote, none_so_far}
 
 pub asked_wrote : (call : CallSeen) (a : Asked) → asked call.words ≡ Some a
     → IfErr call.outcome (λ e. WroteBy e (asked_so_far (Some a)) (lines_given (Some a)) call.shelf_before
@@ -20,10 +22,13 @@ none_at_first : (a : Option Asked) (contents : Contents) → (asked_so_far a con
     × (lines_given a contents 0 ≡ [])
 none_at_first None contents = (refl, refl)
 none_at_first (Some (run topology script)) contents = none_so_far (contents topology) (contents script) 0 (omega arith)
+none_at_first (Some (judge topology script verdicts)) contents = (refl, refl)
 none_at_first (Some (check topology)) contents = (refl, refl)
 none_at_first (Some (migrate topology)) contents = (refl, refl)
 none_at_first (Some (show packets)) contents = (refl, refl)
 none_at_first (Some (generate seed count)) contents = (refl, refl)
+none_at_first (Some (generate_script seed count)) contents = (refl, refl)
+none_at_first (Some (generate_topology seed count)) contents = (refl, refl)
 
 -- nothing was read, and the text of no line was written
 pub wrote_no_line : (call : CallSeen) (last : Due) → call.shelf_after ≡ call.shelf_before

@@ -1,4 +1,4 @@
--- Each verdict of a history that is written, or of generated events, is the one that is due.
+-- Each verdict of a history that is written, or gone over, is the one that is due.
 use Rattle.std.proofs.Common.{◌≡◌, ◌≤◌, List, [], ◌++◌, length, length-append, Option, Some, Result, Ok, Err}
 use Rattle.std.proofs.Common.{option_map, refl, sym, ap, subst, ◌∙◌, ℕ, ◌+◌, ◌∷◌, inl, inr, arith}
 use Rattle.std.specs.Prelude.{IfOk}
@@ -6,7 +6,7 @@ use Rattle.std.proofs.lemmas.List.{append-nil}
 use Rattle.ide_base.specs.Outside.{Contents}
 use Rattle.ide_plan.specs.declared.plan.Plan.{Plan}
 use Rattle.ide_plan.specs.Fits.{FitsPlan}
-use Rattle.ide_words.specs.Words.{asked}
+use Rattle.ide_words.specs.Words.{Asked, asked}
 use Rattle.ide_words.proofs.Rounds.{few_rounds}
 use Rattle.generated_events.specs.Events.{generated}
 use Rattle.generated_events.specs.Topology.{the_plan}
@@ -24,16 +24,15 @@ use Rattle.line_runs.specs.Outcome.{Due, EndsBy, EndsDue, EndsOn}
 use Rattle.line_runs.specs.declared.ends.End.{End}
 use Rattle.line_runs.specs.declared.ends.Fault.{Fault}
 use Rattle.line_runs.proofs.Joins.{front_of_front, gained_front, later}
-use Rattle.ide_cli.specs.Script.{Script, last_line, due_after, events_on}
-use Rattle.ide_cli.specs.Generated.{WentOver, generated_due, generated_history, generated_line}
-use Rattle.ide_cli.specs.Meaning.{Answered, RanGenerated, command_due}
+use Rattle.ide_runs.specs.Script.{Script, last_line, due_after, events_on}
+use Rattle.ide_runs.specs.Generated.{generated_due, generated_history, generated_line}
+use Rattle.ide_runs.proofs.Events.{events_allowed}
+use Rattle.ide_runs.proofs.Plans.{loaded_fits}
+use Rattle.ide_cli.specs.Meaning.{Answered, RanAlone, RanGenerated, command_due}
 use Rattle.ide_cli.specs.Laws.{IsDue}
 use Rattle.ide_cli.specs.Headline.{AllCounted, AllWritten, AsksFor, InEvery, Written}
 use Rattle.ide_cli.specs.Seen.{CallSeen}
-use Rattle.ide_cli.proofs.Events.{events_allowed}
-use Rattle.ide_cli.proofs.Plans.{loaded_fits}
-
--- ---- what was gained is a prefix of the text that is due
+use Rattle.ide_cli.specs.Went.{AsksJudge, WentOver, WentThrough}
 
 -- ---- the run that the words ask for
 
@@ -119,15 +118,35 @@ went_is_due call plan h w =
     let is = generated_is_due w.seed w.count few w.first w.later w.events_are in
     subst (λ (p : Plan). IsDue p h) (sym w.plan_is) (subst (IsDue the_plan) (sym w.history_is) is)
 
--- ---- either
+-- ---- a text that is judged
+
+few_through : (plan : Plan) (first later events : List Event) → first ++ later ≡ events → AreAllowed events
+    → length (history_on plan [] first) ≤ 4294967296
+few_through plan first later events same allowed = omega
+    (arith, so_many plan [] first, length-append first later, ap length same, allowed.few)
+
+through_is_due : (call : CallSeen) (plan : Plan) (h : History) → WentThrough call plan h → IsDue plan h
+through_is_due call plan h w =
+    let a = w.asks_judge in
+    let fits = loaded_fits a.topology plan a.plan_is in
+    let allowed : AreAllowed (events_on plan w.script) = subst (λ (t : Script). AreAllowed (events_on plan t))
+    (sym a.read) (events_allowed plan fits a.bytes) in
+    subst (IsDue plan) (sym w.history_is) (record {
+      fits = fits;
+      cause = caused plan [] w.first tt;
+      few = few_through plan w.first w.later (events_on plan w.script) w.events_are allowed;
+    })
+
+-- ---- any of these
 
 pub history_is_due : LinesTell → (call : CallSeen) → Answered call → InEvery IsDue call
 history_is_due tell call answered plan h (inl w) = written_is_due tell call answered plan h w
-history_is_due tell call answered plan h (inr w) = went_is_due call plan h w
+history_is_due tell call answered plan h (inr (inl w)) = went_is_due call plan h w
+history_is_due tell call answered plan h (inr (inr w)) = through_is_due call plan h w
 
 -- ---- a run that ends by itself
 
-at_end : {P : Type 0} (r : Result End Fault) → ((e : End) → r ≡ Ok e → P) → IfOk r (λ e. P)
+pub at_end : {P : Type 0} (r : Result End Fault) → ((e : End) → r ≡ Ok e → P) → IfOk r (λ e. P)
 at_end (Ok e) holds = holds e refl
 at_end (Err f) holds = tt
 
@@ -163,7 +182,8 @@ pub all_counted : (call : CallSeen) → RanGenerated call → AllCounted call
 all_counted call ran = at_end call.outcome (λ e ended seed count held asks held_before.
     let line = generated_line (generated_history seed count) in
     let whole = whole_gain (generated_due seed count) _ _ _ (Gained call.sink_before.held call.sink_after.held)
-    call.outcome e ended (ran seed count asks) in
+    call.outcome e ended
+    (subst (λ (a : Option Asked). RanAlone a call.sink_before call.sink_after call.outcome) asks ran) in
     record {
       seed = seed;
       count = count;

@@ -1,11 +1,12 @@
 -- The exit code of each status.
 use Rattle.std.specs.Prelude.{ℕ}
 use Rattle.ide_cli.specs.declared.status.Status.{Status}
-use Rattle.ide_cli.specs.declared.status.Status.TheVariants.{Done, Usage, Topology, Script, ReadFault, WriteFault}
-use Rattle.ide_cli.specs.declared.status.Status.TheVariants.{Memory, TooLong}
+use Rattle.ide_cli.specs.declared.status.Status.TheVariants.{Done, Differs, Usage, Topology, Script}
+use Rattle.ide_cli.specs.declared.status.Status.TheVariants.{ReadFault, WriteFault, Memory, TooLong}
 
 abbrev pub code_of : Status → ℕ
 code_of Done = 0
+code_of Differs = 1
 code_of Usage = 2
 code_of Topology = 3
 code_of Script = 4

@@ -9,11 +9,12 @@ use Rattle.key_laws.specs.History.{History}
 use Rattle.text_laws.specs.Runs.{history_on}
 use Rattle.text_laws.specs.Telling.{VerdictsFit, events_told, lines_told}
 use Rattle.line_runs.specs.Gain.{Text, IsFront}
-use Rattle.ide_cli.specs.declared.topologies.Loaded.TheVariants.{Sound}
-use Rattle.ide_cli.specs.Generated.{WentOver, generated_history}
-use Rattle.ide_cli.specs.Script.{Script, events_on, script_of}
+use Rattle.ide_runs.specs.declared.topologies.Loaded.TheVariants.{Sound}
+use Rattle.ide_runs.specs.Generated.{generated_history}
+use Rattle.ide_runs.specs.Script.{Script, events_on, script_of}
 use Rattle.ide_cli.specs.Seen.{CallSeen}
-use Rattle.ide_cli.specs.Topologies.{loaded}
+use Rattle.ide_runs.specs.Topologies.{loaded}
+use Rattle.ide_cli.specs.Went.{AsksJudge, WentOver, WentThrough}
 
 -- The words ask for a run: the shelf tells its contents, in which the names that the words give are a sound topology of
 -- this plan, and this script.
@@ -45,9 +46,11 @@ pub record Written (call : CallSeen) (plan : Plan) (h : History) : Type 0 where
   pub holds_now : call.sink_after.held ≡ Some (held ++ gained)
   pub lines : IsFront (lines_told plan h) gained
 
--- the law holds of every history that the call wrote, or went over up to some event
+-- the law holds of every history that the call wrote, or went over up to some event: of generated events, or of the
+-- script by which it judged a text
 abbrev pub InEvery : (Plan → History → Type 0) → CallSeen → Type 0
-InEvery law call = (plan : Plan) (h : History) → Written call plan h ⊎ WentOver call plan h → law plan h
+InEvery law call = (plan : Plan) (h : History)
+    → Written call plan h ⊎ (WentOver call plan h ⊎ WentThrough call plan h) → law plan h
 
 -- if the call comes to an end of its own, the history of all events of the script was written, each with the verdict
 -- that is due
@@ -59,3 +62,8 @@ AllWritten call = IfOk call.outcome (λ e. (plan : Plan) (script : Script) (held
 abbrev pub AllCounted : CallSeen → Type 0
 AllCounted call = IfOk call.outcome (λ e. (seed count : ℕ) (held : Text) → asked call.words ≡ Some (generate seed count)
     → call.sink_before.held ≡ Some held → WentOver call the_plan (generated_history seed count))
+
+-- and went over the history of all events of the script by which it judged a text
+abbrev pub AllJudged : CallSeen → Type 0
+AllJudged call = IfOk call.outcome (λ e. (plan : Plan) (script : Script) → AsksJudge call plan script
+    → WentThrough call plan (history_on plan [] (events_on plan script)))

@@ -1,12 +1,9 @@
 pub mod Codes
 pub mod Seen
-pub mod Loading
-pub mod Topologies
-pub mod Script
-pub mod Works
-pub mod LineLaws
-pub mod Generated
+pub mod Packets
 pub mod Meaning
+pub mod GeneratedRuns
+pub mod Went
 pub mod Headline
 pub mod Laws
 pub mod Reads

@@ -33,6 +33,7 @@ call_seen of_shelf of_sink words shelf shelf_now sink sink_now outcome = record 
 -- what a status says of how the program ended
 abbrev pub outcome_of_status : Status → Result End Fault
 outcome_of_status status.Done = Ok end.Done
+outcome_of_status status.Differs = Ok end.Differs
 outcome_of_status status.Usage = Ok end.Usage
 outcome_of_status status.Topology = Ok end.Topology
 outcome_of_status status.Script = Ok end.Script

@@ -6,10 +6,10 @@ ghost use Rattle.line_runs.specs.Front.{AskedPieces, Gave, bytes_of};
 ghost use Rattle.line_runs.specs.Gathering.{GoesOn, NoFurther, ReadAsFar};
 ghost use Rattle.line_runs.specs.Lines.{file_limit};
 ghost use Rattle.line_runs.specs.Outcome.{RanOn};
-ghost use Rattle.ide_cli.specs.LineLaws.{long_packet, whole_packet};
 ghost use Rattle.ide_cli.specs.Meaning.{show_due};
-ghost use Rattle.ide_cli.specs.SoFar.{WroteBy, shown_so_far};
-ghost use Rattle.ide_cli.specs.Works.{shown_line, no_text};
+ghost use Rattle.ide_cli.specs.Packets.{long_packet, no_text, shown_line, whole_packet};
+ghost use Rattle.ide_cli.specs.SoFar.{shown_so_far};
+ghost use Rattle.ide_runs.specs.SoFar.{WroteBy};
 
 use ide_base::{Shelf, Sink};
 use ide_types::{Bytes, Memory};
@@ -69,6 +69,7 @@ impl LineWork for PacketWork {
 }
 
 /// `show PACKETS`: a line for each packet or plain TLP of a file.
+#[inline(never)]
 pub(crate) fn show_packets<S: Shelf, O: Sink>(
     alloc: Global,
     packets: &str,
@@ -76,6 +77,7 @@ pub(crate) fn show_packets<S: Shelf, O: Sink>(
     out: &mut O,
 ) -> Result<End, Fault>
     ensures end { IfOk result (λ e. e ≢ End.Usage) }
+    ensures unjudged { IfOk result (λ e. e ≢ End.Differs) }
     ensures answers { RanOn (λ contents. option_map show_due (contents packets.now)) (S.seen shelf.old)
         (S.seen shelf.new) (O.seen out.old) (O.seen out.new) result }
     ensures so_far { IfErr result (λ e. WroteBy e (λ contents n. shown_so_far

@@ -3,11 +3,14 @@
 ghost use Rattle.std.specs.Prelude.{◌≡◌};
 ghost use Rattle.ide_cli.specs.Codes.{code_of};
 
-/// The exit status: 0 if the input was read to its end and every line was written, else why not (this profile).
-#[derive(Clone, Copy, Debug, PartialEq, Eq)]
+/// The exit status: 0 if the input was read to its end and every line was written, 1 if a text that was judged is not
+/// the one that is due, else why the input was not read or the lines were not written (this profile).
+#[derive(Clone, Copy)]
 pub enum Status {
     /// The input was read to its end, and every line was written.
     Done = 0,
+    /// A text that was judged is not the one that is due.
+    Differs = 1,
     /// The words of the command line ask for nothing.
     Usage = 2,
     /// The topology is no plan.

@@ -20,20 +20,21 @@ ghost use Rattle.mmio_laws.specs.Mmio.{MmioLaw};
 ghost use Rattle.origin_laws.specs.Bindings.{BindOriginLaw};
 ghost use Rattle.origin_laws.specs.Origin.{MemoryLaw, OriginLaw};
 ghost use Rattle.origin_laws.specs.ReadLaws.{ReadLaw, ReadOriginLaw};
-ghost use Rattle.ide_cli.specs.Headline.{AllCounted, AllWritten, InEvery};
+ghost use Rattle.ide_cli.specs.Headline.{AllCounted, AllJudged, AllWritten, InEvery};
 ghost use Rattle.ide_cli.specs.Laws.{Unforged, ViewFacts};
+ghost use Rattle.ide_cli.specs.GeneratedRuns.{RunsGenerated};
 ghost use Rattle.ide_cli.specs.Meaning.{Answered, RanGenerated, usage_line};
 ghost use Rattle.ide_cli.specs.SoFar.{WroteSoFar};
-ghost use Rattle.ide_cli.specs.Reads.{Names, ReadNoFurther, ReadPast, most_counted, most_read};
+ghost use Rattle.ide_cli.specs.Reads.{AsksToJudge, Names, ReadNoFurther, ReadPast, most_counted, most_read};
 ghost use Rattle.ide_cli.specs.Seen.{call_seen, outcome_of_status, run_seen, said_words};
+ghost use Rattle.ide_cli.specs.Went.{Judged};
 
-use crate::generate::generate;
 use crate::laws::laws_hold;
 use crate::packets::show_packets;
-use crate::script::run_files;
 use crate::status::Status;
-use crate::topologies::{check_topology, migrate_topology};
+use crate::texts::{generate_script, generate_topology};
 use ide_base::{Shelf, Sink};
+use ide_runs::{check_topology, generate, judge, migrate_topology, run_files};
 use ide_words::{Request, WordsError, read_words};
 use line_runs::{End, Fault, finish};
 use std::alloc::Global;
@@ -61,19 +62,27 @@ fn perform<S: Shelf, O: Sink>(
         (S.seen shelf.old).given (S.seen shelf.new).given) }
     ensures whole { IfOk result (λ e. e ≡ End.Done → (S.seen shelf.new).given ≤ (S.seen shelf.old).given + most_counted
         (asked (map string_bytes words.now))) }
+    ensures other { IfOk result (λ e. e ≡ End.Differs → AsksToJudge (asked (map string_bytes words.now))
+        × ((S.seen shelf.new).given ≤ (S.seen shelf.old).given + most_counted (asked (map string_bytes words.now)))) }
 {
     match read_words(alloc, words) {
         Err(WordsError::Usage) => finish(
             out,
             End::Usage,
-            b"usage: run TOPOLOGY SCRIPT, check TOPOLOGY [--migrate], show PACKETS, generate SEED COUNT\n",
+            b"usage: run TOPOLOGY SCRIPT, judge TOPOLOGY SCRIPT VERDICTS, check TOPOLOGY [--migrate], show PACKETS, \
+              generate SEED COUNT [--script | --topology]\n",
         ),
         Err(WordsError::Memory) => Err(Fault::Memory),
         Ok(Request::Run(topology, script)) => run_files(alloc, topology, script, shelf, out),
+        Ok(Request::Judge(topology, script, verdicts)) => {
+            judge(alloc, topology, script, verdicts, shelf, out)
+        }
         Ok(Request::Check(topology)) => check_topology(alloc, topology, shelf, out),
         Ok(Request::Migrate(topology)) => migrate_topology(alloc, topology, shelf, out),
         Ok(Request::Show(packets)) => show_packets(alloc, packets, shelf, out),
         Ok(Request::Generate(seed, count)) => generate(alloc, seed, count, out),
+        Ok(Request::GenerateScript(seed, count)) => generate_script(alloc, seed, count, out),
+        Ok(Request::GenerateTopology(_, _)) => generate_topology(alloc, out),
     }
 }
 
@@ -82,6 +91,7 @@ fn status_of(outcome: Result<End, Fault>) -> Status
 {
     match outcome {
         Ok(End::Done) => Status::Done,
+        Ok(End::Differs) => Status::Differs,
         Ok(End::Usage) => Status::Usage,
         Ok(End::Topology) => Status::Topology,
         Ok(End::Script) => Status::Script,
@@ -93,14 +103,16 @@ fn status_of(outcome: Result<End, Fault>) -> Status
 }
 
 /// Does what the words of the command line ask for, over the files of a shelf, and writes its text to a sink (this
-/// profile). The first word is the program's name; then come `run TOPOLOGY SCRIPT`, `check TOPOLOGY`,
-/// `check TOPOLOGY --migrate`, `show PACKETS` or `generate SEED COUNT`. Answers the status that the program ends with.
+/// profile). The first word is the program's name; then come `run TOPOLOGY SCRIPT`, `judge TOPOLOGY SCRIPT VERDICTS`,
+/// `check TOPOLOGY`, `check TOPOLOGY --migrate`, `show PACKETS` or `generate SEED COUNT`, this with `--script` or
+/// `--topology` after it or without. Answers the status that the program ends with.
 ///
 /// If the shelf tells its contents, the text of a run is the verdict lines of the script's events, each verdict the one
 /// that is due after the events before it, and the laws hold of the history that is written: of links, of both segments
-/// of their hops, and of streams between devices. A migration writes a text that reads to the topology's table with
-/// version 2. Generated events are given to the same world one after another, and one line tells the totals of their
-/// history; the laws hold of it too, and of that of the first of these events, up to any of them.
+/// of their hops, and of streams between devices. A text that is judged is compared with the text of such a run, and
+/// the laws hold of that history too, up to any event. A migration writes a text that reads to the topology's table
+/// with version 2. Generated events are given to the same world one after another, and one line tells the totals of
+/// their history; the laws hold of it too, and of that of the first of these events, up to any of them.
 pub fn run<S: Shelf, O: Sink>(
     alloc: Global,
     words: &Vec<String>,
@@ -139,23 +151,37 @@ pub fn run<S: Shelf, O: Sink>(
     ensures whole { result ≡ Status.Done → (S.seen shelf.new).given ≤ (S.seen shelf.old).given + most_counted
         (asked (said_words words.now)) }
 
-    // If the words ask for generated events, the line with the totals of their history is due, whatever the shelf
-    // tells.
+    // A text that was judged is said to be another only if the words ask to judge one; it was read to its end then.
+    ensures other { result ≡ Status.Differs → AsksToJudge (asked (said_words words.now))
+        × ((S.seen shelf.new).given ≤ (S.seen shelf.old).given + most_counted (asked (said_words words.now))) }
+    // If the words ask to judge a text, and the script is read to its end, the text is said to be the same exactly if
+    // the contents of its file are the text that is due, whole; else the first line that differs is named, with the
+    // line that is due there, if any is.
+    ensures judged { Judged (run_seen S.seen O.seen words.now shelf.old shelf.new out.old out.new result) }
+
+    // If the words ask for generated events, the line with the totals of their history is due, or their script, or
+    // their topology, whatever the shelf tells.
     ensures generated { RanGenerated (run_seen S.seen O.seen words.now shelf.old shelf.new out.old out.new result) }
+    // If they ask for a run, of a script that was written so, on the topology that was, the verdict lines of the
+    // generated events are due, and the totals with which the line of `generate` ends.
+    ensures runs_generated { RunsGenerated
+        (run_seen S.seen O.seen words.now shelf.old shelf.new out.old out.new result) }
 
     // If the run ends by itself, the history of all events of the script was written; if the words ask for generated
-    // events, one line with the totals of their history.
+    // events, one line with the totals of their history; and if they ask to judge a text, the call went over the
+    // history of all events of the script.
     ensures all_written { AllWritten (run_seen S.seen O.seen words.now shelf.old shelf.new out.old out.new result) }
     ensures all_counted { AllCounted (run_seen S.seen O.seen words.now shelf.old shelf.new out.old out.new result) }
+    ensures all_judged { AllJudged (run_seen S.seen O.seen words.now shelf.old shelf.new out.old out.new result) }
 
-    // In every history that was written, each verdict is the one that is due. On every line, which is a link, a segment
-    // of a hop or a stream between devices, the draws of accepted units never fall. A packet that arrives unchanged,
-    // next in the order in which the packets of its draw were sealed, is held or accepted, provided its key is Live at
-    // the receiver, the stream has not failed there, nothing of another key is held, its posted counts are met, and on
-    // a closed stream nothing of an older draw, since the stream was last established, is missing; and what arrives so
-    // is no forgery. The posted counts that a sub-stream got, since its stream was last established, never pass the
-    // posted packets that were got. An operation on keys ends in the key state of one without losses, and no move of a
-    // refresh takes a port out of Secure.
+    // In every history that was written or gone over, each verdict is the one that is due. On every line, which is a
+    // link, a segment of a hop or a stream between devices, the draws of accepted units never fall. A packet that
+    // arrives unchanged, next in the order in which the packets of its draw were sealed, is held or accepted, provided
+    // its key is Live at the receiver, the stream has not failed there, nothing of another key is held, its posted
+    // counts are met, and on a closed stream nothing of an older draw, since the stream was last established, is
+    // missing; and what arrives so is no forgery. The posted counts that a sub-stream got, since its stream was last
+    // established, never pass the posted packets that were got. An operation on keys ends in the key state of one
+    // without losses, and no move of a refresh takes a port out of Secure.
     ensures cause_law { InEvery CauseLaw (run_seen S.seen O.seen words.now shelf.old shelf.new out.old out.new result) }
     ensures draws_never_fall { InEvery (λ p. DrawsNeverFall)
         (run_seen S.seen O.seen words.now shelf.old shelf.new out.old out.new result) }

@@ -7,9 +7,9 @@ use Rattle.link_events.specs.Words.{fault_line_of}
 use Rattle.ide_plan.specs.declared.plan.Plan.{Plan}
 use Rattle.line_runs.specs.declared.ends.End.TheVariants as end
 use Rattle.line_runs.specs.Gain.{Text}
-use Rattle.ide_cli.specs.declared.topologies.Loaded.TheVariants.{Sound}
-use Rattle.ide_cli.specs.Topologies.{check_due, loaded}
-use Rattle.ide_cli.specs.Works.{Follows, RunningView, ScriptPast, by_meaning, closing_line, ran_line}
+use Rattle.ide_runs.specs.declared.topologies.Loaded.TheVariants.{Sound}
+use Rattle.ide_runs.specs.Topologies.{check_due, loaded}
+use Rattle.ide_runs.specs.Works.{Follows, RunningView, ScriptPast, by_meaning, closing_line, ran_line}
 use Rattle.ide_session.specs.declared.answer.Answer.{Answer}
 use Rattle.ide_session.specs.declared.answer.Answer.TheVariants.{Done, Topology, Script, Memory, TooLong, Room, Closed}
 use Rattle.ide_session.specs.declared.answer.Answer.TheVariants.{Open}

@@ -15,8 +15,8 @@ pub mod session;
 
 use answer::Answer;
 use held::{Handle, hold, unhold};
-use ide_cli::{Loaded, World, judge, refusal};
 use ide_plan::Plan;
+use ide_runs::{Loaded, World, load_bytes, refusal};
 use link_events::fault_line;
 use session::{NotRun, Session};
 use std::alloc::Global;
@@ -71,7 +71,7 @@ fn begin_on(
     if s.live {
         return Answer::Open;
     }
-    match judge(alloc, topology) {
+    match load_bytes(alloc, topology) {
         Err(_) => Answer::Memory,
         Ok(Loaded::Long) => Answer::TooLong,
         Ok(Loaded::Faulty(fault)) => match refusal(alloc, &fault) {

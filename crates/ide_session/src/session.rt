@@ -1,9 +1,9 @@
 //! A session: the lines of a script, one by one, on the links of a topology.
 
 ghost use Rattle.std.specs.Prelude.{◌≡◌, ◌<◌, ◌+◌, ◌^◌, ◌↔◌, IfOk, IfSome, IsTrue, IsSome, Some, []};
-ghost use Rattle.ide_cli.specs.Works.{IsEarly, MayAsk};
+ghost use Rattle.ide_runs.specs.Works.{IsEarly, MayAsk};
 
-use ide_cli::{ScriptWork, World, asked};
+use ide_runs::{ScriptWork, World, asked};
 use ide_types::{Bytes, Memory};
 use line_runs::LineWork;
 use link_events::{LineError, LineFault, ScriptEvent};

@@ -1,12 +1,20 @@
 -- The program's forms.
-use Rattle.std.proofs.Common.{◌≡◌, ◌∙◌, ◌==◌, ◌<◌, ◌≤◌, ◌^◌, ℕ, [], ◌∷◌, true, false, Some, None, refl, codes, arith}
-use Rattle.std.specs.Fmt.{decimal}
+use Rattle.std.proofs.Common.{◌≡◌, ◌==◌, ℕ, List, [], ◌∷◌, Bool, false, Some, None, refl, codes, ap}
 use Rattle.clap.specs.Words.{Text, fault_of, subcommand_of}
 use Rattle.clap.proofs.OnLiterals.{clap_on_literals}
 use Rattle.ide_words.specs.Ide.{ide_app}
-use Rattle.clap.specs.ValueTests.{is_unsigned_in}
-use Rattle.ide_words.specs.Words.{IsName, asked, asked_of, number_of, run, check, migrate, show, generate}
-use Rattle.ide_words.proofs.Numbers.{decimal_is_name, decimal_passes, decimal_is_read}
+use Rattle.ide_words.specs.Words.{Asked, IsName, asked, asked_of, asks_both, run, judge, check, migrate, show}
+
+-- what the words ask for if `clap` takes them, and whether they ask for two texts
+abbrev pub reading : List Text → Asked × Bool
+reading words = (asked_of (subcommand_of ide_app words), asks_both (subcommand_of ide_app words))
+
+pub taken : (words : List Text) (a : Asked) → fault_of ide_app words ≡ [] → reading words ≡ (a, false)
+    → asked words ≡ Some a
+taken words a passes reads =
+    let one : asks_both (subcommand_of ide_app words) ≡ false = ap (λ r. r.1) reads in
+    let asks : asked_of (subcommand_of ide_app words) ≡ a = ap (λ r. r.0) reads in
+    rw (passes, one, asks) refl
 
 run_passes : (p : Text) (x y : ℕ) (xs ys : Text) → (x == 45) ≡ false → (y == 45) ≡ false
     → fault_of ide_app (p ∷ codes "run" ∷ (x ∷ xs) ∷ (y ∷ ys) ∷ []) ≡ []
@@ -14,14 +22,35 @@ unfolding clap_on_literals
 run_passes p x y xs ys e f = simp (e, f)
 
 run_reads : (p : Text) (x y : ℕ) (xs ys : Text) → (x == 45) ≡ false → (y == 45) ≡ false
-    → asked_of (subcommand_of ide_app (p ∷ codes "run" ∷ (x ∷ xs) ∷ (y ∷ ys) ∷ [])) ≡ run (x ∷ xs) (y ∷ ys)
+    → reading (p ∷ codes "run" ∷ (x ∷ xs) ∷ (y ∷ ys) ∷ []) ≡ (run (x ∷ xs) (y ∷ ys), false)
 unfolding clap_on_literals
 run_reads p x y xs ys e f = simp (e, f)
 
 pub run_form : (p a b : Text) → IsName a → IsName b → asked (p ∷ codes "run" ∷ a ∷ b ∷ []) ≡ Some (run a b)
 run_form p [] b h i = absurd h
 run_form p (x ∷ xs) [] h i = absurd i
-run_form p (x ∷ xs) (y ∷ ys) e f = rw (run_passes p x y xs ys e f, run_reads p x y xs ys e f) refl
+run_form p (x ∷ xs) (y ∷ ys) e f = taken (p ∷ codes "run" ∷ (x ∷ xs) ∷ (y ∷ ys) ∷ []) _ (run_passes p x y xs ys e f)
+    (run_reads p x y xs ys e f)
+
+judge_passes : (p : Text) (x y z : ℕ) (xs ys zs : Text) → (x == 45) ≡ false → (y == 45) ≡ false → (z == 45) ≡ false
+    → fault_of ide_app (p ∷ codes "judge" ∷ (x ∷ xs) ∷ (y ∷ ys) ∷ (z ∷ zs) ∷ []) ≡ []
+unfolding clap_on_literals
+judge_passes p x y z xs ys zs e f g = simp (e, f, g)
+
+judge_reads : (p : Text) (x y z : ℕ) (xs ys zs : Text) → (x == 45) ≡ false → (y == 45) ≡ false → (z == 45) ≡ false
+    → reading (p ∷ codes "judge" ∷ (x ∷ xs) ∷ (y ∷ ys) ∷ (z ∷ zs) ∷ [])
+    ≡ (judge (x ∷ xs) (y ∷ ys) (z ∷ zs), false)
+unfolding clap_on_literals
+judge_reads p x y z xs ys zs e f g = simp (e, f, g)
+
+pub judge_form : (p a b c : Text) → IsName a → IsName b → IsName c
+    → asked (p ∷ codes "judge" ∷ a ∷ b ∷ c ∷ []) ≡ Some (judge a b c)
+judge_form p [] b c h i j = absurd h
+judge_form p (x ∷ xs) [] c h i j = absurd i
+judge_form p (x ∷ xs) (y ∷ ys) [] h i j = absurd j
+judge_form p (x ∷ xs) (y ∷ ys) (z ∷ zs) e f g =
+    taken (p ∷ codes "judge" ∷ (x ∷ xs) ∷ (y ∷ ys) ∷ (z ∷ zs) ∷ []) _ (judge_passes p x y z xs ys zs e f g)
+    (judge_reads p x y z xs ys zs e f g)
 
 check_passes : (p : Text) (x : ℕ) (xs : Text) → (x == 45) ≡ false → fault_of ide_app (p ∷ codes "check" ∷ (x ∷ xs) ∷ [])
     ≡ []
@@ -29,13 +58,13 @@ unfolding clap_on_literals
 check_passes p x xs e = simp e
 
 check_reads : (p : Text) (x : ℕ) (xs : Text) → (x == 45) ≡ false
-    → asked_of (subcommand_of ide_app (p ∷ codes "check" ∷ (x ∷ xs) ∷ [])) ≡ check (x ∷ xs)
+    → reading (p ∷ codes "check" ∷ (x ∷ xs) ∷ []) ≡ (check (x ∷ xs), false)
 unfolding clap_on_literals
 check_reads p x xs e = simp e
 
 pub check_form : (p a : Text) → IsName a → asked (p ∷ codes "check" ∷ a ∷ []) ≡ Some (check a)
 check_form p [] h = absurd h
-check_form p (x ∷ xs) e = rw (check_passes p x xs e, check_reads p x xs e) refl
+check_form p (x ∷ xs) e = taken (p ∷ codes "check" ∷ (x ∷ xs) ∷ []) _ (check_passes p x xs e) (check_reads p x xs e)
 
 migrate_passes : (p : Text) (x : ℕ) (xs : Text) → (x == 45) ≡ false
     → fault_of ide_app (p ∷ codes "check" ∷ (x ∷ xs) ∷ codes "--migrate" ∷ []) ≡ []
@@ -43,13 +72,14 @@ unfolding clap_on_literals
 migrate_passes p x xs e = simp e
 
 migrate_reads : (p : Text) (x : ℕ) (xs : Text) → (x == 45) ≡ false
-    → asked_of (subcommand_of ide_app (p ∷ codes "check" ∷ (x ∷ xs) ∷ codes "--migrate" ∷ [])) ≡ migrate (x ∷ xs)
+    → reading (p ∷ codes "check" ∷ (x ∷ xs) ∷ codes "--migrate" ∷ []) ≡ (migrate (x ∷ xs), false)
 unfolding clap_on_literals
 migrate_reads p x xs e = simp e
 
 pub migrate_form : (p a : Text) → IsName a → asked (p ∷ codes "check" ∷ a ∷ codes "--migrate" ∷ []) ≡ Some (migrate a)
 migrate_form p [] h = absurd h
-migrate_form p (x ∷ xs) e = rw (migrate_passes p x xs e, migrate_reads p x xs e) refl
+migrate_form p (x ∷ xs) e = taken (p ∷ codes "check" ∷ (x ∷ xs) ∷ codes "--migrate" ∷ []) _ (migrate_passes p x xs e)
+    (migrate_reads p x xs e)
 
 show_passes : (p : Text) (x : ℕ) (xs : Text) → (x == 45) ≡ false → fault_of ide_app (p ∷ codes "show" ∷ (x ∷ xs) ∷ [])
     ≡ []
@@ -57,48 +87,13 @@ unfolding clap_on_literals
 show_passes p x xs e = simp e
 
 show_reads : (p : Text) (x : ℕ) (xs : Text) → (x == 45) ≡ false
-    → asked_of (subcommand_of ide_app (p ∷ codes "show" ∷ (x ∷ xs) ∷ [])) ≡ show (x ∷ xs)
+    → reading (p ∷ codes "show" ∷ (x ∷ xs) ∷ []) ≡ (show (x ∷ xs), false)
 unfolding clap_on_literals
 show_reads p x xs e = simp e
 
 pub show_form : (p a : Text) → IsName a → asked (p ∷ codes "show" ∷ a ∷ []) ≡ Some (show a)
 show_form p [] h = absurd h
-show_form p (x ∷ xs) e = rw (show_passes p x xs e, show_reads p x xs e) refl
-
-generate_passes : (p : Text) (x y : ℕ) (xs ys : Text) → (x == 45) ≡ false → (y == 45) ≡ false
-    → is_unsigned_in 0 4294967295 (x ∷ xs) ≡ true → is_unsigned_in 1 100000 (y ∷ ys) ≡ true
-    → fault_of ide_app (p ∷ codes "generate" ∷ (x ∷ xs) ∷ (y ∷ ys) ∷ []) ≡ []
-unfolding clap_on_literals
-generate_passes p x y xs ys e f seed count = simp (e, f, seed, count)
-
-generate_reads : (p : Text) (x y : ℕ) (xs ys : Text) → (x == 45) ≡ false → (y == 45) ≡ false
-    → asked_of (subcommand_of ide_app (p ∷ codes "generate" ∷ (x ∷ xs) ∷ (y ∷ ys) ∷ []))
-    ≡ generate (number_of 0 4294967295 (x ∷ xs)) (number_of 1 100000 (y ∷ ys))
-unfolding clap_on_literals
-generate_reads p x y xs ys e f = simp (e, f)
-
-generate_texts : (p a b : Text) → IsName a → IsName b
-    → is_unsigned_in 0 4294967295 a ≡ true → is_unsigned_in 1 100000 b ≡ true
-    → asked (p ∷ codes "generate" ∷ a ∷ b ∷ []) ≡ Some (generate (number_of 0 4294967295 a) (number_of 1 100000 b))
-generate_texts p [] b h i seed count = absurd h
-generate_texts p (x ∷ xs) [] h i seed count = absurd i
-generate_texts p (x ∷ xs) (y ∷ ys) e f seed count =
-    rw (generate_passes p x y xs ys e f seed count, generate_reads p x y xs ys e f) refl
-
-same_numbers : (a b c d : ℕ) → a ≡ c → b ≡ d → Some (generate a b) ≡ Some (generate c d)
-same_numbers a b c d e f = rw (e, f) refl
-
-pub generate_form : (p : Text) (seed count : ℕ) → seed < 2 ^ 32 → 1 ≤ count → count ≤ 100000
-    → asked (p ∷ codes "generate" ∷ decimal seed ∷ decimal count ∷ []) ≡ Some (generate seed count)
-generate_form p seed count narrow least most =
-    let wide_seed : seed < 2 ^ 64 = omega arith in
-    let wide_count : count < 2 ^ 64 = omega arith in
-    let read = generate_texts p (decimal seed) (decimal count) (decimal_is_name seed wide_seed)
-    (decimal_is_name count wide_count)
-    (decimal_passes 0 4294967295 seed wide_seed (omega arith) (omega arith))
-    (decimal_passes 1 100000 count wide_count least most) in
-    read ∙ same_numbers _ _ _ _ (decimal_is_read 0 4294967295 seed wide_seed (omega arith) (omega arith))
-    (decimal_is_read 1 100000 count wide_count least most)
+show_form p (x ∷ xs) e = taken (p ∷ codes "show" ∷ (x ∷ xs) ∷ []) _ (show_passes p x xs e) (show_reads p x xs e)
 
 pub no_words : asked [] ≡ None
 unfolding clap_on_literals

@@ -1,4 +1,5 @@
 pub mod App
 pub mod Forms
+pub mod Generate
 pub mod Numbers
 pub mod Rounds

@@ -1,4 +1,4 @@
--- Words that ask for generated events ask for 1 to 100,000 rounds.
+-- Words that ask for generated events, for their script or for their topology name 1 to 100,000 rounds.
 use Rattle.std.proofs.Common.{◌≡◌, ◌≤◌, ℕ, List, Bool, true, false, Option, Some, None, refl}
 use Rattle.std.proofs.Common.{codes, if◌then◌else◌, subst, lit≤}
 use Rattle.std.specs.Str.{bytes_eq}
@@ -8,8 +8,9 @@ use Rattle.clap.specs.ValueTests.{is_unsigned_in}
 use Rattle.clap.specs.declared.builder.value_parser.ValueParser.TheVariants as vp
 use Rattle.clap.proofs.ValueTestLemmas.{accepts-Accepts}
 use Rattle.ide_words.specs.Ide.{ide_app}
-use Rattle.ide_words.specs.Words.{Asked, asked, asked_by, asked_of, check, generate, is_refused, is_flag_given}
-use Rattle.ide_words.specs.Words.{migrate, number_of, text_of}
+use Rattle.ide_words.specs.Words.{Asked, asked, asked_by, asked_of, check, generate, generate_script}
+use Rattle.ide_words.specs.Words.{generate_topology, generation_asked, is_refused, is_flag_given, migrate, number_of}
+use Rattle.ide_words.specs.Words.{text_of}
 
 Few : ℕ → Type 0
 Few count = (1 ≤ count) × (count ≤ 100000)
@@ -17,6 +18,8 @@ Few count = (1 ≤ count) × (count ≤ 100000)
 -- the number of rounds that is asked for, if any is, is 1 to 100,000
 FewIn : Asked → Type 0
 FewIn (generate seed count) = Few count
+FewIn (generate_script seed count) = Few count
+FewIn (generate_topology seed count) = Few count
 FewIn _ = Unit {0}
 
 by_test : (text : Text) (b : Bool) → is_unsigned_in 1 100000 text ≡ b
@@ -38,28 +41,45 @@ few_choice : (b : Bool) (x y : Asked) → FewIn x → FewIn y → FewIn (if b th
 few_choice true x y first second = first
 few_choice false x y first second = second
 
+few_generation : (rows : List Row) → FewIn (generation_asked rows)
+unfolding FewIn
+few_generation rows =
+    let few = few_number (text_of (codes "COUNT") rows) in
+    few_choice (is_flag_given (codes "script") rows) _ _ few
+    (few_choice (is_flag_given (codes "topology") rows) _ _ few few)
+
 few_by : (name : Text) (rows : List Row) → FewIn (asked_by name rows)
 unfolding FewIn
 few_by name rows =
     few_choice (bytes_eq name (codes "run")) _ _ tt
+    (few_choice (bytes_eq name (codes "judge")) _ _ tt
     (few_choice (bytes_eq name (codes "check")) _ _
     (few_checked (is_flag_given (codes "migrate") rows) (text_of (codes "TOPOLOGY") rows))
-    (few_choice (bytes_eq name (codes "generate")) _ _ (few_number (text_of (codes "COUNT") rows)) tt))
+    (few_choice (bytes_eq name (codes "generate")) _ _ (few_generation rows) tt)))
 
 few_of : (met : Option (Text × List Row)) → FewIn (asked_of met)
 unfolding FewIn
 few_of None = tt
 few_of (Some p) = few_by p.0 p.1
 
-few_asked : (refused : Bool) (words : List Text) (seed count : ℕ)
-    → (if refused then None else Some (asked_of (subcommand_of ide_app words))) ≡ Some (generate seed count) → Few count
-unfolding FewIn
-few_asked true words seed count asks = absurd cc
-few_asked false words seed count asks =
-    let same : asked_of (subcommand_of ide_app words) ≡ generate seed count = cc in
+few_asked : (refused : Bool) (words : List Text) (request : Asked)
+    → (if refused then None else Some (asked_of (subcommand_of ide_app words))) ≡ Some request → FewIn request
+few_asked true words request asks = absurd cc
+few_asked false words request asks =
+    let same : asked_of (subcommand_of ide_app words) ≡ request = cc in
     subst FewIn same (few_of (subcommand_of ide_app words))
 
 pub few_rounds : (words : List Text) (seed count : ℕ) → asked words ≡ Some (generate seed count)
     → (1 ≤ count) × (count ≤ 100000)
-unfolding Few
-few_rounds words seed count asks = few_asked (is_refused words) words seed count asks
+unfolding Few FewIn
+few_rounds words seed count asks = few_asked (is_refused words) words (generate seed count) asks
+
+pub few_script_rounds : (words : List Text) (seed count : ℕ) → asked words ≡ Some (generate_script seed count)
+    → (1 ≤ count) × (count ≤ 100000)
+unfolding Few FewIn
+few_script_rounds words seed count asks = few_asked (is_refused words) words (generate_script seed count) asks
+
+pub few_topology_rounds : (words : List Text) (seed count : ℕ) → asked words ≡ Some (generate_topology seed count)
+    → (1 ≤ count) × (count ≤ 100000)
+unfolding Few FewIn
+few_topology_rounds words seed count asks = few_asked (is_refused words) words (generate_topology seed count) asks

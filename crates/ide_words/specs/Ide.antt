@@ -12,6 +12,11 @@ name_rule id = record (new_rule id) { required = true }
 abbrev pub run_app : App
 run_app = with_rule (with_rule (new_app (codes "run")) (name_rule (codes "TOPOLOGY"))) (name_rule (codes "SCRIPT"))
 
+-- the topology, the script, and the lines that are to be judged
+abbrev pub judge_app : App
+judge_app = with_rule (with_rule (with_rule (new_app (codes "judge")) (name_rule (codes "TOPOLOGY")))
+    (name_rule (codes "SCRIPT"))) (name_rule (codes "VERDICTS"))
+
 -- a flag by its long name, which is `true` if it is given
 abbrev pub flag_rule : Text → Rule
 flag_rule id = record (new_rule id) { long = Some id; action = Some SetTrue }
@@ -27,9 +32,13 @@ abbrev pub number_rule : Text → (least most : ℕ) → Rule
 number_rule id least most = record (new_rule id) { required = true; parser = Some (Unsigned least most) }
 
 -- the seed is of 32 bits, and the rounds are 1 to 100,000
-abbrev pub generate_app : App
-generate_app = with_rule (with_rule (new_app (codes "generate")) (number_rule (codes "SEED") 0 4294967295))
+abbrev pub numbers_app : App
+numbers_app = with_rule (with_rule (new_app (codes "generate")) (number_rule (codes "SEED") 0 4294967295))
     (number_rule (codes "COUNT") 1 100000)
+
+-- the script of the events or their topology is asked for in place of their totals
+abbrev pub generate_app : App
+generate_app = with_rule (with_rule numbers_app (flag_rule (codes "script"))) (flag_rule (codes "topology"))
 
 -- a subcommand must be given, and neither help nor a version is offered
 abbrev pub top_app : App
@@ -41,7 +50,7 @@ top_app = on_top (λ s. record s {
 
 -- the program with the subcommands that read a topology
 abbrev pub topologies_app : App
-topologies_app = with_subcommand (with_subcommand top_app run_app.top) check_app.top
+topologies_app = with_subcommand (with_subcommand (with_subcommand top_app run_app.top) judge_app.top) check_app.top
 
 abbrev pub ide_app : App
 ide_app = with_subcommand (with_subcommand topologies_app show_app.top) generate_app.top

@@ -1,5 +1,22 @@
 -- What the words of a command line ask for.
-use Rattle.std.specs.Prelude.{◌≡◌, ◌==◌, ◌≤◌, ℕ, List, [], ◌∷◌, Bool, true, false, Option, Some, None, codes, unwrap_or}
+use Rattle.std.specs.Prelude.{
+  ◌≡◌,
+  ◌==◌,
+  ◌≤◌,
+  ◌&&◌,
+  ℕ,
+  List,
+  [],
+  ◌∷◌,
+  Bool,
+  true,
+  false,
+  Option,
+  Some,
+  None,
+  codes,
+  unwrap_or,
+}
 use Rattle.std.specs.Prelude.{if◌then◌else◌}
 use Rattle.std.specs.Str.{bytes_eq}
 use Rattle.std.specs.Str.Parse.{digits_value, without_leading_plus}
@@ -8,17 +25,21 @@ use Rattle.clap.specs.ValueTests.{is_unsigned_in}
 use Rattle.clap.specs.Walk.{is_empty}
 use Rattle.ide_words.specs.Ide.{ide_app}
 use Rattle.ide_words.specs.declared.Request.{Request}
-use Rattle.ide_words.specs.declared.Request.TheVariants.{Run, Check, Migrate, Show, Generate}
+use Rattle.ide_words.specs.declared.Request.TheVariants.{Run, Judge, Check, Migrate, Show, Generate}
+use Rattle.ide_words.specs.declared.Request.TheVariants.{GenerateScript, GenerateTopology}
 use Rattle.ide_words.specs.declared.WordsError.{WordsError}
 use Rattle.ide_words.specs.declared.WordsError.TheVariants.{Usage, Memory}
 
 -- a request by the bytes of its names, and by its numbers
 pub data Asked : Type 0 where
   run : (topology script : Text) → Asked
+  judge : (topology script verdicts : Text) → Asked
   check : (topology : Text) → Asked
   migrate : (topology : Text) → Asked
   show : (packets : Text) → Asked
   generate : (seed count : ℕ) → Asked
+  generate_script : (seed count : ℕ) → Asked
+  generate_topology : (seed count : ℕ) → Asked
 
 -- the argument's text; `clap` gives each required one, and if there were none it would be the empty text
 abbrev pub text_of : Text → List Row → Text
@@ -40,13 +61,24 @@ abbrev pub number_of : (least most : ℕ) → Text → ℕ
 number_of least most text =
     if is_unsigned_in least most text then digits_value 10 (without_leading_plus text) else least
 
+abbrev pub seed_of : List Row → ℕ
+seed_of rows = number_of 0 4294967295 (text_of (codes "SEED") rows)
+
+abbrev pub count_of : List Row → ℕ
+count_of rows = number_of 1 100000 (text_of (codes "COUNT") rows)
+
+-- the totals of generated events, or their script, or their topology
 abbrev pub generation_asked : List Row → Asked
-generation_asked rows = generate (number_of 0 4294967295 (text_of (codes "SEED") rows))
-    (number_of 1 100000 (text_of (codes "COUNT") rows))
+generation_asked rows =
+    if is_flag_given (codes "script") rows then generate_script (seed_of rows) (count_of rows)
+    else if is_flag_given (codes "topology") rows then generate_topology (seed_of rows) (count_of rows)
+    else generate (seed_of rows) (count_of rows)
 
 abbrev pub asked_by : Text → List Row → Asked
 asked_by name rows =
     if bytes_eq name (codes "run") then run (text_of (codes "TOPOLOGY") rows) (text_of (codes "SCRIPT") rows)
+    else if bytes_eq name (codes "judge") then
+    judge (text_of (codes "TOPOLOGY") rows) (text_of (codes "SCRIPT") rows) (text_of (codes "VERDICTS") rows)
     else if bytes_eq name (codes "check") then check_asked rows
     else if bytes_eq name (codes "generate") then generation_asked rows
     else show (text_of (codes "PACKETS") rows)
@@ -56,27 +88,37 @@ abbrev pub asked_of : Option (Text × List Row) → Asked
 asked_of None = show []
 asked_of (Some p) = asked_by p.0 p.1
 
--- `clap` refuses the words
-abbrev pub is_refused : List Text → Bool
-is_refused words = if is_empty (fault_of ide_app words) then false else true
+-- both flags of `generate` are given, and so two texts are asked for
+abbrev pub asks_both : Option (Text × List Row) → Bool
+asks_both None = false
+asks_both (Some p) = is_flag_given (codes "script") p.1 && is_flag_given (codes "topology") p.1
 
--- what the words ask for, the first being the program's name; nothing if `clap` refuses them
+-- `clap` refuses the words, or they ask for two texts
+abbrev pub is_refused : List Text → Bool
+is_refused words = if is_empty (fault_of ide_app words) then asks_both (subcommand_of ide_app words) else true
+
+-- what the words ask for, the first being the program's name; nothing if they are refused
 abbrev pub asked : List Text → Option Asked
 asked words = if is_refused words then None else Some (asked_of (subcommand_of ide_app words))
 
 abbrev pub view : Request → Asked
 view (Run topology script) = run topology.now script.now
+view (Judge topology script verdicts) = judge topology.now script.now verdicts.now
 view (Check topology) = check topology.now
 view (Migrate topology) = migrate topology.now
 view (Show packets) = show packets.now
 view (Generate seed count) = generate seed count
+view (GenerateScript seed count) = generate_script seed count
+view (GenerateTopology seed count) = generate_topology seed count
 
 -- 1 to 100,000 rounds are asked for
 abbrev pub HasFewRounds : Request → Type 0
 HasFewRounds (Generate seed count) = (1 ≤ count) × (count ≤ 100000)
+HasFewRounds (GenerateScript seed count) = (1 ≤ count) × (count ≤ 100000)
+HasFewRounds (GenerateTopology seed count) = (1 ≤ count) × (count ≤ 100000)
 HasFewRounds _ = Unit {0}
 
--- the words are refused exactly if `clap` refuses them, and want of memory is free
+-- `Usage` comes only if the words ask for nothing, and want of memory is free
 abbrev pub Refuses : Option Asked → WordsError → Type 0
 Refuses asked Usage = asked ≡ None
 Refuses asked Memory = Unit {0}

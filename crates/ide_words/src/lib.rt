@@ -2,29 +2,20 @@
 #![tactic(auto)]
 
 ghost use Rattle.std.specs.Prelude.{◌≡◌, ◌<◌, ◌≤◌, ◌^◌, [], ◌∷◌, List, ℕ, None, Some, IfOk, IfErr, codes, false, map};
-ghost use Rattle.std.specs.Prelude.{string_bytes};
+ghost use Rattle.std.specs.Prelude.{is_none, is_some, string_bytes};
 ghost use Rattle.std.specs.Fmt.{decimal};
 ghost use Rattle.clap.specs.Words.{app_of, found_of, new_app, rows_of, rule_of, subcommand_rows_of, with_rule};
 ghost use Rattle.clap.specs.Words.{with_subcommand};
 ghost use Rattle.clap.specs.declared.builder.command.Command.TheViews.{out-Command};
-ghost use Rattle.ide_words.specs.Ide.{check_app, flag_rule, generate_app, ide_app, name_rule, number_rule, run_app};
-ghost use Rattle.ide_words.specs.Ide.{show_app, top_app, topologies_app};
-ghost use Rattle.ide_words.specs.Words.{HasFewRounds, IsName, Refuses, asked, asked_by, asked_of, check, check_asked};
-ghost use Rattle.ide_words.specs.Words.{
-  generate,
-  generation_asked,
-  is_flag_given,
-  migrate,
-  number_of,
-  run,
-  show,
-  text_of,
-  view,
-};
+ghost use Rattle.ide_words.specs.Ide.{check_app, flag_rule, generate_app, ide_app, judge_app, name_rule, number_rule};
+ghost use Rattle.ide_words.specs.Ide.{numbers_app, run_app, show_app, top_app, topologies_app};
+ghost use Rattle.ide_words.specs.Words.{HasFewRounds, IsName, Refuses, asked, asked_by, asked_of, asks_both, check};
+ghost use Rattle.ide_words.specs.Words.{check_asked, generate, generate_script, generate_topology, generation_asked};
+ghost use Rattle.ide_words.specs.Words.{is_flag_given, judge, migrate, number_of, run, show, text_of, view};
 
 use clap::builder::ValueParser;
 use clap::error::ErrorKind;
-use clap::{Arg, ArgAction, ArgMatches, Command};
+use clap::{Arg, ArgAction, ArgMatches, Command, Error};
 use std::alloc::{AllocError, Global};
 
 /// What the words ask for, by the names of its files or by its numbers (this profile).
@@ -32,6 +23,8 @@ use std::alloc::{AllocError, Global};
 pub enum Request<'a> {
     /// To run a script on a topology.
     Run(&'a str, &'a str),
+    /// To run a script on a topology, and compare the lines of a file with those that are due.
+    Judge(&'a str, &'a str, &'a str),
     /// To check a topology.
     Check(&'a str),
     /// To write a topology as one of version 2.
@@ -40,9 +33,13 @@ pub enum Request<'a> {
     Show(&'a str),
     /// To run the events that a seed gives in so many rounds, 1 to 100,000.
     Generate(u32, u32),
+    /// To write the script of these events.
+    GenerateScript(u32, u32),
+    /// To write the topology that they run on, which the numbers do not change.
+    GenerateTopology(u32, u32),
 }
 
-/// Why the words ask for nothing: `clap` refuses them, or there was no memory.
+/// Why the words ask for nothing: they are refused, or there was no memory.
 #[derive(Clone, Copy, PartialEq, Eq)]
 pub enum WordsError {
     Usage,
@@ -58,6 +55,7 @@ fn name_arg<'a>(alloc: Global, id: &'static str) -> Arg<'a>
 }
 
 // `run TOPOLOGY SCRIPT`
+#[inline(never)]
 fn run_command<'a>(alloc: Global) -> Result<Command<'a>, AllocError>
     ensures app { IfOk result (λ c. app_of c ≡ run_app) }
     ensures local { IfOk result (λ c. (out-Command c).has_globals ≡ false) }
@@ -65,6 +63,21 @@ fn run_command<'a>(alloc: Global) -> Result<Command<'a>, AllocError>
     let topology = name_arg(alloc, "TOPOLOGY");
     let script = name_arg(alloc, "SCRIPT");
     Command::new(alloc, "run").arg(topology)?.arg(script)
+}
+
+// `judge TOPOLOGY SCRIPT VERDICTS`
+#[inline(never)]
+fn judge_command<'a>(alloc: Global) -> Result<Command<'a>, AllocError>
+    ensures app { IfOk result (λ c. app_of c ≡ judge_app) }
+    ensures local { IfOk result (λ c. (out-Command c).has_globals ≡ false) }
+{
+    let topology = name_arg(alloc, "TOPOLOGY");
+    let script = name_arg(alloc, "SCRIPT");
+    let verdicts = name_arg(alloc, "VERDICTS");
+    Command::new(alloc, "judge")
+        .arg(topology)?
+        .arg(script)?
+        .arg(verdicts)
 }
 
 // A flag by its long name.
@@ -76,6 +89,7 @@ fn flag_arg<'a>(alloc: Global, id: &'static str) -> Arg<'a>
 }
 
 // `check TOPOLOGY [--migrate]`
+#[inline(never)]
 fn check_command<'a>(alloc: Global) -> Result<Command<'a>, AllocError>
     ensures app { IfOk result (λ c. app_of c ≡ check_app) }
     ensures local { IfOk result (λ c. (out-Command c).has_globals ≡ false) }
@@ -86,6 +100,7 @@ fn check_command<'a>(alloc: Global) -> Result<Command<'a>, AllocError>
 }
 
 // `show PACKETS`
+#[inline(never)]
 fn show_command<'a>(alloc: Global) -> Result<Command<'a>, AllocError>
     ensures app { IfOk result (λ c. app_of c ≡ show_app) }
     ensures local { IfOk result (λ c. (out-Command c).has_globals ≡ false) }
@@ -104,13 +119,25 @@ fn number_arg<'a>(alloc: Global, id: &'static str, least: u64, most: u64) -> Arg
 }
 
 // `generate SEED COUNT`
-fn generate_command<'a>(alloc: Global) -> Result<Command<'a>, AllocError>
-    ensures app { IfOk result (λ c. app_of c ≡ generate_app) }
+#[inline(never)]
+fn numbers_command<'a>(alloc: Global) -> Result<Command<'a>, AllocError>
+    ensures app { IfOk result (λ c. app_of c ≡ numbers_app) }
     ensures local { IfOk result (λ c. (out-Command c).has_globals ≡ false) }
 {
     let seed = number_arg(alloc, "SEED", 0, 4294967295);
     let count = number_arg(alloc, "COUNT", 1, 100000);
     Command::new(alloc, "generate").arg(seed)?.arg(count)
+}
+
+// `generate SEED COUNT [--script | --topology]`
+#[inline(never)]
+fn generate_command<'a>(alloc: Global) -> Result<Command<'a>, AllocError>
+    ensures app { IfOk result (λ c. app_of c ≡ generate_app) }
+    ensures local { IfOk result (λ c. (out-Command c).has_globals ≡ false) }
+{
+    let script = flag_arg(alloc, "script");
+    let topology = flag_arg(alloc, "topology");
+    numbers_command(alloc)?.arg(script)?.arg(topology)
 }
 
 // The program with no subcommands yet.
@@ -131,14 +158,17 @@ fn with_command<'a>(command: Command<'a>, other: Command<'a>) -> Result<Command<
 }
 
 // The program with the subcommands that read a topology.
+#[inline(never)]
 fn of_topologies<'a>(alloc: Global) -> Result<Command<'a>, AllocError>
     ensures { IfOk result (λ c. app_of c ≡ topologies_app) }
 {
     let with_run = with_command(top(alloc), run_command(alloc)?)?;
-    with_command(with_run, check_command(alloc)?)
+    let with_judge = with_command(with_run, judge_command(alloc)?)?;
+    with_command(with_judge, check_command(alloc)?)
 }
 
 // The program with its subcommands.
+#[inline(never)]
 fn ide<'a>(alloc: Global) -> Result<Command<'a>, AllocError>
     ensures { IfOk result (λ c. app_of c ≡ ide_app) }
 {
@@ -199,7 +229,26 @@ fn generated<'a>(matches: &ArgMatches<'a>) -> Request<'a>
 {
     let seed = number_of(0, 4294967295, text_in(matches, "SEED"));
     let count = number_of(1, 100000, text_in(matches, "COUNT"));
-    Request::Generate(seed, count)
+    if is_set(matches, "script") {
+        Request::GenerateScript(seed, count)
+    } else if is_set(matches, "topology") {
+        Request::GenerateTopology(seed, count)
+    } else {
+        Request::Generate(seed, count)
+    }
+}
+
+// What `judge` asks for.
+fn judged<'a>(matches: &ArgMatches<'a>) -> Request<'a>
+    ensures { view result ≡ judge (text_of (codes "TOPOLOGY") (rows_of (found_of matches.now)))
+        (text_of (codes "SCRIPT") (rows_of (found_of matches.now)))
+        (text_of (codes "VERDICTS") (rows_of (found_of matches.now))) }
+{
+    Request::Judge(
+        text_in(matches, "TOPOLOGY"),
+        text_in(matches, "SCRIPT"),
+        text_in(matches, "VERDICTS"),
+    )
 }
 
 // What the subcommand of this name asks for.
@@ -209,6 +258,7 @@ fn request_by<'a>(name: &str, matches: &ArgMatches<'a>) -> Request<'a>
 {
     match name {
         "run" => Request::Run(text_in(matches, "TOPOLOGY"), text_in(matches, "SCRIPT")),
+        "judge" => judged(matches),
         "check" => checked(matches),
         "generate" => generated(matches),
         _ => Request::Show(text_in(matches, "PACKETS")),
@@ -225,10 +275,22 @@ fn request_in<'a>(matches: &ArgMatches<'a>) -> Request<'a>
     }
 }
 
+// Whether both flags of `generate` are given.
+fn asks_both(matches: &ArgMatches) -> bool
+    ensures { result ≡ asks_both (subcommand_rows_of matches.now) }
+{
+    match matches.subcommand() {
+        Some((_, inner)) => is_set(inner, "script") && is_set(inner, "topology"),
+        None => false,
+    }
+}
+
 /// What the words ask for (this profile). The first word is the program's name; then come `run TOPOLOGY SCRIPT`,
-/// `check TOPOLOGY [--migrate]`, `show PACKETS` or `generate SEED COUNT`. Returns `Usage` exactly if `clap` refuses the
-/// words for another cause than memory.
+/// `judge TOPOLOGY SCRIPT VERDICTS`, `check TOPOLOGY [--migrate]`, `show PACKETS` or
+/// `generate SEED COUNT [--script | --topology]`. Returns `Usage` exactly if `clap` refuses the words for another cause
+/// than memory, or both flags of `generate` are given.
 #[tactic(auto, using(crate::proofs::App::ide_is_simple))]
+#[inline(never)]
 pub fn read_words<'a>(alloc: Global, words: &'a [String]) -> Result<Request<'a>, WordsError>
     ensures ok { IfOk result (λ r. asked (map string_bytes words.now) ≡ Some (view r)) }
     ensures rounds { IfOk result HasFewRounds }
@@ -239,7 +301,12 @@ pub fn read_words<'a>(alloc: Global, words: &'a [String]) -> Result<Request<'a>,
         Err(_) => return Err(WordsError::Memory),
     };
     match command.try_get_matches_from(words) {
-        Ok(matches) => Ok(request_in(&matches)),
+        Ok(matches) => {
+            if asks_both(&matches) {
+                return Err(WordsError::Usage);
+            }
+            Ok(request_in(&matches))
+        }
         Err(error) => {
             if error.kind() == ErrorKind::OutOfMemory {
                 Err(WordsError::Memory)
@@ -250,23 +317,73 @@ pub fn read_words<'a>(alloc: Global, words: &'a [String]) -> Result<Request<'a>,
     }
 }
 
+// The text of an error of `clap`, without the word that begins it and the line feed that ends it.
+fn shown(alloc: Global, error: &Error) -> Result<String, AllocError> {
+    let text = format!(in alloc; "{error}")?;
+    let said = text.strip_prefix("error: ").unwrap_or(&text);
+    String::from_str(alloc, said.trim_end())
+}
+
+/// What is wrong with words that ask for nothing: the text of `clap`, which names the faulty word and what may stand
+/// there, in one or more lines. `None` if the words ask for something.
+#[tactic(auto, using(crate::proofs::App::ide_is_simple))]
+#[inline(never)]
+pub fn refusal(alloc: Global, words: &[String]) -> Result<Option<String>, AllocError>
+    ensures { IfOk result (λ text. is_some text ≡ is_none (asked (map string_bytes words.now))) }
+{
+    let command = ide(alloc)?;
+    match command.try_get_matches_from(words) {
+        Ok(matches) => {
+            if !asks_both(&matches) {
+                return Ok(None);
+            }
+            let text = "the argument '--script' cannot be used with '--topology'";
+            Ok(Some(String::from_str(alloc, text)?))
+        }
+        Err(error) => {
+            if error.kind() == ErrorKind::OutOfMemory {
+                return Err(AllocError);
+            }
+            Ok(Some(shown(alloc, &error)?))
+        }
+    }
+}
+
 /// The program's forms are taken, whatever its own name is, with names that are not empty and do not begin
 /// with `-`, and with numbers in range as decimal digits without a leading zero.
 pub fn forms_are_taken()
     ensures run { (program a b : List ℕ) → IsName a → IsName b
         → asked (program ∷ codes "run" ∷ a ∷ b ∷ []) ≡ Some (run a b) }
+    ensures judge { (program a b c : List ℕ) → IsName a → IsName b → IsName c
+        → asked (program ∷ codes "judge" ∷ a ∷ b ∷ c ∷ []) ≡ Some (judge a b c) }
     ensures check { (program a : List ℕ) → IsName a → asked (program ∷ codes "check" ∷ a ∷ []) ≡ Some (check a) }
     ensures migrate { (program a : List ℕ) → IsName a
         → asked (program ∷ codes "check" ∷ a ∷ codes "--migrate" ∷ []) ≡ Some (migrate a) }
     ensures show { (program a : List ℕ) → IsName a → asked (program ∷ codes "show" ∷ a ∷ []) ≡ Some (show a) }
     ensures generate { (program : List ℕ) (seed count : ℕ) → seed < 2 ^ 32 → 1 ≤ count → count ≤ 100000
         → asked (program ∷ codes "generate" ∷ decimal seed ∷ decimal count ∷ []) ≡ Some (generate seed count) }
+    ensures script { (program : List ℕ) (seed count : ℕ) → seed < 2 ^ 32 → 1 ≤ count → count ≤ 100000
+        → asked (program ∷ codes "generate" ∷ decimal seed ∷ decimal count ∷ codes "--script" ∷ [])
+        ≡ Some (generate_script seed count) }
+    ensures topology { (program : List ℕ) (seed count : ℕ) → seed < 2 ^ 32 → 1 ≤ count → count ≤ 100000
+        → asked (program ∷ codes "generate" ∷ decimal seed ∷ decimal count ∷ codes "--topology" ∷ [])
+        ≡ Some (generate_topology seed count) }
 {}
 
-/// Words that ask for generated events ask for 1 to 100,000 rounds.
+/// Words that ask for generated events, for their script or for their topology name 1 to 100,000 rounds.
 pub fn few_rounds()
-    ensures { (words : List (List ℕ)) (seed count : ℕ) → asked words ≡ Some (generate seed count)
+    ensures totals { (words : List (List ℕ)) (seed count : ℕ) → asked words ≡ Some (generate seed count)
         → (1 ≤ count) × (count ≤ 100000) }
+    ensures script { (words : List (List ℕ)) (seed count : ℕ) → asked words ≡ Some (generate_script seed count)
+        → (1 ≤ count) × (count ≤ 100000) }
+    ensures topology { (words : List (List ℕ)) (seed count : ℕ) → asked words ≡ Some (generate_topology seed count)
+        → (1 ≤ count) × (count ≤ 100000) }
+{}
+
+/// The script and the topology of generated events are not asked for at once.
+pub fn both_flags_are_refused()
+    ensures { (program a b : List ℕ) → IsName a → IsName b
+        → asked (program ∷ codes "generate" ∷ a ∷ b ∷ codes "--script" ∷ codes "--topology" ∷ []) ≡ None }
 {}
 
 /// No words at all, not even the program's name, ask for nothing.

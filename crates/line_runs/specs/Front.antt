@@ -29,6 +29,10 @@ ReadCause before now told name (Err e) = StopCause before now told name e
 abbrev pub Gave : ℕ → ℕ → ℕ → Type 0
 Gave before n now = (counted before n ≤ now) × (now ≤ before + n)
 
+-- no more than so many bytes were given
+abbrev pub GaveAtMost : ℕ → ℕ → ℕ → Type 0
+GaveAtMost before most now = (n : ℕ) × (n ≤ most) × Gave before n now
+
 -- no read asked for more than 4,096 bytes
 abbrev pub AskedPieces : ℕ → ℕ → Type 0
 AskedPieces before now = now ≤ max before 4096

@@ -5,6 +5,8 @@
 pub enum End {
     /// All input was read, and all lines were written.
     Done,
+    /// A text is not the one that is due.
+    Differs,
     /// The words ask for nothing.
     Usage,
     /// The topology is no plan.

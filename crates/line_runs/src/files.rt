@@ -1,16 +1,15 @@
 //! A file of lines, from its name to what is written for it: it is read in pieces, each piece is cut at its line feeds,
 //! and the text of the lines is gathered before it is written.
 ghost use Rattle.std.specs.Prelude.{◌≡◌, ◌≢◌, ◌≤◌, ◌<◌, ◌+◌, ◌++◌, ◌^◌, ℕ, [], List, Ok, IsErr, IfOk, IfErr, IfSome};
-ghost use Rattle.std.specs.Prelude.{◌∷◌, MatchOption, OnOk, None, length, nat_lt, option_map, take, vec_capacity};
+ghost use Rattle.std.specs.Prelude.{OnOk, None, length, nat_lt, option_map, take, vec_capacity};
 ghost use Rattle.std.specs.Prelude.{vec_len};
 ghost use Rattle.ide_base.specs.Outside.{AsksFor, Given, ShelfCause, given_by};
 ghost use Rattle.link_events.specs.Words.{line_limit};
-ghost use Rattle.line_runs.specs.Front.{AskedPieces, Gave, IsReadOf, ReadsOn, bytes_of};
+ghost use Rattle.line_runs.specs.Front.{AskedPieces, Gave, GaveAtMost, IsReadOf, ReadsOn, bytes_of};
 ghost use Rattle.line_runs.specs.Gathering.{CutIn, Gathers, GoesOn, NoFurther, PieceRan, ReadAsFar, WroteEnded};
 ghost use Rattle.line_runs.specs.Gathering.{due_behind, ended_text, limit_due};
 ghost use Rattle.line_runs.specs.Lines.{Came, file_due, file_limit};
 ghost use Rattle.line_runs.specs.Outcome.{Ran, RanOn, Wrote};
-ghost use Rattle.line_runs.specs.Pieces.{pieces};
 
 use crate::front::PIECE;
 use crate::lines::{LineWork, refuse, refuse_in, run_last};
@@ -18,8 +17,7 @@ use crate::writing::write;
 use crate::{End, FILE_LIMIT, Fault};
 use ide_base::{Shelf, ShelfFault, Sink};
 use ide_types::{Bytes, Memory};
-use link_events::{LINE_LIMIT, LineError, LineFault};
-use memchr::memchr;
+use link_events::{LINE_LIMIT, LineError, LineFault, split_at_byte};
 use std::alloc::Global;
 
 // ---- the file
@@ -55,6 +53,7 @@ fn read_piece<S: Shelf>(
 // Ends at the first byte that counts no more.
 fn run_limit<O: Sink>(alloc: Global, lines: &Lines, byte: u8, out: &mut O) -> Result<End, Fault>
     ensures end { IfOk result (λ e. e ≢ End.Usage) }
+    ensures unjudged { IfOk result (λ e. e ≢ End.Differs) }
     ensures cut { IfOk result (λ e. e ≢ End.Done) }
     ensures ran { Ran (limit_due lines.now.number lines.now.unended.items byte) (O.seen out.old) (O.seen out.new)
         result }
@@ -78,6 +77,8 @@ pub fn run_file<S: Shelf, O: Sink, W: LineWork>(
 ) -> Result<End, Fault>
     requires { W.fits work.old 1 }
     ensures end { IfOk result (λ e. e ≢ End.Usage) }
+    ensures unjudged { IfOk result (λ e. e ≢ End.Differs) }
+    ensures same { (S.seen shelf.new).contents ≡ (S.seen shelf.old).contents }
     ensures answers { (past : W.Past) → W.follows work.old past → RanOn (λ contents. option_map
         (file_due W.advance W.closing past) (contents name.now)) (S.seen shelf.old) (S.seen shelf.new)
         (O.seen out.old) (O.seen out.new) result }
@@ -92,6 +93,8 @@ pub fn run_file<S: Shelf, O: Sink, W: LineWork>(
     ensures too_long { IfOk result (λ e. e ≡ End.TooLong → Gave (S.seen shelf.old).given (file_limit + 1)
         (S.seen shelf.new).given) }
     ensures whole { IfOk result (λ e. e ≡ End.Done → (S.seen shelf.new).given ≤ (S.seen shelf.old).given + file_limit) }
+    ensures gave { IfOk result (λ e. e ≡ End.Done → GaveAtMost (S.seen shelf.old).given file_limit
+        (S.seen shelf.new).given) }
 {
     let Ok(mut lines) = Lines::make(alloc) else {
         return Err(Fault::Memory);
@@ -118,23 +121,6 @@ pub fn run_file<S: Shelf, O: Sink, W: LineWork>(
 }
 
 // ---- the lines that end in a piece
-
-// The bytes before the first line feed and those after it; `None` if there is no line feed (this profile).
-#[tactic(auto, using(crate::proofs::Cuts::line_at, crate::proofs::Cuts::no_line, crate::proofs::Cuts::within))]
-fn split_line(bytes: &[u8]) -> Option<(&[u8], &[u8])>
-    ensures pieces { MatchOption result (pieces bytes.now ≡ bytes.now ∷ []) (λ p. pieces bytes.now ≡ p.0.now
-        ∷ pieces p.1.now) }
-    ensures shorter { IfSome result (λ p. length p.0.now + 1 + length p.1.now ≡ length bytes.now) }
-{
-    match memchr(b'\n', bytes) {
-        Some(end) => {
-            let (line, _) = bytes.split_at(end);
-            let (_, rest) = bytes.split_at(end + 1);
-            Some((line, rest))
-        }
-        None => None,
-    }
-}
 
 // The lines of a file that is read in pieces: the number of the next one, and the bytes of it that came in earlier
 // pieces, at most 20,000. Room for them is reserved once.
@@ -219,7 +205,7 @@ fn run_piece<O: Sink, W: LineWork>(
     ensures empty { IfOk result (λ o. o ≡ None → gathered.new.items ≡ []) }
 {
     let mut rest = piece;
-    while let Some((end, after)) = split_line(rest) {
+    while let Some((end, after)) = split_at_byte(b'\n', rest) {
         let number = lines.number;
         match lines.run_line(work, end) {
             Err(LineError::Memory) => return Err(end_for_memory(gathered.as_slice(), out)),

@@ -115,6 +115,7 @@ pub(crate) fn run_last<O: Sink, W: LineWork>(
     requires number { number < 2 ^ 26 }
     requires fits { W.fits work.old number }
     ensures end { IfOk result (λ e. e ≢ End.Usage) }
+    ensures unjudged { IfOk result (λ e. e ≢ End.Differs) }
     ensures short { IfOk result (λ e. e ≢ End.TooLong) }
     ensures ran { (past : W.Past) → W.follows work.old past → Ran (process W.advance W.closing false number past
         (piece.now ∷ [])) (O.seen out.old) (O.seen out.new) result }

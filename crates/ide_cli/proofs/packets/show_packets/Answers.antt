@@ -1,6 +1,6 @@
 use Rattle.line_runs.specs.Gathering.{ended_text}
-use Rattle.ide_cli.specs.Works.{no_text, shown_line}
-use Rattle.ide_cli.proofs.Loads.{ended_by}
+use Rattle.ide_cli.specs.Packets.{no_text, shown_line}
+use Rattle.ide_runs.proofs.Loads.{ended_by}
 use Rattle.ide_cli.proofs.packets.show_packets.Goals as goal
 
 pub returns-clause-answers : goal.returns-clause-answers

@@ -3,12 +3,13 @@ use Rattle.std.specs.Prelude.{string_bytes}
 use Rattle.line_runs.specs.declared.ends.End.TheVariants as end
 use Rattle.line_runs.specs.declared.ends.Fault.TheVariants as fault
 use Rattle.line_runs.specs.Outcome.{Due}
-use Rattle.ide_words.specs.Words.{check, migrate, run, show}
-use Rattle.ide_cli.specs.Generated.{generated_due}
+use Rattle.ide_runs.specs.Generated.{generated_due}
+use Rattle.ide_cli.specs.Meaning.{script_text_due, topology_text_due}
 use Rattle.ide_cli.specs.Seen.{CallSeen, call_seen}
-use Rattle.ide_cli.proofs.Requests.{answered_check, answered_generate, answered_run, answered_show}
-use Rattle.ide_cli.proofs.Requests.{answered_without_memory, asks_for, asks_for_none, asks_nothing}
-use Rattle.ide_cli.proofs.Requests.{asks_other, asks_these, ran_without_memory}
+use Rattle.ide_cli.proofs.Requests.{alone_without_memory, answered_alone, answered_check, answered_judge}
+use Rattle.ide_cli.proofs.Requests.{answered_migrate, answered_run, answered_show, answered_without_memory}
+use Rattle.ide_cli.proofs.Requests.{asks_alone, asks_for, asks_nothing, asks_to_judge, ends_as, judges_nothing}
+use Rattle.ide_cli.proofs.Requests.{ran_without_memory, said}
 use Rattle.line_runs.proofs.Names.{asks_none}
 use Rattle.ide_cli.specs.Reads.{Names}
 use Rattle.ide_words.specs.Words.{asked}
@@ -30,6 +31,10 @@ abbrev seen_run : (g : Over) → goal.After-run_files g → CallSeen
 seen_run g c = call_seen g.S.Shelf.seen g.O.Sink.seen c.args.words.now c.args.shelf.now c.run_files.new.shelf
     c.args.out.now c.run_files.new.out c.run_files.result
 
+abbrev seen_judge : (g : Over) → goal.After-judge g → CallSeen
+seen_judge g c = call_seen g.S.Shelf.seen g.O.Sink.seen c.args.words.now c.args.shelf.now c.judge.new.shelf
+    c.args.out.now c.judge.new.out c.judge.result
+
 abbrev seen_check : (g : Over) → goal.After-check_topology g → CallSeen
 seen_check g c = call_seen g.S.Shelf.seen g.O.Sink.seen c.args.words.now c.args.shelf.now c.check_topology.new.shelf
     c.args.out.now c.check_topology.new.out c.check_topology.result
@@ -46,6 +51,14 @@ abbrev seen_generate : (g : Over) → goal.After-generate g → CallSeen
 seen_generate g c = call_seen g.S.Shelf.seen g.O.Sink.seen c.args.words.now c.args.shelf.now c.args.shelf.now
     c.args.out.now c.generate.new.out c.generate.result
 
+abbrev seen_script : (g : Over) → goal.After-generate_script g → CallSeen
+seen_script g c = call_seen g.S.Shelf.seen g.O.Sink.seen c.args.words.now c.args.shelf.now c.args.shelf.now
+    c.args.out.now c.generate_script.new.out c.generate_script.result
+
+abbrev seen_topology : (g : Over) → goal.After-generate_topology g → CallSeen
+seen_topology g c = call_seen g.S.Shelf.seen g.O.Sink.seen c.args.words.now c.args.shelf.now c.args.shelf.now
+    c.args.out.now c.generate_topology.new.out c.generate_topology.result
+
 pub returns-in-Err-Usage-clause-answers : goal.returns-in-Err-Usage-clause-answers
 returns-in-Err-Usage-clause-answers g c =
     asks_nothing (rw c.in-Err-Usage.field-0-is at c.in-Err-Usage.ensures.err) c.finish.ensures.ran
@@ -58,6 +71,11 @@ returns-in-Ok-Run-clause-answers g c =
     asks_for (rw c.in-Ok-Run.field-0-is at c.in-Ok-Run.ensures.ok)
     (answered_run _ _ _ _ _ _ _ c.run_files.ensures.answers)
 
+pub returns-in-Ok-Judge-clause-answers : goal.returns-in-Ok-Judge-clause-answers
+returns-in-Ok-Judge-clause-answers g c =
+    asks_for (rw c.in-Ok-Judge.field-0-is at c.in-Ok-Judge.ensures.ok)
+    (answered_judge _ _ _ _ _ _ _ _ c.judge.ensures.answers)
+
 pub returns-in-Ok-Check-clause-answers : goal.returns-in-Ok-Check-clause-answers
 returns-in-Ok-Check-clause-answers g c =
     asks_for (rw c.in-Ok-Check.field-0-is at c.in-Ok-Check.ensures.ok)
@@ -65,7 +83,8 @@ returns-in-Ok-Check-clause-answers g c =
 
 pub returns-in-Ok-Migrate-clause-answers : goal.returns-in-Ok-Migrate-clause-answers
 returns-in-Ok-Migrate-clause-answers g c =
-    asks_for (rw c.in-Ok-Migrate.field-0-is at c.in-Ok-Migrate.ensures.ok) c.migrate_topology.ensures.answers
+    asks_for (rw c.in-Ok-Migrate.field-0-is at c.in-Ok-Migrate.ensures.ok)
+    (answered_migrate _ _ _ _ _ _ c.migrate_topology.ensures.answers)
 
 pub returns-in-Ok-Show-clause-answers : goal.returns-in-Ok-Show-clause-answers
 returns-in-Ok-Show-clause-answers g c =
@@ -75,7 +94,19 @@ returns-in-Ok-Show-clause-answers g c =
 pub returns-in-Ok-Generate-clause-answers : goal.returns-in-Ok-Generate-clause-answers
 returns-in-Ok-Generate-clause-answers g c =
     asks_for (rw c.in-Ok-Generate.field-0-is at c.in-Ok-Generate.ensures.ok)
-    (answered_generate _ _ _ _ _ _ c.generate.ensures.ran)
+    (answered_alone _ (generated_due c.in-Ok-Generate.seed c.in-Ok-Generate.count) _ _ _ _
+    ((λ contents. refl), (λ told r. tt)) c.generate.ensures.ran)
+
+pub returns-in-Ok-GenerateScript-clause-answers : goal.returns-in-Ok-GenerateScript-clause-answers
+returns-in-Ok-GenerateScript-clause-answers g c =
+    asks_for (rw c.in-Ok-GenerateScript.field-0-is at c.in-Ok-GenerateScript.ensures.ok)
+    (answered_alone _ (script_text_due c.in-Ok-GenerateScript.seed c.in-Ok-GenerateScript.count) _ _ _ _
+    ((λ contents. refl), (λ told r. tt)) c.generate_script.ensures.ran)
+
+pub returns-in-Ok-GenerateTopology-clause-answers : goal.returns-in-Ok-GenerateTopology-clause-answers
+returns-in-Ok-GenerateTopology-clause-answers g c =
+    asks_for (rw c.in-Ok-GenerateTopology.field-0-is at c.in-Ok-GenerateTopology.ensures.ok)
+    (answered_alone _ topology_text_due _ _ _ _ ((λ contents. refl), (λ told r. tt)) c.generate_topology.ensures.ran)
 
 pub returns-in-Err-Usage-clause-so_far : goal.returns-in-Err-Usage-clause-so_far
 returns-in-Err-Usage-clause-so_far g c = wrote_no_line (seen_usage g c) _ refl c.finish.ensures.ran
@@ -88,6 +119,10 @@ returns-in-Err-Memory-clause-so_far g c =
 pub returns-in-Ok-Run-clause-so_far : goal.returns-in-Ok-Run-clause-so_far
 returns-in-Ok-Run-clause-so_far g c =
     asked_wrote (seen_run g c) _ (rw c.in-Ok-Run.field-0-is at c.in-Ok-Run.ensures.ok) c.run_files.ensures.so_far
+
+pub returns-in-Ok-Judge-clause-so_far : goal.returns-in-Ok-Judge-clause-so_far
+returns-in-Ok-Judge-clause-so_far g c =
+    asked_wrote (seen_judge g c) _ (rw c.in-Ok-Judge.field-0-is at c.in-Ok-Judge.ensures.ok) c.judge.ensures.so_far
 
 pub returns-in-Ok-Check-clause-so_far : goal.returns-in-Ok-Check-clause-so_far
 returns-in-Ok-Check-clause-so_far g c =
@@ -106,6 +141,14 @@ returns-in-Ok-Show-clause-so_far g c =
 pub returns-in-Ok-Generate-clause-so_far : goal.returns-in-Ok-Generate-clause-so_far
 returns-in-Ok-Generate-clause-so_far g c = wrote_no_line (seen_generate g c) _ refl c.generate.ensures.ran
 
+pub returns-in-Ok-GenerateScript-clause-so_far : goal.returns-in-Ok-GenerateScript-clause-so_far
+returns-in-Ok-GenerateScript-clause-so_far g c =
+    wrote_no_line (seen_script g c) _ refl c.generate_script.ensures.ran
+
+pub returns-in-Ok-GenerateTopology-clause-so_far : goal.returns-in-Ok-GenerateTopology-clause-so_far
+returns-in-Ok-GenerateTopology-clause-so_far g c =
+    wrote_no_line (seen_topology g c) _ refl c.generate_topology.ensures.ran
+
 pub returns-in-Err-Usage-clause-no_further : goal.returns-in-Err-Usage-clause-no_further
 returns-in-Err-Usage-clause-no_further g c =
     nothing_read (seen_usage g c) _ (rw c.in-Err-Usage.field-0-is at c.in-Err-Usage.ensures.err) refl (λ contents
@@ -114,6 +157,10 @@ returns-in-Err-Usage-clause-no_further g c =
 pub returns-in-Ok-Run-clause-no_further : goal.returns-in-Ok-Run-clause-no_further
 returns-in-Ok-Run-clause-no_further g c =
     asked_far (seen_run g c) _ (rw c.in-Ok-Run.field-0-is at c.in-Ok-Run.ensures.ok) c.run_files.ensures.no_further
+
+pub returns-in-Ok-Judge-clause-no_further : goal.returns-in-Ok-Judge-clause-no_further
+returns-in-Ok-Judge-clause-no_further g c =
+    asked_far (seen_judge g c) _ (rw c.in-Ok-Judge.field-0-is at c.in-Ok-Judge.ensures.ok) c.judge.ensures.no_further
 
 pub returns-in-Ok-Check-clause-no_further : goal.returns-in-Ok-Check-clause-no_further
 returns-in-Ok-Check-clause-no_further g c =
@@ -135,35 +182,104 @@ returns-in-Ok-Generate-clause-no_further g c =
     nothing_read (seen_generate g c) _ (rw c.in-Ok-Generate.field-0-is at c.in-Ok-Generate.ensures.ok) refl (λ
     contents ahead. refl)
 
+pub returns-in-Ok-GenerateScript-clause-no_further : goal.returns-in-Ok-GenerateScript-clause-no_further
+returns-in-Ok-GenerateScript-clause-no_further g c =
+    nothing_read (seen_script g c) _ (rw c.in-Ok-GenerateScript.field-0-is at c.in-Ok-GenerateScript.ensures.ok) refl
+    (λ contents
+    ahead. refl)
+
+pub returns-in-Ok-GenerateTopology-clause-no_further : goal.returns-in-Ok-GenerateTopology-clause-no_further
+returns-in-Ok-GenerateTopology-clause-no_further g c =
+    nothing_read (seen_topology g c) _ (rw c.in-Ok-GenerateTopology.field-0-is at c.in-Ok-GenerateTopology.ensures.ok)
+    refl (λ contents
+    ahead. refl)
+
 pub returns-in-Err-Usage-clause-generated : goal.returns-in-Err-Usage-clause-generated
 returns-in-Err-Usage-clause-generated g c =
-    asks_for_none (seen_usage g c) (rw c.in-Err-Usage.field-0-is at c.in-Err-Usage.ensures.err)
+    asks_alone (seen_usage g c) _ (rw c.in-Err-Usage.field-0-is at c.in-Err-Usage.ensures.err) tt
 
 pub returns-in-Err-Memory-clause-generated : goal.returns-in-Err-Memory-clause-generated
-returns-in-Err-Memory-clause-generated g c seed count asks =
-    ran_without_memory (generated_due seed count) (g.O.Sink.seen c.args.out.now)
+returns-in-Err-Memory-clause-generated g c =
+    alone_without_memory (asked (map string_bytes c.args.words.now)) (g.O.Sink.seen c.args.out.now)
 
 pub returns-in-Ok-Run-clause-generated : goal.returns-in-Ok-Run-clause-generated
 returns-in-Ok-Run-clause-generated g c =
-    asks_other (seen_run g c) (run _ _) (rw c.in-Ok-Run.field-0-is at c.in-Ok-Run.ensures.ok) (λ seed count e. cc)
+    asks_alone (seen_run g c) _ (rw c.in-Ok-Run.field-0-is at c.in-Ok-Run.ensures.ok) tt
+
+pub returns-in-Ok-Judge-clause-generated : goal.returns-in-Ok-Judge-clause-generated
+returns-in-Ok-Judge-clause-generated g c =
+    asks_alone (seen_judge g c) _ (rw c.in-Ok-Judge.field-0-is at c.in-Ok-Judge.ensures.ok) tt
 
 pub returns-in-Ok-Check-clause-generated : goal.returns-in-Ok-Check-clause-generated
 returns-in-Ok-Check-clause-generated g c =
-    asks_other (seen_check g c) (check _) (rw c.in-Ok-Check.field-0-is at c.in-Ok-Check.ensures.ok) (λ seed count e. cc)
+    asks_alone (seen_check g c) _ (rw c.in-Ok-Check.field-0-is at c.in-Ok-Check.ensures.ok) tt
 
 pub returns-in-Ok-Migrate-clause-generated : goal.returns-in-Ok-Migrate-clause-generated
 returns-in-Ok-Migrate-clause-generated g c =
-    asks_other (seen_migrate g c) (migrate _) (rw c.in-Ok-Migrate.field-0-is at c.in-Ok-Migrate.ensures.ok) (λ seed
-    count e. cc)
+    asks_alone (seen_migrate g c) _ (rw c.in-Ok-Migrate.field-0-is at c.in-Ok-Migrate.ensures.ok) tt
 
 pub returns-in-Ok-Show-clause-generated : goal.returns-in-Ok-Show-clause-generated
 returns-in-Ok-Show-clause-generated g c =
-    asks_other (seen_show g c) (show _) (rw c.in-Ok-Show.field-0-is at c.in-Ok-Show.ensures.ok) (λ seed count e. cc)
+    asks_alone (seen_show g c) _ (rw c.in-Ok-Show.field-0-is at c.in-Ok-Show.ensures.ok) tt
 
 pub returns-in-Ok-Generate-clause-generated : goal.returns-in-Ok-Generate-clause-generated
 returns-in-Ok-Generate-clause-generated g c =
-    asks_these (seen_generate g c) _ _ (rw c.in-Ok-Generate.field-0-is at c.in-Ok-Generate.ensures.ok)
+    asks_alone (seen_generate g c) _ (rw c.in-Ok-Generate.field-0-is at c.in-Ok-Generate.ensures.ok)
     c.generate.ensures.ran
+
+pub returns-in-Ok-GenerateScript-clause-generated : goal.returns-in-Ok-GenerateScript-clause-generated
+returns-in-Ok-GenerateScript-clause-generated g c =
+    asks_alone (seen_script g c) _ (rw c.in-Ok-GenerateScript.field-0-is at c.in-Ok-GenerateScript.ensures.ok)
+    c.generate_script.ensures.ran
+
+pub returns-in-Ok-GenerateTopology-clause-generated : goal.returns-in-Ok-GenerateTopology-clause-generated
+returns-in-Ok-GenerateTopology-clause-generated g c =
+    asks_alone (seen_topology g c) _ (rw c.in-Ok-GenerateTopology.field-0-is at c.in-Ok-GenerateTopology.ensures.ok)
+    c.generate_topology.ensures.ran
+
+pub returns-in-Err-Usage-clause-other : goal.returns-in-Err-Usage-clause-other
+returns-in-Err-Usage-clause-other g c = judges_nothing (asked (map string_bytes c.args.words.now)) c.finish.result _ _
+    (ends_as c.finish.result end.Usage c.finish.ensures.end (λ is. cc))
+
+pub returns-in-Ok-Run-clause-other : goal.returns-in-Ok-Run-clause-other
+returns-in-Ok-Run-clause-other g c = judges_nothing (asked (map string_bytes c.args.words.now)) c.run_files.result _ _
+    c.run_files.ensures.unjudged
+
+pub returns-in-Ok-Judge-clause-other : goal.returns-in-Ok-Judge-clause-other
+returns-in-Ok-Judge-clause-other g c =
+    asks_to_judge (asked (map string_bytes c.args.words.now)) _ c.judge.result _ _
+    (rw c.in-Ok-Judge.field-0-is at c.in-Ok-Judge.ensures.ok)
+    (said c.judge.result _ c.judge.ensures.other)
+
+pub returns-in-Ok-Check-clause-other : goal.returns-in-Ok-Check-clause-other
+returns-in-Ok-Check-clause-other g c = judges_nothing (asked (map string_bytes c.args.words.now))
+    c.check_topology.result _ _
+    c.check_topology.ensures.unjudged
+
+pub returns-in-Ok-Migrate-clause-other : goal.returns-in-Ok-Migrate-clause-other
+returns-in-Ok-Migrate-clause-other g c = judges_nothing (asked (map string_bytes c.args.words.now))
+    c.migrate_topology.result _ _
+    c.migrate_topology.ensures.unjudged
+
+pub returns-in-Ok-Show-clause-other : goal.returns-in-Ok-Show-clause-other
+returns-in-Ok-Show-clause-other g c = judges_nothing (asked (map string_bytes c.args.words.now)) c.show_packets.result _
+    _
+    c.show_packets.ensures.unjudged
+
+pub returns-in-Ok-Generate-clause-other : goal.returns-in-Ok-Generate-clause-other
+returns-in-Ok-Generate-clause-other g c = judges_nothing (asked (map string_bytes c.args.words.now)) c.generate.result _
+    _
+    (ends_as c.generate.result end.Done c.generate.ensures.end (λ is. cc))
+
+pub returns-in-Ok-GenerateScript-clause-other : goal.returns-in-Ok-GenerateScript-clause-other
+returns-in-Ok-GenerateScript-clause-other g c = judges_nothing (asked (map string_bytes c.args.words.now))
+    c.generate_script.result _ _
+    (ends_as c.generate_script.result end.Done c.generate_script.ensures.end (λ is. cc))
+
+pub returns-in-Ok-GenerateTopology-clause-other : goal.returns-in-Ok-GenerateTopology-clause-other
+returns-in-Ok-GenerateTopology-clause-other g c = judges_nothing (asked (map string_bytes c.args.words.now))
+    c.generate_topology.result _ _
+    (ends_as c.generate_topology.result end.Done c.generate_topology.ensures.end (λ is. cc))
 
 pub returns-in-Err-Usage-clause-names : goal.returns-in-Err-Usage-clause-names
 returns-in-Err-Usage-clause-names g c =
@@ -176,6 +292,19 @@ returns-in-Err-Memory-clause-names g c =
 pub returns-in-Ok-Generate-clause-names : goal.returns-in-Ok-Generate-clause-names
 returns-in-Ok-Generate-clause-names g c =
     asks_none (Names (asked (map string_bytes c.args.words.now))) (g.S.Shelf.seen c.args.shelf.now).asked
+
+pub returns-in-Ok-GenerateScript-clause-names : goal.returns-in-Ok-GenerateScript-clause-names
+returns-in-Ok-GenerateScript-clause-names g c =
+    asks_none (Names (asked (map string_bytes c.args.words.now))) (g.S.Shelf.seen c.args.shelf.now).asked
+
+pub returns-in-Ok-GenerateTopology-clause-names : goal.returns-in-Ok-GenerateTopology-clause-names
+returns-in-Ok-GenerateTopology-clause-names g c =
+    asks_none (Names (asked (map string_bytes c.args.words.now))) (g.S.Shelf.seen c.args.shelf.now).asked
+
+pub returns-in-Ok-Judge-clause-names : goal.returns-in-Ok-Judge-clause-names
+returns-in-Ok-Judge-clause-names g c =
+    asked_names (asked (map string_bytes c.args.words.now)) _ _ _
+    (rw c.in-Ok-Judge.field-0-is at c.in-Ok-Judge.ensures.ok) c.judge.ensures.names
 
 pub returns-in-Ok-Run-clause-names : goal.returns-in-Ok-Run-clause-names
 returns-in-Ok-Run-clause-names g c =

@@ -4,6 +4,8 @@ use Rattle.ide_cli.specs.declared.status.Status.TheVariants as status
 use Rattle.ide_cli.specs.Headline.{InEvery}
 use Rattle.ide_cli.specs.Laws.{IsDue, Laws}
 use Rattle.ide_cli.specs.Seen.{CallSeen, run_seen}
+use Rattle.ide_cli.proofs.GeneratedRuns.{runs_generated}
+use Rattle.ide_cli.proofs.Judging.{all_judged, is_judged}
 use Rattle.ide_cli.proofs.Requests.{ended}
 use Rattle.ide_cli.proofs.Written.{all_counted, all_written, history_is_due}
 use Rattle.ide_cli.proofs.top.run.Given.{Over}
@@ -18,6 +20,9 @@ returns-clause-answers g c = rw c.status_of.ensures (rw c.as_slice-words.ensures
 
 pub returns-clause-generated : goal.returns-clause-generated
 returns-clause-generated g c = rw c.status_of.ensures (rw c.as_slice-words.ensures.value at c.perform.ensures.generated)
+
+pub returns-clause-runs_generated : goal.returns-clause-runs_generated
+returns-clause-runs_generated g c = runs_generated (call g c) (returns-clause-answers g c)
 
 pub returns-clause-so_far : goal.returns-clause-so_far
 returns-clause-so_far g c = rw c.status_of.ensures (rw c.as_slice-words.ensures.value at c.perform.ensures.so_far)
@@ -43,6 +48,16 @@ returns-clause-all_written g c = all_written c.lines_tell.ensures.told (call g c
 
 pub returns-clause-all_counted : goal.returns-clause-all_counted
 returns-clause-all_counted g c = all_counted (call g c) (returns-clause-generated g c)
+
+pub returns-clause-other : goal.returns-clause-other
+returns-clause-other g c = λ same. ended end.Differs _ status.Differs c.perform.result _ refl c.status_of.ensures
+    (rw c.as_slice-words.ensures.value at c.perform.ensures.other) same
+
+pub returns-clause-judged : goal.returns-clause-judged
+returns-clause-judged g c = is_judged (call g c) (returns-clause-answers g c)
+
+pub returns-clause-all_judged : goal.returns-clause-all_judged
+returns-clause-all_judged g c = all_judged (call g c)
 
 pub returns-clause-names : goal.returns-clause-names
 returns-clause-names g c = rw c.as_slice-words.ensures.value at c.perform.ensures.names

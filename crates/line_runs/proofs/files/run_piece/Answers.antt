@@ -21,7 +21,7 @@ returns-in-Err-Fault-clause-ran g c = λ past was.
     (λ over left. line_refused g.W.LineWork.advance g.W.LineWork.closing over c.loop-end.lines.number inv.past
     c.loop-end.lines.unended.items c.loop-end.rest.now c.in-Some.end.now c.in-Some.after.now left
     c.in-Err-Fault.fault
-    c.in-Some.ensures.pieces came) last
+    c.in-Some.ensures.parts came) last
 
 pub returns-in_err-gather-in-Ok-clause-ran : goal.returns-in_err-gather-in-Ok-clause-ran
 returns-in_err-gather-in-Ok-clause-ran g c =
@@ -36,7 +36,7 @@ returns-in_err-gather-in-Ok-clause-ran g c =
     (g.O.Sink.seen c.loop-end.out) _ c.in_err-gather-in-Ok.field-0.0 over left inv.so_far
     (line_came g.W.LineWork.advance g.W.LineWork.closing over c.loop-end.lines.number inv.past _
     c.loop-end.lines.unended.items c.loop-end.rest.now c.in-Some.end.now c.in-Some.after.now left c.in-Ok.text
-    c.in-Some.ensures.pieces came.1) cut)
+    c.in-Some.ensures.parts came.1) cut)
 
 pub loop-end-preserved : goal.loop-end-preserved
 loop-end-preserved g c =
@@ -55,7 +55,7 @@ loop-end-preserved g c =
                 c.run_line.new.self.number inv.past came.0 c.loop-end.lines.unended.items
                 c.run_line.new.self.unended.items
                 c.loop-end.rest.now c.in-Some.end.now
-                c.in-Some.after.now left c.in-Ok.text c.in-Some.ensures.pieces came.1 c.in-Ok.ensures.number
+                c.in-Some.after.now left c.in-Ok.text c.in-Some.ensures.parts came.1 c.in-Ok.ensures.number
                 c.in-Ok.ensures.unended) whole more;
           };
       numbered = omega (arith, c.loop-end.invariant.numbered, c.in-Some.ensures.shorter, c.in-Ok.ensures.number);
@@ -70,7 +70,7 @@ returns-then-is_long-clause-ran g c = λ past was.
     inv.so_far
     (λ over left. long_rest g.W.LineWork.advance g.W.LineWork.closing over c.loop-end.lines.number inv.past
     c.loop-end.lines.unended.items c.loop-end.rest.now left g.met.W.LineWork.long_lines
-    (sym c.is_long.ensures ∙ c.if-is_long.true) c.in_default.ensures.pieces) last
+    (sym c.is_long.ensures ∙ c.if-is_long.true) c.in_default.ensures.parts) last
 
 pub returns-in_err-flush-clause-ran : goal.returns-in_err-flush-clause-ran
 returns-in_err-flush-clause-ran g c =
@@ -92,6 +92,6 @@ returns-clause-ran g c =
           (λ over left. rest_kept_in g.W.LineWork.advance g.W.LineWork.closing over c.loop-end.lines.number
           c.keep.new.self.number inv.past c.loop-end.lines.unended.items c.keep.new.self.unended.items
           c.loop-end.rest.now left
-          c.in_default.ensures.pieces c.keep.ensures.number
+          c.in_default.ensures.parts c.keep.ensures.number
           c.keep.ensures.unended) (inl refl) (put c.loop-end.gathered.items _ _ wrote.0 wrote.1);
     }

@@ -1,7 +1,7 @@
 use Rattle.std.proofs.Common.{Option, Ok, sym, ap, subst}
 use Rattle.link_events.specs.declared.script.ScriptEvent.{ScriptEvent}
 use Rattle.line_runs.specs.Gain.{Text}
-use Rattle.ide_cli.specs.Works.{ScriptPast, by_meaning, ran_script_event}
+use Rattle.ide_runs.specs.Works.{ScriptPast, by_meaning, ran_script_event}
 use Rattle.ide_session.specs.Sessions.{Gave}
 use Rattle.ide_session.proofs.session.Live.run.Goals as goal
 

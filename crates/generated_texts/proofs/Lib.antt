@@ -1,0 +1,11 @@
+pub mod Words
+pub mod Parts
+pub mod Forms
+pub mod Events
+pub mod Keys
+pub mod Strings
+pub mod Table
+pub mod Printed
+pub mod Read
+pub mod Whole
+pub mod Joined

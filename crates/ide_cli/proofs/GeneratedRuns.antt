@@ -1,0 +1,123 @@
+-- The script of generated events runs on their topology as these events.
+use Rattle.std.proofs.Common.{
+  ◌≡◌,
+  refl,
+  sym,
+  ap,
+  ap₂,
+  ◌∙◌,
+  subst,
+  ℕ,
+  ◌+◌,
+  ◌≤◌,
+  ◌==◌,
+  nat_lt,
+  Bool,
+  true,
+  false,
+  List,
+  [],
+}
+use Rattle.std.proofs.Common.{◌∷◌, ◌++◌, length, map, take, Option, Some, None, Result, Ok, cond, arith}
+use Rattle.std.specs.List.{slice_index_or}
+use Rattle.std.proofs.lemmas.Bool.Decides.{nat_tests}
+use Rattle.std.proofs.lemmas.List.{take_all}
+use Rattle.std.proofs.lemmas.Option.{same_Some}
+use Rattle.ide_base.specs.Outside.{Contents}
+use Rattle.ide_words.specs.Words.{Asked, asked}
+use Rattle.generated_events.specs.Events.{generated}
+use Rattle.generated_events.specs.Topology.{the_plan}
+use Rattle.generated_texts.specs.Laws.{Spells}
+use Rattle.generated_texts.specs.Script.{generated_script}
+use Rattle.generated_texts.specs.Topology.{generated_topology}
+use Rattle.generated_texts.proofs.Events.{script_short, script_spells}
+use Rattle.generated_texts.proofs.Whole.{topology_read, topology_short}
+use Rattle.link_events.specs.declared.event.Event.{Event}
+use Rattle.link_events.specs.declared.script.ScriptEvent.{ScriptEvent}
+use Rattle.link_events.specs.Parse.{line_meaning}
+use Rattle.line_runs.specs.declared.ends.End.{End}
+use Rattle.line_runs.specs.declared.ends.Fault.{Fault}
+use Rattle.line_runs.specs.Gain.{Text}
+use Rattle.line_runs.specs.Lines.{cut_text, is_over}
+use Rattle.line_runs.specs.Outcome.{Due, EndsDue, EndsOn}
+use Rattle.line_runs.specs.Pieces.{pieces}
+use Rattle.ide_runs.specs.declared.topologies.Loaded.TheVariants.{Sound}
+use Rattle.ide_runs.specs.Script.{AtEnd, Script, run_due, script_in, script_of, with_line}
+use Rattle.ide_runs.specs.Topologies.{loaded}
+use Rattle.ide_cli.specs.GeneratedRuns.{RunsGenerated, generated_run_due}
+use Rattle.ide_cli.specs.Meaning.{Answered, command_due}
+use Rattle.ide_cli.specs.Seen.{CallSeen}
+
+-- ---- the script
+
+abbrev whole : List ScriptEvent → Script
+whole asks = record { events = asks; stop = AtEnd }
+
+-- a line before those that end
+line_first : (n : ℕ) (line : Text) (lines : List Text) → script_in false n (line ∷ (lines ++ [] ∷ []))
+    ≡ with_line n (line_meaning line) (script_in false (n + 1) (lines ++ [] ∷ []))
+line_first n line [] = refl
+line_first n line (next ∷ lines) = refl
+
+lines_read : (n : ℕ) (lines : List Text) (asks : List ScriptEvent)
+    → map line_meaning lines ≡ map (λ e. Ok (Some e)) asks → script_in false n (lines ++ [] ∷ []) ≡ whole asks
+lines_read n [] [] same = refl
+lines_read n [] (ask ∷ asks) same = absurd cc
+lines_read n (line ∷ lines) [] same = absurd cc
+lines_read n (line ∷ lines) (ask ∷ asks) same =
+    let first : line_meaning line ≡ Ok (Some ask) = cc in
+    let rest : map line_meaning lines ≡ map (λ e. Ok (Some e)) asks = cc in
+    line_first n line lines ∙ rw (first, lines_read (n + 1) lines asks rest) refl
+
+not_less : (m n : ℕ) → n ≤ m → nat_lt m n ≡ false
+not_less m n le = grind (arith, nat_tests)
+
+within : (file : Text) → length file ≤ 16777216 → is_over file ≡ false
+within file few = not_less 16777216 (length file) few
+
+not_cut : (file : Text) → length file ≤ 16777216 → cut_text file ≡ file
+not_cut file few = by_test (slice_index_or file 16777216 10 == 10)
+  where
+    by_test : (b : Bool) → cond b (take 16777216 file) (take 16777217 file) ≡ file
+    by_test true = take_all 16777216 file few
+    by_test false = take_all 16777217 file (omega (arith, few))
+
+script_is : (file : Text) (events : List Event) (s : Spells file events) → length file ≤ 16777216
+    → script_of file ≡ whole s.asks
+script_is file events s few =
+    ap₂ (λ (over : Bool) (text : Text). script_in over 1 (pieces text)) (within file few) (not_cut file few)
+    ∙ (ap (λ (ps : List Text). script_in false 1 ps) s.cut ∙ lines_read 1 s.lines s.asks s.meanings)
+
+-- ---- and the topology
+
+loads : loaded generated_topology ≡ Sound the_plan
+loads = rw (not_less 1048576 (length generated_topology) topology_short, topology_read) refl
+
+-- ---- together
+
+pub generated_runs : (seed count : ℕ) → count ≤ 100000
+    → run_due (Some generated_topology) (Some (generated_script seed count)) ≡ Some (generated_run_due seed count)
+generated_runs seed count few =
+    let s = script_spells seed count few in
+    let is = script_is (generated_script seed count) (generated seed count) s (script_short seed count few) in
+    rw (loads, is, s.are_events) refl
+
+-- ---- in a call
+
+-- the same text is due by another function, which gives it of what is told
+ends_by : (told : Option Contents) (contents : Contents) (due other : Contents → Option Due) (read write quiet : Type 0)
+    (gained : Text → Type 0) (r : Result End Fault) → told ≡ Some contents → due contents ≡ other contents
+    → EndsOn told due read write quiet gained r → EndsOn told other read write quiet gained r
+ends_by None contents due other read write quiet gained r is same ends = absurd cc
+ends_by (Some c) contents due other read write quiet gained r is same ends =
+    let at = same_Some c contents is in
+    let here : due c ≡ other c = subst (λ (x : Contents). due x ≡ other x) (sym at) same in
+    subst (λ (d : Option Due). EndsDue d read write quiet gained r) here ends
+
+pub runs_generated : (call : CallSeen) → Answered call → RunsGenerated call
+runs_generated call answered contents topology script seed count told asks is_topology is_script few =
+    let same : command_due answered.migrated (asked call.words) contents ≡ Some (generated_run_due seed count) =
+    ap (λ (a : Option Asked). command_due answered.migrated a contents) asks
+    ∙ (ap₂ run_due is_topology is_script ∙ generated_runs seed count few) in
+    ends_by call.shelf_before.contents contents (command_due answered.migrated (asked call.words))
+    (λ c. Some (generated_run_due seed count)) _ _ _ _ call.outcome told same answered.ran

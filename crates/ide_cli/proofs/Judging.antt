@@ -1,0 +1,89 @@
+-- A call that judges a text says of it what is so, and went over the history of all events of the script.
+use Rattle.std.proofs.Common.{◌≡◌, ◌∙◌, ◌++◌, [], Option, Some, Result, Ok, Err, option_map, refl, sym, ap, subst, inl}
+use Rattle.std.specs.Prelude.{IfOk}
+use Rattle.std.proofs.lemmas.List.{append-nil}
+use Rattle.ide_base.specs.Outside.{Contents}
+use Rattle.ide_plan.specs.declared.plan.Plan.{Plan}
+use Rattle.line_runs.specs.declared.ends.End.{End}
+use Rattle.line_runs.specs.declared.ends.End.TheVariants as end
+use Rattle.line_runs.specs.declared.ends.Fault.{Fault}
+use Rattle.line_runs.specs.Gain.{Text, Gained}
+use Rattle.line_runs.specs.Outcome.{Due, EndsBy, EndsDue, EndsOn}
+use Rattle.ide_runs.specs.{Tells, judged}
+use Rattle.ide_runs.specs.declared.topologies.Loaded.TheVariants.{Sound}
+use Rattle.ide_runs.specs.Judge.{judge_due, judged_by, judged_run}
+use Rattle.ide_runs.specs.Script.{AtEnd, Script, due_after, end_of_stop, events_on, run_due, script_of}
+use Rattle.ide_runs.specs.Topologies.{loaded}
+use Rattle.ide_runs.proofs.{judged_tells}
+use Rattle.ide_words.specs.Words.{asked}
+use Rattle.ide_cli.specs.Headline.{AllJudged}
+use Rattle.ide_cli.specs.Meaning.{Answered, command_due}
+use Rattle.ide_cli.specs.Seen.{CallSeen}
+use Rattle.ide_cli.specs.Went.{AsksJudge, CameToEnd, Judged, Said}
+use Rattle.ide_cli.proofs.Written.{at_end}
+
+ended_at : (verdicts : Option Text) (e : End) (text : Text) → e ≡ end.Done
+    → judged_by verdicts e text ≡ option_map (judged text) verdicts
+ended_at verdicts e text is = subst (λ (x : End). judged_by verdicts x text ≡ option_map (judged text) verdicts)
+    (sym is) refl
+
+ran_is : (topology bytes : Text) (plan : Plan) (script : Script) → loaded topology ≡ Sound plan
+    → script ≡ script_of bytes → run_due (Some topology) (Some bytes) ≡ Some (due_after plan [] script)
+ran_is topology bytes plan script plan_is read = rw (plan_is, read) refl
+
+judge_is : (topology bytes claimed : Text) (plan : Plan) (script : Script) → loaded topology ≡ Sound plan
+    → script ≡ script_of bytes → script.stop ≡ AtEnd
+    → judge_due (Some topology) (Some bytes) (Some claimed) ≡ Some (judged (due_after plan [] script).1 claimed)
+judge_is topology bytes claimed plan script plan_is read stop =
+    let due = due_after plan [] script in
+    ap (judged_run (Some claimed)) (ran_is topology bytes plan script plan_is read)
+    ∙ ended_at (Some claimed) due.0 due.1 (ap end_of_stop stop)
+
+asked_is : (migrated : Text) (call : CallSeen) (plan : Plan) (script : Script) (a : AsksJudge call plan script)
+    (claimed : Text) → a.contents a.verdicts_name ≡ Some claimed
+    → command_due migrated (asked call.words) a.contents ≡ judge_due (Some a.topology) (Some a.bytes) (Some claimed)
+asked_is migrated call plan script a claimed claims = rw (a.asks, a.topology_is, a.script_is, claims) refl
+
+-- what came of it
+there : (read write quiet : Type 0) (gained : Text → Type 0) (r : Result End Fault) (e : End) (due : Due)
+    → r ≡ Ok e → EndsDue (Some due) read write quiet gained r → (e ≡ due.0) × gained due.1
+there read write quiet gained r e due is ran =
+    let came = subst (λ (x : Result End Fault). EndsBy due read write quiet gained x) is ran in (came.0, came.1)
+
+ends_told : (call : CallSeen) (contents : Contents) (due : Contents → Option Due) (last : Due)
+    (read write quiet : Type 0) (gained : Text → Type 0) → call.shelf_before.contents ≡ Some contents
+    → due contents ≡ Some last → EndsOn call.shelf_before.contents due read write quiet gained call.outcome
+    → EndsDue (Some last) read write quiet gained call.outcome
+ends_told call contents due last read write quiet gained told is ran =
+    subst (λ (d : Option Due). EndsDue d read write quiet gained call.outcome) is
+    (subst (λ (t : Option Contents). EndsOn t due read write quiet gained call.outcome) told ran)
+
+at_this_end : {P : End → Type 0} (r : Result End Fault) → ((e : End) → r ≡ Ok e → P e) → IfOk r P
+at_this_end (Ok e) holds = holds e refl
+at_this_end (Err f) holds = tt
+
+pub is_judged : (call : CallSeen) → Answered call → Judged call
+is_judged call answered = at_this_end call.outcome (λ e ended plan script a claimed held stop claims held_before.
+    let text = (due_after plan [] script).1 in
+    let due = judged text claimed in
+    let is = asked_is answered.migrated call plan script a claimed claims
+    ∙ judge_is a.topology a.bytes claimed plan script a.plan_is a.read stop in
+    let came = there _ _ _ (Gained call.sink_before.held call.sink_after.held) call.outcome e due ended
+    (ends_told call a.contents (command_due answered.migrated (asked call.words)) due _ _ _
+    (Gained call.sink_before.held call.sink_after.held) a.are_told is answered.ran) in
+    record {
+      told = due.1;
+      holds_now = came.1 ∙ ap (option_map (λ (t : Text). t ++ due.1)) held_before;
+      tells = subst (λ (x : End). Tells text claimed x due.1) (sym came.0) (judged_tells text claimed);
+    })
+
+pub all_judged : (call : CallSeen) → AllJudged call
+all_judged call = at_end call.outcome (λ e ended plan script a. record {
+  script = script;
+  asks_judge = a;
+  first = events_on plan script;
+  later = [];
+  events_are = append-nil (events_on plan script);
+  history_is = refl;
+  went = inl (subst CameToEnd (sym ended) tt);
+})

@@ -1,0 +1,35 @@
+-- What a line of a packet file gives: a line that is too long gives nothing, and what is written is whole lines.
+use Rattle.std.specs.Prelude.{ℕ, ◌≡◌, nat_lt, true, List, [], length, Option, Some, None, Result, Ok, Err, IfOk, refl}
+use Rattle.std.proofs.Common.{inl}
+use Rattle.link_events.specs.declared.fault.LineFault.{LineFault}
+use Rattle.link_events.specs.declared.fault.LineFault.TheVariants.{TooLong}
+use Rattle.link_events.specs.Words.{line_limit}
+use Rattle.packet_lines.specs.Reading.{packet_meaning}
+use Rattle.packet_lines.specs.Showing.{line_shown}
+use Rattle.line_runs.specs.Gain.{Text}
+use Rattle.line_runs.specs.Outcome.{IsWholeLines}
+use Rattle.ide_runs.specs.LineLaws.{whole_line}
+
+abbrev pub showing : ℕ → Result (Option Text) LineFault → Result (Unit {0} × Text) LineFault
+showing n (Err fault) = Err fault
+showing n (Ok None) = Ok (tt, [])
+showing n (Ok (Some bytes)) = Ok (tt, line_shown n bytes)
+
+-- what a line of a packet file gives
+abbrev pub shown_line : Unit {0} → ℕ → Text → Result (Unit {0} × Text) LineFault
+shown_line u n line = showing n (packet_meaning line)
+
+abbrev pub no_text : Unit {0} → Text
+no_text u = []
+
+pub long_packet : (u : Unit {0}) (n : ℕ) (line : Text) → nat_lt line_limit (length line) ≡ true
+    → shown_line u n line ≡ Err TooLong
+long_packet u n line long = rw long refl
+
+packet_lines : (n : ℕ) (m : Result (Option Text) LineFault) → IfOk (showing n m) (λ came. IsWholeLines came.1)
+packet_lines n (Err fault) = tt
+packet_lines n (Ok None) = inl refl
+packet_lines n (Ok (Some bytes)) = whole_line _ _
+
+pub whole_packet : (u : Unit {0}) (n : ℕ) (line : Text) → IfOk (shown_line u n line) (λ came. IsWholeLines came.1)
+whole_packet u n line = packet_lines n (packet_meaning line)

@@ -1,0 +1,93 @@
+-- The histories that a call goes over and does not write.
+use Rattle.std.specs.Prelude.{ℕ, ◌≡◌, ◌≢◌, ◌⊎◌, List, [], ◌++◌, Some, Result, Ok, Err, IfOk}
+use Rattle.ide_base.specs.Outside.{Contents}
+use Rattle.ide_words.specs.Words.{asked, generate, judge}
+use Rattle.ide_plan.specs.declared.plan.Plan.{Plan}
+use Rattle.generated_events.specs.Events.{generated}
+use Rattle.generated_events.specs.Topology.{the_plan}
+use Rattle.link_events.specs.declared.event.Event.{Event}
+use Rattle.key_laws.specs.History.{History}
+use Rattle.text_laws.specs.Runs.{history_on}
+use Rattle.line_runs.specs.declared.ends.End.{End}
+use Rattle.line_runs.specs.declared.ends.Fault.{Fault}
+use Rattle.line_runs.specs.Gain.{Text}
+use Rattle.ide_runs.specs.{Tells}
+use Rattle.ide_runs.specs.declared.topologies.Loaded.TheVariants.{Sound}
+use Rattle.ide_runs.specs.Generated.{generated_history, generated_line}
+use Rattle.ide_runs.specs.Script.{AtEnd, Script, due_after, events_on, script_of}
+use Rattle.ide_runs.specs.Topologies.{loaded}
+use Rattle.ide_cli.specs.Seen.{CallSeen}
+
+-- ---- generated events
+
+-- The call went over generated events: this is the history of the first of them, up to some event, under the plan that
+-- is generated for them, and the sink gained the line of the history of all.
+pub record WentOver (call : CallSeen) (plan : Plan) (h : History) : Type 0 where
+  pub seed : ℕ
+  pub count : ℕ
+  pub asks : asked call.words ≡ Some (generate seed count)
+  pub plan_is : plan ≡ the_plan
+  pub first : List Event
+  pub later : List Event
+  pub events_are : first ++ later ≡ generated seed count
+  pub history_is : h ≡ history_on the_plan [] first
+  pub held : Text
+  pub held_before : call.sink_before.held ≡ Some held
+  pub holds_now : call.sink_after.held ≡ Some (held ++ generated_line (generated_history seed count))
+
+-- ---- a text that is judged
+
+-- The words ask to judge a text: the shelf tells its contents, in which the names that the words give are a sound
+-- topology of this plan, and this script.
+pub record AsksJudge (call : CallSeen) (plan : Plan) (script : Script) : Type 0 where
+  pub contents : Contents
+  pub are_told : call.shelf_before.contents ≡ Some contents
+  pub topology_name : Text
+  pub script_name : Text
+  pub verdicts_name : Text
+  pub asks : asked call.words ≡ Some (judge topology_name script_name verdicts_name)
+  pub topology : Text
+  pub topology_is : contents topology_name ≡ Some topology
+  pub plan_is : loaded topology ≡ Sound plan
+  pub bytes : Text
+  pub script_is : contents script_name ≡ Some bytes
+  pub read : script ≡ script_of bytes
+
+-- the call came to an end of its own
+abbrev pub CameToEnd : Result End Fault → Type 0
+CameToEnd (Ok e) = Unit {0}
+CameToEnd (Err e) = ⊥
+
+-- the sink tells that it gained some text
+pub record WroteSome (call : CallSeen) : Type 0 where
+  pub held : Text
+  pub held_before : call.sink_before.held ≡ Some held
+  pub gained : Text
+  pub holds_now : call.sink_after.held ≡ Some (held ++ gained)
+  pub some : gained ≢ []
+
+-- The call judged a text by the history of a script: this is the history of the first of its events, up to some event,
+-- and the call came to an end of its own, or wrote.
+pub record WentThrough (call : CallSeen) (plan : Plan) (h : History) : Type 0 where
+  pub script : Script
+  pub asks_judge : AsksJudge call plan script
+  pub first : List Event
+  pub later : List Event
+  pub events_are : first ++ later ≡ events_on plan script
+  pub history_is : h ≡ history_on plan [] first
+  pub went : CameToEnd call.outcome ⊎ WroteSome call
+
+-- ---- what is said of the text
+
+-- The sink gained a text, which tells of the claimed text whether it is the one that is due, or which line is the first
+-- that differs; it gained nothing if the claimed text is too long.
+pub record Said (due claimed held : Text) (call : CallSeen) (e : End) : Type 0 where
+  pub told : Text
+  pub holds_now : call.sink_after.held ≡ Some (held ++ told)
+  pub tells : Tells due claimed e told
+
+-- if a call that judges a text comes to an end of its own, on a script that was read to its end
+abbrev pub Judged : CallSeen → Type 0
+Judged call = IfOk call.outcome (λ e. (plan : Plan) (script : Script) (a : AsksJudge call plan script)
+    (claimed held : Text) → script.stop ≡ AtEnd → a.contents a.verdicts_name ≡ Some claimed
+    → call.sink_before.held ≡ Some held → Said (due_after plan [] script).1 claimed held call e)

@@ -1,0 +1,2 @@
+pub mod Findings
+mod Files

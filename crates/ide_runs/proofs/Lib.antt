@@ -1,0 +1,11 @@
+pub mod Scripts
+pub mod Events
+pub mod Plans
+pub mod Generating
+pub mod Loads
+mod Furthers
+mod Migrating
+pub mod Judges
+-- what proofs above cite
+pub use Rattle.ide_judge.proofs.Findings.{judged_tells}
+pub use Rattle.ide_runs.proofs.Migrating.{failed_migration}

@@ -1,0 +1,173 @@
+-- Running the lines of a script from a past on gives the end and the text that are due: line by line, both take the
+-- same verdict, the one that is due, and write the same line. The world follows that past, since each of its steps
+-- gives the verdict that is due.
+use Rattle.std.proofs.Common.{◌≡◌, ℕ, ◌+◌, ◌==◌, Bool, true, false, List, [], ◌∷◌, length, Option, Some, None, Result}
+use Rattle.std.proofs.Common.{Ok, Err, refl, sym, ap, ◌∙◌, subst, arith, append_assoc}
+use Rattle.std.specs.Prelude.{nat_lt, sum_by}
+use Rattle.std.proofs.lemmas.List.Sums.{sum_by-cons}
+use Rattle.ide_plan.specs.declared.plan.Plan.{Plan}
+use Rattle.link_events.specs.declared.event.Event.{Event}
+use Rattle.link_events.specs.declared.script.ScriptEvent.{ScriptEvent}
+use Rattle.link_verdicts.specs.declared.verdict.Verdict.{Verdict}
+use Rattle.link_verdicts.specs.declared.verdict.Totals.{Totals}
+use Rattle.link_events.specs.declared.fault.LineFault.{LineFault}
+use Rattle.link_events.specs.Parse.{line_meaning}
+use Rattle.link_verdicts.specs.Lines.{line_of}
+use Rattle.link_verdicts.specs.Shown.{shown}
+use Rattle.key_laws.specs.History.{History}
+use Rattle.link_history.specs.Due.{due}
+use Rattle.script_events.specs.{event_of}
+use Rattle.text_laws.specs.Runs.{history_with, history_on, text_on, totals_of, sealed_count, accepted_in, failed_in}
+use Rattle.text_laws.specs.Runs.{blocked_in}
+use Rattle.world.specs.{WorldView, Stands, IsNewWorld, IsStep}
+use Rattle.line_runs.specs.Gain.{Text}
+use Rattle.line_runs.specs.Outcome.{Due}
+use Rattle.line_runs.specs.Pieces.{pieces}
+use Rattle.line_runs.specs.Lines.{after, cut_text, file_due, go_on, is_over, process, unended}
+use Rattle.ide_runs.specs.Script.{Script, AtEnd, stops, with_line, unended_line, script_in, end_of_stop, last_line}
+use Rattle.ide_runs.specs.Script.{due_after, events_on}
+use Rattle.ide_runs.specs.Script.{script_due}
+use Rattle.line_runs.specs.Gathering.{GoesOn, ended_text}
+use Rattle.ide_runs.specs.Reads.{ScriptGoesOn}
+use Rattle.ide_runs.specs.SoFar.{script_so_far}
+use Rattle.ide_runs.specs.Works.{RunningView, ScriptPast, Follows, EventCame, VerdictCame, totals_with, ran_event}
+use Rattle.ide_runs.specs.Works.{by_meaning, closing_line, ran_line}
+
+-- ---- the world follows the past
+
+totals : ℕ → ℕ → ℕ → ℕ → Totals
+totals sealed accepted failed blocked = record
+    { sealed = sealed; accepted = accepted; failed = failed; blocked = blocked }
+
+same_totals : (a b c d e f g i : ℕ) → a ≡ e → b ≡ f → c ≡ g → d ≡ i → totals a b c d ≡ totals e f g i
+same_totals a b c d e f g i ae bf cg di =
+    ap (λ (n : ℕ). totals n b c d) ae ∙ ap (λ (n : ℕ). totals e n c d) bf ∙ ap (λ (n : ℕ). totals e f n d) cg ∙ ap
+    (λ (n : ℕ). totals e f g n) di
+
+one_more : (f : Event × Verdict → ℕ) (x : Event × Verdict) (h : History) → sum_by f h + f x ≡ sum_by f (x ∷ h)
+one_more f x h = omega (arith, sum_by-cons f x h)
+
+totals_more : (t : Totals) (h : History) (e : Event) (v : Verdict) → t ≡ totals_of h → totals_with t v
+    ≡ totals_of ((e, v) ∷ h)
+unfolding totals
+totals_more t h e v is =
+    ap (λ (u : Totals). totals_with u v) is
+    ∙ same_totals _ _ _ _ _ _ _ _ (one_more (λ x. sealed_count x.1) (e, v) h) (one_more (λ x. accepted_in x.1) (e, v) h)
+    (one_more (λ x. failed_in x.1) (e, v) h) (one_more (λ x. blocked_in x.1) (e, v) h)
+
+running : WorldView → Totals → RunningView
+running world totals = record { world = world; totals = totals }
+
+-- a step that gives the due verdict
+event_due : (past : ScriptPast) (t : Totals) (e : Event) (old new : WorldView) (v : Verdict)
+    → Follows (running old t) past → IsStep old e v new → v ≡ due past.plan past.history e
+    → VerdictCame past e (running new (totals_with t v)) v
+unfolding running
+event_due past t e old new v follows step is =
+    let h = past.history in
+    let steps : new.steps ≡ length h + 1 = omega (arith, step.steps_are, follows.steps_are) in
+    record {
+      verdict_is = is;
+      follows = record {
+        plan_is = step.plan_is ∙ follows.plan_is;
+        stands = subst (λ (w : Verdict). Stands new ((e, w) ∷ h)) is (step.stood h follows.stands).stands;
+        steps_are = omega (arith, steps);
+        totals_are = totals_more t h e v follows.totals_are ∙ ap (λ (w : Verdict). totals_of ((e, w) ∷ h)) is;
+      };
+    }
+
+pub verdict_comes : (past : ScriptPast) (t now : Totals) (e : Event) (old new : WorldView) (v : Verdict)
+    → Follows (record { world = old; totals = t }) past → IsStep old e v new → now ≡ totals_with t v
+    → VerdictCame past e (record { world = new; totals = now }) v
+unfolding running
+verdict_comes past t now e old new v follows step more =
+    let due_is = (step.stood past.history follows.stands).due_is in
+    rw more (event_due past t e old new v follows step
+    (due_is ∙ ap (λ (p : Plan). due p past.history e) follows.plan_is))
+
+-- the line of that verdict
+pub event_comes : (past : ScriptPast) (e : Event) (r : RunningView) (v : Verdict) (text : Text)
+    → VerdictCame past e r v → text ≡ line_of r.world.steps (shown r.world.plan.peers v)
+    → EventCame (ran_event past e) r text
+event_comes past e r v text came line =
+    let number : r.world.steps ≡ length past.history + 1 = omega (arith, came.follows.steps_are) in
+    record {
+      text_is = line ∙ ap (λ (m : ℕ). line_of m (shown r.world.plan.peers v)) number
+          ∙ ap (λ (p : Plan). line_of (length past.history + 1) (shown p.peers v)) came.follows.plan_is
+          ∙ ap (λ (w : Verdict). line_of (length past.history + 1) (shown past.plan.peers w)) came.verdict_is;
+      follows = came.follows;
+    }
+
+-- the first world follows no events
+pub follows_nothing : (plan : Plan) (world : WorldView) → IsNewWorld plan world
+    → Follows (record { world = world; totals = record { sealed = 0; accepted = 0; failed = 0; blocked = 0 } })
+    (record { plan = plan; history = [] })
+follows_nothing plan world new = record {
+  plan_is = new.plan_is;
+  stands = new.stands;
+  steps_are = new.steps_are;
+  totals_are = refl;
+}
+
+-- ---- the lines
+
+past_of : Plan → History → ScriptPast
+past_of plan h = record { plan = plan; history = h }
+
+-- a line before what comes later
+one_line : (plan : Plan) (n : ℕ) (h : History) (m : Result (Option ScriptEvent) LineFault)
+    (later : ScriptPast → Due) (script : Script)
+    → ((g : History) → later (past_of plan g) ≡ due_after plan g script)
+    → go_on n (by_meaning (past_of plan h) m) later ≡ due_after plan h (with_line n m script)
+unfolding past_of
+one_line plan n h (Err fault) later script rest = refl
+one_line plan n h (Ok None) later script rest = rest h
+one_line plan n h (Ok (Some e)) later script rest =
+    let x = event_of plan e in
+    let g = history_with plan h x in
+    let text = line_of (length h + 1) (shown plan.peers (due plan h x)) in
+    ap (after text) (rest g) ∙ ap (λ (t : Text). (end_of_stop script.stop, t))
+    (sym (append_assoc text (text_on plan g (events_on plan script))
+    (last_line script.stop (history_on plan g (events_on plan script)))))
+
+unended_is : (plan : Plan) (n : ℕ) (piece : Text) (h : History) (b : Bool) → nat_lt 20000 (length piece) ≡ b
+    → unended n piece ≡ due_after plan h (unended_line n piece)
+unended_is plan n piece h true is = rw is refl
+unended_is plan n piece h false is = rw is refl
+
+last_piece : (plan : Plan) (over : Bool) (n : ℕ) (h : History) (piece : Text) (b : Bool)
+    → (length piece == 0) ≡ b
+    → process ran_line closing_line over n (past_of plan h) (piece ∷ [])
+    ≡ due_after plan h (script_in over n (piece ∷ []))
+unfolding past_of
+last_piece plan true n h piece b is = unended_is plan n piece h (nat_lt 20000 (length piece)) refl
+last_piece plan false n h piece true is = rw is refl
+last_piece plan false n h piece false is =
+    rw is (one_line plan n h (line_meaning piece) (λ t. (end_of_stop AtEnd, closing_line t)) (stops AtEnd) (λ g. refl))
+
+script_runs : (plan : Plan) (over : Bool) (n : ℕ) (h : History) (pieces : List Text)
+    → process ran_line closing_line over n (past_of plan h) pieces ≡ due_after plan h (script_in over n pieces)
+unfolding past_of
+script_runs plan over n h [] = refl
+script_runs plan over n h (piece ∷ []) = last_piece plan over n h piece (length piece == 0) refl
+script_runs plan over n h (piece ∷ next ∷ rest) =
+    one_line plan n h (line_meaning piece) (λ t. process ran_line closing_line over (n + 1) t (next ∷ rest))
+    (script_in over (n + 1) (next ∷ rest)) (λ g. script_runs plan over (n + 1) g (next ∷ rest))
+
+-- a script's file run on the world of a plan
+pub file_runs : (plan : Plan) (file : Text)
+    → file_due ran_line closing_line (record { plan = plan; history = [] }) file ≡ script_due plan file
+unfolding past_of
+file_runs plan file = script_runs plan (is_over file) 1 [] (pieces (cut_text file))
+
+-- the lines of it that ended in some bytes
+pub ended_runs : (plan : Plan) (bytes : Text)
+    → ended_text ran_line closing_line (record { plan = plan; history = [] }) bytes ≡ script_so_far plan bytes
+unfolding past_of
+ended_runs plan bytes = ap (λ (d : Due). d.1) (script_runs plan true 1 [] (pieces bytes))
+
+-- if no line ends the run of those bytes, none ends the script
+pub script_goes_on : (plan : Plan) (bytes : Text)
+    → GoesOn ran_line closing_line (record { plan = plan; history = [] }) bytes → ScriptGoesOn plan bytes
+unfolding past_of
+script_goes_on plan bytes goes_on = sym (ap (λ (d : Due). d.0) (script_runs plan true 1 [] (pieces bytes))) ∙ goes_on

@@ -1,0 +1,72 @@
+-- A text that is judged by what a run writes: what is due, and how much is read.
+use Rattle.std.specs.Prelude.{ℕ, ◌≡◌, ◌≢◌, ◌⊎◌, ◌+◌, ◌≤◌, [], length, Option, Some, None, option_map}
+use Rattle.line_runs.specs.declared.ends.End.{End}
+use Rattle.line_runs.specs.declared.ends.End.TheVariants as end
+use Rattle.line_runs.specs.Front.{Gave, bytes_of}
+use Rattle.line_runs.specs.Gain.{Text}
+use Rattle.line_runs.specs.Lines.{file_limit}
+use Rattle.line_runs.specs.Outcome.{Due}
+use Rattle.ide_judge.specs.Judging.{judged, last_line_of, verdicts_limit}
+use Rattle.ide_runs.specs.Loading.{topology_limit}
+use Rattle.ide_runs.specs.Reads.{RanPast, RunNoFurther}
+use Rattle.ide_runs.specs.Script.{run_due}
+
+-- Of a run that did not come to the end of its script: the last line of its text, or the line of a faulty topology.
+abbrev pub left_of : End → Text → Text
+left_of end.Done text = []
+left_of end.Differs text = []
+left_of end.Usage text = []
+left_of end.Topology text = text
+left_of end.Script text = last_line_of text
+left_of end.TooLong text = []
+
+-- it did not, and this is left to write
+abbrev pub IsLeft : End → (text left : Text) → Type 0
+IsLeft e text left = (e ≢ end.Done) × (left ≡ left_of e text)
+
+-- by the end and the text of the run
+abbrev pub judged_by : Option Text → End → Text → Option Due
+judged_by verdicts end.Done text = option_map (judged text) verdicts
+judged_by verdicts end.Differs text = Some (end.Differs, [])
+judged_by verdicts end.Usage text = Some (end.Usage, [])
+judged_by verdicts end.Topology text = Some (end.Topology, text)
+judged_by verdicts end.Script text = Some (end.Script, last_line_of text)
+judged_by verdicts end.TooLong text = Some (end.TooLong, [])
+
+abbrev pub judged_run : Option Text → Option Due → Option Due
+judged_run verdicts None = None
+judged_run verdicts (Some due) = judged_by verdicts due.0 due.1
+
+-- the end and the text that are due, or nothing if a file is not there
+abbrev pub judge_due : (topology script verdicts : Option Text) → Option Due
+judge_due topology script verdicts = judged_run verdicts (run_due topology script)
+
+-- ---- how much is read
+
+abbrev pub IsOneOf : (topology script verdicts : Text) → Text → Type 0
+IsOneOf topology script verdicts name = (name ≡ topology) ⊎ ((name ≡ script) ⊎ (name ≡ verdicts))
+
+-- one byte more was given of the topology or the script than count, or of the text that is judged, after the two
+abbrev pub JudgedPast : ℕ → ℕ → Type 0
+JudgedPast before now = RanPast before now
+    ⊎ ((n : ℕ) × (n ≤ topology_limit + file_limit) × Gave before (n + (verdicts_limit + 1)) now)
+
+-- A run that comes to the end of its script reads all of it, and then no more than the text that is judged; of any
+-- other
+-- the text that is judged is not read.
+abbrev pub FurtherAt : End → (topology script verdicts : Option Text) → (given ahead : ℕ) → Type 0
+FurtherAt end.Done topology script verdicts given ahead =
+    given ≤ length (bytes_of topology) + length (bytes_of script) + length (bytes_of verdicts)
+FurtherAt end.Differs topology script verdicts given ahead = RunNoFurther topology script given ahead
+FurtherAt end.Usage topology script verdicts given ahead = RunNoFurther topology script given ahead
+FurtherAt end.Topology topology script verdicts given ahead = RunNoFurther topology script given ahead
+FurtherAt end.Script topology script verdicts given ahead = RunNoFurther topology script given ahead
+FurtherAt end.TooLong topology script verdicts given ahead = RunNoFurther topology script given ahead
+
+abbrev pub FurtherBy : Option Due → (topology script verdicts : Option Text) → (given ahead : ℕ) → Type 0
+FurtherBy None topology script verdicts given ahead = RunNoFurther topology script given ahead
+FurtherBy (Some due) topology script verdicts given ahead = FurtherAt due.0 topology script verdicts given ahead
+
+abbrev pub JudgeNoFurther : (topology script verdicts : Option Text) → (given ahead : ℕ) → Type 0
+JudgeNoFurther topology script verdicts given ahead =
+    FurtherBy (run_due topology script) topology script verdicts given ahead

@@ -1,0 +1,12 @@
+pub mod Loading
+pub mod Topologies
+pub mod Migrating
+pub mod Script
+pub mod Works
+pub mod LineLaws
+pub mod Generated
+pub mod SoFar
+pub mod Reads
+pub mod Judge
+-- what clauses above cite
+pub use Rattle.ide_judge.specs.Judging.{Tells, judged, verdicts_limit}

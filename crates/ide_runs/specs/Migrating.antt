@@ -1,0 +1,39 @@
+-- A topology that is written in version 2.
+use Rattle.std.specs.Prelude.{◌≡◌, ◌⊎◌, [], Option, Some, None, Result, Ok, Err, option_map}
+use Rattle.ide_base.specs.Outside.{Contents, ShelfSeen, SinkSeen}
+use Rattle.ide_plan.specs.declared.plan.Plan.{Plan}
+use Rattle.topology.specs.Migration.{IsMigrated}
+use Rattle.line_runs.specs.declared.ends.End.{End}
+use Rattle.line_runs.specs.declared.ends.Fault.{Fault}
+use Rattle.line_runs.specs.Gain.{Text}
+use Rattle.line_runs.specs.Outcome.{Ran, RanOn}
+use Rattle.ide_runs.specs.declared.topologies.Loaded.TheVariants.{Sound}
+use Rattle.ide_runs.specs.Topologies.{migrate_due, loaded}
+
+-- the run failed
+abbrev pub IsFailure : Result End Fault → Type 0
+IsFailure (Ok e) = ⊥
+IsFailure (Err e) = Unit {0}
+
+-- If the file of this name is told and sound, the text is that topology in version 2. A run that failed may have given
+-- no text.
+abbrev pub MigratesFile : Option Contents → (name text : Text) → Result End Fault → Type 0
+MigratesFile None name text r = Unit {0}
+MigratesFile (Some contents) name text r =
+    (bytes : Text) (plan : Plan) → contents name ≡ Some bytes → loaded bytes ≡ Sound plan
+    → IsMigrated bytes text ⊎ ((text ≡ []) × IsFailure r)
+
+-- The run ends as the contents call for; the text is one of those that a migration may write.
+pub record MigratedFor (name : Text) (shelf shelf_now : ShelfSeen) (sink sink_now : SinkSeen) (r : Result End Fault)
+    : Type 0 where
+  pub migrated : Text
+  pub migrates : MigratesFile shelf.contents name migrated r
+  pub ran : RanOn (λ contents. option_map (migrate_due migrated) (contents name)) shelf shelf_now sink sink_now r
+
+-- The first bytes of a topology were migrated: if they are sound, the text is that topology in version 2, or a run that
+-- failed gave none.
+pub record WritesMigrated (front : Text) (before now : SinkSeen) (r : Result End Fault) : Type 0 where
+  pub migrated : Text
+  pub migrates : (plan : Plan) → loaded front ≡ Sound plan → IsMigrated front migrated
+      ⊎ ((migrated ≡ []) × IsFailure r)
+  pub ran : Ran (migrate_due migrated front) before now r

@@ -1,0 +1,100 @@
+-- A script: the events of its lines, and how its reading ends.
+use Rattle.std.specs.Prelude.{ℕ, ◌+◌, ◌==◌, nat_lt, Bool, List, [], ◌∷◌, ◌++◌, length, map, Option, Some, None}
+use Rattle.std.specs.Prelude.{Result, Ok, Err, if◌then◌else◌, option_map}
+use Rattle.line_runs.specs.Pieces.{pieces}
+use Rattle.ide_plan.specs.declared.plan.Plan.{Plan}
+use Rattle.link_events.specs.declared.event.Event.{Event}
+use Rattle.link_events.specs.declared.script.ScriptEvent.{ScriptEvent}
+use Rattle.link_events.specs.declared.fault.LineFault.{LineFault}
+use Rattle.link_events.specs.declared.fault.LineFault.TheVariants as line
+use Rattle.link_events.specs.Words.{fault_line_of, line_limit}
+use Rattle.link_events.specs.Parse.{line_meaning}
+use Rattle.link_verdicts.specs.Lines.{totals_line_of}
+use Rattle.key_laws.specs.History.{History}
+use Rattle.script_events.specs.{event_of}
+use Rattle.text_laws.specs.Runs.{history_on, text_on, totals_of}
+use Rattle.line_runs.specs.declared.ends.End.{End}
+use Rattle.line_runs.specs.declared.ends.End.TheVariants as end
+use Rattle.line_runs.specs.Gain.{Text}
+use Rattle.line_runs.specs.Outcome.{Due}
+use Rattle.line_runs.specs.Lines.{is_over, cut_text}
+use Rattle.ide_runs.specs.declared.topologies.Loaded.{Loaded}
+use Rattle.ide_runs.specs.declared.topologies.Loaded.TheVariants.{Sound, Faulty, Long}
+use Rattle.ide_runs.specs.Topologies.{loaded, plan_refusal}
+
+-- at the end of the file, at a line of this number that is not spelled, or at the limit
+pub data Stop : Type 0 where
+  AtEnd : Stop
+  Refused : ℕ → LineFault → Stop
+  AtLimit : Stop
+
+pub record Script : Type 0 where
+  pub events : List ScriptEvent
+  pub stop : Stop
+
+abbrev pub stops : Stop → Script
+stops stop = record { events = []; stop = stop }
+
+-- a line of this number, before the others: no event, one, or the first that is not spelled
+abbrev pub with_line : ℕ → Result (Option ScriptEvent) LineFault → Script → Script
+with_line n (Err fault) later = stops (Refused n fault)
+with_line n (Ok None) later = later
+with_line n (Ok (Some event)) later = record later { events = event ∷ later.events }
+
+-- a line that does not end before the limit counts only if it is too long already
+abbrev pub unended_line : ℕ → Text → Script
+unended_line n piece = stops (if nat_lt line_limit (length piece) then Refused n line.TooLong else AtLimit)
+
+-- what stands between line feeds, numbered from n; the last piece is a line if it has bytes
+abbrev pub script_in : Bool → ℕ → List Text → Script
+script_in over n [] = stops AtEnd
+script_in over n (piece ∷ []) =
+    if over then unended_line n piece
+    else if length piece == 0 then stops AtEnd
+    else with_line n (line_meaning piece) (stops AtEnd)
+script_in over n (piece ∷ next ∷ rest) = with_line n (line_meaning piece) (script_in over (n + 1) (next ∷ rest))
+
+-- the script of a file
+abbrev pub script_of : Text → Script
+script_of file = script_in (is_over file) 1 (pieces (cut_text file))
+
+-- the events of a history that its events are, in a topology: of lines and ends in place of links, of hops and of
+-- streams between devices
+abbrev pub events_on : Plan → Script → List Event
+events_on plan script = map (event_of plan) script.events
+
+abbrev pub end_of_stop : Stop → End
+end_of_stop AtEnd = end.Done
+end_of_stop (Refused n fault) = end.Script
+end_of_stop AtLimit = end.TooLong
+
+-- the last line: the totals of the history, or the line that was refused
+abbrev pub last_line : Stop → History → Text
+last_line AtEnd h = totals_line_of (totals_of h)
+last_line (Refused n fault) h = fault_line_of n fault
+last_line AtLimit h = []
+
+-- after a history, the end and the text of a script: the verdict lines of its events, each verdict the one that is due,
+-- and the last line
+abbrev pub due_after : Plan → History → Script → Due
+due_after plan h script = (
+  end_of_stop script.stop,
+  text_on plan h (events_on plan script) ++ last_line script.stop
+      (history_on plan h (events_on plan script)),
+)
+
+-- the end and the text of a script's file
+abbrev pub script_due : Plan → Text → Due
+script_due plan file = due_after plan [] (script_of file)
+
+-- ---- on a topology that is a file
+
+-- the end and the text of a script that is run on what a topology gives, or nothing if the script is not there
+abbrev pub run_loaded : Option Text → Loaded → Option Due
+run_loaded script Long = Some (end.TooLong, [])
+run_loaded script (Faulty fault) = Some (end.Topology, plan_refusal fault)
+run_loaded script (Sound plan) = option_map (script_due plan) script
+
+abbrev pub run_due : Option Text → Option Text → Option Due
+run_due None script = None
+run_due (Some topology) script = run_loaded script (loaded topology)

@@ -1,0 +1,55 @@
+-- What a run of a script has written if a fault ends it.
+use Rattle.std.specs.Prelude.{ℕ, ◌+◌, ◌-◌, ◌≤◌, true, [], length, take, Option, Some, None}
+use Rattle.ide_base.specs.Outside.{Contents, ShelfSeen, SinkSeen}
+use Rattle.ide_plan.specs.declared.plan.Plan.{Plan}
+use Rattle.line_runs.specs.Pieces.{pieces}
+use Rattle.link_events.specs.Words.{line_limit}
+use Rattle.line_runs.specs.Front.{Gave, bytes_of}
+use Rattle.line_runs.specs.declared.ends.Fault.{Fault}
+use Rattle.line_runs.specs.Gain.{Text}
+use Rattle.line_runs.specs.Gathering.{GainedAt, open_line, waiting_at}
+use Rattle.ide_runs.specs.declared.topologies.Loaded.{Loaded}
+use Rattle.ide_runs.specs.declared.topologies.Loaded.TheVariants.{Sound, Faulty, Long}
+use Rattle.ide_runs.specs.Script.{due_after, script_in}
+use Rattle.ide_runs.specs.Topologies.{loaded}
+
+-- The text that is due of some bytes of a script that goes on after them: the verdict lines of the lines that ended in
+-- them.
+abbrev pub script_so_far : Plan → Text → Text
+script_so_far plan bytes = (due_after plan [] (script_in true 1 (pieces bytes))).1
+
+abbrev pub loaded_so_far : Loaded → Text → Text
+loaded_so_far (Sound plan) bytes = script_so_far plan bytes
+loaded_so_far (Faulty fault) bytes = []
+loaded_so_far Long bytes = []
+
+-- of n bytes that were given, those after the topology are the script's
+abbrev pub script_given : Option Text → Option Text → ℕ → Text
+script_given None script n = []
+script_given (Some topology) script n = take (n - length topology) (bytes_of script)
+
+abbrev pub run_so_far : Option Text → Option Text → ℕ → Text
+run_so_far None script n = []
+run_so_far (Some topology) script n = loaded_so_far (loaded topology) (script_given (Some topology) script n)
+
+-- Some number of bytes were given, and all but those that may wait were run: the line that has begun in those of them
+-- that are cut into lines is within its limit, and the sink gained the text that is due by then.
+pub record WroteByIn (e : Fault) (text lines : ℕ → Text) (shelf shelf_now : ShelfSeen) (sink sink_now : SinkSeen)
+    : Type 0 where
+  pub given : ℕ
+  pub ran : ℕ
+  pub gave : Gave shelf.given given shelf_now.given
+  pub most : ran ≤ given
+  pub all_but : given ≤ ran + waiting_at e shelf_now
+  pub short : length (open_line (lines ran)) ≤ line_limit
+  pub gained : GainedAt e sink.held sink_now.held (text ran)
+
+abbrev pub WroteByOf : Fault → (text lines : Contents → ℕ → Text) → Option Contents → ShelfSeen → ShelfSeen → SinkSeen
+    → SinkSeen → Type 0
+WroteByOf e text lines None shelf shelf_now sink sink_now = Unit {0}
+WroteByOf e text lines (Some contents) shelf shelf_now sink sink_now = WroteByIn e (text contents) (lines contents)
+    shelf shelf_now sink sink_now
+
+-- if the shelf tells its contents
+abbrev pub WroteBy : Fault → (text lines : Contents → ℕ → Text) → ShelfSeen → ShelfSeen → SinkSeen → SinkSeen → Type 0
+WroteBy e text lines shelf shelf_now sink sink_now = WroteByOf e text lines shelf.contents shelf shelf_now sink sink_now

@@ -1,0 +1,94 @@
+//! Generated events that are run one after another.
+
+ghost use Rattle.std.specs.Prelude.{◌≡◌, ◌≤◌, ◌++◌, [], IfOk, codes, length};
+ghost use Rattle.std.specs.Fmt.{decimal};
+ghost use Rattle.std.specs.List.{AllByRecursion};
+ghost use Rattle.generated_events.specs.Events.{generated};
+ghost use Rattle.generated_events.specs.Topology.{the_plan};
+ghost use Rattle.line_runs.specs.Outcome.{Ran};
+ghost use Rattle.link_events.specs.Spells.{IsAllowed};
+ghost use Rattle.text_laws.specs.Runs.{history_on};
+ghost use Rattle.link_verdicts.specs.Lines.{totals_line_of};
+ghost use Rattle.ide_runs.specs.Generated.{generated_due, generated_history, generated_line};
+ghost use Rattle.ide_runs.specs.Works.{Follows, IsEarly};
+
+use crate::script::Running;
+use generated_events::{Generator, events_are_allowed, topology};
+use ide_base::Sink;
+use ide_types::Memory;
+use line_runs::{End, Fault, finish};
+use link_verdicts::totals_line;
+use std::alloc::Global;
+use world::World;
+
+// The world of the generated topology, before the first event.
+fn first_world(alloc: Global) -> Result<Running, Memory>
+    ensures follows { IfOk result (λ r. Follows r (record { plan = the_plan; history = [] })) }
+    ensures early { IfOk result (λ r. IsEarly r 1) }
+{
+    let plan = topology(alloc)?;
+    let world = World::make(alloc, plan)?;
+    Ok(Running::new(world))
+}
+
+// Gives each event that is left to the world as it is made.
+fn run_left(alloc: Global, left: Generator, running: Running) -> Result<Running, Memory>
+    requires follows { Follows running (record { plan = the_plan; history = [] }) }
+    requires early { IsEarly running 1 }
+    requires few { length left ≤ 1000000 }
+    requires allowed { AllByRecursion IsAllowed left }
+    ensures { IfOk result (λ r. Follows r (record { plan = the_plan; history = history_on the_plan [] left })) }
+{
+    let mut left = left;
+    let mut running = running;
+    let mut number = 1;
+    'events: while let Some(event) = left.next(alloc)? {
+        running.step(&event, number)?;
+        number += 1;
+    }
+    Ok(running)
+}
+
+// The world after all events of a seed and a number of rounds.
+fn last_world(alloc: Global, seed: u32, count: u32) -> Result<Running, Memory>
+    requires { count ≤ 100000 }
+    ensures { IfOk result (λ r. Follows r (record { plan = the_plan; history = generated_history seed count })) }
+{
+    events_are_allowed();
+    let running = first_world(alloc)?;
+    run_left(alloc, Generator::new(seed, count), running)
+}
+
+// The line of how many events came, and of their totals.
+fn line_of(alloc: Global, running: &Running) -> Result<Vec<u8>, Memory>
+    ensures { IfOk result (λ text. text.items ≡ codes "generated " ++ decimal running.now.world.steps ++ codes " "
+        ++ totals_line_of running.now.totals) }
+{
+    let events = running.events();
+    let totals = totals_line(alloc, &running.totals())?;
+    let mut text = format!(in alloc; "generated {events} ")?.into_bytes();
+    text.extend_from_slice(&totals)?;
+    Ok(text)
+}
+
+// The line of all events of a seed and a number of rounds.
+fn generated_text(alloc: Global, seed: u32, count: u32) -> Result<Vec<u8>, Memory>
+    requires { count ≤ 100000 }
+    ensures { IfOk result (λ text. text.items ≡ generated_line (generated_history seed count)) }
+{
+    let running = last_world(alloc, seed, count)?;
+    line_of(alloc, &running)
+}
+
+/// `generate SEED COUNT`: how many events a seed gives in so many rounds, and the totals of their verdicts.
+#[inline(never)]
+pub fn generate<O: Sink>(alloc: Global, seed: u32, count: u32, out: &mut O) -> Result<End, Fault>
+    requires { count ≤ 100000 }
+    ensures end { IfOk result (λ e. e ≡ End.Done) }
+    ensures ran { Ran (generated_due seed count) (O.seen out.old) (O.seen out.new) result }
+{
+    match generated_text(alloc, seed, count) {
+        Ok(text) => finish(out, End::Done, &text),
+        Err(_) => Err(Fault::Memory),
+    }
+}
