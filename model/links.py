@@ -79,7 +79,7 @@ def read_header(data: bytes) -> Tuple[Kind, bytes, int]:
     for place in range(1, kind.head_bytes):
         if place == len(data):
             raise Malformed("short", place)
-        fault = header_fault(kind, data, place)
+        fault = header_fault(kind, data, place) if place < 4 or place > 9 else None
         if fault:
             raise Malformed(fault, place)
     double_words = ((data[2] & 0x03) << 8 | data[3]) or 1024
@@ -179,7 +179,11 @@ def masked(key: bytes, iv: bytes, place: int, data: bytes) -> bytes:
     """The bytes combined with the key stream from this place of the plaintext on."""
     stream = Cipher(algorithms.AES(key), modes.CTR(iv + (2).to_bytes(4, "big"))).encryptor()
     mask = stream.update(bytes(place + len(data)))[place:]
-    return bytes(a ^ b for a, b in zip(data, mask))
+    return exclusive_or(data, mask)
+
+
+def exclusive_or(a: bytes, b: bytes) -> bytes:
+    return (int.from_bytes(a, "big") ^ int.from_bytes(b, "big")).to_bytes(len(a), "big")
 
 
 def tag_of(key: bytes, iv: bytes, authenticated: bytes, ciphertext: bytes) -> bytes:
@@ -210,7 +214,8 @@ class Lane:
     total: int = 0
 
     def live(self) -> Optional[int]:
-        return next((k for k in (0, 1) if self.slots[k].state == "live"), None)
+        first, second = self.slots
+        return 0 if first.state == "live" else 1 if second.state == "live" else None
 
     def live_draw(self) -> Optional[int]:
         """The greatest that is Live."""
@@ -338,12 +343,12 @@ class Line:
     0, `0 1` segment 1 of the hop of link 0, `3` the fourth stream between devices; `letter` is before its operations'
     words: none, h or p."""
 
-    def __init__(self, plan: StreamPlan, ports: Tuple[str, str], letter: str, name: str):
-        self.plan, self.ports, self.letter, self.name = plan, ports, letter, name
+    def __init__(self, plan: StreamPlan, ports: Tuple[str, str], letter: str, name: str, end_type: type = End):
+        self.plan, self.ports, self.letter, self.name, self.end_type = plan, ports, letter, name, end_type
         self.operation = Operation()
         # of the last establish that began, or of the last refresh since then that came to its end
         self.draw = 0
-        self.ends = [End(self, side) for side in (NEAR, FAR)]
+        self.ends = [end_type(self, side) for side in (NEAR, FAR)]
 
     is_hosted = property(lambda self: self.ports[NEAR][0] == "h")
 
@@ -354,7 +359,7 @@ class Line:
         return {name: exchanges for name, exchanges in table.items() if name != "refresh" or not self.letter}
 
     def clear(self, side: int):
-        self.ends[side] = End(self, side)
+        self.ends[side] = self.end_type(self, side)
 
 
 # ---- all links
@@ -377,6 +382,8 @@ class Links:
     """The ports of all links and of the switches on them. What has no interfaces and no trusted memory is these four:
     `sets_t`, `effect`, `stop_begins` and `ends_moved`; world.py has them with both."""
 
+    end_type = End
+
     def __init__(self, plan: Plan):
         self.plan = plan
         self.streams: Dict[Tuple[int, int], Line] = {}
@@ -391,15 +398,21 @@ class Links:
             self.add_link(link, link_plan)
         for number, peer in enumerate(plan.p2p):
             stream = StreamPlan(peer.id, mode=peer.mode)
-            self.peers.append(Line(stream, (f"d{peer.a}", f"d{peer.b}"), "p", str(number)))
+            self.peers.append(Line(stream, (f"d{peer.a}", f"d{peer.b}"), "p", str(number), self.end_type))
+        # each end by its port and stream
+        self.ends: Dict[Tuple[str, int], Tuple[Line, int]] = {}
+        for line in self.lines():
+            for side, port in enumerate(line.ports):
+                self.ends.setdefault((port, line.plan.id), (line, side))
 
     def add_link(self, link: int, link_plan: LinkPlan):
         for stream in link_plan.streams:
-            self.streams[link, stream.id] = Line(stream, (f"h{link}", f"d{link}"), "", f"{link} {stream.id}")
+            ports = (f"h{link}", f"d{link}")
+            self.streams[link, stream.id] = Line(stream, ports, "", f"{link} {stream.id}", self.end_type)
         if link_plan.hop is not None:
             stream = StreamPlan(link_plan.hop)
             for segment, ports in enumerate([(f"h{link}", f"u{link}"), (f"w{link}", f"d{link}")]):
-                self.segments[link, segment] = Line(stream, ports, "h", f"{link} {segment}")
+                self.segments[link, segment] = Line(stream, ports, "h", f"{link} {segment}", self.end_type)
                 self.waiting[link, segment] = []
 
     def lines(self) -> List[Line]:
@@ -407,8 +420,8 @@ class Links:
 
     def end_at(self, port: str, stream: int) -> Optional[End]:
         """What has this stream ID at a port."""
-        ends = [end for line in self.lines() if line.plan.id == stream for end in line.ends if end.port == port]
-        return ends[0] if ends else None
+        line, side = self.ends.get((port, stream), (None, 0))
+        return line.ends[side] if line else None
 
     # -- what stands beside the links
 

@@ -680,8 +680,8 @@ class Script:
         if what < 0.95:
             return self.numbered("halt", handle.number)
         if what < 0.97:
-            late = [self.late_request, self.late_request, self.late_answer, self.early_write]
-            self.queue = r.choice(late)(handle)
+            late = [self.late_request, self.late_request, self.late_answer, self.early_write, self.changed_at_lock]
+            self.queue = r.choice(late + [self.forged_twice] * (self.forgery > 0))(handle)
             return self.queue.pop(0)()
         if what < 0.98 and not self.is_posting:
             return self.operation("stop", handle.line)
@@ -746,6 +746,36 @@ class Script:
         opens = [lambda: f"send h{link} {completion.hex()} more"]
         reads = [lambda: f"send d{link} {memory_read(r, handle.plan.rid, self.plan.memory).hex()}", self.next_packet]
         return opens + self.run_again(handle) + reads * 3 + [lambda: f"answer {link}"] * 2
+
+    def changed_at_lock(self, handle: Handle) -> List[Text]:
+        """The host writes into a BAR before the lock, and a register changes before the start."""
+        write = lambda: f"send h{handle.link} {(bar_write(self.r, 0, handle.interface) or COMPLETION).hex()}"
+        change = lambda: f"write {handle.number} lnr {handle.interface.registers['lnr'] ^ 1}"
+        events = [self.of_handle(handle, name) for name in ("halt", "refresh", "lock", "report", "start")]
+        return events[:2] + [self.marking(write), self.pass_marked] + events[2:4] + [change] + events[4:]
+
+    def marking(self, text: Text) -> Text:
+        """What it seals is passed by `pass_marked`."""
+
+        def marked():
+            self.marked = self.sealed + 1
+            return text()
+
+        return marked
+
+    def forged_twice(self, handle: Handle) -> List[Text]:
+        """Someone who knows the key writes to trusted memory for an interface, under two of its locks; the second one
+        has no newer key."""
+        locks = [self.of_handle(handle, name) for name in ("halt", "lock", "report", "refresh", "start")]
+        forge = lambda: self.forged_write(handle)
+        return locks + [forge] + locks[:3] + locks[4:] + [forge]
+
+    def forged_write(self, handle: Handle) -> str:
+        region = self.r.choice(self.plan.memory) if self.plan.memory else RegionPlan(CLOSE, 4096)
+        address = region.base + 4 * self.r.randrange(900)
+        tlp = memory_request(self.r, handle.plan.rid, address, [1], 0x40)[0] + self.r.randbytes(4)
+        data = forged(self.r, self.world, handle.line.ends[HOST], tlp, True)
+        return f"arrive h{handle.link} {data.hex()}" if data else f"view {handle.number}"
 
     def flood(self, handle: Handle) -> List[Text]:
         """More reads than may wait."""
