@@ -121,6 +121,15 @@ def box(x: float, y: float, width: float, height: float, css: str = "", more: st
     return f'<rect x="{x:g}" y="{y:g}" width="{width:g}" height="{height:g}" class="{css}"{more}/>'
 
 
+def tipped(corner: Tuple[float, float], width: float, height: float, css: str, tips: Tuple[bool, bool]) -> str:
+    """A box that ends in a point on the left, on the right, on both sides or on none."""
+    x, y = corner
+    left, right = (min(5, width / 4) if tip else 0 for tip in tips)
+    upper = f"{x + left:g},{y:g} {x + width - right:g},{y:g} {x + width:g},{y + height / 2:g}"
+    lower = f"{x + width - right:g},{y + height:g} {x + left:g},{y + height:g} {x:g},{y + height / 2:g}"
+    return f'<polygon points="{upper} {lower}" class="{css}"/>'
+
+
 def cross(x: float, y: float, arm: float = 5) -> str:
     return line(x - arm, y - arm, x + arm, y + arm, "cross") + line(x - arm, y + arm, x + arm, y - arm, "cross")
 

@@ -8,14 +8,14 @@ from typing import Dict, List
 from charts import drawing
 from charts.bands import UNKNOWN, Bands, Key, Stream
 from charts.drawing import Chip, arrow, box, chips, cross, dot, draw_colour, group, label, line, tip, upright
-from charts.reading import DEVICE, HOST, Line, Row, Run, is_arrival, packet_named
+from charts.reading import DEVICE, HOST, ON_INTERFACES, Line, Row, Run, is_arrival, number, packet_named
 from charts.rows import Drawn, Fates, Places, draw_row, draw_text, fates_of
 
 MOST_ROWS, UNRUN_ROWS = 2000, 5
 # a chart of more rows than this folds; a phase that no comment ends has at most so many
 UNFOLDED_ROWS, PHASE_ROWS = 20, 50
 GUTTER, BAND, GAP, ROOM, HALF_LANE = 116, 24, 20, 266, 280
-TITLE_HEIGHT, HEAD_HEIGHT, TAIL = 24, 46, 30
+TITLE_HEIGHT, HEAD_HEIGHT, TAIL = 24, 46, 6
 LABEL_STEP = 620
 STATE_FILLS = {"unlocked": "#ffffff", "locked": "#fdebc2", "running": "#b5e0e8", "run": "#b5e0e8"}
 STATE_FILLS.update({"doubt": "url(#hatch)", UNKNOWN: "url(#hatch)"})
@@ -58,12 +58,13 @@ def name_of(key: Key) -> List[str]:
 
 
 def band_keys(bands: Bands, on: Line, side: str) -> List[Key]:
-    """The bands at this side: the streams that the run speaks of, and of a link the interfaces if it speaks of any."""
+    """The bands at this side: the streams that the run speaks of, and of a link those interfaces, if it moves any."""
     streams = sorted((key for key in bands.values if key[:3] == ("stream", on, side)), key=lambda key: key[3])
     kind = "view" if side == HOST else "state"
     faces = [place for place, face in enumerate(bands.run.topology.faces) if Line("link", face.link) == on]
-    moved = any(len(bands.changes[kind, place]) > 1 for kind in ("view", "state") for place in faces)
-    return streams + [(kind, place) for place in faces if moved]
+    moved = any(len(bands.changes[of, place]) > 1 for of in ("view", "state") for place in faces)
+    named = {number(row.words[1]) for row in bands.run.rows if row.verb() in ON_INTERFACES and len(row.words) > 1}
+    return streams + [(kind, place) for place in faces if moved and place in named]
 
 
 # ---- one line
@@ -232,7 +233,7 @@ def head_parts(chart: Chart, run: Run) -> List[str]:
     places, (left, right) = chart.places, run.topology.ends(chart.line)
     parts = [label(46, 40, "event", "small grey", "end")]
     parts.append(label(places.host, 40, left, "lane", "middle"))
-    parts.append(label(places.link, 22, "Link", "lane", "middle"))
+    parts.append(label(places.link, 22, chart.line.lane(), "lane", "middle"))
     parts.append(label(places.link, 40, "nobody trusts it", "small grey", "middle"))
     parts.append(label(places.device, 40, right, "lane", "middle"))
     for key, x in chart.columns.items():
@@ -386,7 +387,8 @@ def key(picture: str, width: float, text: str) -> str:
 def legend(run: Run) -> str:
     rows = [arrow_keys(), chip_keys(), band_keys_of(run)]
     words = "PR posted, NPR non-posted, CPL completion; T trusted; more: the unit goes on. Numbers in a bar are its "
-    words += "exchanges: filled ones were done in this event, pale ones before it. "
+    words += "exchanges, whose right tip is the request and whose left tip the reply: filled ones were done in this "
+    words += "event, pale ones before it, and those without tips not at all. "
     words += "The pointer on a row shows its lines."
     patterns = f'<svg xmlns="http://www.w3.org/2000/svg" width="0" height="0">{drawing.PATTERNS}</svg>'
     return patterns + "".join(f'<div class="legend">{"".join(row)}</div>' for row in rows + [[words]])

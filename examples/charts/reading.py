@@ -46,6 +46,10 @@ class Line:
             return f"Hop of link {self.number}, towards the {['host', 'device'][self.segment]}"
         return f"Link {self.number}" if self.kind == "link" else f"Stream {self.number} between devices"
 
+    def lane(self) -> str:
+        """What stands above the middle of its chart."""
+        return f"{({'link': 'Link', 'hop': 'Hop', 'peer': 'Stream'})[self.kind]} {self.number}"
+
     def mark(self) -> str:
         """Its name in the links of a page."""
         return f"{self.kind}-{self.number}-{self.segment}"

@@ -3,7 +3,7 @@
 from collections import Counter
 from dataclasses import dataclass
 from itertools import groupby
-from typing import List, Optional
+from typing import List, Optional, Tuple
 
 from charts import drawing
 from charts.bands import STATES
@@ -317,15 +317,27 @@ def draw_operation(row: Row, run: Run, places: Places, begun: int) -> Drawn:
     width = (right - left) / count
     for place in range(1, count + 1):
         css = cell_css(place, begun, stuck, ended)
+        tips = tips_of(row, css)
         x = left + (place - 1) * width
         cell = [drawing.tip(f"{exchange_name(row, place)}\n{row.raw()}")]
-        cell.append(box(x, top, width - 2, 15, f"cell {css}", ' rx="2"'))
+        cell.append(drawing.tipped((x, top), width - 2, 15, f"cell {css}", tips))
         if css == "stuck":
-            cell.append(cross(x + width - 12, top + 7.5, 4))
-        if width > 18:
-            cell.append(label(x + 5, top + 11.5, str(place), "tiny"))
+            cell.append(cross(x + (8 if tips == (False, True) else width - 10), top + 7.5, 4))
+        if css == "stuck" and width > 34:
+            cell.append(label(x + width / 2 - 1, top + 11.5, str(place), "tiny", "middle"))
+        elif css != "stuck" and width > 18:
+            cell.append(label(x + 6, top + 11.5, str(place), "tiny"))
         parts.append(drawing.group("exchange", cell))
     return Drawn(parts, BAR_HEIGHT, 27)
+
+
+def tips_of(row: Row, css: str) -> Tuple[bool, bool]:
+    """Whether an exchange has the tip of its reply, on the left, and that of its request, on the right."""
+    if css == "open":
+        return False, False
+    if css == "stuck" and row.answer() == "lost":
+        return False, row.verdict[1] == "reply"
+    return True, True
 
 
 def cell_css(place: int, begun: int, stuck: Optional[int], ended: bool) -> str:
