@@ -3,7 +3,7 @@ use Rattle.ide_port.proofs.Terms.{◌≡◌, ℕ, ◌<◌, true, false, ◌&&◌
 use Rattle.ide_port.proofs.Terms.{nat_lt, if◌then◌else◌, option_map, nat_tests, Side, SlotPair, Place, KeyCall}
 use Rattle.ide_port.proofs.Terms.{PlaceCall, slots_by, SlotsAfter}
 use Rattle.ide_types.specs.declared.direction.Direction.{Direction}
-use Rattle.ide_port.proofs.Terms.{StreamState, sends_in, pair_at, called, PortEnd, Found, found, changed, sub_from}
+use Rattle.ide_port.proofs.Terms.{StreamState, sends_in, called, PortEnd, Found, found, changed, sub_from}
 use Rattle.ide_port.proofs.Terms.{is_place, stream_at, shown, unfinished_at, called_states, called_port, NoneWaits}
 use Rattle.ide_km.specs.Calls as km
 use Rattle.ide_port.proofs.Streams.{found-id, found-changed, found-other}
@@ -29,9 +29,6 @@ apart side p q hp hq s differ d u = grind
     (arith, nat_tests, same_sends side p.direction q.direction, same_sub p.sub q.sub)
 
 -- ---- what is shown after a call
-
-abbrev shown_by : Side → Place → Option Found → Option SlotPair
-shown_by side p o = option_map (λ (f : Found). pair_at (sends_in side p.direction) (sub_from p.sub) f.state) o
 
 pub record Waitless (e : PortEnd) : Type 0 where
   pub none : (id : ℕ) (f : Found) → found e.plans e.states id ≡ Some f → NoneWaits f.state

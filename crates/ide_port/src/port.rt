@@ -23,7 +23,7 @@ use key_slots::{Key, OnlyLive};
 use link_verdicts::UnitName;
 use std::alloc::Global;
 use std::marker::Model;
-use sub_stream::{Delivered, Taken};
+use sub_stream::{Delivered, StreamFacts, Taken};
 use tlp_layout::{TlpView, read};
 use tsm_host::HostPort;
 
@@ -151,13 +151,6 @@ impl Port {
             lent: None,
             calls: 0,
         })
-    }
-
-    /// How many TLPs it was asked to send, and how many arrivals it had, together.
-    pub fn calls(&self) -> u64
-        ensures { result ≡ self.now.calls }
-    {
-        self.calls
     }
 
     // Nothing is sealed.
@@ -432,5 +425,21 @@ impl HostPort for Port {
 
     fn live_set(&self, stream: u8, sub: SubKind) -> Option<KeySet> {
         Port::live_set(self, stream, sub)
+    }
+}
+
+// ---- what is seen of it
+
+impl Port {
+    ghost use Rattle.ide_port.specs.Facts.{stream_facts_in};
+
+    /// What is seen of a stream; `None` if the port has no such stream.
+    pub fn facts(&self, stream: u8) -> Option<StreamFacts>
+        ensures { result ≡ stream_facts_in self.now stream }
+    {
+        match place(self.plans.as_slice(), stream) {
+            None => None,
+            Some(place) => Some(self.streams[place].facts()),
+        }
     }
 }

@@ -1,11 +1,11 @@
 -- What a stream keeps over its calls.
 use Rattle.std.proofs.Common.{◌≡◌, ℕ, ◌+◌, ◌≤◌, Bool, true, false, not, if◌then◌else◌, List, [], ◌++◌, length, Some}
-use Rattle.std.proofs.Common.{None, Ok, refl, sym, ap, ◌∙◌, arith}
+use Rattle.std.proofs.Common.{None, Result, Ok, Err, refl, sym, ap, ◌∙◌, subst, arith, append-nil}
 use Rattle.ide_types.specs.declared.sub.SubKind.{SubKind}
 use Rattle.ide_types.specs.declared.sub.SubKind.TheVariants.{Pr, Npr, Cpl}
 use Rattle.ide_types.specs.declared.port.Side.{Side}
 use Rattle.ide_prefix.specs.Packet.{Packet}
-use Rattle.stream_rules.specs.Sending.{Sending, sealed_by}
+use Rattle.stream_rules.specs.Sending.{Sending, sealed_by, refusals, first_that_holds}
 use Rattle.stream_rules.specs.Stream.{
   LaneSlots,
   TxSub,
@@ -28,7 +28,10 @@ use Rattle.key_slots.specs.{KeyCall}
 use Rattle.ide_stream.specs.declared.directions.Directions.{Directions}
 use Rattle.ide_stream.specs.Ends.{StreamEnd, lanes_in, taken_in, end_taken}
 use Rattle.ide_stream.specs.Sends.{ok_unless_verdict, refused, unless_verdict, IsSent, sealing}
+use Rattle.stream_lanes.specs.declared.refusal.SendRefusal.{SendRefusal}
+use Rattle.stream_lanes.specs.declared.refusal.SendRefusal.TheVariants.{Insecure as InsecureStream}
 use Rattle.stream_lanes.specs.{SendEnds, any_out, settled_out, IsSealed, packet_lengths, joined_packets, ReceiveEnds}
+use Rattle.stream_lanes.specs.{sealing_lanes, refusal_verdict, IsSealedOrRefused}
 use Rattle.stream_lanes.specs.{receiving_state, taken_among, opened_after, ends_after, is_fail}
 use Rattle.ide_stream.specs.Both.{called_directions, rested_directions, end_of, AtMost, IsStream}
 
@@ -82,7 +85,7 @@ send-kept d calls new inv same totals = record {
   few_takes = omega (arith, inv.few_takes);
 }
 
-pub sent-so : (side : Side) (d : Directions) (calls : ℕ) (head payload : List ℕ) (s : Sending) (number : ℕ)
+sent-so : (side : Side) (d : Directions) (calls : ℕ) (head payload : List ℕ) (s : Sending) (number : ℕ)
     (sealed : List SealedPacket) (before after : List ℕ) (new : SendEnds)
     → refused (end_of side d calls) s ≡ None → IsSealed d.tx head payload s number sealed before after new
     → IsSent (end_of side d calls) head payload s number (Ok sealed) before after
@@ -99,6 +102,57 @@ sent-so side d calls head payload s number sealed before after new clear is =
           ∙ ap (λ o. record e { state = unless_verdict o e.state (record e.state { tx = all.1 }); calls = calls + 1 })
           (sym clear);
     }
+
+refused-so : (side : Side) (d : Directions) (calls : ℕ) (head payload : List ℕ) (s : Sending) (number : ℕ)
+    (refusal : SendRefusal) (before : List ℕ)
+    → refused (end_of side d calls) s ≡ Some (refusal_verdict refusal)
+    → IsSent (end_of side d calls) head payload s number (Err refusal) before before (end_of side d (calls + 1))
+refused-so side d calls head payload s number refusal before is =
+    let e : StreamEnd = end_of side d calls in
+    let all = sealing e head payload s number in
+    record {
+      answered = ap (λ o. ok_unless_verdict o (sealed_by (lanes_in e) s number)) (sym is);
+      lengths = ap (λ o. packet_lengths (unless_verdict o [] all.0)) (sym is);
+      bytes = sym (append-nil before) ∙ ap (λ o. before ++ joined_packets (unless_verdict o [] all.0)) (sym is);
+      stream =
+          ap (λ o. record e { state = unless_verdict o e.state (record e.state { tx = all.1 }); calls = calls + 1 })
+          (sym is);
+    }
+
+pub insecure-so : (side : Side) (d : Directions) (calls : ℕ) (head payload : List ℕ) (s : Sending) (number : ℕ)
+    (before : List ℕ)
+    → d.failed ≡ true
+    → IsSent (end_of side d calls) head payload s number (Err InsecureStream) before before (end_of side d (calls + 1))
+insecure-so side d calls head payload s number before failed =
+    refused-so side d calls head payload s number InsecureStream before
+    (ap (λ (b : Bool). first_that_holds (refusals (record (lanes_in (end_of side d calls)) { failed = b }) s.class))
+    failed)
+
+-- of a stream that has not failed, what its senders make of it
+pub sent-among : (side : Side) (d : Directions) (calls : ℕ) (head payload : List ℕ) (s : Sending) (number : ℕ)
+    (answer : Result (List SealedPacket) SendRefusal) (before after : List ℕ) (new : SendEnds)
+    → d.failed ≡ false → IsSealedOrRefused d.tx head payload s number answer before after new
+    → IsSent (end_of side d calls) head payload s number answer before after
+    (end_of side (record d { tx = new }) (calls + 1))
+sent-among side d calls head payload s number (Ok sealed) before after new clear is =
+    let first = ap (λ (b : Bool). first_that_holds (refusals (record (sealing_lanes d.tx) { failed = b }) s.class))
+    clear in
+    sent-so side d calls head payload s number sealed before after new (first ∙ is.0) is.1
+sent-among side d calls head payload s number (Err refusal) before after new clear is =
+    let first = ap (λ (b : Bool). first_that_holds (refusals (record (sealing_lanes d.tx) { failed = b }) s.class))
+    clear in
+    subst (λ (y : List ℕ × SendEnds). IsSent (end_of side d calls) head payload s number (Err refusal) before y.0
+    (end_of side (record d { tx = y.1 }) (calls + 1))) (λ i. (sym is.1 i, sym is.2 i))
+    (refused-so side d calls head payload s number refusal before (first ∙ is.0))
+
+-- only the three senders change
+pub senders-alone : (old : SendEnds) (head payload : List ℕ) (s : Sending) (number : ℕ)
+    (answer : Result (List SealedPacket) SendRefusal) (before after : List ℕ) (new : SendEnds)
+    → IsSealedOrRefused old head payload s number answer before after new → new ≡ record old { tx = new.tx }
+senders-alone old head payload s number (Ok sealed) before after new is =
+    is.1.senders ∙ (λ i. record old { tx = (sym is.1.senders i).tx })
+senders-alone old head payload s number (Err refusal) before after new is =
+    is.2 ∙ (λ i. record old { tx = (sym is.2 i).tx })
 
 -- ---- an arrival
 

@@ -2,16 +2,16 @@
 
 ghost use Rattle.std.specs.Prelude.{◌≡◌, ◌==◌, ◌&&◌, ◌||◌, ◌+◌, ◌<◌, ◌≤◌, ◌^◌, ℕ, Bool, Some, IfOk, true, false, not};
 ghost use Rattle.std.specs.Prelude.{length, is_ok, vec_len, vec_capacity};
-ghost use Rattle.std.specs.Option.{option_map};
 ghost use Rattle.ide_plan.specs.Fits.{is_mode};
 ghost use Rattle.ide_types.specs.declared.port.PortName.{PortName};
 ghost use Rattle.ide_prefix.specs.Cut.{packet_of_view, IsView};
 ghost use Rattle.key_slots.specs.{slot_in, is_one, is_empty, program_answer, live_set, Program, Go, Halt};
-ghost use Rattle.stream_rules.specs.Sending.{sets_trusted, refusals, first_that_holds};
+ghost use Rattle.stream_rules.specs.Sending.{sets_trusted};
 ghost use Rattle.stream_rules.specs.Slots.{sealing_draw, receiving_draw};
 ghost use Rattle.stream_rules.specs.Stream.{at_sub};
 ghost use Rattle.sub_stream.specs.Calls.{pair_at, sends_in, status_by, stream_status};
 ghost use Rattle.sub_stream.specs.{answer_of};
+ghost use Rattle.sub_stream.specs.Facts.{lane_facts, stream_facts};
 
 use crate::directions::Directions;
 use ide_prefix::PacketView;
@@ -20,7 +20,7 @@ use key_slots::{Key, OnlyLive, SlotEmpty};
 use std::alloc::Global;
 use std::marker::Model;
 use stream_lanes::{Fixed, ReceiveLanes, Sealed, SendLanes, SendRefusal, failed};
-use sub_stream::{Delivered, PACKET_ROOM, SYNC_ROOM, Taken};
+use sub_stream::{Delivered, LaneFacts, PACKET_ROOM, SYNC_ROOM, StreamFacts, Taken};
 
 /// The most bytes that one send seals: a sync packet in each of two sub-streams, and the TLP's packet.
 pub const SEND_ROOM: usize = PACKET_ROOM + 2 * SYNC_ROOM;
@@ -69,9 +69,7 @@ fn status_of(failed: bool, some: bool, all: bool) -> StreamStatus
 
 impl Stream {
     ghost use Rattle.ide_stream.specs.Ends.{new_end, pair_in, taken_in, end_taken, called_end, reset_end};
-    ghost use Rattle.ide_stream.specs.Ends.{lanes_in};
     ghost use Rattle.ide_stream.specs.Sends.{IsSent, sending};
-    ghost use Rattle.stream_lanes.specs.{refusal_verdict};
 
     /// The stream `id` of a port of this side, without keys: its units have at most `mode` packets, 1, 2, 4 or 8, and a
     /// key seals at most `limit` units. If it is closed, the total of units finished before is authenticated before the
@@ -113,23 +111,6 @@ impl Stream {
         self.directions.tx.fixed().stream
     }
 
-    /// How many TLPs it was asked to send, and how many packets it was given, together.
-    pub fn calls(&self) -> u64
-        ensures { result ≡ self.now.calls }
-    {
-        self.calls
-    }
-
-    // Why a TLP of this sub-stream is not sealed; `None` if it is.
-    fn refusal(&self, sub: SubKind) -> Option<SendRefusal>
-        ensures { option_map refusal_verdict result ≡ first_that_holds (refusals (lanes_in self.now) sub) }
-    {
-        if self.directions.failed {
-            return Some(SendRefusal::Insecure);
-        }
-        self.directions.tx.refusal(sub)
-    }
-
     /// Seals a TLP's header and payload, of at most 16 and 4,096 bytes, after the sync packets that must go first, and
     /// appends the packets to `out`, which has room for `SEND_ROOM` bytes more. `more` says that its unit goes
     /// on if it has room, `t` that the TLP is trusted. Refused, in this order: Insecure, NoKey of the sub-stream,
@@ -156,10 +137,10 @@ impl Stream {
         ensures capacity { vec_capacity out.old ≤ vec_capacity out.new }
     {
         self.calls += 1;
-        match self.refusal(sub) {
-            Some(refusal) => Err(refusal),
-            None => Ok(self.directions.tx.send(sub, head, payload, more, t, out)),
+        if self.directions.failed {
+            return Err(SendRefusal::Insecure);
         }
+        self.directions.tx.send(sub, head, payload, more, t, out)
     }
 
     /// Takes a packet of the stream that `cut` gave, and answers what became of it; `None` if the stream is insecure.
@@ -265,5 +246,33 @@ impl Stream {
         self.directions.tx.clear();
         self.directions.rx.clear();
         self.directions.failed = false;
+    }
+}
+
+// ---- what is seen of it
+
+impl Stream {
+    // Of a sub-stream.
+    fn lane_facts(&self, sub: SubKind) -> LaneFacts
+        ensures { result ≡ lane_facts self.now.state sub }
+    {
+        LaneFacts {
+            sender: self.directions.tx.facts(sub),
+            receiver: self.directions.rx.facts(sub),
+        }
+    }
+
+    /// What is seen of it.
+    pub fn facts(&self) -> StreamFacts
+        ensures { result ≡ stream_facts self.now.closed self.now.state }
+    {
+        StreamFacts {
+            closed: self.directions.tx.fixed().closed,
+            failed: self.directions.failed,
+            status: self.status(),
+            pr: self.lane_facts(SubKind::Pr),
+            npr: self.lane_facts(SubKind::Npr),
+            cpl: self.lane_facts(SubKind::Cpl),
+        }
     }
 }

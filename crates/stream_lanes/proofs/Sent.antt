@@ -2,8 +2,9 @@
 -- Sync packets go only before a posted TLP, so it goes by class and, for a posted one, by which of the two go first.
 -- Each packet is that of the rules, as neither its number nor its port is in it and a sync packet has nothing of the
 -- TLP; after sync packets the TLP's own sender is as before, and the joined bytes are only grouped anew.
-use Rattle.std.proofs.Common.{◌≡◌, ℕ, ◌+◌, ◌≤◌, Bool, true, false, ◌&&◌, if◌then◌else◌, List, [], ◌∷◌, ◌++◌, length}
-use Rattle.std.proofs.Common.{map, Option, Some, None, refl, sym, ap, ◌∙◌, subst, arith, append_assoc, append-nil}
+use Rattle.std.proofs.Common.{◌≡◌, ℕ, ◌+◌, ◌≤◌, Bool, true, false, ◌&&◌, ◌||◌, if◌then◌else◌, List, [], ◌∷◌, ◌++◌}
+use Rattle.std.proofs.Common.{length, is_none, map, Option, Some, None, refl, sym, ap, ◌∙◌, subst, arith}
+use Rattle.std.proofs.Common.{append_assoc, append-nil}
 use Rattle.ide_types.specs.declared.sub.SubKind.{SubKind}
 use Rattle.ide_types.specs.declared.sub.SubKind.TheVariants.{Pr, Npr, Cpl}
 use Rattle.ide_types.specs.declared.port.PortName.{PortName}
@@ -12,8 +13,10 @@ use Rattle.link_verdicts.specs.declared.verdict.SealedPacket.{SealedPacket as De
 use Rattle.ide_prefix.specs.Packet.{Packet, packet_bytes}
 use Rattle.stream_rules.specs.Sending.{Sending, Lanes, ahead_with, is_keyless, is_worn, needs_sync, refusals}
 use Rattle.stream_rules.specs.Sending.{first_that_holds, described, ends_unit, sets_trusted, sealed_by}
-use Rattle.stream_rules.specs.Stream.{LiveKey, TxSub, at_sub, each_sub, live_sender, packet_under, sealed_sub}
+use Rattle.stream_rules.specs.Stream.{LaneSlot, Empty, Programmed, Armed, Live, LaneSlots, LiveKey, TxSub, lane_of}
+use Rattle.stream_rules.specs.Stream.{at_sub, each_sub, live_sender, packet_under, sealed_sub}
 use Rattle.stream_rules.specs.Stream.{sealed_one, sealed_all}
+use Rattle.stream_rules.specs.Slots.{is_live_slot, any_live}
 use Rattle.sub_stream.specs.declared.answer.SealedPacket.{SealedPacket}
 use Rattle.stream_lanes.specs.Sends.{numbered_from, joined_packets, packet_lengths, IsSealed}
 use Rattle.stream_lanes.specs.declared.fixed.Fixed.{Fixed}
@@ -55,6 +58,27 @@ clear-facts x sub e =
       npr_unworn = g.0;
       cpl_unworn = h.0;
     }
+
+-- a sub-stream with a key has a Live slot
+pub keyed-live : (s : LaneSlots) (posted : ℕ) → is_none (lane_of posted (live_sender s)).key ≡ false → any_live s
+    ≡ true
+keyed-live s posted = by_slots s.first s.second
+  where
+    by_slots : (a b : LaneSlot) → is_none (lane_of posted (live_sender (record { first = a; second = b }))).key ≡ false
+        → (is_live_slot a || is_live_slot b) ≡ true
+    by_slots (Live x) b e = refl
+    by_slots Empty (Live y) e = refl
+    by_slots (Programmed i k) (Live y) e = refl
+    by_slots (Armed i k) (Live y) e = refl
+    by_slots Empty Empty e = absurd (cc)
+    by_slots Empty (Programmed j l) e = absurd (cc)
+    by_slots Empty (Armed j l) e = absurd (cc)
+    by_slots (Programmed i k) Empty e = absurd (cc)
+    by_slots (Programmed i k) (Programmed j l) e = absurd (cc)
+    by_slots (Programmed i k) (Armed j l) e = absurd (cc)
+    by_slots (Armed i k) Empty e = absurd (cc)
+    by_slots (Armed i k) (Programmed j l) e = absurd (cc)
+    by_slots (Armed i k) (Armed j l) e = absurd (cc)
 
 pub when-needed : (a b : Bool) → (a && b) ≡ false → a ≡ true → b ≡ false
 when-needed true b e f = e

@@ -5,6 +5,7 @@ pub mod Arrivals
 pub use Rattle.stream_lanes.specs.Lanes.{SendEnds, new_send_ends, end_at, sealing_lanes, any_out, all_out, settled_out}
 pub use Rattle.stream_lanes.specs.Lanes.{called_ends}
 pub use Rattle.stream_lanes.specs.Sends.{refusal_verdict, numbered_from, joined_packets, packet_lengths, IsSealed}
+pub use Rattle.stream_lanes.specs.Sends.{IsSealedOrRefused}
 pub use Rattle.stream_lanes.specs.Arrivals.{ReceiveEnds, no_receivers, new_receive_ends, receiving_state, taken_among}
 pub use Rattle.stream_lanes.specs.Arrivals.{opened_after, ends_after, is_fail, any_into, all_into, rested_into}
 pub use Rattle.stream_lanes.specs.Arrivals.{called_receivers}

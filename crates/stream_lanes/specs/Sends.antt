@@ -1,11 +1,11 @@
 -- What becomes of a send at the senders of a stream: its answer, and the packets' bytes.
-use Rattle.std.specs.Prelude.{ℕ, ◌≡◌, ◌+◌, List, [], ◌∷◌, ◌++◌, length, map}
+use Rattle.std.specs.Prelude.{ℕ, ◌≡◌, ◌+◌, List, [], ◌∷◌, ◌++◌, length, map, Some, None, Result, Ok, Err}
 use Rattle.ide_types.specs.declared.port.PortName.{PortName}
 use Rattle.link_verdicts.specs.declared.verdict.Verdict.{Verdict}
 use Rattle.link_verdicts.specs.declared.verdict.Verdict.TheVariants as v
 use Rattle.link_verdicts.specs.declared.verdict.SealedPacket.{SealedPacket as Described}
 use Rattle.ide_prefix.specs.Packet.{Packet, packet_bytes}
-use Rattle.stream_rules.specs.Sending.{Sending, sealed_by}
+use Rattle.stream_rules.specs.Sending.{Sending, sealed_by, refusals, first_that_holds}
 use Rattle.stream_rules.specs.Stream.{sealed_all}
 use Rattle.sub_stream.specs.{numbered}
 use Rattle.sub_stream.specs.declared.answer.SealedPacket.{SealedPacket}
@@ -42,3 +42,13 @@ pub record IsSealed (old : SendEnds) (head payload : List ℕ) (s : Sending) (nu
       (sealed_by (sealing_lanes old) s number) old.tx).0
   pub senders : new ≡ record old
       { tx = (sealed_all old.fixed.closed head payload (sealed_by (sealing_lanes old) s number) old.tx).1 }
+
+-- what they make of any TLP: a refusal changes nothing
+abbrev pub IsSealedOrRefused : SendEnds → List ℕ → List ℕ → Sending → ℕ → Result (List SealedPacket) SendRefusal
+    → List ℕ → List ℕ → SendEnds → Type 0
+IsSealedOrRefused old head payload s number (Ok sealed) before after new =
+    (first_that_holds (refusals (sealing_lanes old) s.class) ≡ None)
+    × IsSealed old head payload s number sealed before after new
+IsSealedOrRefused old head payload s number (Err refusal) before after new =
+    (first_that_holds (refusals (sealing_lanes old) s.class) ≡ Some (refusal_verdict refusal))
+    × (after ≡ before) × (new ≡ old)

@@ -14,6 +14,7 @@ ghost use Rattle.stream_lanes.specs.Arrivals.{ends_after, is_fail, lent_after, a
 ghost use Rattle.stream_lanes.specs.Arrivals.{called_receivers, no_receivers, new_receive_end, no_rx, called_into};
 ghost use Rattle.stream_lanes.specs.Arrivals.{count_in};
 ghost use Rattle.stream_rules.specs.Sending.{is_posted};
+ghost use Rattle.sub_stream.specs.Facts.{receiver_facts};
 ghost use Rattle.sub_stream.specs.Receivers.{is_accepted};
 
 use crate::fixed::{Fixed, lent_total};
@@ -22,7 +23,7 @@ use ide_types::{KeySet, Memory, SubKind};
 use key_slots::{Key, OnlyLive, SlotEmpty};
 use std::alloc::Global;
 use std::marker::Model;
-use sub_stream::{Delivered, Rx, Taken};
+use sub_stream::{Delivered, ReceiverFacts, Rx, Taken};
 use unit_aggregation::UnitBuf;
 
 /// A receiver of one sub-stream with its counts.
@@ -481,5 +482,30 @@ impl ReceiveLanes {
         self.pr.clear();
         self.npr.clear();
         self.cpl.clear();
+    }
+}
+
+// ---- what is seen of them
+
+impl ReceiveLane {
+    /// What is seen of it.
+    pub fn facts(&self) -> ReceiverFacts
+        ensures { result ≡ receiver_facts self.now.kept }
+    {
+        ReceiverFacts {
+            sets: self.rx.facts(),
+            sum: self.sum,
+            got: self.got,
+            total: self.total,
+        }
+    }
+}
+
+impl ReceiveLanes {
+    /// What is seen of the receiver of a sub-stream.
+    pub fn facts(&self, sub: SubKind) -> ReceiverFacts
+        ensures { result ≡ receiver_facts (at_sub self.now.rx sub) }
+    {
+        pick(sub, &self.pr, &self.npr, &self.cpl).facts()
     }
 }

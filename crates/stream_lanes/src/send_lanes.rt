@@ -13,7 +13,8 @@ ghost use Rattle.stream_rules.specs.Sending.{refusals, first_that_holds, sets_tr
 ghost use Rattle.stream_rules.specs.Stream.{at_sub};
 ghost use Rattle.stream_rules.specs.Slots.{any_live, sealing_draw};
 ghost use Rattle.sub_stream.specs.{slot_pair};
-ghost use Rattle.stream_lanes.specs.Sends.{refusal_verdict, IsSealed};
+ghost use Rattle.sub_stream.specs.Facts.{sender_facts};
+ghost use Rattle.stream_lanes.specs.Sends.{refusal_verdict, IsSealed, IsSealedOrRefused};
 ghost use Rattle.stream_lanes.specs.Lanes.{new_send_ends, end_at, sealing_lanes, sealing_lane, is_spent, tlp_said};
 ghost use Rattle.stream_lanes.specs.Lanes.{packet_said_at, sealed_ends, measured, open_in, any_out, all_out};
 ghost use Rattle.stream_lanes.specs.Lanes.{settled_out, called_ends, synced, sync_packets, sync_bytes, new_send_end};
@@ -27,7 +28,7 @@ use ide_types::{KeySet, Memory, SubKind};
 use key_slots::{Key, OnlyLive, SlotEmpty};
 use std::alloc::Global;
 use std::marker::Model;
-use sub_stream::{PACKET_ROOM, SYNC_ROOM, SealedPacket, Tx, TxRefusal};
+use sub_stream::{PACKET_ROOM, SYNC_ROOM, SealedPacket, SenderFacts, Tx, TxRefusal};
 use unit_aggregation::UnitBuf;
 
 /// A sender of one sub-stream with its posted count and its total.
@@ -382,26 +383,10 @@ impl SendLanes {
         class != SubKind::Pr && !self.pr.begins()
     }
 
-    // Whether a sync packet that goes first finds no Live key.
-    fn sync_keyless(&self, class: SubKind, sub: SubKind) -> bool
-        requires { is_posted sub ≡ false }
-        ensures { result ≡ (needs_sync (sealing_lanes self.now) class sub && is_keyless (sealing_lanes self.now) sub) }
-    {
-        self.needs_sync(class, sub) && self.keyless(sub)
-    }
-
-    // Whether a sync packet that goes first would begin a unit, and may not.
-    fn sync_worn(&self, class: SubKind, sub: SubKind) -> bool
-        requires { is_posted sub ≡ false }
-        ensures { result ≡ (needs_sync (sealing_lanes self.now) class sub && is_worn (sealing_lanes self.now) sub) }
-    {
-        self.needs_sync(class, sub) && self.worn(sub)
-    }
-
-    /// Why a TLP of this sub-stream is not sealed; `None` if it is. In this order: NoKey of the sub-stream, Unfinished,
-    /// NoKey of a sub-stream that needs a sync packet first, Worn of the sub-stream, Worn of one that needs a sync
-    /// packet first.
-    pub fn refusal(&self, sub: SubKind) -> Option<SendRefusal>
+    // Why a TLP of this sub-stream is not sealed; `None` if it is. `npr` and `cpl` say which sync packets go first.
+    fn refusal(&self, sub: SubKind, npr: bool, cpl: bool) -> Option<SendRefusal>
+        requires npr { npr ≡ needs_sync (sealing_lanes self.now) sub Npr }
+        requires cpl { cpl ≡ needs_sync (sealing_lanes self.now) sub Cpl }
         ensures { option_map refusal_verdict result ≡ first_that_holds (refusals (sealing_lanes self.now) sub) }
     {
         if self.keyless(sub) {
@@ -410,19 +395,19 @@ impl SendLanes {
         if self.waits(sub) {
             return Some(SendRefusal::Unfinished);
         }
-        if self.sync_keyless(sub, SubKind::Npr) {
+        if npr && self.keyless(SubKind::Npr) {
             return Some(SendRefusal::NoKey(SubKind::Npr));
         }
-        if self.sync_keyless(sub, SubKind::Cpl) {
+        if cpl && self.keyless(SubKind::Cpl) {
             return Some(SendRefusal::NoKey(SubKind::Cpl));
         }
         if self.worn(sub) {
             return Some(SendRefusal::Worn(sub, self.fixed.limit));
         }
-        if self.sync_worn(sub, SubKind::Npr) {
+        if npr && self.worn(SubKind::Npr) {
             return Some(SendRefusal::Worn(SubKind::Npr, self.fixed.limit));
         }
-        if self.sync_worn(sub, SubKind::Cpl) {
+        if cpl && self.worn(SubKind::Cpl) {
             return Some(SendRefusal::Worn(SubKind::Cpl, self.fixed.limit));
         }
         None
@@ -532,17 +517,24 @@ impl SendLanes {
         }
     }
 
-    /// Seals a TLP that `refusal` does not refuse, after the sync packets that must go first, and appends the packets
-    /// to `out`. `more` says that its unit goes on if it has room, `t` that the TLP is trusted.
-    pub fn send(
+    // Seals a TLP that `refusal` does not refuse, after the sync packets that go first.
+    fn seal_with_syncs(
         &mut self,
         sub: SubKind,
+        npr: bool,
+        cpl: bool,
         head: &[u8],
         payload: &[u8],
         more: bool,
         t: bool,
         out: &mut Vec<u8>,
     ) -> Sealed
+        requires npr { npr ≡ needs_sync (sealing_lanes self.old) sub Npr }
+        requires cpl { cpl ≡ needs_sync (sealing_lanes self.old) sub Cpl }
+        requires npr_room { is_posted sub ≡ true → (if npr then 0 else (at_sub self.old.tx Npr).posted)
+            + self.old.fixed.mode ≤ 255 + length (open_in self.old.tx.pr.slots) }
+        requires cpl_room { is_posted sub ≡ true → (if cpl then 0 else (at_sub self.old.tx Cpl).posted)
+            + self.old.fixed.mode ≤ 255 + length (open_in self.old.tx.pr.slots) }
         requires clear { first_that_holds (refusals (sealing_lanes self.old) sub) ≡ None }
         requires few { (u : SubKind) → (at_sub self.old.tx u).total < 2 ^ 40 }
         requires head_short { length head.now ≤ 16 }
@@ -554,14 +546,43 @@ impl SendLanes {
         ensures totals { (u : SubKind) → (at_sub self.new.tx u).total ≤ (at_sub self.old.tx u).total + 1 }
         ensures capacity { vec_capacity out.old ≤ vec_capacity out.new }
     {
-        let npr = self.needs_sync(sub, SubKind::Npr);
-        let cpl = self.needs_sync(sub, SubKind::Cpl);
         let mut sealed = Sealed::new();
         self.sync_npr(npr, &mut sealed, out);
         self.sync_cpl(cpl, &mut sealed, out);
         let packet = self.seal(sub, head, payload, more, t, out);
         sealed.push(packet);
         sealed
+    }
+
+    /// Seals a TLP after the sync packets that must go first, and appends the packets to `out`. `more` says that its
+    /// unit goes on if it has room, `t` that the TLP is trusted. Refused, in this order: NoKey of the sub-stream,
+    /// Unfinished, NoKey of a sub-stream that needs a sync packet first, Worn of the sub-stream, Worn of one that needs
+    /// a sync packet first. A refusal changes nothing.
+    pub fn send(
+        &mut self,
+        sub: SubKind,
+        head: &[u8],
+        payload: &[u8],
+        more: bool,
+        t: bool,
+        out: &mut Vec<u8>,
+    ) -> Result<Sealed, SendRefusal>
+        requires few { (u : SubKind) → (at_sub self.old.tx u).total < 2 ^ 40 }
+        requires head_short { length head.now ≤ 16 }
+        requires payload_short { length payload.now ≤ 4096 }
+        requires room { vec_len out.old + PACKET_ROOM + 2 * SYNC_ROOM ≤ vec_capacity out.old }
+        ensures sent { (s : Sending) (number : ℕ) → s.stream ≡ self.old.fixed.stream → s.class ≡ sub → s.more ≡ more
+            → sets_trusted s.port s.trusted ≡ t
+            → IsSealedOrRefused self.old head.now payload.now s number result out.old.items out.new.items self.new }
+        ensures totals { (u : SubKind) → (at_sub self.new.tx u).total ≤ (at_sub self.old.tx u).total + 1 }
+        ensures capacity { vec_capacity out.old ≤ vec_capacity out.new }
+    {
+        let npr = self.needs_sync(sub, SubKind::Npr);
+        let cpl = self.needs_sync(sub, SubKind::Cpl);
+        match self.refusal(sub, npr, cpl) {
+            Some(refusal) => Err(refusal),
+            None => Ok(self.seal_with_syncs(sub, npr, cpl, head, payload, more, t, out)),
+        }
     }
 
     /// Lets them count from 0 again if none has a Live slot.
@@ -626,5 +647,29 @@ impl SendLanes {
         self.pr.clear();
         self.npr.clear();
         self.cpl.clear();
+    }
+}
+
+// ---- what is seen of them
+
+impl SendLane {
+    /// What is seen of it.
+    pub fn facts(&self) -> SenderFacts
+        ensures { result ≡ sender_facts self.now.kept }
+    {
+        SenderFacts {
+            sets: self.tx.facts(),
+            posted: self.posted,
+            total: self.total,
+        }
+    }
+}
+
+impl SendLanes {
+    /// What is seen of the sender of a sub-stream.
+    pub fn facts(&self, sub: SubKind) -> SenderFacts
+        ensures { result ≡ sender_facts (at_sub self.now.tx sub) }
+    {
+        self.lane(sub).facts()
     }
 }

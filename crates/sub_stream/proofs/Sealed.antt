@@ -3,13 +3,14 @@
 -- tried for all pairs of slot states. The hard part is the limit of a key: a unit that begins has passed the test for a
 -- worn key, and of an open one the invariant says that it is within the limit.
 use Rattle.std.proofs.Common.{◌≡◌, ℕ, ◌+◌, ◌<◌, ◌≤◌, Bool, true, false, not, ◌&&◌, ◌||◌, ◌==◌, if◌then◌else◌, List, []}
-use Rattle.std.proofs.Common.{◌∷◌, ◌++◌, length, Ok, Err, refl, sym, ap, ◌∙◌, arith, append_assoc}
+use Rattle.std.proofs.Common.{◌∷◌, ◌++◌, length, Ok, Err, refl, sym, ap, ◌∙◌, arith, append_assoc, append-nil}
+use Rattle.std.proofs.Common.{drop, length-append}
 use Rattle.std.proofs.lemmas.Grind.{common_steps}
 use Rattle.gcm_seal.specs.Gcm.{masked, tag_of}
 use Rattle.ide_prefix.specs.declared.packet.Prefix.{Prefix}
 use Rattle.ide_prefix.specs.Iv.{iv_of}
-use Rattle.ide_prefix.specs.Packet.{Packet, prefix_bytes, packet_bytes, sync_head}
-use Rattle.ide_prefix.specs.Units.{encrypted}
+use Rattle.ide_prefix.specs.Packet.{Packet, prefix_bytes, packet_bytes, packet_first, sync_head}
+use Rattle.ide_prefix.specs.Units.{authenticated, encrypted}
 use Rattle.stream_rules.specs.Stream.{LaneSlots, LiveKey, live_sender, sealed_slots, ended_slots}
 use Rattle.key_slots.specs.declared.slot.Slot.{Slot as KeySlot}
 use Rattle.key_slots.specs.declared.slot.Slot.TheVariants.{Empty, Programmed, Armed, Live}
@@ -17,24 +18,13 @@ use Rattle.key_slots.specs.{SlotPair}
 use Rattle.sub_stream.specs.declared.answer.TxRefusal.TheVariants.{Worn}
 use Rattle.sub_stream.specs.Seen.{seen_out, has_live, both_live}
 use Rattle.sub_stream.specs.Gathered.{Gathered, with_packet, clear_of, no_packets}
+use Rattle.sub_stream.specs.Masked.{masked_packet, packet_with_tag}
 use Rattle.sub_stream.specs.Senders.{Sender, Content, ready_of, ready_under, sealing_of, sealing_under, sealing_as}
 use Rattle.sub_stream.specs.Senders.{tagged_packet, ends, ahead_for, IsSender}
 
 pub sealing_with : (tx : Sender) (total : List ℕ) (c : Content) (more : Bool) (x : Bool × LiveKey) → Ok x ≡ ready_of tx
     → sealing_of tx total c more ≡ Ok (sealing_as tx total x c (ends tx x.1 more))
 sealing_with tx total c more x e = ap (sealing_under tx total c more) (sym e)
-
--- the packet before its tag
-abbrev pub bare : List ℕ → List ℕ → List Packet → Prefix → List ℕ → List ℕ → Packet
-bare key iv ps prefix head payload =
-    record { prefix = prefix; head = head; body = masked key iv (length (encrypted ps)) payload; tag = [] }
-
-abbrev pub tagged : Bool → List ℕ → List ℕ → Gathered → Packet → Packet
-tagged m key iv unit q =
-    record q {
-      tag = if m then tag_of key iv (clear_of (with_packet unit q)) (encrypted (with_packet unit q).packets)
-          else [];
-    }
 
 -- it is the rules' packet
 pub packet-tagged : (tx : Sender) (total : List ℕ) (x : Bool × LiveKey) (c : Content) (m : Bool) (unit : Gathered)
@@ -43,24 +33,81 @@ pub packet-tagged : (tx : Sender) (total : List ℕ) (x : Bool × LiveKey) (c : 
     → (if c.sync then sync_head else c.head) ≡ c.head → (if c.sync then [] else c.payload) ≡ c.payload
     → prefix ≡ record { m = m; k = x.0; t = c.t; sub = tx.sub; stream = tx.stream; posted = c.posted }
     → iv ≡ iv_of tx.sub (x.1.units + 1)
-    → tagged m x.1.key iv unit (bare x.1.key iv unit.packets prefix c.head c.payload) ≡ tagged_packet tx total x c m
+    → packet_with_tag m x.1.key iv unit (masked_packet x.1.key iv unit.packets prefix c.head c.payload)
+    ≡ tagged_packet tx total x c m
 packet-tagged tx total x c m unit prefix iv ps ahead head payload is_prefix is_iv =
     rw (ps, ahead, is_prefix, is_iv, head, payload) refl
 
 pub bytes-sealed : (key iv out0 out1 out2 head payload : List ℕ) (prefix : Prefix) (unit unit2 : Gathered) (m : Bool)
     → out1 ≡ out0 ++ (prefix_bytes prefix ++ (head ++ masked key iv (length (encrypted unit.packets)) payload))
-    → unit2 ≡ with_packet unit (bare key iv unit.packets prefix head payload)
+    → unit2 ≡ with_packet unit (masked_packet key iv unit.packets prefix head payload)
     → out2 ≡ out1 ++ (if m then tag_of key iv (clear_of unit2) (encrypted unit2.packets) else [])
-    → out2 ≡ out0 ++ packet_bytes (tagged m key iv unit (bare key iv unit.packets prefix head payload))
+    → out2 ≡ out0 ++ packet_bytes
+    (packet_with_tag m key iv unit (masked_packet key iv unit.packets prefix head payload))
 bytes-sealed key iv out0 out1 out2 head payload prefix unit unit2 m is1 is_unit is2 =
     let t : List ℕ = if m then tag_of key iv
-    (clear_of (with_packet unit (bare key iv unit.packets prefix head payload)))
-    (encrypted (with_packet unit (bare key iv unit.packets prefix head payload)).packets) else [] in
+    (clear_of (with_packet unit (masked_packet key iv unit.packets prefix head payload)))
+    (encrypted (with_packet unit (masked_packet key iv unit.packets prefix head payload)).packets) else [] in
     rw (is2, is1, is_unit)
     (regroup out0 (prefix_bytes prefix) head (masked key iv (length (encrypted unit.packets)) payload) t)
   where
     regroup : (a p h b t : List ℕ) → (a ++ (p ++ (h ++ b))) ++ t ≡ a ++ (p ++ (h ++ (b ++ t)))
     regroup a p h b t = simp append_assoc
+
+-- what was appended of a packet, and its two parts
+pub parts-appended : (key iv out0 out1 bytes head payload bodies first second : List ℕ) (prefix : Prefix)
+    (ps : List Packet) (n : ℕ)
+    → ((before front rest : List ℕ) → bytes ≡ before ++ (front ++ rest) → length before ≡ n
+    → length front ≡ 4 + length head → (first ≡ front) × (second ≡ rest))
+    → n ≡ length out0 → bytes ≡ out1 → bodies ≡ encrypted ps
+    → out1 ≡ out0 ++ (prefix_bytes prefix ++ (head ++ masked key iv (length bodies) payload))
+    → (first ≡ prefix_bytes prefix ++ head) × (second ≡ masked key iv (length (encrypted ps)) payload)
+    × (out1 ≡ out0 ++ (prefix_bytes prefix ++ (head ++ masked key iv (length (encrypted ps)) payload)))
+parts-appended key iv out0 out1 bytes head payload bodies first second prefix ps n cut start is_bytes is_bodies is =
+    let long : length (prefix_bytes prefix ++ head) ≡ 4 + length head = length-append (prefix_bytes prefix) head in
+    let p = cut out0 (prefix_bytes prefix ++ head) (masked key iv (length bodies) payload) (is_bytes ∙ is) (sym start)
+    long in (
+      p.0,
+      p.1 ∙ ap (λ b. masked key iv (length b) payload) is_bodies,
+      is ∙ ap (λ b. out0 ++ (prefix_bytes prefix ++ (head ++ masked key iv (length b) payload))) is_bodies,
+    )
+
+-- before a packet that is alone in its unit nothing is authenticated
+pub bytes-alone : (key iv out0 out1 out2 clear body head payload tag : List ℕ) (prefix : Prefix) (unit : Gathered)
+    (m : Bool)
+    → (length (clear_of unit) == 0) ≡ true → m ≡ true
+    → out1 ≡ out0 ++ (prefix_bytes prefix ++ (head ++ masked key iv (length (encrypted unit.packets)) payload))
+    → clear ≡ prefix_bytes prefix ++ head → body ≡ masked key iv (length (encrypted unit.packets)) payload
+    → tag ≡ tag_of key iv clear body → out2 ≡ out1 ++ tag
+    → out2 ≡ out0 ++ packet_bytes (packet_with_tag m key iv unit (masked_packet key iv unit.packets prefix head
+    payload))
+bytes-alone key iv out0 out1 out2 clear body head payload tag prefix unit m none is_m is1 is_clear is_body is_tag is2 =
+    by_unit unit.ahead unit.packets none is_body is1
+  where
+    regroup : (a p h b t : List ℕ) → (a ++ (p ++ (h ++ b))) ++ t ≡ a ++ (p ++ (h ++ (b ++ t)))
+    regroup a p h b t = simp append_assoc
+
+    some : (n : ℕ) (ns : List ℕ) → (length (n ∷ ns) == 0) ≡ true → ⊥
+    some n ns e = let no : (length (n ∷ ns) == 0) ≡ false = grind (arith, common_steps) in absurd (cc)
+
+    by_unit : (ahead : List ℕ) (ps : List Packet) → (length (ahead ++ authenticated ps) == 0) ≡ true
+        → body ≡ masked key iv (length (encrypted ps)) payload
+        → out1 ≡ out0 ++ (prefix_bytes prefix ++ (head ++ masked key iv (length (encrypted ps)) payload))
+        → out2 ≡ out0 ++ packet_bytes (packet_with_tag m key iv
+        (record { mode = unit.mode; ahead = ahead; packets = ps }) (masked_packet key iv ps prefix head payload))
+    by_unit [] [] e b1 o1 =
+        let c : clear ≡ (prefix_bytes prefix ++ head) ++ [] = is_clear ∙ sym (append-nil (prefix_bytes prefix ++ head))
+        in
+        let d : body ≡ masked key iv 0 payload ++ [] = b1 ∙ sym (append-nil (masked key iv 0 payload)) in
+        is2 ∙ (λ i. o1 i ++ (is_tag ∙ (λ j. tag_of key iv (c j) (d j))) i)
+        ∙ regroup out0 (prefix_bytes prefix) head (masked key iv 0 payload)
+        (tag_of key iv ((prefix_bytes prefix ++ head) ++ []) (masked key iv 0 payload ++ []))
+        ∙ ap (λ b. out0 ++ packet_bytes (packet_with_tag b key iv
+        (record { mode = unit.mode; ahead = []; packets = [] }) (masked_packet key iv [] prefix head payload)))
+        (sym is_m)
+    by_unit [] (p ∷ ps) e b1 o1 =
+        absurd (some packet_first (drop 1 (prefix_bytes p.prefix) ++ p.head ++ authenticated ps) e)
+    by_unit (n ∷ ns) ps e b1 o1 = absurd (some n (ns ++ authenticated ps) e)
 
 -- ---- the slots after it
 
@@ -110,19 +157,22 @@ goes_on pair units ps p = by_slots pair.zero pair.one
     by_slots (Live g) (Armed h) = refl
     by_slots (Live g) (Live h) = refl
 
-pub slots-sealed : (m : Bool) (pair : SlotPair) (units : ℕ) (ps : List Packet) (key iv : List ℕ) (unit : Gathered)
+pub slots-sealed : (m : Bool) (pair : SlotPair) (units : ℕ) (ps qs : List Packet) (key iv : List ℕ) (unit : Gathered)
     (q : Packet) (slots : LaneSlots)
-    → q.tag ≡ []
-    → slots ≡ (if m then ended_slots (seen_out pair units (ps ++ q ∷ [])) else seen_out pair units (ps ++ q ∷ []))
-    → slots ≡ sealed_slots m (tagged m key iv unit q) (seen_out pair units ps)
-slots-sealed true pair units ps key iv unit q slots bare_tag is = is ∙ ended-open pair units (ps ++ q ∷ []) ps
-slots-sealed false pair units ps key iv unit q slots bare_tag is =
-    let same : q ≡ tagged false key iv unit q = rw bare_tag refl in
-    is ∙ goes_on pair units ps q ∙ ap (λ p. sealed_slots false p (seen_out pair units ps)) same
+    → q.tag ≡ [] → (m ≡ false → qs ≡ ps ++ q ∷ [])
+    → slots ≡ (if m then ended_slots (seen_out pair units qs) else seen_out pair units qs)
+    → slots ≡ sealed_slots m (packet_with_tag m key iv unit q) (seen_out pair units ps)
+slots-sealed true pair units ps qs key iv unit q slots bare_tag more is = is ∙ ended-open pair units qs ps
+slots-sealed false pair units ps qs key iv unit q slots bare_tag more is =
+    let same : q ≡ packet_with_tag false key iv unit q = rw bare_tag refl in
+    is ∙ ap (λ xs. seen_out pair units xs) (more refl) ∙ goes_on pair units ps q
+    ∙ ap (λ p. sealed_slots false p (seen_out pair units ps)) same
 
-pub front_if : (m : Bool) (a b : Gathered) → (if m then a else b).ahead ≡ (if m then a.ahead else b.ahead)
-front_if true a b = refl
-front_if false a b = refl
+pub ahead-sealed : (m : Bool) (unit2 unit' : Gathered) (front : List ℕ)
+    → unit' ≡ (if m then no_packets unit2.mode else unit2) → (m ≡ false → unit2.ahead ≡ front)
+    → unit'.ahead ≡ (if m then [] else front)
+ahead-sealed true unit2 unit' front is same = ap (λ (u : Gathered). u.ahead) is
+ahead-sealed false unit2 unit' front is same = ap (λ (u : Gathered). u.ahead) is ∙ same refl
 
 -- ---- what always holds
 
@@ -194,7 +244,7 @@ pub sender-sealed : (mode limit units units' : ℕ) (pair pair' : SlotPair) (uni
     → IsSender mode limit units pair unit
     → Ok x ≡ ready_under limit (live_sender (seen_out pair units unit.packets))
     → m ≡ (not more || (length unit.packets + 1 == mode))
-    → length unit2.packets ≡ length unit.packets + 1 → unit2.mode ≡ unit.mode
+    → (m ≡ false → length unit2.packets ≡ length unit.packets + 1) → unit2.mode ≡ unit.mode
     → unit' ≡ (if m then no_packets unit2.mode else unit2)
     → pair'.sender ≡ pair.sender → has_live pair' ≡ true → (both_live pair ≡ false → both_live pair' ≡ false)
     → units' ≤ (if m then units + 1 else units)
@@ -220,7 +270,7 @@ sender-sealed mode limit units units' pair pair' unit unit2 unit' false more x i
     let less : units < limit = within_limit mode limit units pair unit x inv
     (keyed_live pair units limit unit.packets x e) e in
     let count : length unit'.packets ≡ length unit.packets + 1 = ap (λ (u : Gathered). length u.packets) is ∙
-    more_packets in
+    more_packets refl in
     let not_full : (length unit.packets + 1 == mode) ≡ false = last_false (not more) _ (sym is_m) in
     record {
       sender = sender ∙ inv.sender;

@@ -1,9 +1,11 @@
 pub mod Answers
 pub mod Gathered
+pub mod Masked
 pub mod Seen
 pub mod Senders
 pub mod Receivers
 pub mod Calls
+pub mod Facts
 -- what clauses and crates above cite
 pub use Rattle.sub_stream.specs.declared.answer.SealedPacket.{SealedPacket}
 pub use Rattle.sub_stream.specs.declared.answer.TxRefusal.{TxRefusal}

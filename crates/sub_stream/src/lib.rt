@@ -4,12 +4,14 @@
 #![tactic(auto)]
 
 mod answer;
+mod facts;
 mod lent;
 mod receiver;
 mod sender;
 mod unit_packets;
 
 pub use answer::{PacketMark, SealedPacket, Taken, TxRefusal};
+pub use facts::{LaneFacts, ReceiverFacts, SenderFacts, SetFacts, SlotFacts, StreamFacts};
 pub use lent::Delivered;
 pub use receiver::Rx;
 pub use sender::{PACKET_ROOM, PAYLOAD_BYTES, SYNC_ROOM, TLP_HEAD_BYTES, Tx};

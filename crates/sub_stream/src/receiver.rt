@@ -9,14 +9,16 @@ ghost use Rattle.key_slots.specs.{slot_in as key_slot_in, is_one, is_empty, is_l
 ghost use Rattle.stream_rules.specs.Slots.{receiving_draw};
 ghost use Rattle.stream_rules.specs.Stream.{slot_in_set, posted_sum};
 ghost use Rattle.sub_stream.specs.Answers.{answer_of};
+ghost use Rattle.sub_stream.specs.Facts.{set_facts};
 ghost use Rattle.sub_stream.specs.Gathered.{lent_ahead, clear_of, no_packets};
 ghost use Rattle.sub_stream.specs.Seen.{slot_pair, key_slot, is_programmed, live_with};
 ghost use Rattle.sub_stream.specs.Senders.{begun_where_empty};
 ghost use Rattle.sub_stream.specs.Receivers.{fits_held, judged_packet, BufferAfter, holds_some, holds_apart};
 ghost use Rattle.sub_stream.specs.Receivers.{holds_after, held_alone, held_unless_failed, left_without, is_accepted};
-ghost use Rattle.sub_stream.specs.Receivers.{without_older, slots_after};
+ghost use Rattle.sub_stream.specs.Receivers.{without_older, slots_after, held_zero, held_one};
 
 use crate::answer::Taken;
+use crate::facts::{SetFacts, slot_facts};
 use crate::lent::Delivered;
 use crate::sender::begin_where_empty;
 use crate::unit_packets::UnitPackets;
@@ -363,13 +365,6 @@ impl Rx {
     {
         &self.slots
     }
-
-    /// How many packets it was given.
-    pub fn calls(&self) -> u64
-        ensures { result ≡ self.now.takes }
-    {
-        self.takes
-    }
 }
 
 // ---- the checks of a packet under a Live key
@@ -467,5 +462,32 @@ fn count_accepted(taken: &Taken, k: bool, slots: &mut Slots, zero: &mut u64, one
             *zero += 1;
         }
         retire_older(slots, KeySet::of_bit(k), *draw);
+    }
+}
+
+// ---- what is seen of it
+
+// How many of these packets are held in a key set.
+fn held_count(holds: Holds, k: bool, unit: &UnitPackets) -> u8
+    ensures { result ≡ length (if k then held_one holds unit.now.packets else held_zero holds unit.now.packets) }
+{
+    match holds {
+        Holds::Zero if !k => unit.count() as u8,
+        Holds::One if k => unit.count() as u8,
+        _ => 0,
+    }
+}
+
+impl Rx {
+    /// What is seen of both key sets.
+    pub fn facts(&self) -> SetFacts
+        ensures { result ≡ set_facts self.now.slots }
+    {
+        let zero = held_count(self.holds, false, &self.unit);
+        let one = held_count(self.holds, true, &self.unit);
+        SetFacts {
+            zero: slot_facts(&self.slots, KeySet::Zero, self.zero, zero),
+            one: slot_facts(&self.slots, KeySet::One, self.one, one),
+        }
     }
 }

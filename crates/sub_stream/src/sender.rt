@@ -4,19 +4,22 @@ ghost use Rattle.std.specs.Prelude.{◌≡◌, ◌==◌, ◌&&◌, ◌||◌, ◌
 ghost use Rattle.std.specs.Prelude.{vec_len, vec_capacity, is_ok, not, true, if◌then◌else◌, IfOk};
 ghost use Rattle.std.specs.Result.{result_map_both};
 ghost use Rattle.gcm_seal.specs.Gcm.{masked, tag_of};
-ghost use Rattle.ide_prefix.specs.Packet.{prefix_bytes, sync_head};
+ghost use Rattle.ide_prefix.specs.Packet.{packet_bytes, prefix_bytes, sync_head};
 ghost use Rattle.ide_prefix.specs.Units.{encrypted};
 ghost use Rattle.key_slots.specs.{slot_in as key_slot_in, is_one, is_empty, is_live, is_armed as is_armed_key};
 ghost use Rattle.key_slots.specs.{program_answer};
 ghost use Rattle.stream_rules.specs.Slots.{sealing_draw};
 ghost use Rattle.stream_rules.specs.Stream.{ended_slots, live_sender, slot_in_set};
+ghost use Rattle.sub_stream.specs.Facts.{set_facts};
 ghost use Rattle.sub_stream.specs.Gathered.{clear_of, lent_ahead, with_packet};
+ghost use Rattle.sub_stream.specs.Masked.{masked_packet, packet_with_tag};
 ghost use Rattle.sub_stream.specs.Gathered as gathered;
 ghost use Rattle.sub_stream.specs.Seen.{shown_in_use, in_use, live_with, seen_out, has_live, both_live, has_armed};
 ghost use Rattle.sub_stream.specs.Seen.{is_programmed, slot_pair, key_slot};
 ghost use Rattle.sub_stream.specs.Senders.{ready_under, begun_where_empty, carried_content, tlp_content, sync_content};
 
 use crate::answer::{SealedPacket, TxRefusal};
+use crate::facts::{SetFacts, slot_facts};
 use crate::unit_packets::UnitPackets;
 use gcm_seal::{Gcm, MAX_BYTES};
 use ide_prefix::{Prefix, SYNC_FIRST, unit_iv, write_prefix};
@@ -286,7 +289,6 @@ impl Tx {
             carried.payload,
             &mut self.unit,
         );
-        append_tag(out, cipher, &iv, &self.unit, m);
         end_unit(&mut self.slots, &mut self.units, &mut self.unit, m);
         Ok(SealedPacket {
             stream: self.stream,
@@ -466,7 +468,40 @@ fn append_masked(out: &mut Vec<u8>, cipher: &Gcm, iv: &[u8; 12], from: u32, payl
     cipher.mask(iv, from, out.slice_mut(start..));
 }
 
-// Appends a packet without its tag, and adds it to the unit.
+// Appends a packet without its tag, whose payload begins at byte `from` of its unit's plaintext.
+fn append_untagged(
+    out: &mut Vec<u8>,
+    cipher: &Gcm,
+    iv: &[u8; 12],
+    from: u32,
+    prefix: &Prefix,
+    head: &[u8],
+    payload: &[u8],
+)
+    requires room { vec_len out.old + 4 + length head.now + length payload.now ≤ vec_capacity out.old }
+    requires short { from + length payload.now ≤ MAX_BYTES }
+    ensures items { out.new.items ≡ out.old.items
+        ++ (prefix_bytes prefix.now ++ (head.now ++ masked cipher.now iv.now from payload.now)) }
+    ensures len { vec_len out.new ≡ vec_len out.old + 4 + length head.now + length payload.now }
+    ensures capacity { vec_capacity out.old ≤ vec_capacity out.new }
+{
+    append_clear(out, prefix, head);
+    append_masked(out, cipher, iv, from, payload);
+}
+
+// The bytes from `start` on: the first `clear` of them, and the rest.
+fn parts_from(bytes: &[u8], start: usize, clear: usize) -> (&[u8], &[u8])
+    requires { start + clear ≤ length bytes.now }
+    ensures parts { (before front rest : List ℕ) → bytes.now ≡ before ++ (front ++ rest) → length before ≡ start
+        → length front ≡ clear → (result.0.now ≡ front) × (result.1.now ≡ rest) }
+    ensures front { length result.0.now ≡ clear }
+    ensures rest { start + clear + length result.1.now ≡ length bytes.now }
+{
+    bytes[start..].split_at(clear)
+}
+
+// Appends a packet, with the tag of its unit if it is the last. The tag of a unit of one packet is taken from the bytes
+// that were appended; the packets of any other are gathered.
 fn append_packet(
     out: &mut Vec<u8>,
     cipher: &Gcm,
@@ -479,24 +514,26 @@ fn append_packet(
     requires unit_room { length unit.old.packets < unit.old.mode }
     requires head_short { length head.now ≤ TLP_HEAD_BYTES }
     requires payload_short { length payload.now ≤ PAYLOAD_BYTES }
-    requires room { vec_len out.old + 4 + length head.now + length payload.now ≤ vec_capacity out.old }
-    ensures items { out.new.items ≡ out.old.items
-        ++ (prefix_bytes prefix.now ++ (head.now ++ masked cipher.now iv.now (length (encrypted unit.old.packets))
-        payload.now)) }
-    ensures unit { unit.new ≡ with_packet unit.old (record {
-      prefix = prefix.now;
-      head = head.now;
-      body = masked cipher.now iv.now (length (encrypted unit.old.packets)) payload.now;
-      tag = [];
-    }) }
-    ensures len { vec_len out.new ≡ vec_len out.old + 4 + length head.now + length payload.now }
+    requires room { vec_len out.old + PREFIX_BYTES + length head.now + length payload.now + TAG_BYTES
+        ≤ vec_capacity out.old }
+    ensures items { out.new.items ≡ out.old.items ++ packet_bytes (packet_with_tag prefix.now.m cipher.now iv.now
+        unit.old (masked_packet cipher.now iv.now unit.old.packets prefix.now head.now payload.now)) }
+    ensures unit { prefix.now.m ≡ false → unit.new ≡ with_packet unit.old
+        (masked_packet cipher.now iv.now unit.old.packets prefix.now head.now payload.now) }
+    ensures mode { unit.new.mode ≡ unit.old.mode }
     ensures capacity { vec_capacity out.old ≤ vec_capacity out.new }
 {
-    let from = unit.body().len() as u32;
-    append_clear(out, prefix, head);
     let start = out.len();
-    append_masked(out, cipher, iv, from, payload);
-    unit.push(prefix, head, &out.as_slice()[start..]);
+    let from = unit.body().len() as u32;
+    append_untagged(out, cipher, iv, from, prefix, head, payload);
+    let (clear, body) = parts_from(out.as_slice(), start, PREFIX_BYTES + head.len());
+    if prefix.m && unit.clear_bytes().is_empty() {
+        let tag = cipher.tag(iv, clear, body);
+        append(out, &tag);
+    } else {
+        unit.push(prefix, head, body);
+        append_tag(out, cipher, iv, unit, prefix.m);
+    }
 }
 
 // Appends the tag of a unit after its last packet.
@@ -509,5 +546,20 @@ fn append_tag(out: &mut Vec<u8>, cipher: &Gcm, iv: &[u8; 12], unit: &UnitPackets
     if last {
         let tag = cipher.tag(iv, unit.clear_bytes(), unit.body());
         append(out, &tag);
+    }
+}
+
+// ---- what is seen of it
+
+impl Tx {
+    /// What is seen of both key sets.
+    pub fn facts(&self) -> SetFacts
+        ensures { result ≡ set_facts self.now.slots }
+    {
+        let packets = self.unit.count() as u8;
+        SetFacts {
+            zero: slot_facts(&self.slots, KeySet::Zero, self.units, packets),
+            one: slot_facts(&self.slots, KeySet::One, self.units, packets),
+        }
     }
 }

@@ -9,7 +9,6 @@ ghost use Rattle.unit_aggregation.specs.{with_bodies, body_of};
 
 use crate::answer::PacketMark;
 use crate::sender::{PAYLOAD_BYTES, TLP_HEAD_BYTES};
-use arrayvec::ArrayVec;
 use gcm_seal::{Gcm, MAX_BYTES};
 use ide_prefix::{Prefix, SYNC_FIRST, write_prefix};
 use ide_types::SubKind;
@@ -55,17 +54,6 @@ fn mask_bodies(buf: &mut UnitBuf, cipher: &Gcm, iv: &[u8; 12])
     ensures { buf.new ≡ with_bodies buf.old (masked cipher.now iv.now 0 (body_of buf.old)) }
 {
     cipher.mask(iv, 0, buf.body_mut());
-}
-
-// The bytes of a packet in clear: its prefix and its header.
-fn clear_part(prefix: &Prefix, head: &[u8]) -> ArrayVec<u8, 20>
-    requires { length head.now ≤ TLP_HEAD_BYTES }
-    ensures { result.items ≡ prefix_bytes prefix.now ++ head.now }
-{
-    let mut clear = ArrayVec::new();
-    let _ = clear.try_extend_from_slice(&write_prefix(prefix));
-    let _ = clear.try_extend_from_slice(head);
-    clear
 }
 
 fn posted_in(prefix: Prefix) -> u64
@@ -174,10 +162,9 @@ impl UnitPackets {
         }) }
     {
         let i = self.buf.count();
-        let clear = clear_part(prefix, head);
         self.prefixes[i] = *prefix;
         self.posted += posted_in(*prefix);
-        let _ = self.buf.add(&clear, body);
+        let _ = self.buf.add(&write_prefix(prefix), head, body);
     }
 
     /// Decrypts the bodies of a whole unit.

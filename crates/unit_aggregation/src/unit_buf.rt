@@ -19,6 +19,9 @@ pub const AHEAD_BYTES: usize = 8;
 /// The most bytes of a packet's head: 4 of its prefix and 16 of its TLP's header (PCI Express Base 6.0 section 2.2).
 pub const HEAD_BYTES: usize = 20;
 
+// The most bytes of a TLP's header.
+const HEADER_BYTES: usize = 16;
+
 /// The most bytes of a packet's body: 1,024 double words (PCI Express Base 6.0 section 2.2).
 pub const BODY_BYTES: usize = 4_096;
 
@@ -127,18 +130,19 @@ impl UnitBuf {
         })
     }
 
-    /// Adds a packet: a head of at most 20 bytes, and a body of at most 4,096. Returns `UnitFull` exactly if the unit
-    /// has `mode` packets, and then changes nothing.
-    pub fn add(&mut self, head: &[u8], body: &[u8]) -> Result<(), UnitFull>
-        requires head_short { length head.now ≤ HEAD_BYTES }
+    /// Adds a packet: its head is a prefix and a header of at most 16 bytes, its body has at most 4,096. Returns
+    /// `UnitFull` exactly if the unit has `mode` packets, and then changes nothing.
+    pub fn add(&mut self, prefix: &[u8; 4], header: &[u8], body: &[u8]) -> Result<(), UnitFull>
+        requires header_short { length header.now ≤ HEADER_BYTES }
         requires body_short { length body.now ≤ BODY_BYTES }
         ensures answer { is_ok result ≡ has_room self.old }
-        ensures unit { self.new ≡ unit_with_packet self.old head.now body.now }
+        ensures unit { self.new ≡ unit_with_packet self.old (prefix.now ++ header.now) body.now }
     {
         if self.ends.len() >= self.mode {
             return Err(UnitFull);
         }
-        append(&mut self.heads, head);
+        append(&mut self.heads, prefix);
+        append(&mut self.heads, header);
         append(&mut self.bodies, body);
         self.ends.push(PacketEnds {
             head: self.heads.len(),

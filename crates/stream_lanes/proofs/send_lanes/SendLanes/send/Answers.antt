@@ -1,95 +1,22 @@
-use Rattle.std.proofs.Common.{◌≡◌, ◌+◌, ◌<◌, ◌≤◌, ◌^◌, ◌++◌, ◌∷◌, [], ℕ, List, sym, ap, ◌∙◌, subst}
-use Rattle.ide_types.specs.declared.sub.SubKind.TheVariants.{Npr, Cpl}
-use Rattle.ide_prefix.specs.Packet.{packet_bytes}
-use Rattle.stream_rules.specs.Stream.{TxSub, at_sub}
-use Rattle.sub_stream.specs.declared.answer.SealedPacket.{SealedPacket}
-use Rattle.stream_lanes.specs.Sends.{IsSealed}
-use Rattle.stream_lanes.specs.Lanes.{SendEnds, end_at, is_spent, tlp_said, packet_said_at, sealed_ends, measured}
-use Rattle.stream_lanes.specs.Lanes.{synced}
-use Rattle.stream_lanes.specs.Lanes.{sync_packets, sync_bytes}
-use Rattle.stream_lanes.proofs.Sent.{clear-facts, when-needed, synced-cpl, end-cpl, end-kept, all_said, all_bytes}
-use Rattle.stream_lanes.proofs.Sent.{all_ends, sent-right, totals-after}
+use Rattle.std.proofs.Common.{refl, sym, ap, ◌∙◌}
+use Rattle.std.specs.Option.{option_map}
+use Rattle.ide_types.specs.declared.sub.SubKind.{SubKind}
+use Rattle.stream_rules.specs.Sending.{refusals, first_that_holds}
+use Rattle.stream_lanes.specs.Sends.{refusal_verdict}
+use Rattle.stream_lanes.specs.Lanes.{sealing_lanes}
 use Rattle.stream_lanes.proofs.send_lanes.SendLanes.send.Goals as goal
 
-pub sync_npr-requires-clause-unworn : goal.sync_npr-requires-clause-unworn
-sync_npr-requires-clause-unworn c e =
-    when-needed _ _ (clear-facts c.args.self.now c.args.sub c.requires.clear).npr_unworn
-    (sym c.needs_sync-npr.ensures.value ∙ e)
+pub seal_with_syncs-requires-clause-clear : goal.seal_with_syncs-requires-clause-clear
+seal_with_syncs-requires-clause-clear c = sym c.refusal.ensures ∙ ap (option_map refusal_verdict) c.in-None.is
 
-pub sync_npr-requires-clause-few : goal.sync_npr-requires-clause-few
-sync_npr-requires-clause-few c = c.requires.few Npr
+pub returns-in-None-clause-sent : goal.returns-in-None-clause-sent
+returns-in-None-clause-sent c s number stream class goes trusted =
+    let first = ap (λ (u : SubKind). first_that_holds (refusals (sealing_lanes c.args.self.now) u)) class in (
+      first ∙ sym c.refusal.ensures ∙ ap (option_map refusal_verdict) c.in-None.is,
+      c.seal_with_syncs.ensures.sent s number stream class goes trusted,
+    )
 
-pub sync_cpl-requires-clause-unworn : goal.sync_cpl-requires-clause-unworn
-sync_cpl-requires-clause-unworn c e =
-    (ap (λ (x : SendEnds). is_spent (end_at x Cpl)) c.sync_npr.ensures.lanes ∙ ap is_spent
-    (end-cpl c.needs_sync-npr.result c.args.self.now))
-    ∙ when-needed _ _ (clear-facts c.args.self.now c.args.sub c.requires.clear).cpl_unworn
-    (sym c.needs_sync-cpl.ensures.value ∙ e)
-
-pub sync_cpl-requires-clause-few : goal.sync_cpl-requires-clause-few
-sync_cpl-requires-clause-few c =
-    subst (λ (tx : TxSub). tx.total < 2 ^ 40)
-    (sym (ap (λ (x : SendEnds). x.tx.cpl) c.sync_npr.ensures.lanes ∙ synced-cpl c.needs_sync-npr.result
-    c.args.self.now)) (c.requires.few Cpl)
-
-pub seal-packet-requires-clause-unworn : goal.seal-packet-requires-clause-unworn
-seal-packet-requires-clause-unworn c =
-    ap (λ (x : SendEnds). is_spent (end_at x c.args.sub))
-    (c.sync_cpl.ensures.lanes ∙ ap (synced c.needs_sync-cpl.result Cpl) c.sync_npr.ensures.lanes)
-    ∙ ap is_spent (end-kept c.args.self.now c.args.sub c.needs_sync-npr.result c.needs_sync-cpl.result
-    c.needs_sync-npr.ensures.value c.needs_sync-cpl.ensures.value)
-    ∙ (clear-facts c.args.self.now c.args.sub c.requires.clear).unworn
-
-pub returns-clause-sent : goal.returns-clause-sent
-returns-clause-sent c s number stream class goes trusted =
-    let x = c.args.self.now in
-    let b = c.needs_sync-npr.result in
-    let d = c.needs_sync-cpl.result in
-    let first = c.sync_npr.ensures.lanes in
-    let second : c.sync_cpl.new.self ≡ synced d Cpl (synced b Npr x) = c.sync_cpl.ensures.lanes ∙ ap (synced d Cpl)
-    first in
-    let said : c.push.new.self ≡ all_said x c.args.sub b d c.args.head.now c.args.payload.now c.args.more c.args.t =
-    c.push.ensures
-    ∙ (λ i. c.sync_cpl.ensures.sealed i ++ c.seal-packet.ensures.answer i ∷ [])
-    ∙ (λ i. (c.sync_npr.ensures.sealed i ++ sync_packets d Cpl (first i))
-    ++ measured (tlp_said (end_at (second i) c.args.sub) c.args.more c.args.t)
-    (packet_said_at (second i) c.args.head.now c.args.payload.now
-    (tlp_said (end_at (second i) c.args.sub) c.args.more c.args.t)) ∷ [])
-    ∙ (λ i. (c.new-sealed.ensures i ++ sync_packets b Npr x ++ sync_packets d Cpl (synced b Npr x))
-    ++ measured (tlp_said (end_at (synced d Cpl (synced b Npr x)) c.args.sub) c.args.more c.args.t)
-    (packet_said_at (synced d Cpl (synced b Npr x))
-    c.args.head.now c.args.payload.now
-    (tlp_said (end_at (synced d Cpl (synced b Npr x)) c.args.sub) c.args.more c.args.t)) ∷ []) in
-    let bytes : c.seal-packet.new.out.items ≡ all_bytes x c.args.sub b d c.args.head.now c.args.payload.now c.args.more
-    c.args.t c.args.out.now.items =
-    c.seal-packet.ensures.bytes
-    ∙ (λ i. c.sync_cpl.ensures.bytes i ++ packet_bytes
-    (packet_said_at (second i) c.args.head.now c.args.payload.now
-    (tlp_said (end_at (second i) c.args.sub) c.args.more c.args.t)))
-    ∙ (λ i. (c.sync_npr.ensures.bytes i ++ sync_bytes d Cpl (first i))
-    ++ packet_bytes (packet_said_at (synced d Cpl (synced b Npr x)) c.args.head.now c.args.payload.now
-    (tlp_said (end_at (synced d Cpl (synced b Npr x)) c.args.sub) c.args.more
-    c.args.t))) in
-    let ends : c.seal-packet.new.self ≡ all_ends x c.args.sub b d c.args.head.now c.args.payload.now c.args.more
-    c.args.t =
-    c.seal-packet.ensures.lanes
-    ∙ (λ i. sealed_ends (second i) c.args.head.now c.args.payload.now
-    (tlp_said (end_at (second i) c.args.sub) c.args.more c.args.t)) in
-    subst (λ (y : List SealedPacket × List ℕ × SendEnds). IsSealed x c.args.head.now c.args.payload.now s number y.0
-    c.args.out.now.items y.1 y.2) (λ i. (sym said i, sym bytes i, sym ends i))
-    (sent-right x c.args.head.now c.args.payload.now s number c.args.sub b d c.args.more c.args.t c.args.out.now.items
-    c.needs_sync-npr.ensures.value c.needs_sync-cpl.ensures.value stream class goes trusted)
-
-pub returns-clause-totals : goal.returns-clause-totals
-returns-clause-totals c u =
-    let second : c.sync_cpl.new.self ≡ synced c.needs_sync-cpl.result Cpl
-    (synced c.needs_sync-npr.result Npr c.args.self.now) = c.sync_cpl.ensures.lanes ∙ ap
-    (synced c.needs_sync-cpl.result Cpl) c.sync_npr.ensures.lanes in
-    let ends : c.seal-packet.new.self ≡ all_ends c.args.self.now c.args.sub c.needs_sync-npr.result
-    c.needs_sync-cpl.result c.args.head.now c.args.payload.now c.args.more c.args.t =
-    c.seal-packet.ensures.lanes
-    ∙ (λ i. sealed_ends (second i) c.args.head.now c.args.payload.now
-    (tlp_said (end_at (second i) c.args.sub) c.args.more c.args.t)) in
-    subst (λ (y : SendEnds). (at_sub y.tx u).total ≤ (at_sub c.args.self.now.tx u).total + 1) (sym ends)
-    (totals-after c.args.self.now c.args.head.now c.args.payload.now c.args.sub c.needs_sync-npr.result
-    c.needs_sync-cpl.result c.args.more c.args.t u c.needs_sync-npr.ensures.value c.needs_sync-cpl.ensures.value)
+pub returns-in-Some-clause-sent : goal.returns-in-Some-clause-sent
+returns-in-Some-clause-sent c s number stream class goes trusted =
+    let first = ap (λ (u : SubKind). first_that_holds (refusals (sealing_lanes c.args.self.now) u)) class in
+    (first ∙ sym c.refusal.ensures ∙ ap (option_map refusal_verdict) c.in-Some.is, refl, refl)

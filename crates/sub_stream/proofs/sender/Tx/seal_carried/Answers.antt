@@ -1,14 +1,14 @@
-use Rattle.std.proofs.Common.{◌≡◌, ℕ, ◌+◌, ◌-◌, Bool, List, [], ◌∷◌, ◌++◌, if◌then◌else◌, length, Ok, refl, sym, ap}
-use Rattle.std.proofs.Common.{◌∙◌, arith, length-append}
+use Rattle.std.proofs.Common.{◌≡◌, ℕ, ◌+◌, ◌-◌, Bool, false, List, [], ◌∷◌, ◌++◌, if◌then◌else◌, length, Ok, refl}
+use Rattle.std.proofs.Common.{sym, ap, ◌∙◌, arith, length-append}
 use Rattle.ide_prefix.specs.declared.packet.Prefix.{Prefix}
 use Rattle.ide_prefix.specs.Packet.{Packet, packet_bytes}
-use Rattle.stream_rules.specs.Stream.{LiveKey, sealed_slots, ended_slots}
+use Rattle.stream_rules.specs.Stream.{LiveKey, sealed_slots}
 use Rattle.sub_stream.specs.Gathered.{Gathered, lent_ahead}
+use Rattle.sub_stream.specs.Masked.{masked_packet, packet_with_tag}
 use Rattle.sub_stream.specs.Seen.{seen_out, live_with}
 use Rattle.sub_stream.specs.Senders.{Sender, Content, carried_content, sealing_of, sealing_as, sealing_answer}
 use Rattle.sub_stream.specs.Senders.{sealing_bytes, sender_after, tagged_packet, ahead_for}
-use Rattle.sub_stream.proofs.Sealed.{sealing_with, bare, tagged, packet-tagged, bytes-sealed, slots-sealed, front_if}
-use Rattle.sub_stream.proofs.Sealed.{sender-sealed}
+use Rattle.sub_stream.proofs.Sealed.{sealing_with, packet-tagged, slots-sealed, ahead-sealed, sender-sealed}
 use Rattle.sub_stream.proofs.sender.Tx.seal_carried.Goals as goal
 
 -- the sender as it was, the key that it seals under, and what it seals
@@ -57,8 +57,8 @@ sealing c =
     ∙ ap (λ m. Ok (sealing_as (tx c) (total c) (key c) (content c) m)) (sym c.is_last-m.ensures)
 
 packet : (c : goal.After-len) → Packet
-packet c = tagged c.is_last-m.result c.in-Ok.key.1.now c.unit_iv-iv.result (unit c)
-    (bare c.in-Ok.key.1.now c.unit_iv-iv.result (unit c).packets (prefix c) c.args.carried.now.head.now
+packet c = packet_with_tag c.is_last-m.result c.in-Ok.key.1.now c.unit_iv-iv.result (unit c)
+    (masked_packet c.in-Ok.key.1.now c.unit_iv-iv.result (unit c).packets (prefix c) c.args.carried.now.head.now
     c.args.carried.now.payload.now)
 
 packet_is : (c : goal.After-len) → packet c ≡ tagged_packet (tx c) (total c) (key c) (content c) c.is_last-m.result
@@ -69,14 +69,9 @@ packet_is c =
     (ap (λ (u : Gathered). u.ahead) c.begin_where_empty.ensures)
     c.requires.head c.requires.payload refl c.unit_iv-iv.ensures
 
-bytes : (c : goal.After-len) → c.append_tag.new.out.items ≡ c.args.out.now.items ++ packet_bytes (packet c)
+bytes : (c : goal.After-len) → c.append_packet.new.out.items ≡ c.args.out.now.items ++ packet_bytes (packet c)
 unfolding prefix unit packet
-bytes c =
-    bytes-sealed c.in-Ok.key.1.now c.unit_iv-iv.result c.args.out.now.items c.append_packet.new.out.items
-    c.append_tag.new.out.items
-    c.args.carried.now.head.now c.args.carried.now.payload.now (prefix c) (unit c) c.append_packet.new.unit
-    c.is_last-m.result
-    c.append_packet.ensures.items c.append_packet.ensures.unit c.append_tag.ensures.items
+bytes c = c.append_packet.ensures.items
 
 pub returns-clause-bytes : goal.returns-clause-bytes
 unfolding total content
@@ -94,45 +89,42 @@ returns-clause-answer c =
       length-append c.args.out.now.items (packet_bytes (packet c)),
       c.len.ensures,
       c.len-start.ensures,
-      c.append_tag.new.out.ok.0,
+      c.append_packet.new.out.ok.0,
       c.args.out.now.ok.0,
     ) in
     ap (λ (l : ℕ). Ok (record (sealing_as (tx c) (total c) (key c) (content c) c.is_last-m.result).description
     { length = l })) (n ∙ ap (λ p. length (packet_bytes p)) (packet_is c))
     ∙ ap sealing_answer (sym (sealing c))
 
--- the packet before its tag is the last of the unit
+-- the packet before its tag is the last of a unit that goes on
 open_packets : (c : goal.After-len) → List Packet
-open_packets c = c.self.inside.unit.packets ++ bare c.in-Ok.key.1.now c.unit_iv-iv.result (unit c).packets (prefix c)
-    c.args.carried.now.head.now c.args.carried.now.payload.now ∷ []
+open_packets c = c.self.inside.unit.packets ++ masked_packet c.in-Ok.key.1.now c.unit_iv-iv.result (unit c).packets
+    (prefix c) c.args.carried.now.head.now c.args.carried.now.payload.now ∷ []
 
-more_packets : (c : goal.After-len) → c.append_packet.new.unit.packets ≡ open_packets c
+more_packets : (c : goal.After-len) → c.is_last-m.result ≡ false → c.append_packet.new.unit.packets ≡ open_packets c
 unfolding prefix unit open_packets
-more_packets c =
-    ap (λ (u : Gathered). u.packets) c.append_packet.ensures.unit
-    ∙ ap (λ ps. ps ++ bare c.in-Ok.key.1.now c.unit_iv-iv.result (unit c).packets (prefix c) c.args.carried.now.head.now
-    c.args.carried.now.payload.now ∷ []) (ap (λ (u : Gathered). u.packets) c.begin_where_empty.ensures)
+more_packets c e =
+    ap (λ (u : Gathered). u.packets) (c.append_packet.ensures.unit e)
+    ∙ ap (λ ps. ps ++ masked_packet c.in-Ok.key.1.now c.unit_iv-iv.result (unit c).packets (prefix c)
+    c.args.carried.now.head.now c.args.carried.now.payload.now ∷ [])
+    (ap (λ (u : Gathered). u.packets) c.begin_where_empty.ensures)
 
 slots : (c : goal.After-len) → seen_out c.end_unit.new.slots c.end_unit.new.units c.end_unit.new.unit.packets
     ≡ sealed_slots c.is_last-m.result (packet c)
     (seen_out c.self.inside.slots c.self.inside.units c.self.inside.unit.packets)
 unfolding prefix unit packet open_packets
 slots c =
-    slots-sealed c.is_last-m.result c.self.inside.slots c.self.inside.units c.self.inside.unit.packets _ _ (unit c) _ _
-    refl
-    (c.end_unit.ensures.slots ∙ ap
-    (λ ps. if c.is_last-m.result then ended_slots (seen_out c.self.inside.slots c.self.inside.units ps) else
-    seen_out c.self.inside.slots c.self.inside.units ps) (more_packets c))
+    slots-sealed c.is_last-m.result c.self.inside.slots c.self.inside.units c.self.inside.unit.packets
+    c.append_packet.new.unit.packets _ _ (unit c) _ _ refl (more_packets c) c.end_unit.ensures.slots
 
 ahead : (c : goal.After-len) → c.end_unit.new.unit.ahead ≡
     (if c.is_last-m.result then [] else ahead_for (tx c) (key c).1 (total c))
 unfolding tx key total
 ahead c =
-    ap (λ (u : Gathered). u.ahead) c.end_unit.ensures.unit
-    ∙ front_if c.is_last-m.result _ _
-    ∙ ap (λ f. if c.is_last-m.result then [] else f)
-    (ap (λ (u : Gathered). u.ahead) c.append_packet.ensures.unit ∙ ap (λ (u : Gathered). u.ahead)
-    c.begin_where_empty.ensures)
+    ahead-sealed c.is_last-m.result c.append_packet.new.unit c.end_unit.new.unit _ c.end_unit.ensures.unit
+    (λ e.
+    ap (λ (u : Gathered). u.ahead) (c.append_packet.ensures.unit e)
+    ∙ ap (λ (u : Gathered). u.ahead) c.begin_where_empty.ensures)
 
 pub returns-clause-sender : goal.returns-clause-sender
 unfolding tx total content
@@ -148,11 +140,11 @@ returns-clause-sender c =
 pub invariant_of-self : goal.invariant_of-self
 unfolding open_packets key
 invariant_of-self c =
-    let count : length c.append_packet.new.unit.packets ≡ length c.self.inside.unit.packets + 1 =
-    ap length (more_packets c) ∙ length-append c.self.inside.unit.packets _ in
+    let count : c.is_last-m.result ≡ false → length c.append_packet.new.unit.packets
+    ≡ length c.self.inside.unit.packets + 1 =
+    λ e. ap length (more_packets c e) ∙ length-append c.self.inside.unit.packets _ in
     sender-sealed _ _ _ _ _ _ _ _ _ c.is_last-m.result c.args.more (key c) c.self.invariant c.in-Ok.ensures
     c.is_last-m.ensures count
-    (ap (λ (u : Gathered). u.mode) c.append_packet.ensures.unit ∙ ap (λ (u : Gathered). u.mode)
-    c.begin_where_empty.ensures)
+    (c.append_packet.ensures.mode ∙ ap (λ (u : Gathered). u.mode) c.begin_where_empty.ensures)
     c.end_unit.ensures.unit c.end_unit.ensures.sender c.end_unit.ensures.live c.end_unit.ensures.one_live
     c.end_unit.ensures.units
