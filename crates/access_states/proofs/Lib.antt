@@ -5,7 +5,7 @@ pub mod Rested
 pub mod Turned
 pub use Rattle.world_states.proofs.{StaysBound, asked_keeps, keeps_free}
 pub use Rattle.world_states.proofs.Asked.{PeerFits, joined_is, peer_fits}
-pub use Rattle.world_states.proofs.Besides.{grant_is}
+pub use Rattle.world_states.proofs.Besides.{grant_is, tdi_there}
 pub use Rattle.world_states.proofs.Faces.{each_at, each_many, none_of, used_kept}
 pub use Rattle.world_states.proofs.Follows.{IsLed, IsManagedAfter, OnlyLeaves, SameDevice, all_led, beside_led}
 pub use Rattle.world_states.proofs.Follows.{led_follows, link_few, placed_keeps, placed_led, shows_state}
@@ -13,9 +13,12 @@ pub use Rattle.world_states.proofs.Kept.{AreBoth, IsState, absent_beside, answer
 pub use Rattle.world_states.proofs.Kept.{elsewhere_beside, forward_beside, interface_step, managed_kept}
 pub use Rattle.world_states.proofs.Kept.{memory_beside, mmio_beside, nothing_beside, send_beside, status_beside}
 pub use Rattle.world_states.proofs.Kept.{unasked_beside, view_beside, written_is, written_kept}
-pub use Rattle.world_states.proofs.Places.{get_there, site_planned}
+pub use Rattle.world_states.proofs.Owners.{requester_found, requester_nowhere, requester_true}
+pub use Rattle.world_states.proofs.Places.{IsSomeSite, get_there, position_at, position_none, site_or_none}
+pub use Rattle.world_states.proofs.Places.{site_planned}
 pub use Rattle.world_states.proofs.Rests.{draw_of_packets, is_of_packets, is_of_peer, is_of_ports}
 pub use Rattle.world_states.proofs.Rests.{managed_of_packets, next_of_ports, none_of_ports, of_ports}
 pub use Rattle.world_states.proofs.Sites.{face_found, interface_absent, interface_there, located_apart, located_kept}
-pub use Rattle.world_states.proofs.Sites.{site_numbered}
-pub use Rattle.world_states.proofs.{op_is, set_read, unnamed}
+pub use Rattle.world_states.proofs.Sites.{IsLocated, face_absent, located_read, site_apart, site_numbered}
+pub use Rattle.world_states.proofs.{closed_at, end_found, ends_there, leaving_there, none_found, op_is, port_is}
+pub use Rattle.world_states.proofs.{sealing_there, set_read, unnamed}

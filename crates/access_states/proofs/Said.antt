@@ -9,13 +9,12 @@ use Rattle.link_events.specs.declared.event.InterfaceEvent.{InterfaceEvent}
 use Rattle.link_verdicts.specs.declared.verdict.Verdict.{Verdict}
 use Rattle.link_verdicts.specs.declared.verdict.Verdict.TheVariants as v
 use Rattle.world_states.specs.{InterfaceOperationsJoin}
-use Rattle.interface_machine.specs.Machine.{grant_of}
 use Rattle.link_history.specs.Memory.{effects_by}
 use Rattle.link_history.specs.Hops.{HopTlp}
 unfoldable use Rattle.link_history.specs.Ports.{port_of}
 use Rattle.link_ports.specs.Forwards.{forward_of}
 use Rattle.whole_machine.specs.Machine.{Whole, beside_of, policy_of}
-use Rattle.world_states.specs.{answer_of_links, AreLinks, beside_whole, carried_at, grants_in, IsAnswered, policy_in}
+use Rattle.world_states.specs.{answer_of_links, AreLinks, beside_whole, carried_at, IsAnswered, policy_in}
 use Rattle.world_states.specs.{IsWhole as EachHasAccesses, WholeLinks}
 use Rattle.world_states.specs.Worlds.{IsWhole, world_of}
 use Rattle.world_states.proofs.Asked.{answer_is}
@@ -86,9 +85,3 @@ pub is_answered : (plan : Plan) (s : WholeLinks) (w : Whole) → InterfaceOperat
     → IsWhole (world_of plan s) w → (event : Event) → IsAnswered s.links event
 is_answered plan s w joins links whole event e on =
     subst (λ (o : Option Verdict). IsSome o) (sym (answers_are plan s w joins links whole e)) refl
-
-pub grants_are : (plan : Plan) (s : WholeLinks) (w : Whole) → AreLinks plan s.links.ends s.links.keeper.keys
-    → IsWhole (world_of plan s) w → grants_in s.links.keeper.interfaces ≡ grant_of plan w.faces
-grants_are plan s w links is = λ i link requester.
-    grant_is plan s.links.ends.links s.links.keeper.interfaces s.links.trusted.contents w is.beside links.fits
-    links.many link requester i

@@ -1,9 +1,8 @@
 -- Lists whose items are changed by their places, and where the ends of a line are kept.
 use Rattle.all_ends.proofs.Terms.{◌≡◌, ℕ, suc, zero, ◌+◌, ◌-◌, ◌<◌, ◌≤◌, Bool, true, false, List, [], ◌∷◌, ◌++◌}
-use Rattle.all_ends.proofs.Terms.{length, refl, ap, sym, ◌∙◌, subst, arith, Some, None, option_map, slice_get}
+use Rattle.all_ends.proofs.Terms.{length, refl, ap, sym, subst, arith, Some, None, option_map, slice_get}
 use Rattle.all_ends.proofs.Terms.{slice_set, slice_index_or, same_Some, none-some, nat_tests, nat_lt, take, replicate}
-use Rattle.all_ends.proofs.Terms.{if◌then◌else◌, LinePlace, Link, Near, Pair, line_place, changed_at, ◌⊎◌}
-use Rattle.std.proofs.Common.{inl, inr}
+use Rattle.all_ends.proofs.Terms.{if◌then◌else◌, LinePlace, Link, Near, Pair, line_place, changed_at}
 
 -- ---- where the ends of a line are
 
@@ -52,15 +51,6 @@ each_set P (x ∷ xs) zero y new old (suc j) z is = old (suc j) z is
 each_set P (x ∷ xs) (suc i) y new old zero z is = old 0 z is
 each_set P (x ∷ xs) (suc i) y new old (suc j) z is = each_set (λ k. P (suc k)) xs i y new (λ k. old (suc k)) j z is
 
--- what holds of the item that changes, and of each with itself, holds of all
-pub each_both : {A : Type 0} (R : A → A → Type 0) (xs : List A) (i : ℕ) (x y : A) → slice_get xs i ≡ Some x → R x y
-    → ((z : A) → R z z) → (j : ℕ) (z z' : A) → slice_get xs j ≡ Some z → slice_get (slice_set xs i y) j ≡ Some z'
-    → R z z'
-each_both {A} R xs i x y is changed same j z z' at at' =
-    each_set (λ n w. (u : A) → slice_get xs n ≡ Some u → R u w) xs i y
-    (λ u at_u. subst (λ (w : A). R w y) (same_Some x u (sym is ∙ at_u)) changed)
-    (λ n w at_w u at_u. subst (λ (t : A). R t w) (same_Some w u (sym at_w ∙ at_u)) (same w)) j z' at' z at
-
 -- ---- one item changed
 
 pub changed_is : {A : Type 0} (xs : List A) (i : ℕ) (f : A → A) (x : A) → slice_get xs i ≡ Some x → changed_at xs i f
@@ -98,22 +88,6 @@ seen_same g (x ∷ xs) zero zero f same = ap (λ y. Some y) (same x)
 seen_same g (x ∷ xs) zero (suc j) f same = refl
 seen_same g (x ∷ xs) (suc i) zero f same = refl
 seen_same g (x ∷ xs) (suc i) (suc j) f same = seen_same g xs i j f same
-
--- what is seen of an item after a change is what the change makes of it, or is as before
-pub seen_after : {A B : Type 0} (g : A → B) (xs : List A) (i j : ℕ) (f : A → A) (y : B)
-    → option_map g (slice_get (changed_at xs i f) j) ≡ Some y
-    → ((x : A) × (slice_get xs i ≡ Some x) × (i ≡ j) × (g (f x) ≡ y)) ⊎ (option_map g (slice_get xs j) ≡ Some y)
-seen_after g [] i j f y is = inr is
-seen_after g (x ∷ xs) zero zero f y is = inl (x, refl, refl, same_Some (g (f x)) y is)
-seen_after g (x ∷ xs) zero (suc j) f y is = inr is
-seen_after g (x ∷ xs) (suc i) zero f y is = inr is
-seen_after g (x ∷ xs) (suc i) (suc j) f y is = more (seen_after g xs i j f y is)
-  where
-    more : ((z : _) × (slice_get xs i ≡ Some z) × (i ≡ j) × (g (f z) ≡ y)) ⊎ (option_map g (slice_get xs j) ≡ Some y)
-        → ((z : _) × (slice_get xs i ≡ Some z) × (suc i ≡ suc j) × (g (f z) ≡ y))
-        ⊎ (option_map g (slice_get xs j) ≡ Some y)
-    more (inl z) = inl (z.0, z.1, ap (λ n. suc n) z.2, z.3)
-    more (inr stays) = inr stays
 
 -- ---- a list that is filled up to a length
 

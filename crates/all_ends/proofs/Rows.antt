@@ -13,7 +13,7 @@ use Rattle.all_ends.proofs.Terms.{
   All-head,
   All-nil,
 }
-use Rattle.all_ends.proofs.Terms.{All-tail, FitsLink, FitsStream, LinkPlan, Plan, StreamPlan, length-append, length-map}
+use Rattle.all_ends.proofs.Terms.{All-tail, FitsLink, FitsStream, LinkPlan, Plan, StreamPlan}
 use Rattle.all_ends.proofs.Terms.{take-append_seam}
 use Rattle.std.specs.Prelude.{true}
 use Rattle.ide_plan.specs.declared.plan.HopPlan.{HopPlan}
@@ -21,7 +21,6 @@ use Rattle.ide_plan.specs.declared.plan.PeerPlan.{PeerPlan}
 use Rattle.ide_plan.specs.Fits.{FitsPlan, FitsAddresses, FitsHopIf, FitsPeer, is_mode}
 use Rattle.arrival_verdicts.specs.{hop_streams, lone_stream, in_eight}
 use Rattle.all_ends.specs.Ends.{hop_row, peer_row}
-use Rattle.all_ends.proofs.ByPlace.{filled_length}
 
 abbrev Row : Type 0
 Row = List StreamPlan
@@ -80,18 +79,6 @@ pairs_fit plan fits = All-append (All FitsStream) (in_eight (map hop_row plan.li
 
 abbrev no_streams : Row
 no_streams = []
-
-pub eight_rows : (rows : List Row) → length (in_eight rows) ≡ 8
-eight_rows rows = filled_length 8 8 rows no_streams (omega arith)
-
-pub pairs_few : (plan : Plan) → FitsPlan plan
-    → length (in_eight (map hop_row plan.links) ++ map peer_row plan.peers) ≤ 16
-pairs_few plan fits =
-    let all = length-append (in_eight (map hop_row plan.links)) (map peer_row plan.peers) in
-    let first = eight_rows (map hop_row plan.links) in
-    let rest = length-map plan.peers peer_row in
-    let most = fits.peers_most in
-    omega (arith, all, first, rest, most)
 
 -- ---- rows that are filled up
 

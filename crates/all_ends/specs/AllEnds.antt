@@ -8,6 +8,7 @@ use Rattle.ide_types.specs.Ports.{host_port, device_port}
 use Rattle.ide_types.specs.declared.status.StreamStatus.{StreamStatus}
 use Rattle.link_events.specs.declared.event.Loss.{Loss}
 use Rattle.link_verdicts.specs.declared.verdict.Verdict.{Verdict}
+use Rattle.link_verdicts.specs.declared.verdict.Verdict.TheVariants.{Nothing}
 use Rattle.ide_plan.specs.declared.plan.Region.{Region}
 use Rattle.arrival_verdicts.specs.{Grants, reads_by}
 use Rattle.trusted_memory.specs.{MemoryContents, Leads}
@@ -131,6 +132,14 @@ ArrivesAt old xs regions grants end port bytes verdict m n new ys =
     (e : PortEnd) (l : LinkEnds) (a : LinkAccesses) → port_on old end ≡ Some e
     → slice_get old.links port.link ≡ Some l → slice_get xs port.link ≡ Some a
     → Arrives old xs regions grants end port bytes verdict m n new ys e l a
+
+-- nothing is taken
+pub record Leaves (verdict : Verdict) (old : EndsView) (m : MemoryContents) (xs : List LinkAccesses) (new : EndsView)
+    (n : MemoryContents) (ys : List LinkAccesses) : Type 0 where
+  pub verdict_is : verdict ≡ Nothing
+  pub ends_stay : new ≡ old
+  pub memory_stays : n ≡ m
+  pub accesses_stay : ys ≡ xs
 
 -- what is taken at an end at a switch, whose TLPs wait there in a direction
 pub record Waits (old : EndsView) (end : PortName) (bytes : List ℕ) (direction : Direction) (verdict : Verdict)

@@ -196,9 +196,6 @@ settled_place (Link i) v = settled_link v i
 settled_place (Near i) v = v
 settled_place (Pair i) v = if nat_lt i 8 then v else settled_peer (slice_get v.peers (i - 8)) v
 
-abbrev pub settled_line : ℕ → EndsView → EndsView
-settled_line line v = settled_place (line_place line) v
-
 -- ---- resets
 
 -- both ports drop their keys and counts, and nothing else changes

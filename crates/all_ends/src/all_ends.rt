@@ -1,7 +1,7 @@
 //! The ends of all lines.
 
-ghost use Rattle.std.specs.Prelude.{◌≡◌, ◌==◌, ◌<◌, ◌≤◌, ◌^◌, ◌-◌, ℕ, Some, true, not, IfOk, IfSome, IsSome, is_some};
-ghost use Rattle.std.specs.Prelude.{length, option_map, slice_get, slice_set};
+ghost use Rattle.std.specs.Prelude.{◌≡◌, ◌==◌, ◌<◌, ◌≤◌, ◌^◌, ◌-◌, ℕ, Some, true, false, not, IfOk, IfSome};
+ghost use Rattle.std.specs.Prelude.{IsSome, is_some, length, option_map, slice_get, slice_set};
 ghost use Rattle.ide_types.specs.Ports.{host_port};
 ghost use Rattle.ide_prefix.specs.Reading.{cut_of};
 ghost use Rattle.ide_port.specs.{PortEnd, take_step};
@@ -9,7 +9,6 @@ ghost use Rattle.arrival_verdicts.specs.Verdicts.{grants_in};
 ghost use Rattle.tsm_host.specs.Operations.{op_name};
 ghost use Rattle.tsm_host.specs.Managers.{named};
 ghost use Rattle.key_laws.specs.Operations.{work_of};
-ghost use Rattle.link_ends.specs.Hosts.{NamesPeer};
 ghost use Rattle.interface_states.specs.Peers.{has_peer};
 ghost use Rattle.all_ends.specs.Places.{located};
 ghost use Rattle.all_ends.specs.Ends.{pair_port, with_pair_port, changed_at, cleared_ends, cleared_pair, settled_ends};
@@ -86,6 +85,7 @@ impl AllEnds {
       TakesAt,
       ComesAt,
       ArrivesAt,
+      Leaves,
       WaitsAt,
       OperatesAt,
       told_at,
@@ -292,7 +292,7 @@ impl AllEnds {
     /// Takes bytes that arrive at an end which is at this port of a host or a device, and answers the verdict. Of a
     /// unit that is accepted at a host's port, the writes that the manager of interfaces admits go to trusted memory,
     /// and reads with T wait for their answer. Of a unit that is accepted at a device's port, writes go to the memory
-    /// of the device's interfaces, as these stood before it.
+    /// of the device's interfaces, as these stood before it. If there is no such end nothing changes.
     pub fn arrive(
         &mut self,
         end: PortName,
@@ -302,7 +302,6 @@ impl AllEnds {
         memory: &mut Trusted,
         accesses: &mut Accesses,
     ) -> Verdict
-        requires here { IsSome (port_on self.old end) }
         requires link { port.link < length self.old.links }
         requires few { CallsBelow (2 ^ 40) self.old }
         requires spare { 8 ≤ memory.old.spare }
@@ -310,8 +309,13 @@ impl AllEnds {
         requires pages { IfSome (slice_get accesses.old port.link) (λ a. 16 ≤ a.guarded.spare) }
         ensures arrives { ArrivesAt self.old accesses.old memory.old.contents.regions (grants_in keeper.now) end port
             bytes.now result memory.old.contents memory.new.contents self.new accesses.new }
+        ensures absent { is_some (port_on self.old end) ≡ false → Leaves result self.old memory.old.contents
+            accesses.old self.new memory.new.contents accesses.new }
         ensures regions { memory.new.contents.regions ≡ memory.old.contents.regions }
     {
+        if !self.has_end(end) {
+            return Verdict::Nothing;
+        }
         let access = accesses.at_mut(port.link);
         let arrival = self.take(end, bytes);
         let verdict = self.arrived(end, port, arrival, keeper, memory, access);
@@ -447,7 +451,6 @@ impl AllEnds {
     ) -> tdi_host::Outcome
         requires here { link < length self.old.links }
         requires interface { interface < length keeper.old.interfaces.interfaces }
-        requires peer { NamesPeer op }
         ensures { AsksAt self.old link keeper.old interface op loss result self.new keeper.new }
     {
         let peers = DevicePeers {

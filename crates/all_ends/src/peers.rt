@@ -25,7 +25,7 @@ pub struct DevicePeers<'a> {
 }
 
 // The end at a link's device of the first of these streams that has the ID and ends there, with its number.
-#[tactic(auto, unfolding(interface_states::specs::Peers::peer_end))]
+#[tactic(auto, unfolding(ide_plan::specs::Ends::peer_end))]
 fn peer_end(peers: &[PeerPlan], link: usize, stream: u64) -> Option<(Side, usize)>
     ensures end { option_map end_named result ≡ peer_end peers.now 0 link stream }
     ensures small { IfSome result (λ r. r.1 < 2 ^ 61) }

@@ -9,14 +9,10 @@ use Rattle.all_links.proofs.Terms.{LinkEnds, Links, InterfacesView, KeeperView, 
 use Rattle.all_links.proofs.Terms.{EndsWith, Stepped, Interface, answer_of_links, EndsView, port_on, live_on, Plan}
 use Rattle.all_links.proofs.Terms.{AreLinks, PortEnd, Side, Host, Device, port_in, state_of, nat_lt, true, ◌++◌, ◌≤◌}
 use Rattle.all_links.proofs.Terms.{if◌then◌else◌}
-use Rattle.interface_answers.specs.{changed_at, in_sixteen, pair_ports, NamesPeer, operated_on, HostKeeper, IsThere}
+use Rattle.interface_answers.specs.{changed_at, in_sixteen, pair_ports, operated_on, HostKeeper, IsThere}
 use Rattle.interface_answers.specs.{CallsAt, AsksAt, located, code_behind, asked_as, report_of}
 use Rattle.all_links.specs.Sides.{with_device}
 use Rattle.tdi_host.specs.declared.operation.PeerStream.{PeerStream}
-use Rattle.ide_types.specs.Lines.{is_peer_line}
-use Rattle.interface_states.specs.Views.{peer_of}
-use Rattle.interface_answers.specs.Shown.{NamesPeerIn}
-use Rattle.interface_answers.proofs.PeerNames.{operated_names}
 use Rattle.std.specs.Prelude.{IfSome}
 use Rattle.std.specs.Option.{option_map_or}
 use Rattle.all_links.proofs.Terms.{◌==◌, Bool, false}
@@ -263,18 +259,6 @@ came_to old n at o loss outcome ends k named asks =
           ∙ ap (λ (p : Option (ℕ × ℕ)). verdict_in n o loss (ended_at old.keeper old.ends n o loss p)) named;
     }
 
--- it names a stream between devices by its number
-pub names_in : (old : Links) (n : ℕ) (at : ℕ × ℕ) (o : InterfaceOp) (loss : Option Loss) (outcome : Outcome)
-    (ends : EndsView) (k : HostKeeper) → NamesPeer o
-    → Some at ≡ interface_named old.keeper.interfaces old.ends.links n
-    → AsksAt old.ends at.0 old.keeper n o loss outcome ends k → NamesPeerIn outcome
-names_in old n at o loss outcome ends k names named asks =
-    let x = is_found old.keeper.interfaces old.ends n at named in
-    let a = asks x.ends_at x.link_there in
-    let is = a.2.ended x.kept x.kept_there in
-    subst (λ (z : Outcome). NamesPeerIn z) (sym is.outcome_is)
-    (operated_names n o _ _ _ loss old.keeper.interfaces x.ends_at.device.interfaces x.kept names)
-
 -- a report does not say whether an operation has a verdict
 any_report : (n : ℕ) (loss : Option Loss) (report other : List ℕ) (outcome : Outcome)
     → IsSome (asked_as n loss report outcome) → IsSome (asked_as n loss other outcome)
@@ -364,29 +348,23 @@ pub some_if : {A : Type 0} (b : Bool) (x y : A) → Some y ≡ (if b then Some x
 some_if true x y is = (refl, same_Some y x is)
 some_if false x y is = absurd (none-some y (sym is))
 
-number_few : (line : ℕ) → is_peer_line line ≡ true → peer_of line < 8
-number_few line is = (let most : line < 32 = grind (arith, nat_tests, is) in
-    let least : 24 ≤ line = grind (arith, nat_tests, is) in omega (arith, most, least))
-
 -- the stream between devices of a line and an ID, where the interface's device has it
 pub record IsPeer (k : HostKeeper) (v : EndsView) (n line stream : ℕ) (peer : PeerStream) : Type 0 where
   pub small : stream < 256
   pub has : has_peer_in k v n line stream ≡ true
   pub peer_is : peer ≡ peer_stream k line stream
-  pub few : peer.number < 8
 
-pub is_peer : (k : HostKeeper) (v : EndsView) (n line stream : ℕ) (peer : PeerStream) → is_peer_line line ≡ true
+pub is_peer : (k : HostKeeper) (v : EndsView) (n line stream : ℕ) (peer : PeerStream)
     → Some peer ≡ (if nat_lt stream 256 && has_peer_in k v n line stream then Some (peer_stream k line stream) else
     None)
     → IsPeer k v n line stream peer
-is_peer k v n line stream peer late is =
+is_peer k v n line stream peer is =
     let parts = some_if (nat_lt stream 256 && has_peer_in k v n line stream) (peer_stream k line stream) peer is in
     let both = and_parts (nat_lt stream 256) (has_peer_in k v n line stream) parts.0 in
     record {
       small = true-lt stream 256 both.0;
       has = both.1;
       peer_is = parts.1;
-      few = subst (λ (p : PeerStream). p.number < 8) (sym parts.1) (number_few line late);
     }
 
 -- an event on it has the verdict of its operation

@@ -2,9 +2,9 @@
 -- on interfaces.
 use Rattle.all_links.proofs.Terms.{◌≡◌, ◌+◌, List, refl, ap, sym, ◌∙◌, subst, arith, Plan, LinkState, LinkPacket, Some}
 use Rattle.all_links.proofs.Terms.{Stepped, Verdict, History, PortsStandFor, Links, state_of, IsBounded, AreLinks}
-use Rattle.all_links.proofs.Terms.{links_state, EndsBy, EndsIf, EndsWith, beside_in, Ends, Beside}
-use Rattle.all_links.proofs.Terms.{Interface, true, false, Option, None, IfSome, IsSome, is_some, EndsAs, HasNoVerdict}
-use Rattle.all_links.proofs.Terms.{same_Some, step_of, IsAnsweredBy, answer_of_links}
+use Rattle.all_links.proofs.Terms.{links_state, EndsBy, EndsIf, EndsWith, beside_in, Ends, Beside, Interface, true}
+use Rattle.all_links.proofs.Terms.{false, Option, None, IfSome, IsSome, is_some, EndsAs, HasNoVerdict, same_Some}
+use Rattle.all_links.proofs.Terms.{step_of, IsAnsweredBy, answer_of_links}
 use Rattle.link_events.specs.declared.event.Event.{Event}
 use Rattle.link_events.specs.declared.event.InterfaceEvent.{InterfaceEvent}
 

@@ -1,7 +1,7 @@
 -- An operation at both ends of a line, among all lines.
-use Rattle.line_arrivals.proofs.{WorksOn, Operated, operated, operates_grow, some_named, step_not}
+use Rattle.line_arrivals.proofs.{WorksOn, Operated, operated, operates_grow, name_is, some_named, step_not}
 use Rattle.interface_answers.proofs.{bounded_then}
-use Rattle.all_links.proofs.Terms.{◌≡◌, ℕ, ◌+◌, true, refl, arith, IsSome, Option, Some, Plan}
+use Rattle.all_links.proofs.Terms.{◌≡◌, ◌∙◌, ℕ, ◌+◌, true, refl, sym, subst, arith, IsSome, Option, Some, Plan}
 use Rattle.all_links.proofs.Terms.{
   EndsView,
   port_on,
@@ -11,8 +11,9 @@ use Rattle.all_links.proofs.Terms.{
   StandsForSome,
   beside_in,
   OperatesAt,
+  stream_named,
 }
-use Rattle.all_links.proofs.Terms.{IsBounded, KeeperView, Verdict, OperationsJoin, named, Named}
+use Rattle.all_links.proofs.Terms.{IsBounded, KeeperView, ManagerView, Verdict, OperationsJoin, named, Named}
 use Rattle.all_links.proofs.Terms.{operation_event, PortsStandFor, AreLinks, History}
 use Rattle.ide_types.specs.Ports.{host_port}
 use Rattle.link_walks.specs.Paired.{PairOperationsJoin}
@@ -32,6 +33,24 @@ works : (operation : Operation) (line : ℕ) → works_on operation line ≡ tru
 works op.Establish line is same = absurd cc
 works op.Refresh line is same = is
 works op.Stop line is same = absurd cc
+
+-- the stream of a line by these numbers, as it was found
+pub record IsFound (m : ManagerView) (v : EndsView) (line stream a b : ℕ) : Type 0 where
+  pub same : ◌≡◌ {A = ℕ × ℕ} (a, b) (line, stream)
+  pub here : IsSome (port_on v (host_port a))
+  pub there : IsSome (named m a b)
+  pub named_is : Some (a, b) ≡ stream_named m v a b
+
+pub found_is : (m : ManagerView) (v : EndsView) (line stream a b : ℕ) → Some (a, b) ≡ stream_named m v line stream
+    → IsFound m v line stream a b
+found_is m v line stream a b is =
+    let n = name_is m v line stream a b is in
+    record {
+      same = λ i. (n.line_is i, n.stream_is i);
+      here = subst (λ (l : ℕ). IsSome (port_on v (host_port l))) (sym n.line_is) n.end_there;
+      there = subst (λ (p : ℕ × ℕ). IsSome (named m p.0 p.1)) (λ i. (sym n.line_is i, sym n.stream_is i)) n.there;
+      named_is = is ∙ (λ i. stream_named m v (sym n.line_is i) (sym n.stream_is i));
+    }
 
 -- what such a call comes to
 module _ (plan : Plan) (old : Links) (h : History) (ends : EndsView) (k' : KeeperView) (call : OpCall)

@@ -1,32 +1,16 @@
 -- The states of streams that are read, and resets, as the machine has them.
-use Rattle.all_links.proofs.Terms.{
-  ◌≡◌,
-  ℕ,
-  ◌+◌,
-  Bool,
-  true,
-  List,
-  length,
-  refl,
-  ap,
-  sym,
-  ◌∙◌,
-  subst,
-  arith,
-  Option,
-  Some,
-}
-use Rattle.all_links.proofs.Terms.{None, is_some, nat_lt, if◌then◌else◌, Op, History, Host, Device, StreamStatus, Plan}
-use Rattle.all_links.proofs.Terms.{Reset, Status, Stepped, status_at, status_found, step_of, reset_state}
+use Rattle.all_links.proofs.Terms.{◌≡◌, ℕ, ◌+◌, Bool, true, List, length, refl, ap, sym, ◌∙◌, subst, arith, Option}
+use Rattle.all_links.proofs.Terms.{Some, None, is_some, nat_lt, if◌then◌else◌, Op, History, Host, Device, StreamStatus}
+use Rattle.all_links.proofs.Terms.{Plan, Reset, Status, Stepped, status_at, status_found, step_of, reset_state}
 use Rattle.all_links.proofs.Terms.{PortsStandFor, named, EndsView, port_on, Links, stream_named, KeeperView, ResetsAt}
 use Rattle.all_links.proofs.Terms.{statuses_of, both_of, IsBounded, AreLinks, links_state, EndsWith, Beside, beside_in}
-use Rattle.all_links.proofs.Terms.{option_and_then, PortEnd, PortName}
+use Rattle.all_links.proofs.Terms.{option_and_then, PortEnd, PortName, LinkEnds, none-some, option_map, port_in}
+use Rattle.all_links.proofs.Terms.{slice_get}
 use Rattle.link_verdicts.specs.declared.verdict.Verdict.TheVariants as v
 use Rattle.ide_types.specs.Ports.{host_port, device_port}
 use Rattle.ide_port.specs.{status_in}
 use Rattle.interface_answers.specs.{HostKeeper, reset_all, port_at_place, pair_port, line_place, LinePlace, Link, Near}
 use Rattle.interface_answers.specs.{Pair, PairEnds, state_of}
-use Rattle.all_links.proofs.Terms.{LinkEnds, none-some, option_map, port_in, slice_get}
 use Rattle.interface_answers.proofs.{bounded_then}
 use Rattle.line_arrivals.proofs.{reset_grows, links_reset, state_reset, keeper_reset, IsName, at_side, op_is, planned}
 use Rattle.line_arrivals.proofs.{some_op, unnamed}

@@ -1,27 +1,23 @@
 -- Sends at an end of a line, as the machine has them.
-use Rattle.std.specs.Prelude.{zero, suc}
+use Rattle.std.specs.Prelude.{zero, suc, not, Result, Ok, Err}
 use Rattle.all_links.proofs.Terms.{◌≡◌, ℕ, ◌+◌, Bool, true, false, List, [], ◌∷◌, ◌++◌, length, refl, ap, sym, ◌∙◌}
 use Rattle.all_links.proofs.Terms.{subst, arith, Option, Some, None, IsSome, slice_get, map, sum_by, if◌then◌else◌}
 use Rattle.all_links.proofs.Terms.{option_map, is_some, Side, Host, Device, PortName, Plan, Verdict, SealedPacket}
 use Rattle.all_links.proofs.Terms.{LinkPacket, Stepped, kept_at, step_of, joined_packets, Sent, PortEnd, SendStep}
-use Rattle.all_links.proofs.Terms.{send_step, sent_verdict, lengths_sent, IsSentAtPort, LinkEnds, Links}
+use Rattle.all_links.proofs.Terms.{send_step, sent_verdict, lengths_sent, IsSentAtPort, LinkEnds, Links, SendsAt}
+use Rattle.all_links.proofs.Terms.{state_of, IsBounded, AreLinks, links_state, EndsWith, EndsSending, Send, EndsView}
+use Rattle.all_links.proofs.Terms.{port_on, trusting_on, with_port_on, beside_in, Beside, port_in, with_port, LinkState}
+use Rattle.all_links.proofs.Terms.{has_port, stepped_bytes, KeeperView}
 use Rattle.interface_answers.specs.{cut_packets, PairEnds, end_sent_verdict, changed_at, line_place, pair_port}
 use Rattle.interface_answers.specs.{port_at_place, with_pair_port, with_port_at, LinePlace, Link, Near, Pair}
-use Rattle.all_links.proofs.Terms.{SendsAt, state_of, IsBounded, AreLinks, links_state, EndsWith, EndsSending, Send}
-use Rattle.all_links.proofs.Terms.{EndsView, port_on, trusting_on, with_port_on, beside_in, Beside, port_in, with_port}
-use Rattle.all_links.proofs.Terms.{LinkState, has_port, stepped_bytes, KeeperView}
 use Rattle.std.proofs.lemmas.Option.{none-some}
 use Rattle.std.proofs.lemmas.Bool.{and_parts}
 use Rattle.association.specs.Outgoing.{Outgoing, outgoing_of}
 use Rattle.link_history.specs.Ports.{at_switch, may_send, port_of, sealing_end}
-use Rattle.std.specs.Prelude.{not}
 use Rattle.link_verdicts.specs.declared.verdict.Verdict.TheVariants as v
 use Rattle.ide_port.specs.declared.answer.Sent.TheVariants.{Sealed}
 use Rattle.ide_port.specs.declared.answer.Sent.TheVariants as sent
-use Rattle.stream_lanes.specs.declared.refusal.SendRefusal.TheVariants as refusal
-use Rattle.all_links.specs.Accesses.{is_sending}
 use Rattle.all_links.specs.Links.{Ends, EndsOr, EndsSendingOr}
-use Rattle.std.specs.Prelude.{Result, Ok, Err}
 use Rattle.ide_types.specs.declared.memory.Memory.{Memory}
 use Rattle.all_links.specs.Sides.{SidesKeep}
 use Rattle.ide_port.specs.{Trusting}
@@ -185,16 +181,6 @@ sealed_length old new end bytes more trusted answer ps lent here sends said lend
     let stepped = put.step 0 in
     lengths_join ps step.packets (said ∙ stepped.1.lengths)
     ∙ ap (λ (bs : List ℕ). length bs) (sym (lends step.port stepped.2 ∙ send_joins e out more sets 0))
-
-pub sent_sends : (end port : PortName) (n : ℕ) (answer : Sent)
-    → is_sending (end_sent_verdict end port n answer) ≡ true
-sent_sends end port n (sent.Malformed fault) = refl
-sent_sends end port n sent.Plain = refl
-sent_sends end port n (Sealed ps) = refl
-sent_sends end port n (sent.Refused (refusal.NoKey sub)) = refl
-sent_sends end port n (sent.Refused (refusal.Worn sub units)) = refl
-sent_sends end port n (sent.Refused refusal.Unfinished) = refl
-sent_sends end port n (sent.Refused refusal.Insecure) = refl
 
 -- ---- a send at a port
 

@@ -1,27 +1,10 @@
 -- What resets of links and operations on streams make of devices' interfaces: they settle by the ends of the device's
 -- streams as these are afterwards, or stay.
-use Rattle.all_links.proofs.Terms.{
-  ◌≡◌,
-  ℕ,
-  suc,
-  zero,
-  ◌+◌,
-  ◌-◌,
-  ◌==◌,
-  ◌<◌,
-  ◌≤◌,
-  Bool,
-  true,
-  false,
-  List,
-  [],
-  ◌∷◌,
-  length,
-}
-use Rattle.all_links.proofs.Terms.{refl, ap, sym, ◌∙◌, subst, arith, nat_tests, Option, Some, None, option_map, map}
-use Rattle.all_links.proofs.Terms.{option_and_then, slice_get, slice_set, none-some, same_Some, slice_get_within}
-use Rattle.all_links.proofs.Terms.{IsSome, if◌then◌else◌, nat_lt, LinkEnds, EndsView, PortName, Side}
-use Rattle.all_links.proofs.Terms.{Host, Device, port_on, live_on, KeeperView, OperatesAt, port_in}
+use Rattle.all_links.proofs.Terms.{◌≡◌, ℕ, suc, zero, ◌+◌, ◌-◌, ◌==◌, ◌<◌, ◌≤◌, Bool, true, false, List, [], ◌∷◌}
+use Rattle.all_links.proofs.Terms.{length, refl, ap, sym, ◌∙◌, subst, arith, nat_tests, Option, Some, None, option_map}
+use Rattle.all_links.proofs.Terms.{map, option_and_then, slice_get, slice_set, none-some, same_Some, slice_get_within}
+use Rattle.all_links.proofs.Terms.{IsSome, if◌then◌else◌, nat_lt, LinkEnds, EndsView, PortName, Side, Host, Device}
+use Rattle.all_links.proofs.Terms.{port_on, live_on, KeeperView, OperatesAt, port_in}
 use Rattle.std.proofs.Common.{inl, inr, ◌||◌}
 use Rattle.std.proofs.lemmas.Bool.{eqb-true}
 use Rattle.ide_plan.specs.Ends.{peer_link}
@@ -52,10 +35,6 @@ some_seen : {A B : Type 0} (g : A → B) (o : Option A) (y : B) → option_map g
     → (x : A) × (o ≡ Some x) × (g x ≡ y)
 some_seen g None y is = absurd (none-some y is)
 some_seen g (Some x) y is = (x, refl, same_Some (g x) y is)
-
-some_there : {A : Type 0} (o : Option A) → IsSome o → (x : A) × (o ≡ Some x)
-some_there None is = absurd cc
-some_there (Some x) is = (x, refl)
 
 mapped_there : {A B : Type 0} (g : A → B) (o : Option A) → IsSome (option_map g o) → (x : A) × (o ≡ Some x)
 mapped_there g None is = absurd cc

@@ -1,8 +1,8 @@
 -- What an event makes of what stands beside the ports. Most events keep all of it. A call of one link changes that link
 -- alone; what an operation on a stream tells the manager of interfaces goes by the cases of its outcome (`told_here`).
-use Rattle.all_links.proofs.Terms.{◌≡◌, ℕ, ◌+◌, ◌==◌, ◌<◌, ◌≤◌, not, Bool, true, false, List, length, refl, ap, sym}
+use Rattle.all_links.proofs.Terms.{◌≡◌, ℕ, ◌+◌, ◌==◌, ◌<◌, not, Bool, true, false, List, length, refl, ap, sym}
 use Rattle.all_links.proofs.Terms.{◌∙◌, subst, arith, nat_tests, Option, Some, None, slice_get, slice_set, EndsView}
-use Rattle.all_links.proofs.Terms.{none-some, same_Some, true-lt, nat_lt, is_some, IsSome, if◌then◌else◌, Verdict, Op}
+use Rattle.all_links.proofs.Terms.{none-some, same_Some, true-lt, nat_lt, IsSome, if◌then◌else◌, Verdict, Op}
 use Rattle.all_links.proofs.Terms.{LinkEnds, Links, InterfacesView, ManagerView, Named, named, stream_named, OperatesAt}
 use Rattle.all_links.proofs.Terms.{ResetsAt, PortName, live_on, port_on, work_of}
 use Rattle.all_links.proofs.Terms.{told_at, drawn_at, nat_le}
@@ -51,14 +51,6 @@ pub keeps_all : {old new : Links} → new ≡ record old { steps = old.steps + 1
 keeps_all {old} {new} is =
     keeps_with old new (ap (λ (s : Links). s.ends.links) is) (ap (λ (s : Links). s.keeper) is)
     (ap (λ (s : Links). s.trusted.contents) is)
-
--- room for packets that is taken first
-pub keeps_reserved : {new : Links} (old mid : Links) → mid ≡ record old { packets = mid.packets } → SidesKeep mid new
-    → SidesKeep old new
-keeps_reserved {new} old mid is x = from (subst (λ (m : Links). SidesKeep m new) is x)
-  where
-    from : SidesKeep (record old { packets = mid.packets }) new → SidesKeep old new
-    from y = record { keeper = y.keeper; peer_draws = y.peer_draws; devices = y.devices; contents = y.contents }
 
 -- ---- resets
 
@@ -330,17 +322,10 @@ not_operated {old} {new} operation.Refresh line id verdict not is = record {
         both true = refl
         both false = refl
 
-is_named : (m : ManagerView) (v : EndsView) (line id : ℕ) → line < 32 → id ≤ 255
-    → is_some (port_on v (host_port line)) ≡ true → is_some (named m line id) ≡ true
-    → stream_named m v line id ≡ Some (line, id)
-is_named m v line id lt small here there_is =
-    let a : nat_lt line 32 ≡ true = grind (arith, nat_tests) in
-    let b : nat_le id 255 ≡ true = grind (arith, nat_tests) in
-    (λ i. if a i && b i && here i && there_is i then Some (line, id) else None)
-
 pub operated_beside : (old : Links) (ends : EndsView) (k : HostKeeper) (c : OpCall) (operation : Operation)
-    (line id : ℕ) (loss : Option Loss) (result : Outcome) (verdict : Verdict) → line < 32 → id ≤ 255
-    → IsSome (port_on old.ends (host_port line)) → IsSome (named old.keeper.keys.manager line id)
+    (line id : ℕ) (loss : Option Loss) (result : Outcome) (verdict : Verdict)
+    → Some (line, id) ≡ stream_named old.keeper.keys.manager old.ends line id
+    → IsSome (port_on old.ends (host_port line))
     → op_name c ≡ record { operation = operation; link = line; stream = id }
     → OperatesAt old.ends line old.keeper.keys c loss result ends k.keys
     → IfSome (named old.keeper.keys.manager (op_name c).link (op_name c).stream) (λ (n : Named).
@@ -350,17 +335,14 @@ pub operated_beside : (old : Links) (ends : EndsView) (k : HostKeeper) (c : OpCa
     old.keeper.keys.pool.draws old.keeper.peer_draws
     → verdict_of operation line id loss result ≡ Some verdict
     → SidesOperate operation line id verdict old (record old { ends = ends; keeper = k; steps = old.steps + 1 })
-operated_beside old ends k c operation line id loss result verdict low small here there_is name operates tells draws
-    says =
+operated_beside old ends k c operation line id loss result verdict found here name operates tells draws says =
     let m : ManagerView = old.keeper.keys.manager in
     let before : ℕ = old.keeper.keys.pool.draws in
     let after : ℕ = k.keys.pool.draws in
     record {
       devices = operated_follow old.ends old.keeper.keys c loss result ends k.keys line here operates;
       contents = refl;
-      unnamed = λ none. absurd (none-some (line, id)
-          (sym none ∙ is_named m old.ends line id low small (is_true (port_on old.ends (host_port line)) here)
-          (is_true (named m line id) there_is)));
+      unnamed = λ none. absurd (none-some (line, id) (sym none ∙ sym found));
       told = λ n at named_is.
           let same : named m (op_name c).link (op_name c).stream ≡ Some n =
           ap (λ (x : OpName). named m x.link x.stream) name ∙ named_is in
@@ -374,7 +356,3 @@ operated_beside old ends k c operation line id loss result verdict low small her
       drawn = λ n at named_is. draws ∙ drawn_here c before after old.keeper.peer_draws
           ∙ ap (λ (x : OpName). peers_drawn x.operation x.link before after old.keeper.peer_draws) name;
     }
-  where
-    is_true : {A : Type 0} (o : Option A) → IsSome o → is_some o ≡ true
-    is_true None none = absurd cc
-    is_true (Some x) some = refl

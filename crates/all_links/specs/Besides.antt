@@ -1,19 +1,14 @@
 -- What all links say beside their ports: T of what is sent, and the answers to events on interfaces.
-use Rattle.std.specs.Prelude.{ℕ, ◌≡◌, List, Option, Some, IsSome}
-use Rattle.ide_plan.specs.declared.plan.Plan.{Plan}
+use Rattle.std.specs.Prelude.{ℕ, ◌≡◌, Option, Some, IsSome}
 use Rattle.link_events.specs.declared.event.Event.{Event}
 use Rattle.link_events.specs.declared.event.Event.TheVariants.{Interface}
 use Rattle.link_events.specs.declared.event.InterfaceEvent.{InterfaceEvent}
 use Rattle.link_events.specs.declared.event.Loss.{Loss}
 use Rattle.link_verdicts.specs.declared.verdict.Verdict.{Verdict}
-use Rattle.link_history.specs.Memory.{effects_by}
-use Rattle.link_history.specs.Ports.{port_of}
 use Rattle.link_ports.specs.Machine.{Beside}
 use Rattle.tdi_host.specs.declared.operation.InterfaceOp.{InterfaceOp}
-use Rattle.accesses.specs.declared.link.LinkAccesses.{LinkAccesses}
 use Rattle.interface_answers.specs.{trusting_on}
 use Rattle.all_links.specs.declared.links.Links.{Links}
-use Rattle.all_links.specs.Accesses.{policy_in}
 use Rattle.all_links.specs.Interfaces.{ended_in, verdict_at_ends, verdict_in}
 
 -- T is theirs; all else is said elsewhere
@@ -38,12 +33,3 @@ IsAnswered s event = (e : InterfaceEvent) → event ≡ Interface e → IsSome (
 -- If the event is one on an interface, it has a verdict, and this answer is that verdict.
 abbrev pub IsAnsweredBy : Links → Event → Beside → Type 0
 IsAnsweredBy s event b = (e : InterfaceEvent) → event ≡ Interface e → answer_of_links s e ≡ Some (b.answer e)
-
--- ---- arrivals
-
--- memory has the plan's regions, and effects are by what the manager says, by the reads that wait and by how the
--- devices' interfaces stand, at the port of each end
-pub record AreEffects (plan : Plan) (s : Links) (xs : List LinkAccesses) (b : Beside) : Type 0 where
-  pub regions : s.trusted.contents.regions ≡ plan.memory
-  pub effects_are : b.effects
-      ≡ (λ port. effects_by plan (policy_in s.keeper.interfaces s.ends xs) (port_of plan port))

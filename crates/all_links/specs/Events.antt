@@ -1,2 +1,2 @@
 -- What events name.
-pub use Rattle.line_arrivals.specs.{altered_bytes, operation_event}
+pub use Rattle.line_arrivals.specs.{operation_event}

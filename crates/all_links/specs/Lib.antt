@@ -10,5 +10,7 @@ pub use Rattle.interface_answers.specs.{bound_trust, far_hop_trust, link_trust, 
 pub use Rattle.interface_answers.specs.{located, stream_named, AreLinks, IsBounded, IsLink, name_of, names_from}
 pub use Rattle.interface_answers.specs.{names_of, ops_in, ops_of, state_of, views_after, grants_in, writes_by, new_ends}
 pub use Rattle.interface_answers.specs.{port_in, reset_ends, PairEnds, InterfacesView, keyed_if, live_for, operated_on}
-pub use Rattle.interface_answers.specs.{status_for, stopped_if, KeeperView, LinkEnds, HostKeeper, unit_tlps}
-pub use Rattle.interface_answers.specs.{waiting_reads_after}
+pub use Rattle.interface_answers.specs.{status_for, stopped_if, KeeperView, LinkEnds, HostKeeper, unit_tlps, arrival_of}
+pub use Rattle.interface_answers.specs.{unit_in, waiting_reads_after}
+pub use Rattle.line_arrivals.specs.{carried_next}
+pub use Rattle.line_arrivals.specs.Landing.{IsQuiet, Lands, arrival_on}

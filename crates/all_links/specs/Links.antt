@@ -13,10 +13,9 @@ use Rattle.key_slots.specs.{new_pool}
 use Rattle.tsm_host.specs.Managers.{new_manager}
 use Rattle.tdi_host.specs.Managers.{new_interface_manager as new_interfaces}
 use Rattle.trusted_memory.specs.{new_memory}
-use Rattle.accesses.specs.declared.link.LinkAccesses.{LinkAccesses}
 use Rattle.interface_answers.specs.{new_all_ends, AreLinks, IsBounded}
 use Rattle.all_links.specs.declared.links.Links.{Links}
-use Rattle.all_links.specs.Besides.{IsAnswered, IsAnsweredBy, AreEffects, beside_in}
+use Rattle.all_links.specs.Besides.{IsAnswered, IsAnsweredBy, beside_in}
 use Rattle.all_links.specs.States.{links_state}
 
 -- The links before the first event: the ends of all lines without keys, the managers with no operation under way and no
@@ -62,10 +61,6 @@ EndsIf IsSo plan verdict old new event = EndsBy IsSo (λ b st. step_of plan b st
 abbrev pub EndsWith : Plan → Verdict → Links → Links → Event → Type 0
 EndsWith plan verdict old new event = EndsIf (IsAnsweredBy old event) plan verdict old new event
 
--- The effects of an accepted unit are by what stands at the links.
-abbrev pub EndsArriving : Plan → Verdict → List LinkAccesses → Links → Links → Event → Type 0
-EndsArriving plan verdict xs old new event = EndsIf (AreEffects plan old xs) plan verdict old new event
-
 -- Bytes are sent at an end that the topology has.
 abbrev pub EndsSending : Plan → Verdict → Links → Links → PortName → List ℕ → Bool → Bool → Type 0
 EndsSending plan verdict old new end bytes more trusted =
@@ -86,10 +81,6 @@ EndsOr plan (Err e) old new event = Stays old new
 abbrev pub EndsSendingOr : Plan → Result Verdict Memory → Links → Links → PortName → List ℕ → Bool → Bool → Type 0
 EndsSendingOr plan (Ok verdict) old new end bytes more trusted = EndsSending plan verdict old new end bytes more trusted
 EndsSendingOr plan (Err e) old new end bytes more trusted = Stays old new
-
-abbrev pub EndsArrivingOr : Plan → Result Verdict Memory → List LinkAccesses → Links → Links → Event → Type 0
-EndsArrivingOr plan (Ok verdict) xs old new event = EndsArriving plan verdict xs old new event
-EndsArrivingOr plan (Err e) xs old new event = Stays old new
 
 -- The event has no verdict. That does not come while the links stand for some history and the event is answered.
 abbrev pub HasNoVerdict : Plan → Links → Event → Type 0

@@ -1,7 +1,7 @@
 -- What an event makes of what stands beside the ports: the devices' interfaces, the manager's with the draws of streams
 -- between devices, and trusted memory.
-use Rattle.std.specs.Prelude.{ℕ, ◌≡◌, ◌<◌, ◌≤◌, ◌==◌, ◌&&◌, Bool, true, false, not, List, length, slice_get}
-use Rattle.std.specs.Prelude.{slice_set, nat_le, Option, Some, None, if◌then◌else◌}
+use Rattle.std.specs.Prelude.{ℕ, ◌≡◌, ◌<◌, ◌≤◌, ◌==◌, ◌&&◌, Bool, true, false, not, List, length, slice_get, slice_set}
+use Rattle.std.specs.Prelude.{nat_le, Option, Some, None, if◌then◌else◌}
 use Rattle.ide_types.specs.Lines.{is_link_line}
 use Rattle.ide_plan.specs.declared.plan.Plan.{Plan}
 use Rattle.interface_words.specs.RegisterNames.{has_register}

@@ -3,6 +3,10 @@
 //! chapter 11, in this profile).
 #![tactic(auto)]
 
+mod interfaces;
 mod links;
+mod packets;
+mod streams;
 
+pub use line_arrivals::{Arriving, land};
 pub use links::Links;

@@ -49,9 +49,6 @@ use Rattle.arrival_facts.proofs.Units.{IsAlone, taken_alone, standing_none, shor
 abbrev AreItsOwn : List HopTlp → List HopTlp → Type 0
 AreItsOwn waits own = (waits ≡ own) × AreFew waits
 
-opened_packet : Packet → List ℕ → Packet
-opened_packet p plain = record { prefix = p.prefix; head = p.head; body = plain; tag = [] }
-
 one_few : (b : Bool) (x : HopTlp) → length x.bytes ≤ most_bytes → AreFew ((if b then [] else x ∷ []) ++ [])
 one_few true x short = inl refl
 one_few false x short = inr (record { tlp = x; is = refl; short = short })

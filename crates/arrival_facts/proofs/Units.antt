@@ -1,20 +1,17 @@
 -- A unit that is accepted on a line whose units have one packet has the packet that came and no other; its TLP is no
 -- longer than one may be.
 use Rattle.sealing_laws.proofs.Terms.{◌≡◌, ◌∙◌, ℕ, ◌+◌, ◌<◌, ◌≤◌, ◌&&◌, Bool, true, false, List, [], ◌∷◌, ◌++◌}
-use Rattle.sealing_laws.proofs.Terms.{length, refl, ap, sym, subst, arith, nat_tests, inl, inr, not, take, Plan}
+use Rattle.sealing_laws.proofs.Terms.{length, refl, ap, subst, arith, nat_tests, inl, inr, not, Plan}
 use Rattle.sealing_laws.proofs.Terms.{History, CauseLaw, SubStream, lane_in, PortName, SubKind, Packet, FitsPacket}
-use Rattle.sealing_laws.proofs.Terms.{is_sync_packet, encrypted, keys_at, failed, length-append, append-nil}
+use Rattle.sealing_laws.proofs.Terms.{keys_at, failed, length-append}
 use Rattle.std.proofs.lemmas.Option.{none-some, same_Some}
 use Rattle.std.specs.Prelude.{Option, Some, None, nat_le, if◌then◌else◌, ◌||◌}
-use Rattle.std.proofs.Math.Seq.{take-append_seam}
 use Rattle.ide_types.specs.declared.sub.SubKind.TheVariants.{Pr, Npr, Cpl}
 use Rattle.ide_types.specs.declared.sub.FailCause.TheVariants as fail
 use Rattle.tlp_layout.specs.declared.head.HeadView.{HeadView}
 use Rattle.tlp_layout.specs.Head.{head_length}
 use Rattle.tlp_layout.specs.Tlp.{body_size}
 use Rattle.tlp_layout.proofs.Readings.{head_sized}
-use Rattle.gcm_seal.specs.Gcm.{masked}
-use Rattle.gcm_seal.proofs.Sealing.{length-masked}
 use Rattle.key_laws.specs.Keys.{Keyed, Off, Loaded, On, Keys}
 use Rattle.stream_rules.specs.Stream.{StreamState, LiveKey, Taken, Insecure, Failed, Held, Accepted, holds_any}
 use Rattle.stream_rules.specs.Stream.{
@@ -28,7 +25,6 @@ use Rattle.stream_rules.specs.Stream.{
   at_sub,
 }
 use Rattle.hop_queues.specs.{most_bytes}
-use Rattle.link_history.specs.Hops.{HopTlp, tlps_with}
 use Rattle.link_history.specs.History.{pending}
 use Rattle.link_history.specs.Plan.{mode_of}
 use Rattle.link_ports.specs.Stands.{rx_slot, rx_slots, receiving_key}
@@ -107,28 +103,6 @@ module _ (x : StreamState) (p : Packet) where
   taken_alone mode closed none =
       failed_alone x.failed _
       (under_alone mode closed slot_of (live_in (slot_in_set (at_sub x.rx p.prefix.sub).slots (not p.prefix.k))) none)
-
--- ---- its TLP
-
--- in plain
-abbrev pub opened_tlp : Packet → List ℕ → HopTlp
-opened_tlp p plain = record { sub = p.prefix.sub; bytes = p.head ++ plain; t = p.prefix.t }
-
-abbrev pub opened_tlps : Packet → List ℕ → List HopTlp
-opened_tlps p plain = if is_sync_packet p then [] else opened_tlp p plain ∷ []
-
-pub alone_waits : (p : Packet) (key iv : List ℕ)
-    → tlps_with (masked key iv 0 (encrypted (p ∷ []))) (p ∷ []) ≡ opened_tlps p (masked key iv 0 p.body)
-alone_waits p key iv =
-    let body : encrypted (p ∷ []) ≡ p.body = append-nil p.body in
-    let plain : take (length p.body) (masked key iv 0 (encrypted (p ∷ []))) ≡ masked key iv 0 p.body =
-    (λ i. take (length p.body) (masked key iv 0 (body i)))
-    ∙ ap (λ (n : ℕ). take n (masked key iv 0 p.body)) (sym (length-masked key iv 0 p.body))
-    ∙ whole (masked key iv 0 p.body) in
-    ap (λ (front : List ℕ). opened_tlps p front) plain
-  where
-    whole : (xs : List ℕ) → take (length xs) xs ≡ xs
-    whole xs = ap (take (length xs)) (sym (append-nil xs)) ∙ take-append_seam xs []
 
 -- ---- it is no longer than one may be
 

@@ -153,9 +153,6 @@ module _ (draw : ℕ) where
   first_reads effect.Waiting p es ps = refl
   first_reads (effect.Blocked c) p es ps = refl
 
-pub none_more : (ws : List WaitingRead) → ws ≡ ws ++ []
-none_more ws = sym (append-nil ws)
-
 -- ---- memory, one after another
 
 write_on : (m k n : MemoryContents) (o : Option Write) (os : List (Option Write)) → Leads m (o ∷ []) k → Leads k os n

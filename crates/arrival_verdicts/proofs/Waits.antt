@@ -1,8 +1,7 @@
 -- The TLPs that wait at a switch of a unit are those that the machine has: the port lends the unit opened packet by
 -- packet, the machine opens it as one and cuts the plaintext.
 use Rattle.std.proofs.Common.{◌≡◌, ℕ, ◌+◌, take, drop, Bool, true, false, List, [], ◌∷◌, ◌++◌, length, refl, sym, ◌∙◌}
-use Rattle.std.specs.Prelude.{All, if◌then◌else◌}
-use Rattle.std.proofs.lemmas.List.Elements.{All-head, All-tail}
+use Rattle.std.specs.Prelude.{if◌then◌else◌}
 use Rattle.std.proofs.Math.Seq.{take-append_seam, drop-append_seam}
 use Rattle.ide_types.specs.declared.port.PortName.{PortName}
 use Rattle.ide_plan.specs.declared.plan.Plan.{Plan}
@@ -11,14 +10,13 @@ use Rattle.ide_prefix.specs.{encrypted, iv_of, is_sync_packet}
 use Rattle.gcm_seal.specs.Gcm.{masked}
 unfoldable use Rattle.gcm_seal.specs.Gcm.{open_of}
 use Rattle.gcm_seal.proofs.Sealing.{masked-append, length-masked}
-use Rattle.link_verdicts.specs.declared.verdict.UnitName.{UnitName}
 use Rattle.sub_stream.specs.{mark_of, opened_from}
 use Rattle.hop_queues.specs.declared.queue.HopTlp.{HopTlp}
 use Rattle.link_history.specs.Hops.{tlps_with}
 use Rattle.link_history.specs.Admission.{plain_of}
 use Rattle.link_history.specs.Plan.{key_of}
 use Rattle.link_history.specs.Packets.{received_in}
-use Rattle.arrival_verdicts.specs.Switches.{tlps_as, unit_waits}
+use Rattle.arrival_verdicts.specs.Switches.{tlps_as}
 use Rattle.arrival_verdicts.proofs.Writes.{OpensAs}
 
 -- of packets whose bodies are plain, each in the sub-stream that it names
@@ -56,11 +54,3 @@ pub waits_open : (plan : Plan) (end : PortName)
 unfolding open_of
 waits_open plan end unit ps =
     each_waits (key_of plan unit.draw (received_in end unit)) (iv_of unit.sub unit.unit) 0 ps
-
--- all of a unit are in its sub-stream
-pub own_in : (unit : UnitName) (ps : List Packet) → All (λ (p : Packet). p.prefix.sub ≡ unit.sub) ps
-    → own_tlps ps ≡ unit_waits ps unit
-own_in unit [] all = refl
-own_in unit (p ∷ ps) all =
-    (λ i. tlps_as (All-head (λ (q : Packet). q.prefix.sub ≡ unit.sub) p ps all i) (mark_of p) p.head p.body
-    ++ own_in unit ps (All-tail (λ (q : Packet). q.prefix.sub ≡ unit.sub) p ps all) i)

@@ -4,7 +4,6 @@ pub mod Operated
 pub mod Streams
 pub mod Resets
 pub mod Located
-pub mod Lives
 pub use Rattle.all_ends.proofs.{IsNamed, found_id, is_asked, named_stands, own_tlps, switch_admits_none, unit_agrees}
 pub use Rattle.all_ends.proofs.{waits_open, writes_agree}
 pub use Rattle.all_ends.proofs.ByPlace.{by_place, changed_is, each_set, set_there, seen_same, there}

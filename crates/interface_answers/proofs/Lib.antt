@@ -1,4 +1,3 @@
-pub mod PeerNames
 pub use Rattle.interface_joins.proofs.NoBadReply.{answered_no_bad_reply}
 pub use Rattle.all_ends.proofs.ByPlace.{changed_is, each_set, seen_same, there}
 pub use Rattle.all_ends.proofs.Finds.{find_at, port_is, wired}

@@ -63,7 +63,7 @@ verdict_in i o loss (Some e) = ended_as i o loss e
 -- as the manager has it, by its line and its ID
 abbrev pub peer_stream : HostKeeper → ℕ → ℕ → PeerStream
 peer_stream k line stream =
-    record { number = peer_of line; id = stream; draw = slice_index_or k.peer_draws (peer_of line) 0 }
+    record { line = line; id = stream; draw = slice_index_or k.peer_draws (peer_of line) 0 }
 
 -- the interface is there, and its device has the stream
 abbrev pub has_peer_at : EndsView → ℕ → ℕ → Option (ℕ × ℕ) → Bool

@@ -1,8 +1,7 @@
 pub mod Interfaces
-pub mod Shown
 pub use Rattle.interface_joins.specs.Verdicts.{NoBadInterfaceReply, asked_as, op_event, report_of, view_shown}
 pub use Rattle.all_ends.specs.{PairEnds, arrival_of, secure_with, unit_in, unit_tlps, waiting_reads_after, cut_packets}
-pub use Rattle.all_ends.specs.{new_ends, port_in, reset_ends, with_port, InterfacesView, NamesPeer, keyed_if, live_for}
+pub use Rattle.all_ends.specs.{new_ends, port_in, reset_ends, with_port, InterfacesView, keyed_if, live_for}
 pub use Rattle.all_ends.specs.{operated_on, status_for, stopped_if, told, IsAtBothEnds, IsOperated, IsWalked}
 pub use Rattle.all_ends.specs.{KeeperView, Operates, ends_found, arrival_verdict, end_sent_verdict, grants_in}
 pub use Rattle.all_ends.specs.{packet_effect, packet_write, unit_writes, writes_by, LinkEnds, HostKeeper}

@@ -1,8 +1,6 @@
 //! The verdicts of operations on interfaces.
 
-ghost use Rattle.std.specs.Prelude.{◌≡◌, ◌<◌};
-ghost use Rattle.ide_types.specs.Lines.{peer_line};
-ghost use Rattle.interface_answers.specs.Shown.{ShowsPeer, NamesPeerIn};
+ghost use Rattle.std.specs.Prelude.{◌≡◌};
 ghost use Rattle.interface_joins.specs.Verdicts.{view_shown, shown_as, refused_as, asked_as};
 
 use crate::stream_verdicts::lost_verdict;
@@ -31,17 +29,8 @@ fn of_interface(verdict: InterfaceVerdict) -> Verdict
     Verdict::Interface { verdict }
 }
 
-// The line of a stream between devices.
-fn peer_line(number: u8) -> u8
-    requires { number < 8 }
-    ensures { result ≡ peer_line number }
-{
-    24 + number
-}
-
 // What an operation on an interface shows at its end; a report that was read is this one.
 fn shown(interface: u8, shown: Shown, report: Bytes) -> Verdict
-    requires { ShowsPeer shown }
     ensures { result ≡ shown_as interface report shown }
 {
     of_interface(match shown {
@@ -50,14 +39,8 @@ fn shown(interface: u8, shown: Shown, report: Bytes) -> Verdict
         Shown::Draw(draw) => InterfaceVerdict::Started { interface, draw },
         Shown::Needs(needs) => InterfaceVerdict::Halted { interface, needs },
         Shown::State(state) => InterfaceVerdict::State { interface, state },
-        Shown::Bound(number) => InterfaceVerdict::Bound {
-            interface,
-            line: peer_line(number),
-        },
-        Shown::Unbound(number) => InterfaceVerdict::Unbound {
-            interface,
-            line: peer_line(number),
-        },
+        Shown::Bound(line) => InterfaceVerdict::Bound { interface, line },
+        Shown::Unbound(line) => InterfaceVerdict::Unbound { interface, line },
     })
 }
 
@@ -79,16 +62,15 @@ fn refused(loss: Option<Loss>, refusal: Refusal) -> Option<Verdict>
     }
 }
 
-/// The verdict of an operation on the interface of this number; a report that was read is this one, and a stream
-/// between devices has a number below 8. None is made up for an operation that is neither at its end nor refused, for a
-/// bad reply, and for an exchange that is lost without the loss of a message.
+/// The verdict of an operation on the interface of this number; a report that was read is this one. None is
+/// made up for an operation that is neither at its end nor refused, for a bad reply, and for an exchange that is lost
+/// without the loss of a message.
 pub fn asked_verdict(
     interface: u8,
     loss: Option<Loss>,
     outcome: Outcome,
     report: Bytes,
 ) -> Option<Verdict>
-    requires { NamesPeerIn outcome }
     ensures { result ≡ asked_as interface loss report outcome }
 {
     match outcome {

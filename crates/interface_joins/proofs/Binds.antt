@@ -1,9 +1,8 @@
 -- A binding to a stream between devices, and its end: what is refused before the exchange changes nothing; the exchange
 -- makes of both ends what the machine makes of them, case by case of the loss and of the device's answer.
 use Rattle.std.proofs.Common.{◌≡◌, ℕ, ◌+◌, Bool, true, false, List, [], Option, Some, None, Result, Ok, Err}
-use Rattle.std.proofs.Common.{refl, ap, sym, subst, arith}
+use Rattle.std.proofs.Common.{refl, ap, sym, subst}
 use Rattle.std.specs.Prelude.{slice_set, nat_lt, if◌then◌else◌}
-use Rattle.ide_types.specs.Lines.{peer_line}
 use Rattle.ide_types.specs.declared.status.StreamStatus.{StreamStatus}
 use Rattle.ide_types.specs.declared.status.StreamStatus.TheVariants as status
 use Rattle.ide_plan.specs.Fits.{IsKey}
@@ -30,7 +29,7 @@ use Rattle.tdi_host.specs.Steps.{Read}
 use Rattle.tdi_host.specs.Judging.{Judged}
 use Rattle.tdi_host.specs.Views.{Seen, IsUnlocked, IsLocked, IsRunning, IsDoubt, IsBroken, nonce_of, bind_outcome}
 use Rattle.tdi_host.specs.Views.{unbind_outcome, bind_refusal, report_refusal, taken_interface, interface_unless_secure}
-use Rattle.tdi_host.specs.Views.{key_refusal}
+use Rattle.tdi_host.specs.Views.{key_refusal, peer_number}
 use Rattle.tdi_device.specs.declared.said.StreamSaid.{StreamSaid}
 use Rattle.tdi_device.specs.Replies.{DeviceTdis, NamedTdi, next_nonce}
 use Rattle.tdi_walks.specs.Exchanges.{bind_judged, unbind_judged}
@@ -44,12 +43,12 @@ use Rattle.interface_joins.proofs.Comes.{Comes, begun_walk, refused_walk, same_d
 
 -- ---- the exchange of bind, by what the device answers
 
-bind_verdict : (x : Site) (number : ℕ) (loss : Option Loss) (l : Option Lost) (r : Result ℕ ℕ) → lost_in loss 1 ≡ l
-    → asked_as x.number loss [] (bind_outcome 1 number (carried l (bind_judged r)))
-    ≡ Some (by_loss l 1 (bound_as x (peer_line number) r))
-bind_verdict x number loss None (Ok draw) is = refl
-bind_verdict x number loss None (Err code) is = refl
-bind_verdict x number loss (Some k) r is = cut loss 1 k is
+bind_verdict : (x : Site) (line : ℕ) (loss : Option Loss) (l : Option Lost) (r : Result ℕ ℕ) → lost_in loss 1 ≡ l
+    → asked_as x.number loss [] (bind_outcome 1 line (carried l (bind_judged r)))
+    ≡ Some (by_loss l 1 (bound_as x line r))
+bind_verdict x line loss None (Ok draw) is = refl
+bind_verdict x line loss None (Err code) is = refl
+bind_verdict x line loss (Some k) r is = cut loss 1 k is
 
 bind_device : (x : Site) (line : ℕ) (d : DeviceTdis) (place : ℕ) (tdi : Tdi) (call : Call) (l : Option Lost)
     (r : Result ℕ ℕ) → slice_set d.interfaces place tdi ≡ d.interfaces
@@ -60,9 +59,6 @@ bind_device x line d place tdi call None (Err code) same = same_device d place _
 bind_device x line d place tdi call (Some Request) r same = left_device d place tdi _ false same refl refl
 bind_device x line d place tdi call (Some Reply) r same = same_device d place _ _ _ _ refl (no_more d.used)
 
-peer_back : (number : ℕ) → peer_of (peer_line number) ≡ number
-peer_back number = omega arith
-
 seen_asked : (seen : Seen) (m : Managed) (bs : List Bool) → SeenAs seen m → SeenAs seen (record m { asked = bs })
 seen_asked IsUnlocked m bs e = e
 seen_asked (IsLocked nonce reported) m bs e = e
@@ -70,33 +66,31 @@ seen_asked (IsRunning floor) m bs e = e
 seen_asked IsDoubt m bs e = e
 seen_asked IsBroken m bs e = e
 
-bound_told : (x : Site) (draw number : ℕ) (seen : Seen) (m : Managed) → SeenAs seen m → IsKey (nonce_of seen)
-    → IsManaged draw x (laid x draw m.needs m.started seen (slice_set m.asked number true))
-    (record m { asked = slice_set m.asked (peer_of (peer_line number)) true })
-bound_told x draw number seen m is key =
-    subst (λ k. IsManaged draw x (laid x draw m.needs m.started seen (slice_set m.asked number true))
-    (record m { asked = slice_set m.asked k true })) (sym (peer_back number))
-    (managed_of x draw seen (record m { asked = slice_set m.asked number true })
-    (seen_asked seen m (slice_set m.asked number true) is) key)
+bound_told : (x : Site) (draw line : ℕ) (seen : Seen) (m : Managed) → SeenAs seen m → IsKey (nonce_of seen)
+    → IsManaged draw x (laid x draw m.needs m.started seen (slice_set m.asked (peer_number line) true))
+    (record m { asked = slice_set m.asked (peer_of line) true })
+bound_told x draw line seen m is key =
+    managed_of x draw seen (record m { asked = slice_set m.asked (peer_of line) true })
+    (seen_asked seen m (slice_set m.asked (peer_of line) true) is) key
 
 bind_managed : (x : Site) (draw draws : ℕ) (peer : PeerStream) (seen : Seen) (m : Managed) (j : Judged)
     (l : Option Lost) (r : Result ℕ ℕ) → IsKey (nonce_of seen)
     → IsManaged draw x (taken_interface (step.Bind peer) draws j (host_of x draw seen m))
-    (on_bind (peer_line peer.number) (told seen m) (by_loss l 1 (bound_as x (peer_line peer.number) r)))
+    (on_bind peer.line (told seen m) (by_loss l 1 (bound_as x peer.line r)))
 bind_managed x draw draws peer seen m j None (Ok k) key =
-    bound_told x draw peer.number seen (told seen m) (told_seen seen m) key
+    bound_told x draw peer.line seen (told seen m) (told_seen seen m) key
 bind_managed x draw draws peer seen m j None (Err code) key =
-    bound_told x draw peer.number seen (told seen m) (told_seen seen m) key
+    bound_told x draw peer.line seen (told seen m) (told_seen seen m) key
 bind_managed x draw draws peer seen m j (Some Request) r key =
-    bound_told x draw peer.number seen (told seen m) (told_seen seen m) key
+    bound_told x draw peer.line seen (told seen m) (told_seen seen m) key
 bind_managed x draw draws peer seen m j (Some Reply) r key =
-    bound_told x draw peer.number seen (told seen m) (told_seen seen m) key
+    bound_told x draw peer.line seen (told seen m) (told_seen seen m) key
 
 -- ---- bind
 
 module _ (x : Site) (draw drawn portion place : ℕ) (said : StreamSaid) (ps : PeersRead) (loss : Option Loss)
     (d : DeviceTdis) (tdi : Tdi) (m : Managed) (read : Read) (host : StreamStatus) (peer : PeerStream)
-    (draw_is : peer.draw ≡ ps.draw (peer_line peer.number) peer.id) (live_is : said.live ≡ ps.live peer.id)
+    (draw_is : peer.draw ≡ ps.draw peer.line peer.id) (live_is : said.live ≡ ps.live peer.id)
     (same : slice_set d.interfaces place tdi ≡ d.interfaces) where
   abbrev standing : Seen → Standing
   standing seen = stands x said ps (next_nonce d) tdi (told seen m) host draw drawn
@@ -108,24 +102,24 @@ module _ (x : Site) (draw drawn portion place : ℕ) (said : StreamSaid) (ps : P
   answered = bind_answer tdi peer.id (ps.live peer.id)
 
   asked : (seen : Seen) (l : Option Lost) → lost_in loss 1 ≡ l → IsKey (nonce_of seen)
-      → Comes x (standing seen) place (op.Bind peer) loss d (by_loss l 1 (bound_as x (peer_line peer.number) answered))
+      → Comes x (standing seen) place (op.Bind peer) loss d (by_loss l 1 (bound_as x peer.line answered))
       (stated_once portion drawn said l there (at_step (step.Bind peer) (host_of x draw seen m) d))
   asked seen l is key = record {
     verdict = subst (λ (k : Option ℕ). asked_as x.number loss []
-        (bind_outcome 1 peer.number (carried l (bind_judged (bind_answer tdi peer.id k))))
-        ≡ Some (by_loss l 1 (bound_as x (peer_line peer.number) answered))) (sym live_is)
-        (bind_verdict x peer.number loss l answered is);
+        (bind_outcome 1 peer.line (carried l (bind_judged (bind_answer tdi peer.id k))))
+        ≡ Some (by_loss l 1 (bound_as x peer.line answered))) (sym live_is)
+        (bind_verdict x peer.line loss l answered is);
     device = subst (λ (k : Option ℕ). reached l d (device_with d place (tdi_after tdi (BindStream peer.id k)) d.used)
         ≡ device_with d place
-        (tdi_if_called (carries (by_loss l 1 (bound_as x (peer_line peer.number) answered)) 1)
+        (tdi_if_called (carries (by_loss l 1 (bound_as x peer.line answered)) 1)
         (BindStream peer.id (ps.live peer.id)) tdi) (d.used + 0)) (sym live_is)
-        (bind_device x (peer_line peer.number) d place tdi (BindStream peer.id (ps.live peer.id)) l answered same);
+        (bind_device x peer.line d place tdi (BindStream peer.id (ps.live peer.id)) l answered same);
     managed = bind_managed x draw drawn peer seen m (carried l (bind_judged (bind_answer tdi peer.id said.live))) l
         answered key;
   }
 
   refused : (seen : Seen) (due : Verdict) (r : Refusal) → IsKey (nonce_of seen) → carries due 1 ≡ false
-      → on_bind (peer_line peer.number) (told seen m) due ≡ told seen m
+      → on_bind peer.line (told seen m) due ≡ told seen m
       → asked_as x.number loss [] (outcome.Refused r) ≡ Some due
       → Comes x (standing seen) place (op.Bind peer) loss d due (refused_walk r (host_of x draw seen m) read d)
   refused seen due r key none kept is =
@@ -136,73 +130,73 @@ module _ (x : Site) (draw drawn portion place : ℕ) (said : StreamSaid) (ps : P
   -- if the stream was keyed since
   fresh : (seen : Seen) (stale : Bool) → IsKey (nonce_of seen)
       → Comes x (standing seen) place (op.Bind peer) loss d
-      (if stale then v.Interface (iv.RefusedRefreshFirst (ps.draw (peer_line peer.number) peer.id) (told seen m).needs)
-      else due_unless_lost loss 1 (bound_as x (peer_line peer.number) answered))
+      (if stale then v.Interface (iv.RefusedRefreshFirst (ps.draw peer.line peer.id) (told seen m).needs)
+      else due_unless_lost loss 1 (bound_as x peer.line answered))
       (begun_walk (if stale then Some
-      (refusal.RefreshFirst (ps.draw (peer_line peer.number) peer.id) (told seen m).needs) else None)
+      (refusal.RefreshFirst (ps.draw peer.line peer.id) (told seen m).needs) else None)
       (host_of x draw seen m) read d
       (stated_alone (step.Bind peer) portion drawn said loss (host_of x draw seen m) d there))
   fresh seen true key = refused seen _ _ key refl refl refl
   fresh seen false key =
       subst (λ w. Comes x (standing seen) place (op.Bind peer) loss d w
       (stated_alone (step.Bind peer) portion drawn said loss (host_of x draw seen m) d there))
-      (sym (once_lost loss (bound_as x (peer_line peer.number) answered))) (asked seen (lost_in loss 1) refl key)
+      (sym (once_lost loss (bound_as x peer.line answered))) (asked seen (lost_in loss 1) refl key)
 
   -- of a view that allows it
   abbrev Allowed : Seen → StreamStatus → Type 0
   Allowed seen up = Comes x (standing seen) place (op.Bind peer) loss d
       (if_secure up
-      (if_fresh (ps.draw (peer_line peer.number) peer.id) (told seen m).needs
-      (due_unless_lost loss 1 (bound_as x (peer_line peer.number) answered))))
+      (if_fresh (ps.draw peer.line peer.id) (told seen m).needs
+      (due_unless_lost loss 1 (bound_as x peer.line answered))))
       (begun_walk (interface_unless_secure up
-      (key_refusal (ps.draw (peer_line peer.number) peer.id) (told seen m).needs))
+      (key_refusal (ps.draw peer.line peer.id) (told seen m).needs))
       (host_of x draw seen m) read d
       (stated_alone (step.Bind peer) portion drawn said loss (host_of x draw seen m) d there))
 
   allowed : (seen : Seen) (up : StreamStatus) → IsKey (nonce_of seen) → Allowed seen up
   allowed seen status.Secure key =
-      fresh seen (nat_lt (ps.draw (peer_line peer.number) peer.id) (told seen m).needs) key
+      fresh seen (nat_lt (ps.draw peer.line peer.id) (told seen m).needs) key
   allowed seen status.Idle key = refused seen _ _ key refl refl refl
   allowed seen status.Partial key = refused seen _ _ key refl refl refl
   allowed seen status.Insecure key = refused seen _ _ key refl refl refl
 
   by_view : (seen : Seen) → IsKey (nonce_of seen)
       → Comes x (standing seen) place (op.Bind peer) loss d
-      (bind_due x (standing seen) (peer_line peer.number) peer.id loss)
-      (begun_walk (bind_refusal (op_status (ps.op (peer_line peer.number) peer.id))
-      (ps.draw (peer_line peer.number) peer.id) (told seen m).needs seen) (host_of x draw seen m) read d
+      (bind_due x (standing seen) peer.line peer.id loss)
+      (begun_walk (bind_refusal (op_status (ps.op peer.line peer.id))
+      (ps.draw peer.line peer.id) (told seen m).needs seen) (host_of x draw seen m) read d
       (stated_alone (step.Bind peer) portion drawn said loss (host_of x draw seen m) d there))
   by_view (IsLocked nonce reported) key =
-      allowed (IsLocked nonce reported) (op_status (ps.op (peer_line peer.number) peer.id)) key
+      allowed (IsLocked nonce reported) (op_status (ps.op peer.line peer.id)) key
   by_view (IsRunning floor) key =
-      allowed (IsRunning floor) (op_status (ps.op (peer_line peer.number) peer.id)) key
+      allowed (IsRunning floor) (op_status (ps.op peer.line peer.id)) key
   by_view IsUnlocked key = refused IsUnlocked _ _ key refl refl refl
   by_view IsDoubt key = refused IsDoubt _ _ key refl refl refl
   by_view IsBroken key = refused IsBroken _ _ key refl refl refl
 
   pub bind_comes : (seen : Seen) → IsKey (nonce_of seen)
       → Comes x (standing seen) place (op.Bind peer) loss d
-      (bind_due x (standing seen) (peer_line peer.number) peer.id loss)
-      (begun_walk (bind_refusal (op_status (ps.op (peer_line peer.number) peer.id)) peer.draw (told seen m).needs seen)
+      (bind_due x (standing seen) peer.line peer.id loss)
+      (begun_walk (bind_refusal (op_status (ps.op peer.line peer.id)) peer.draw (told seen m).needs seen)
       (host_of x draw seen m) read d
       (stated_alone (step.Bind peer) portion drawn said loss (host_of x draw seen m) d there))
   bind_comes seen key =
       subst (λ (k : ℕ). Comes x (standing seen) place (op.Bind peer) loss d
-      (bind_due x (standing seen) (peer_line peer.number) peer.id loss)
-      (begun_walk (bind_refusal (op_status (ps.op (peer_line peer.number) peer.id)) k (told seen m).needs seen)
+      (bind_due x (standing seen) peer.line peer.id loss)
+      (begun_walk (bind_refusal (op_status (ps.op peer.line peer.id)) k (told seen m).needs seen)
       (host_of x draw seen m) read d
       (stated_alone (step.Bind peer) portion drawn said loss (host_of x draw seen m) d there))) (sym draw_is)
       (by_view seen key)
 
 -- ---- unbind
 
-unbind_verdict : (x : Site) (number : ℕ) (loss : Option Loss) (l : Option Lost) (r : Result (Unit {0}) ℕ)
+unbind_verdict : (x : Site) (line : ℕ) (loss : Option Loss) (l : Option Lost) (r : Result (Unit {0}) ℕ)
     → lost_in loss 1 ≡ l
-    → asked_as x.number loss [] (unbind_outcome 1 number (carried l (unbind_judged r)))
-    ≡ Some (by_loss l 1 (unbound_as x (peer_line number) r))
-unbind_verdict x number loss None (Ok done) is = refl
-unbind_verdict x number loss None (Err code) is = refl
-unbind_verdict x number loss (Some k) r is = cut loss 1 k is
+    → asked_as x.number loss [] (unbind_outcome 1 line (carried l (unbind_judged r)))
+    ≡ Some (by_loss l 1 (unbound_as x line r))
+unbind_verdict x line loss None (Ok done) is = refl
+unbind_verdict x line loss None (Err code) is = refl
+unbind_verdict x line loss (Some k) r is = cut loss 1 k is
 
 unbind_device : (x : Site) (line : ℕ) (d : DeviceTdis) (place : ℕ) (tdi : Tdi) (call : Call) (l : Option Lost)
     (r : Result (Unit {0}) ℕ) → slice_set d.interfaces place tdi ≡ d.interfaces
@@ -224,17 +218,17 @@ module _ (x : Site) (draw drawn portion place : ℕ) (said : StreamSaid) (ps : P
 
   carried_out : (seen : Seen) → IsKey (nonce_of seen)
       → Comes x (standing_of seen) place (op.Unbind peer) loss d
-      (due_unless_lost loss 1 (unbound_as x (peer_line peer.number) (unbind_answer tdi peer.id)))
+      (due_unless_lost loss 1 (unbound_as x peer.line (unbind_answer tdi peer.id)))
       (stated_alone (step.Unbind peer) portion drawn said loss (host_of x draw seen m) d at_place)
   carried_out seen key =
       let l = lost_in loss 1 in
       let r = unbind_answer tdi peer.id in
       subst (λ w. Comes x (standing_of seen) place (op.Unbind peer) loss d w
       (stated_alone (step.Unbind peer) portion drawn said loss (host_of x draw seen m) d at_place))
-      (sym (once_lost loss (unbound_as x (peer_line peer.number) r)))
+      (sym (once_lost loss (unbound_as x peer.line r)))
       (record {
-        verdict = unbind_verdict x peer.number loss l r refl;
-        device = unbind_device x (peer_line peer.number) d place tdi (UnbindStream peer.id) l r same;
+        verdict = unbind_verdict x peer.line loss l r refl;
+        device = unbind_device x peer.line d place tdi (UnbindStream peer.id) l r same;
         managed = managed_of x draw seen _ (told_seen seen m) key;
       })
 
@@ -248,7 +242,7 @@ module _ (x : Site) (draw drawn portion place : ℕ) (said : StreamSaid) (ps : P
 
   pub unbind_comes : (seen : Seen) → IsKey (nonce_of seen)
       → Comes x (standing_of seen) place (op.Unbind peer) loss d
-      (unbind_due x (standing_of seen) (peer_line peer.number) peer.id loss)
+      (unbind_due x (standing_of seen) peer.line peer.id loss)
       (begun_walk (report_refusal seen) (host_of x draw seen m) read d
       (stated_alone (step.Unbind peer) portion drawn said loss (host_of x draw seen m) d at_place))
   unbind_comes (IsLocked nonce reported) key = carried_out (IsLocked nonce reported) key

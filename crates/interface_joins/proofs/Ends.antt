@@ -17,7 +17,7 @@ use Rattle.tdi_walks.specs.Operations.{WalkedInterface, interface_walk, begun_at
 use Rattle.tdi_ends.specs.Keepers.{Ended, interface_exchanged, ended_if_over, by_current, unless_refused, KeepersWalk}
 unfoldable use Rattle.tdi_ends.specs.Keepers.{manager_walk}
 use Rattle.interface_joins.proofs.Comes.{begun_walk}
-use Rattle.interface_joins.proofs.Meeting.{set_same}
+use Rattle.tdi_device.proofs.Errors.{set_same}
 
 -- ---- portions
 

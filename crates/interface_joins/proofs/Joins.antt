@@ -12,7 +12,6 @@ use Rattle.tdi_state.specs.Kept.{kept_report}
 use Rattle.tdi_state.specs.Machine.{Tdi, lock_of}
 use Rattle.interface_states.specs.Sites.{Site, nonce_behind}
 use Rattle.interface_states.specs.Views.{Managed}
-use Rattle.ide_types.specs.Lines.{peer_line}
 use Rattle.link_verdicts.specs.declared.verdict.Verdict.TheVariants as v
 use Rattle.interface_states.specs.Due.{Standing, asked_due, portions, bind_due, unbind_due}
 use Rattle.interface_machine.specs.Machine.{Face, Streams}
@@ -141,11 +140,11 @@ module _ (laws : Laws) (fuel : ℕ) (x : Site) (plan : Plan) (draw drawn portion
     comes (op.Bind peer) fits meet same layout enough =
         let i = host_of x draw seen m in
         subst (λ (b : Bool). Comes x standing place (op.Bind peer) loss d
-        (if b then bind_due x standing (peer_line peer.number) peer.id loss else v.Nothing)
+        (if b then bind_due x standing peer.line peer.id loss else v.Nothing)
         (begun_walk (interface_refusal_of (op.Bind peer) (op_host ps.op host (op.Bind peer)) i) i read d
         (interface_walk fuel portion drawn said loss (begun_at (op.Bind peer) i d)))) (sym fits.0)
         (subst (λ w. Comes x standing place (op.Bind peer) loss d
-        (bind_due x standing (peer_line peer.number) peer.id loss)
+        (bind_due x standing peer.line peer.id loss)
         (begun_walk (interface_refusal_of (op.Bind peer) (op_host ps.op host (op.Bind peer)) i) i read d w))
         (stated_walk laws (op.Bind peer) fuel portion drawn said loss i d there fits.1 meet (omega arith))
         (bind_comes x draw drawn portion place said ps loss d tdi m read host peer fits.2 fits.3
@@ -153,11 +152,11 @@ module _ (laws : Laws) (fuel : ℕ) (x : Site) (plan : Plan) (draw drawn portion
     comes (op.Unbind peer) fits meet same layout enough =
         let i = host_of x draw seen m in
         subst (λ (b : Bool). Comes x standing place (op.Unbind peer) loss d
-        (if b then unbind_due x standing (peer_line peer.number) peer.id loss else v.Nothing)
+        (if b then unbind_due x standing peer.line peer.id loss else v.Nothing)
         (begun_walk (interface_refusal_of (op.Unbind peer) (op_host ps.op host (op.Unbind peer)) i) i read d
         (interface_walk fuel portion drawn said loss (begun_at (op.Unbind peer) i d)))) (sym fits.0)
         (subst (λ w. Comes x standing place (op.Unbind peer) loss d
-        (unbind_due x standing (peer_line peer.number) peer.id loss)
+        (unbind_due x standing peer.line peer.id loss)
         (begun_walk (interface_refusal_of (op.Unbind peer) (op_host ps.op host (op.Unbind peer)) i) i read d w))
         (stated_walk laws (op.Unbind peer) fuel portion drawn said loss i d there fits.1 meet (omega arith))
         (unbind_comes x draw drawn portion place said ps loss d tdi m read host peer

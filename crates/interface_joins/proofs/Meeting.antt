@@ -1,8 +1,8 @@
 -- If an interface stands at both ends and its plan is within its bounds, each message of an operation has the widths of
 -- its fields, and the report has room: so the exchanges are the stated ones.
-use Rattle.std.proofs.Common.{◌≡◌, ℕ, suc, zero, ◌<◌, ◌≤◌, ◌^◌, ◌==◌, ◌&&◌, ◌||◌, Bool, true, false, List, []}
-use Rattle.std.proofs.Common.{◌∷◌, Option, Some, None, refl, ap, sym, subst, arith}
-use Rattle.std.specs.Prelude.{IfSome, All, slice_get, slice_set}
+use Rattle.std.proofs.Common.{◌≡◌, ℕ, ◌<◌, ◌≤◌, ◌^◌, ◌==◌, ◌&&◌, ◌||◌, Bool, true, false, List, []}
+use Rattle.std.proofs.Common.{◌∷◌, Option, Some, None, refl, sym, subst, arith}
+use Rattle.std.specs.Prelude.{IfSome, All, slice_get}
 use Rattle.std.proofs.lemmas.List.Elements.{All-get_or, All-head, All-tail}
 use Rattle.std.proofs.lemmas.Option.{slice_get_within, get_or_from_slice_get}
 use Rattle.key_laws.proofs.Tests.{true-same, both-true}
@@ -33,11 +33,6 @@ pub some_got : {A : Type 0} (P : A → Type 0) (xs : List A) (k : ℕ) (o : Opti
     → IfSome o P
 some_got P xs k None is all = tt
 some_got P xs k (Some x) is all = all_got P xs k x is all
-
-pub set_same : {A : Type 0} (xs : List A) (p : ℕ) (x : A) → slice_get xs p ≡ Some x → slice_set xs p x ≡ xs
-set_same [] p x is = refl
-set_same (y ∷ xs) zero x is = ap (λ z. z ∷ xs) (let same : x ≡ y = cc in same)
-set_same (y ∷ xs) (suc p) x is = ap (λ zs. y ∷ zs) (set_same xs p x is)
 
 -- ---- widths
 

@@ -11,7 +11,6 @@ use Rattle.interface_states.specs.Devices.{accepts_lock, one_if}
 use Rattle.interface_states.specs.Due.{asked_due, op_status}
 use Rattle.interface_states.specs.Peers.{has_peer, live_by}
 use Rattle.interface_states.specs.Terms.{Op}
-use Rattle.ide_types.specs.Lines.{peer_line}
 use Rattle.ide_types.specs.declared.status.StreamStatus.{StreamStatus}
 use Rattle.interface_machine.specs.Machine.{Face, Streams, ends_of, around_of, face_standing, face_after}
 use Rattle.tdi_state.specs.Machine.{Tdi}
@@ -68,17 +67,17 @@ pub record IsInterfaceJoined (plan : Plan) (s : Streams) (used : ℕ → ℕ) (x
 abbrev pub FitsPeer : (has : ℕ → ℕ → Bool) → (draws : ℕ → ℕ → ℕ) → (by_id : ℕ → Option ℕ) → Option ℕ → InterfaceOp
     → Type 0
 FitsPeer has draws by_id live (op.Bind peer) =
-    (has (peer_line peer.number) peer.id ≡ true) × (peer.id < 256)
-    × (peer.draw ≡ draws (peer_line peer.number) peer.id) × (live ≡ by_id peer.id)
+    (has peer.line peer.id ≡ true) × (peer.id < 256)
+    × (peer.draw ≡ draws peer.line peer.id) × (live ≡ by_id peer.id)
 FitsPeer has draws by_id live (op.Unbind peer) =
-    (has (peer_line peer.number) peer.id ≡ true) × (peer.id < 256)
+    (has peer.line peer.id ≡ true) × (peer.id < 256)
 FitsPeer has draws by_id live o = Unit {0}
 
 -- the status of the stream that an operation asks for: of its bound one at the host's port; of one between devices as
 -- the manager of keys has it
 abbrev pub op_host : (ops : ℕ → ℕ → Op) → StreamStatus → InterfaceOp → StreamStatus
-op_host ops host (op.Bind peer) = op_status (ops (peer_line peer.number) peer.id)
-op_host ops host (op.Unbind peer) = op_status (ops (peer_line peer.number) peer.id)
+op_host ops host (op.Bind peer) = op_status (ops peer.line peer.id)
+op_host ops host (op.Unbind peer) = op_status (ops peer.line peer.id)
 op_host ops host o = host
 
 -- what the device says: of the interface's bound stream, and of the one between devices that is named

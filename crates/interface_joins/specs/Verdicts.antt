@@ -1,7 +1,6 @@
 -- The verdicts of operations on interfaces.
 use Rattle.std.specs.Prelude.{ℕ, List, [], Option, Some, None, IsSome}
 use Rattle.std.specs.Option.{option_map}
-use Rattle.ide_types.specs.Lines.{peer_line}
 use Rattle.interface_words.specs.declared.view.View.{View}
 use Rattle.interface_words.specs.declared.view.View.TheVariants as word
 use Rattle.interface_words.specs.declared.verdict.InterfaceVerdict.TheVariants as iv
@@ -36,8 +35,8 @@ shown_as i report shown.Report = v.Interface (iv.Reported i report)
 shown_as i report (shown.Draw draw) = v.Interface (iv.Started i draw)
 shown_as i report (shown.Needs needs) = v.Interface (iv.Halted i needs)
 shown_as i report (shown.State state) = v.Interface (iv.State i state)
-shown_as i report (shown.Bound number) = v.Interface (iv.Bound i (peer_line number))
-shown_as i report (shown.Unbound number) = v.Interface (iv.Unbound i (peer_line number))
+shown_as i report (shown.Bound line) = v.Interface (iv.Bound i line)
+shown_as i report (shown.Unbound line) = v.Interface (iv.Unbound i line)
 
 -- A lost exchange has the verdict of the message that was lost there. If none was, it has no verdict, nor has a bad
 -- reply.
@@ -78,5 +77,5 @@ op_event op.Report i loss = ie.Report i loss
 op_event op.Start i loss = ie.Start i loss
 op_event op.Halt i loss = ie.Halt i loss
 op_event op.State i loss = ie.State i loss
-op_event (op.Bind peer) i loss = ie.Bind i (peer_line peer.number) peer.id loss
-op_event (op.Unbind peer) i loss = ie.Unbind i (peer_line peer.number) peer.id loss
+op_event (op.Bind peer) i loss = ie.Bind i peer.line peer.id loss
+op_event (op.Unbind peer) i loss = ie.Unbind i peer.line peer.id loss

@@ -228,9 +228,6 @@ one_follows v s place e link one j l l' is at = ⊎_elim here there (cases_Bool 
 abbrev spot : Side → ℕ → PortName
 spot side line = record { side = side; link = line }
 
-at_none : (v : EndsView) (s : Side) (place q : LinePlace) → place ≡ q → IsAtNone v s q → IsAtNone v s place
-at_none v s place q is none = subst (λ (p : LinePlace). IsAtNone v s p) (sym is) none
-
 pub place_low : (line : ℕ) → line < 8 → line_place line ≡ Link line
 place_low line low = let a : nat_lt line 8 ≡ true = grind (arith, nat_tests) in rw a refl
 

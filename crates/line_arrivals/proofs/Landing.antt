@@ -13,7 +13,8 @@ use Rattle.link_steps.proofs.{port_is, Keeps, Grows, end_kept, end_grows, settle
 use Rattle.link_steps.proofs.{grows_then, bounded_then, stays_all}
 use Rattle.std.specs.Prelude.{option_map}
 use Rattle.std.specs.Prelude.{IsSome}
-use Rattle.std.proofs.Common.{inr}
+use Rattle.std.proofs.Common.{inr, ⊎_elim}
+use Rattle.std.proofs.lemmas.Bool.{cases_Bool}
 use Rattle.ide_types.specs.Lines.{is_link_line}
 use Rattle.ide_types.specs.declared.direction.Direction.{Direction}
 use Rattle.ide_types.specs.declared.direction.Direction.TheVariants.{Downstream, Upstream}
@@ -24,7 +25,7 @@ use Rattle.stream_rules.specs.Stream.{StreamState}
 use Rattle.sub_stream.specs.{opened_from}
 use Rattle.link_steps.specs.{effects_from, packet_write, unit_writes, KeeperView, grants_in, writes_by, of_unit}
 use Rattle.link_steps.specs.{arrival_verdict, switched_each, unit_waits, InterfacesView, AreLeftBy, AccessesTurn}
-use Rattle.link_steps.specs.{carried_next, same_floors, way_of, settled_at, LinePlace, Link, Near, Pair}
+use Rattle.link_steps.specs.{IsBounded, carried_next, same_floors, way_of, settled_at, LinePlace, Link, Near, Pair}
 use Rattle.link_steps.specs.Accesses.{standings_of_ends}
 use Rattle.ide_prefix.specs.Reading.{cut_of}
 use Rattle.link_events.specs.declared.event.Event.{Event}
@@ -121,19 +122,28 @@ unread_lands plan m end bytes o old c xs same = record {
   };
 }
 
-pub lands_through : (plan : Plan) (m : InterfacesView) (end : PortName) (bytes : List ℕ) (old : EndsView)
-    (c : MemoryContents) (xs : List LinkAccesses) → goes_through plan (reached plan end bytes) bytes ≡ true
-    → Lands plan m end bytes (v.Through (port_of plan (reached plan end bytes))) old c xs old c xs
-lands_through plan m end bytes old c xs through =
-    unread_lands plan m end bytes (Some (port_of plan (reached plan end bytes))) old c xs
-    (λ k packets links has b. rw through refl)
-
 pub lands_nowhere : (plan : Plan) (m : InterfacesView) (end : PortName) (bytes : List ℕ) (old : EndsView)
     (c : MemoryContents) (xs : List LinkAccesses)
     → ((k : KeeperView) → AreLinks plan old k → has_port plan end ≡ true → ⊥)
     → Lands plan m end bytes v.Nothing old c xs old c xs
 lands_nowhere plan m end bytes old c xs never =
     unread_lands plan m end bytes None old c xs (λ k packets links has b. absurd (never k links has))
+
+-- nothing is taken, and there is other room
+pub lands_left : (plan : Plan) (m : InterfacesView) (end : PortName) (bytes : List ℕ) (verdict : Verdict)
+    (old : EndsView) (c : MemoryContents) (xs : List LinkAccesses) (new : EndsView) (d : MemoryContents)
+    (ys : List LinkAccesses) → new ≡ old → d ≡ c → length ys ≡ length xs
+    → ((k : KeeperView) → AreLinks plan old k → has_port plan end ≡ true → ⊥)
+    → Lands plan m end bytes verdict old c xs new d ys
+lands_left plan m end bytes verdict old c xs new d ys same memory_same many never = record {
+  bounded = λ packets steps bounded.
+      subst (λ (v : EndsView). IsBounded v packets (steps + 1)) (sym same)
+      (bounded_then 0 old old packets packets steps (omega arith) bounded (stays_all old) bounded.sealed_here);
+  many = ap (λ (v : EndsView). length v.links) same;
+  accesses_many = many;
+  regions = ap (λ (z : MemoryContents). z.regions) memory_same;
+  stands = λ k packets h links stands has. absurd (never k links has);
+}
 
 -- ---- an end takes them
 
@@ -249,10 +259,6 @@ on_way plan fits end w is (OnWay link d at) =
 roomy : (q : HopQueues) (d : Direction) → (queue_of (all_roomy q) d).has_room ≡ true
 roomy q Downstream = refl
 roomy q Upstream = refl
-
-same_tlps : (q : HopQueues) (d : Direction) → (queue_of (all_roomy q) d).tlps ≡ (queue_of q d).tlps
-same_tlps q Downstream = refl
-same_tlps q Upstream = refl
 
 same_behind : (d way : Direction) (xs : List HopTlp) (q : HopQueues) → queued_behind d xs (all_roomy q) way
     ≡ queued_behind d xs q way
@@ -529,13 +535,17 @@ ends_there plan v k links end has = by (line_of plan links.fits end has)
 
 module _ (plan : Plan) (m : InterfacesView) (end0 : PortName) (bytes : List ℕ) (old : EndsView) (c : MemoryContents)
     (xs : List LinkAccesses) (end : PortName) (end_is : end ≡ reached plan end0 bytes) where
-  -- no such end
-  pub land_gone : false ≡ is_some (port_on old end) → Lands plan m end0 bytes v.Nothing old c xs old c xs
-  land_gone gone = lands_nowhere plan m end0 bytes old c xs (λ k links has.
+  -- no such end: these are not the ends of the plan
+  not_there : false ≡ is_some (port_on old end) → (k : KeeperView) → AreLinks plan old k → has_port plan end0 ≡ true
+      → ⊥
+  not_there gone k links has =
       let some = ends_there plan old k links (reached plan end0 bytes) (reached_there plan links.fits end0 bytes has) in
       let here : is_some (port_on old end) ≡ true = subst (λ (p : PortName). IsSome (port_on old p)) (sym end_is) some
       in
-      let never : false ≡ true = gone ∙ here in absurd cc)
+      let never : false ≡ true = gone ∙ here in absurd cc
+
+  pub land_gone : false ≡ is_some (port_on old end) → Lands plan m end0 bytes v.Nothing old c xs old c xs
+  land_gone gone = lands_nowhere plan m end0 bytes old c xs (not_there gone)
 
   -- no such link
   pub land_off_way : (w : ℕ × Direction) → Some w ≡ way_of end → length old.links ≤ w.0
@@ -554,14 +564,6 @@ module _ (plan : Plan) (m : InterfacesView) (end0 : PortName) (bytes : List ℕ)
       let link = ap (λ (p : PortName). p.link) (port_is ∙ ap (port_of plan) end_is) in
       let never : ⊥ = omega (arith, less, many, most, link) in never)
 
-  pub land_through : (port : PortName) → true ≡ goes_through plan end bytes → port ≡ port_of plan end
-      → Lands plan m end0 bytes (v.Through port) old c xs old c xs
-  land_through port through port_is =
-      subst (λ (p : PortName). Lands plan m end0 bytes (v.Through p) old c xs old c xs)
-      (sym (port_is ∙ ap (port_of plan) end_is))
-      (lands_through plan m end0 bytes old c xs
-      (ap (λ (p : PortName). goes_through plan p bytes) (sym end_is) ∙ sym through))
-
   pub land_wait : (r : Result Verdict Memory) (new : EndsView) (ys : List LinkAccesses) (w : ℕ × Direction)
       → false ≡ goes_through plan end bytes → Some w ≡ way_of end → true ≡ is_some (port_on old end)
       → w.0 < length xs → IfOk r (λ u. ComesTo old end bytes w.0 w.1 u xs new ys)
@@ -574,16 +576,21 @@ module _ (plan : Plan) (m : InterfacesView) (end0 : PortName) (bytes : List ℕ)
   land_wait (Err e) new ys w stays way here less comes = tt
 
   pub land_take : (r : Result Verdict Memory) (new : EndsView) (d : MemoryContents) (ys : List LinkAccesses)
-      (port : PortName) → false ≡ goes_through plan end bytes → None ≡ way_of end → true ≡ is_some (port_on old end)
-      → port ≡ port_of plan end → port.link < length old.links → length xs ≡ length old.links
+      (port : PortName) → false ≡ goes_through plan end bytes → None ≡ way_of end → port ≡ port_of plan end
+      → port.link < length old.links → length xs ≡ length old.links
       → IfOk r (λ u. Brings m end port bytes u old c xs new d ys)
       → IfOk r (λ u. Lands plan m end0 bytes u old c xs new d ys)
-  land_take (Ok u) new d ys port stays none here port_is less many brings =
+  land_take (Ok u) new d ys port stays none port_is less many brings = ⊎_elim
+      (λ here.
       let at : port ≡ port_of plan (reached plan end0 bytes) = port_is ∙ ap (port_of plan) end_is in
       lands_taken plan m end0 bytes u old c xs new d ys
       (ap (λ (p : PortName). goes_through plan p bytes) (sym end_is) ∙ sym stays) (ap way_of (sym end_is) ∙ sym none)
-      (ap (λ (p : PortName). is_some (port_on old p)) (sym end_is) ∙ sym here)
+      (ap (λ (p : PortName). is_some (port_on old p)) (sym end_is) ∙ here)
       (subst (λ (p : PortName). p.link < length old.links) at less) many
       (subst (λ (p : PortName). Brings m (reached plan end0 bytes) p bytes u old c xs new d ys) at
-      (subst (λ (p : PortName). Brings m p port bytes u old c xs new d ys) end_is brings))
-  land_take (Err e) new d ys port stays none here port_is less many brings = tt
+      (subst (λ (p : PortName). Brings m p port bytes u old c xs new d ys) end_is brings)))
+      (λ gone.
+      let left = brings.absent gone in
+      lands_left plan m end0 bytes u old c xs new d ys left.1 left.2 left.3.many (not_there (sym gone)))
+      (cases_Bool (is_some (port_on old end)))
+  land_take (Err e) new d ys port stays none port_is less many brings = tt

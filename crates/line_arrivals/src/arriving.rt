@@ -95,11 +95,11 @@ pub fn land(
     if goes_through(plan, end, bytes) {
         return Ok(Verdict::Through { port });
     }
-    if !ends.has_end(end) {
-        return Ok(Verdict::Nothing);
-    }
     match way(end) {
         Some(way) => {
+            if !ends.has_end(end) {
+                return Ok(Verdict::Nothing);
+            }
             if way.0 as usize >= ends.count() {
                 return Ok(Verdict::Nothing);
             }

@@ -145,8 +145,8 @@ module _ (k : KeeperView) (m1 : ManagerView) (pool1 : Pool) (l : LinkEnds) (host
       let st : DiffersInStream k.manager l n.place id (begun_ends begun_work k.pool (ends_found n host device)) m1
       (record { host = host1; device = l.device }) =
       record {
-        id_is = begun_id begun_work k.pool n.stream ∙ at_name.id_is;
-        hosted = ap is_hosted (begun_link begun_work k.pool n.stream) ∙ hosted;
+        id_is = begun_id true begun_work k.pool n.stream ∙ at_name.id_is;
+        hosted = ap is_hosted (begun_link true begun_work k.pool n.stream) ∙ hosted;
         streams = ap (λ (m : ManagerView). m.streams) after;
         host = subst (λ (d : Side). HasStream l.host id
             (all_called_at d (begun_calls true begun_work k.pool n.stream.id) host.state) host1) on.host_side moved;

@@ -1,6 +1,5 @@
 -- What the host's manager of interfaces is told of streams, and its operations at the two ends of a link.
-use Rattle.std.specs.Prelude.{ℕ, ◌-◌, ◌<◌, ◌&&◌, nat_le, Bool, if◌then◌else◌, List, slice_set, Option, None}
-use Rattle.ide_types.specs.Lines.{peer_line}
+use Rattle.std.specs.Prelude.{ℕ, ◌&&◌, nat_le, Bool, if◌then◌else◌, List, slice_set, Option, None}
 use Rattle.ide_types.specs.declared.status.StreamStatus.{StreamStatus}
 use Rattle.tdi_host.specs.declared.operation.InterfaceOp.TheVariants.{Bind, Unbind}
 use Rattle.tsm_host.specs.Managers.{ManagerView, named, status_named}
@@ -13,7 +12,7 @@ use Rattle.tsm_host.specs.declared.operation.Outcome.TheVariants.{Done}
 use Rattle.tsm_host.specs.declared.operation.Shown.TheVariants.{Draw}
 use Rattle.tsm_host.specs.Streams.{status_or_idle}
 use Rattle.tdi_host.specs.declared.operation.InterfaceOp.{InterfaceOp}
-use Rattle.tdi_host.specs.Views.{HostTdi}
+use Rattle.tdi_host.specs.Views.{HostTdi, peer_number}
 use Rattle.tdi_host.specs.Managers.{InterfaceManagerView, stop_begun, peer_stop, stream_keyed}
 use Rattle.tdi_ends.specs.Keepers.{Ended, interface_operated}
 use Rattle.ide_port.specs.{status_in}
@@ -44,10 +43,6 @@ told (Stop link stream) begins drew draw outcome m = stopped_if begins link stre
 
 -- ---- what an operation on a line that is keyed by messages at both ends tells
 
--- lines from 24 on are the streams between devices, by their number
-abbrev pub peer_number : ℕ → ℕ
-peer_number line = line - 24
-
 -- each event of a stop of a stream between devices breaks views
 abbrev pub pair_told : Op → InterfaceManagerView → InterfaceManagerView
 pair_told (Establish line stream) m = m
@@ -66,20 +61,14 @@ peer_drawn (Stop line stream) drew draw draws = draws
 -- the status of the stream that it asks for: of the interface's own at the host's port, of one between devices by the
 -- operations of the manager of keys
 abbrev pub status_for : ManagerView → Option StreamStatus → InterfaceOp → StreamStatus
-status_for m host (Bind peer) = status_named (named m (peer_line peer.number) peer.id)
-status_for m host (Unbind peer) = status_named (named m (peer_line peer.number) peer.id)
+status_for m host (Bind peer) = status_named (named m peer.line peer.id)
+status_for m host (Unbind peer) = status_named (named m peer.line peer.id)
 status_for m host op = status_or_idle host
 
 -- what is Live at the device's end of the stream between devices that it names
 abbrev pub live_for : (ℕ → Option ℕ) → InterfaceOp → Option ℕ
 live_for live (Bind peer) = live peer.id
 live_for live op = None
-
--- a stream between devices has one of eight numbers
-abbrev pub NamesPeer : InterfaceOp → Type 0
-NamesPeer (Bind peer) = peer.number < 8
-NamesPeer (Unbind peer) = peer.number < 8
-NamesPeer op = Unit {0}
 
 abbrev pub operated_on : ℕ → InterfaceOp → Option Loss → KeeperView → (ℕ → Option ℕ) → InterfaceManagerView → LinkEnds
     → HostTdi → Ended

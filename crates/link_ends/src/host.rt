@@ -14,9 +14,8 @@ ghost use Rattle.tdi_host.specs.Managers.{
 ghost use Rattle.tdi_device.specs.Replies.{settled_tdis};
 ghost use Rattle.tdi_ends.specs.Keepers.{Ended};
 ghost use Rattle.device_side.specs.Ends.{secure_at, secure_with};
-ghost use Rattle.ide_types.specs.Lines.{peer_line};
-ghost use Rattle.link_ends.specs.Hosts.{told, keyed_if, keyed_at_end, stopped_if, NamesPeer, live_for, status_for};
-ghost use Rattle.link_ends.specs.Hosts.{peer_number, pair_told, peer_drawn};
+ghost use Rattle.link_ends.specs.Hosts.{told, keyed_if, keyed_at_end, stopped_if, live_for, status_for};
+ghost use Rattle.link_ends.specs.Hosts.{pair_told, peer_drawn};
 
 use crate::ends::LinkEnds;
 use crate::keeper::Keeper;
@@ -52,14 +51,6 @@ fn status_or_idle(status: Option<StreamStatus>) -> StreamStatus
         None => StreamStatus::Idle,
         Some(status) => status,
     }
-}
-
-// The line of a stream between devices.
-fn peer_line(number: u8) -> u8
-    requires { number < 8 }
-    ensures { result ≡ peer_line number }
-{
-    FIRST_PEER_LINE + number
 }
 
 // What is Live at the device's end of the stream between devices that an operation names.
@@ -240,12 +231,11 @@ impl HostKeeper {
     // The status of the stream that an operation on an interface asks for: of its own at the host's port; of one
     // between devices as the manager of keys has it.
     fn status_for(&self, op: InterfaceOp, host: Option<StreamStatus>) -> StreamStatus
-        requires { NamesPeer op }
         ensures { result ≡ status_for self.now.keys.manager host op }
     {
         match op {
             InterfaceOp::Bind(peer) | InterfaceOp::Unbind(peer) => {
-                self.keys.status(peer_line(peer.number), peer.id)
+                self.keys.status(peer.line, peer.id)
             }
             _ => status_or_idle(host),
         }
@@ -261,8 +251,7 @@ impl HostKeeper {
         op: InterfaceOp,
         loss: Option<Loss>,
     ) -> tdi_host::Outcome
-        requires interface { interface < length self.old.interfaces.interfaces }
-        requires peer { NamesPeer op }
+        requires { interface < length self.old.interfaces.interfaces }
         ensures operated { IfSome (slice_get self.old.interfaces.interfaces interface) (λ i.
             let e : Ended = record {
               outcome = result;

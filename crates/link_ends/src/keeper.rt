@@ -5,11 +5,13 @@ ghost use Rattle.std.specs.Prelude.{vec_len, vec_capacity};
 ghost use Rattle.ide_km.specs.{spelling};
 ghost use Rattle.key_laws.specs.Operations.{work_of};
 ghost use Rattle.ide_km.specs.declared.object.KmView.{KmView};
+ghost use Rattle.std.specs.Option.{option_map};
+ghost use Rattle.tsm_host.specs.Facts.{op_seen};
 ghost use Rattle.tsm_host.specs.Judging.{judged};
 ghost use Rattle.tsm_host.specs.Operations.{op_name};
 ghost use Rattle.tsm_host.specs.Streams.{has_host, end_asked, request_asked};
 ghost use Rattle.line_ends.specs.Ends.{answered_end, end_reply, end_in, with_end};
-ghost use Rattle.tsm_host.specs.Managers.{new_manager, named, status_named, current, reset_manager};
+ghost use Rattle.tsm_host.specs.Managers.{new_manager, named, op_named, status_named, current, reset_manager};
 ghost use Rattle.key_slots.specs.{new_pool};
 ghost use Rattle.device_side.specs.Ends.{asked_device, reply_given};
 ghost use Rattle.link_walks.specs.Walks.{judged_bytes};
@@ -23,7 +25,7 @@ use line_ends::PairEnds;
 use link_events::{Loss, Lost};
 use std::alloc::Global;
 use std::marker::Model;
-use tsm_host::{Carried, Manager, Op, Outcome};
+use tsm_host::{Carried, Manager, Op, Outcome, StageFacts};
 use valid_plan::ValidPlan;
 
 /// The room that a request needs, in bytes.
@@ -295,5 +297,16 @@ impl Keeper {
         ensures { self.new ≡ record self.old { manager = reset_manager ends.now self.old.manager } }
     {
         self.manager.reset(ends);
+    }
+}
+
+// ---- what is seen of it
+
+impl Keeper {
+    /// The state of a stream's operations; `None` if the line has no such stream.
+    pub fn facts(&self, line: u8, stream: u8) -> Option<StageFacts>
+        ensures { option_map op_seen result ≡ op_named (named self.now.manager line stream) }
+    {
+        self.manager.facts(line, stream)
     }
 }

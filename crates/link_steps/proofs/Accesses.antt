@@ -4,7 +4,7 @@ pub use Rattle.access_turns.proofs.Turns.{TurnsHere, RestsAt, turn_at, stays_all
 use Rattle.access_turns.proofs.Turns.{set_twice}
 use Rattle.link_steps.proofs.Arrivals.{effects_at, end_of}
 use Rattle.end_states.specs.{InterfacesView, KeeperView, LinkEnds, EndsView, port_on, waiting_reads_after, unit_in}
-use Rattle.end_states.specs.{AreLinks, state_of, Arrives, ArrivesAt, Comes, standings_in, unit_tlps}
+use Rattle.end_states.specs.{AreLinks, state_of, Arrives, ArrivesAt, Comes, Leaves, standings_in, unit_tlps}
 use Rattle.end_states.proofs.{set_there}
 use Rattle.ide_plan.specs.declared.plan.Region.{Region}
 use Rattle.link_ports.specs.Machine.{LinkPacket, LinkState}
@@ -13,7 +13,7 @@ use Rattle.std.proofs.Common.{Bool, List, [], ap, arith, drop, false, length, re
 use Rattle.std.proofs.Common.{ℕ, ◌++◌, ◌+◌, ◌<◌, ◌≤◌, ◌==◌, ◌∙◌, ◌∷◌, ◌≡◌}
 use Rattle.std.proofs.lemmas.Bool.Decides.{nat_tests}
 use Rattle.std.specs.Prelude.{Err, None, Ok, OnErr, Option, Result, Some, if◌then◌else◌, map, nat_le, nat_lt, not, ◌&&◌}
-use Rattle.std.specs.Prelude.{slice_get, slice_set}
+use Rattle.std.specs.Prelude.{is_some, slice_get, slice_set}
 use Rattle.std.proofs.lemmas.List.{append-nil, length-set}
 use Rattle.std.proofs.lemmas.Option.{same_Some}
 use Rattle.ide_types.specs.declared.direction.Direction.{Direction}
@@ -102,8 +102,9 @@ pub brings_spared : (m : InterfacesView) (end port : PortName) (bytes : List ℕ
     (c mid : MemoryContents) (xs : List LinkAccesses) (a b : LinkAccesses) (new : EndsView) (d : MemoryContents)
     (ys : List LinkAccesses) → mid ≡ c → slice_get xs port.link ≡ Some a → IsSpared a b
     → ArrivesAt old (slice_set xs port.link b) mid.regions (grants_in m) end port bytes verdict mid d new ys
+    → (is_some (port_on old end) ≡ false → Leaves verdict old mid (slice_set xs port.link b) new d ys)
     → d.regions ≡ mid.regions → Brings m end port bytes verdict old c xs new d ys
-brings_spared m end port bytes verdict old c mid xs a b new d ys same is spared arrives regions =
+brings_spared m end port bytes verdict old c mid xs a b new d ys same is spared arrives absent regions =
     subst (λ (x : MemoryContents). Brings m end port bytes verdict old x xs new d ys) same (record {
       arrives = λ e l x e_is l_is x_is.
           let at = arrives e l b e_is l_is (set_there xs port.link a b is) in
@@ -118,6 +119,14 @@ brings_spared m end port bytes verdict old c mid xs a b new d ys same is spared 
                 at.came;
           });
       regions = regions;
+      absent = λ none.
+          let left = absent none in (
+            left.verdict_is,
+            left.ends_stay,
+            left.memory_stays,
+            subst (λ (zs : List LinkAccesses). AccessesStay xs zs) (sym left.accesses_stay)
+                (spared_stay xs port.link a b is spared),
+          );
     })
   where
     made : (answer : Arrival) (e : PortEnd) (l : LinkEnds) (a' : LinkAccesses) → b ≡ record a { guarded = b.guarded }

@@ -1,38 +1,34 @@
 -- Bytes that arrive at an end, as the machine has them. It goes as the bytes are cut: a fault, a plain TLP, or an IDE
 -- packet, whose stream is found or not, and whose answer goes test by test. The hard case is an accepted unit: here its
 -- effects are read of decrypted packets, by the machine of encrypted ones, and decryption changes only bodies and tags.
--- A packet by number, whole, altered or cut, arrives at the partner of its end.
-use Rattle.end_states.specs.{InterfacesView, KeeperView, LinkEnds, EndsView, port_on, with_port_on, AreLinks, IsBounded}
+use Rattle.end_states.specs.{InterfacesView, KeeperView, LinkEnds, EndsView, port_on, with_port_on, AreLinks}
 use Rattle.end_states.specs.{IsPort, state_of, standings_in}
 use Rattle.end_states.proofs.{found_id, Keeps, IsWired, closed_at, find_at, mode_at, port_is, put_at, state_kept, wired}
 use Rattle.ide_plan.specs.declared.plan.Region.{Region}
 use Rattle.ide_plan.specs.declared.plan.Plan.{Plan}
-use Rattle.link_ports.specs.Machine.{Beside, LinkPacket, LinkState, Stepped, altered_to, cut_short, packet_numbered}
-use Rattle.link_ports.specs.Machine.{passed, shown_packet, stepped_arrival, stepped_cut, stepped_packet}
+use Rattle.link_ports.specs.Machine.{Beside, LinkPacket, LinkState, Stepped, packet_numbered}
+use Rattle.link_ports.specs.Machine.{shown_packet, stepped_cut, stepped_packet}
 use Rattle.link_ports.specs.Machine.{verdict_of_taken}
 unfoldable use Rattle.link_ports.specs.Machine.{put, step_of}
 use Rattle.stream_rules.specs.Stream.{unit_name}
 use Rattle.stream_rules.specs.Stream.{Accepted, LiveKey, StreamState, Taken, state_after, taken_by}
 use Rattle.accesses.specs.declared.link.LinkAccesses.{LinkAccesses}
-use Rattle.std.proofs.Common.{Bool, List, [], ap, arith, false, length, refl, sym, take, true, ℕ, ◌+◌, ◌-◌, ◌<◌, ◌==◌}
+use Rattle.std.proofs.Common.{Bool, List, [], ap, arith, false, length, refl, sym, ℕ, ◌+◌, ◌==◌}
 use Rattle.std.proofs.Common.{◌∙◌, ◌∷◌, ◌≡◌}
-use Rattle.std.specs.Prelude.{Err, None, Ok, Option, Result, Some, IsSome, if◌then◌else◌, nat_le, option_map, slice_get}
-use Rattle.std.specs.Option.{option_and_then}
+use Rattle.std.specs.Prelude.{Err, None, Ok, Option, Result, Some, if◌then◌else◌, option_map}
 use Rattle.ide_types.specs.declared.port.PortName.{PortName}
 use Rattle.ide_prefix.specs.Packet.{Packet}
 use Rattle.ide_prefix.specs.{is_sync_packet}
 use Rattle.ide_prefix.specs.declared.fault.PacketFault.{PacketFault}
-use Rattle.ide_prefix.specs.Reading.{CutValue, IdePacket, PlainTlp, cut_of}
+use Rattle.ide_prefix.specs.Reading.{CutValue, IdePacket, PlainTlp}
 use Rattle.link_verdicts.specs.declared.verdict.Verdict.{Verdict}
 use Rattle.link_verdicts.specs.declared.verdict.Verdict.TheVariants as v
 use Rattle.link_verdicts.specs.declared.verdict.Effect.{Effect}
 use Rattle.link_verdicts.specs.declared.verdict.Effect.TheVariants as effect
 use Rattle.link_verdicts.specs.declared.verdict.UnitName.{UnitName}
-use Rattle.link_events.specs.declared.event.Event.TheVariants.{Alter, Cut, Dump, Pass}
-use Rattle.link_history.specs.Plan.{is_closed, mode_of, partner}
+use Rattle.link_events.specs.declared.event.Event.TheVariants.{Dump}
+use Rattle.link_history.specs.Plan.{is_closed, mode_of}
 use Rattle.link_history.specs.Ports.{at_switch, port_of}
-use Rattle.link_history.specs.Packets.{arrival_at}
-use Rattle.link_history.specs.History.{Arrival}
 use Rattle.link_history.specs.Memory.{Policy, device_effect, effect_by, effects_each, host_effect, waiting_then}
 use Rattle.link_history.specs.Admission.{switch_effect}
 use Rattle.sub_stream.specs.{opened_from, opened_under}
@@ -45,7 +41,6 @@ use Rattle.tlp_layout.specs.Reading.{read_head_of}
 use Rattle.key_laws.specs.Places.{sent_direction}
 use Rattle.arrival_facts.specs.{arrival_verdict, claimed_effect, effects_from, grants_in, head_effect, packet_effect}
 use Rattle.arrival_facts.proofs.{IsEndOf, IsTaken, taken_is}
-use Rattle.link_steps.specs.Events.{altered_bytes}
 
 -- ---- what an arrival leaves of an end
 
@@ -189,79 +184,10 @@ module _ (b : Beside) (plan : Plan) (end port : PortName) (at : port_of plan end
         (find_at plan ends k packets w end e is p.prefix.stream at_port)
         ∙ by_found p (found e.plans e.states p.prefix.stream) refl
 
--- ---- packets by number
+-- ---- a packet by its number
 
-pub numbered_here : (ends : EndsView) (packets : List LinkPacket) (steps n : ℕ) (x : LinkPacket)
-    → IsBounded ends packets steps → Some x ≡ packet_numbered packets n → IsSome (port_on ends x.port)
-numbered_here ends packets steps n x bounded is = bounded.sealed_here (n - 1) x (seat (n == 0) (sym is))
-  where
-    seat : (b : Bool) → (if b then None else slice_get packets (n - 1)) ≡ Some x
-        → slice_get packets (n - 1) ≡ Some x
-    seat b is = grind arith
-
--- bytes of it arrive at the port of its partner
-abbrev pub at_partner : Plan → LinkPacket → List ℕ → Arrival
-at_partner plan x bytes = arrival_at plan (partner x.port) bytes
-
-pub altered_is : (plan : Plan) (at mask : ℕ) (x : LinkPacket) → altered_to plan at mask x
-    ≡ option_map (at_partner plan x) (altered_bytes at mask x.bytes)
-altered_is plan at mask x = grind arith
-
--- a step at a packet of this number
-module _ (b : Beside) (plan : Plan) (st : LinkState) where
-  module _ (n : ℕ) (o : Option LinkPacket) (is : o ≡ packet_numbered st.packets n) where
-    pub passes : step_of plan b st (Pass n) ≡ stepped_arrival plan b st (option_and_then (passed plan) o)
-    unfolding step_of
-    passes = ap (λ (p : Option LinkPacket). stepped_arrival plan b st (option_and_then (passed plan) p)) (sym is)
-
-    pub alters_it : (at mask : ℕ) → step_of plan b st (Alter n at mask)
-        ≡ stepped_arrival plan b st (option_and_then (altered_to plan at mask) o)
-    unfolding step_of
-    alters_it at mask = ap
-        (λ (p : Option LinkPacket). stepped_arrival plan b st (option_and_then (altered_to plan at mask) p)) (sym is)
-
-    pub cuts_it : (len : ℕ) → step_of plan b st (Cut n len)
-        ≡ stepped_arrival plan b st (option_and_then (cut_short plan len) o)
-    unfolding step_of
-    cuts_it len = ap (λ (p : Option LinkPacket). stepped_arrival plan b st (option_and_then (cut_short plan len) p))
-        (sym is)
-
-    pub dumps : step_of plan b st (Dump n) ≡ (shown_packet n o, st)
-    unfolding step_of
-    dumps = ap (λ (p : Option LinkPacket). (shown_packet n p, st)) (sym is)
-
-  pub alters : (n at mask : ℕ) (x : LinkPacket) (o : Option (List ℕ)) → Some x ≡ packet_numbered st.packets n
-      → o ≡ altered_bytes at mask x.bytes
-      → step_of plan b st (Alter n at mask) ≡ stepped_arrival plan b st
-      (option_map (at_partner plan x) o)
-  alters n at mask x o is same =
-      alters_it n (Some x) is at mask
-      ∙ ap (λ (a : Option Arrival). stepped_arrival plan b st a)
-      (altered_is plan at mask x ∙ ap (λ (p : Option (List ℕ)). option_map (at_partner plan x) p) (sym same))
-
-  pub cuts : (n len : ℕ) (x : LinkPacket) (whole : Bool) → Some x ≡ packet_numbered st.packets n
-      → nat_le len (length x.bytes) ≡ whole
-      → step_of plan b st (Cut n len) ≡ stepped_arrival plan b st
-      (if whole then Some (at_partner plan x (take len x.bytes)) else None)
-  cuts n len x whole is test = cuts_it n (Some x) is len ∙ ap
-      (λ (t : Bool). stepped_arrival plan b st (if t then Some (at_partner plan x (take len x.bytes)) else None)) test
-
--- ---- what events bring
-
-module _ (plan : Plan) (packets : List LinkPacket) (n : ℕ) (x : LinkPacket) (is : Some x ≡ packet_numbered packets n)
-  where
-    pub brings_whole : option_and_then (passed plan) (packet_numbered packets n) ≡ Some (at_partner plan x x.bytes)
-    brings_whole = ap (λ (o : Option LinkPacket). option_and_then (passed plan) o) (sym is)
-
-    pub brings_altered : (at mask : ℕ) (bytes : List ℕ) → Some bytes ≡ altered_bytes at mask x.bytes
-        → option_and_then (altered_to plan at mask) (packet_numbered packets n) ≡ Some (at_partner plan x bytes)
-    brings_altered at mask bytes some =
-        ap (λ (o : Option LinkPacket). option_and_then (altered_to plan at mask) o) (sym is) ∙ altered_is plan at mask x
-        ∙ ap (λ (o : Option (List ℕ)). option_map (at_partner plan x) o) (sym some)
-
-    pub brings_cut : (len : ℕ) → nat_le len (length x.bytes) ≡ true
-        → option_and_then (cut_short plan len) (packet_numbered packets n)
-        ≡ Some (at_partner plan x (take len x.bytes))
-    brings_cut len test =
-        ap (λ (o : Option LinkPacket). option_and_then (cut_short plan len) o) (sym is)
-        ∙ ap (λ (b : Bool). if b then Some (at_partner plan x (take len x.bytes)) else None) test
+pub dumps : (b : Beside) (plan : Plan) (st : LinkState) (n : ℕ) (o : Option LinkPacket) → o
+    ≡ packet_numbered st.packets n
+    → step_of plan b st (Dump n) ≡ (shown_packet n o, st)
+unfolding step_of
+dumps b plan st n o is = ap (λ (p : Option LinkPacket). (shown_packet n p, st)) (sym is)

@@ -12,9 +12,20 @@ pub use Rattle.end_states.proofs.Located.{is_located}
 pub use Rattle.end_states.proofs.Resets.{keeper_reset, links_reset, reset_grows, state_reset}
 pub use Rattle.end_states.proofs.Sends.{at_port, cut_joined, lengths_join, sealed_on, send_joins, send_keeps, sends_as}
 pub use Rattle.end_states.proofs.Sends.{sent, sent_at_port}
-pub use Rattle.end_states.proofs.Streams.{IsName, at_side, end_found, name_is, op_is, planned, some_op, unnamed}
+pub use Rattle.end_states.proofs.Streams.{IsName, at_side, end_found, name_is, none_found, op_is, planned, some_op}
+pub use Rattle.end_states.proofs.Streams.{unnamed}
 pub use Rattle.end_states.proofs.{own_tlps, switch_admits_none, unit_agrees, waits_open, writes_agree, seen_same, there}
-pub use Rattle.end_states.proofs.{port_is, wired, Grows, Keeps, bounded_then, end_grows, end_kept, grows_then}
+pub use Rattle.end_states.proofs.{
+  closed_at,
+  port_is,
+  wired,
+  Grows,
+  Keeps,
+  bounded_then,
+  end_grows,
+  end_kept,
+  grows_then,
+}
 pub use Rattle.end_states.proofs.{settled_grows, settled_kept, settled_rows, stays_all, AreLinks, Beside, Bool, Device}
 pub use Rattle.end_states.proofs.{EndsView, Host, LinkEnds, LinkPacket, LinkState, List, None, Option, Packet, PairEnds}
 pub use Rattle.end_states.proofs.{Plan, PortEnd, PortName, Side, Some, UnitName, [], ap, append-nil, arith, changed_at}

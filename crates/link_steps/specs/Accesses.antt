@@ -1,13 +1,14 @@
 -- What arrivals make of what stands at each link beside its ports and interfaces.
-use Rattle.std.specs.Prelude.{ℕ, ◌≡◌, List, [], length, slice_get, Option, Some}
+use Rattle.std.specs.Prelude.{ℕ, ◌≡◌, List, [], length, slice_get, Option, Some, is_some, false}
 use Rattle.ide_types.specs.declared.port.PortName.{PortName}
 use Rattle.link_verdicts.specs.declared.verdict.Verdict.{Verdict}
+use Rattle.link_verdicts.specs.declared.verdict.Verdict.TheVariants.{Nothing}
 use Rattle.guarded_memory.specs.declared.standing.Standing.{Standing}
 use Rattle.trusted_memory.specs.{MemoryContents}
 use Rattle.link_history.specs.Memory.{Policy}
 pub use Rattle.access_turns.specs.Turns.{reads_at, floors_at, sizes_at, mmio_at, carried_at, AreLeftBy, AccessesTurn}
 pub use Rattle.access_turns.specs.Turns.{AccessesStay, same_reads, same_floors, same_carried, nothing_happens}
-use Rattle.end_states.specs.{EndsView, LinkEnds, InterfacesView, standings_in, ArrivesAt}
+use Rattle.end_states.specs.{EndsView, LinkEnds, InterfacesView, port_on, standings_in, ArrivesAt}
 use Rattle.accesses.specs.declared.link.LinkAccesses.{LinkAccesses}
 use Rattle.arrival_facts.specs.{grants_in}
 
@@ -27,9 +28,12 @@ policy_in m ends xs = record {
 
 -- ---- arrivals
 
--- what bytes that are taken at an end, at this port of a host or a device, make of the ends, of memory and of accesses
+-- what bytes that are taken at an end, at this port of a host or a device, make of the ends, of memory and of accesses;
+-- if there is no such end these are as before
 pub record Brings (m : InterfacesView) (end port : PortName) (bytes : List ℕ) (verdict : Verdict) (old : EndsView)
     (c : MemoryContents) (xs : List LinkAccesses) (new : EndsView) (d : MemoryContents) (ys : List LinkAccesses) :
     Type 0 where
   pub arrives : ArrivesAt old xs c.regions (grants_in m) end port bytes verdict c d new ys
   pub regions : d.regions ≡ c.regions
+  pub absent : is_some (port_on old end) ≡ false
+      → (verdict ≡ Nothing) × (new ≡ old) × (d ≡ c) × AccessesStay xs ys

@@ -1,7 +1,7 @@
 //! Bytes that arrive at a port of one of the links.
 
-ghost use Rattle.std.specs.Prelude.{◌≡◌, ◌<◌, ◌^◌, IfOk, IsSome, OnErr, length};
-ghost use Rattle.end_states.specs.{port_on, CallsBelow};
+ghost use Rattle.std.specs.Prelude.{◌≡◌, ◌<◌, ◌^◌, IfOk, OnErr, length};
+ghost use Rattle.end_states.specs.{CallsBelow};
 ghost use Rattle.link_steps.specs.Accesses.{AccessesStay, Brings};
 
 use accesses::Accesses;
@@ -14,8 +14,8 @@ use trusted_memory::Trusted;
 /// The most pages of trusted memory that the writes of a unit go to: it has at most 8 packets, each in one page.
 const MOST_PAGES: u8 = 8;
 
-/// Bytes arrive at an end that is at this port of a host or a device. The pages that a unit may need are taken first,
-/// so for want of memory nothing changes.
+/// Bytes arrive at an end that is at this port of a host or a device; if there is no such end nothing is taken. The
+/// pages that a unit may need are taken first, so for want of memory nothing changes.
 pub fn bring(
     ends: &mut AllEnds,
     keeper: &InterfaceKeeper,
@@ -25,7 +25,6 @@ pub fn bring(
     port: PortName,
     bytes: &[u8],
 ) -> Result<Verdict, Memory>
-    requires here { IsSome (port_on ends.old end) }
     requires link { port.link < length ends.old.links }
     requires few { CallsBelow (2 ^ 40) ends.old }
     requires many { length accesses.old ≡ length ends.old.links }

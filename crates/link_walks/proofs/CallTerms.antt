@@ -6,8 +6,8 @@ pub use Rattle.ide_types.specs.declared.sub.SubKind.{SubKind}
 pub use Rattle.ide_plan.specs.declared.plan.Plan.{Plan}
 pub use Rattle.sub_stream.specs.Calls.{slots_called_out, slots_called_into, called}
 pub use Rattle.key_laws.specs.Operations.{Work, Reach, makes_draw, work, last_exchange_of}
-pub use Rattle.key_laws.specs.History.{is_within, program_at, go_at, stop_at, when, worked}
-pub use Rattle.key_laws.specs.History.{program_number, go_number, stop_number}
+pub use Rattle.key_laws.specs.History.{is_within, program_at, go_at, stop_at, when, worked, program_number, go_number}
+pub use Rattle.key_laws.specs.History.{stop_number}
 pub use Rattle.ide_types.specs.Lines.{is_hosted}
 pub use Rattle.ide_types.specs.declared.port.Side.{Side}
 pub use Rattle.link_walks.specs.Calls.{lane_key, key_number, StreamCall, told_call, calls_from, exchange_call}
@@ -22,8 +22,7 @@ pub use Rattle.sub_stream.specs.{slot_pair, key_slot}
 pub use Rattle.stream_rules.specs.Stream.{LaneSlots, StreamState, at_sub, each_sub, LaneSlot, Live, LiveKey}
 pub use Rattle.link_history.specs.Plan.{SubStream, lane_out, lane_in, key_of}
 pub use Rattle.link_walks.specs.Touches.{host_go, WaitsBesideLive, IsSound, ReadsStream, device_calls, CallsAreTouches}
-pub use Rattle.link_walks.specs.Touches.{told_calls, AreTold, CallsAreTold}
-pub use Rattle.link_walks.specs.Touches.{host_calls, DrawsApart}
+pub use Rattle.link_walks.specs.Touches.{told_calls, AreTold, CallsAreTold, host_calls, DrawsApart}
 pub use Rattle.std.specs.Prelude.{if◌then◌else◌, ◌&&◌, not, map, ◌||◌, is_some}
 pub use Rattle.key_laws.specs.Keys.{refusal_if}
 pub use Rattle.ide_types.specs.declared.sub.SubKind.TheVariants.{Pr, Npr, Cpl}

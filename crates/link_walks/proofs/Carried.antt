@@ -1,7 +1,6 @@
 -- Exchanges from one to another: which of them concern a place, if two exchanges of the operation do.
 use Rattle.link_walks.proofs.CallTerms.{◌≡◌, Bool, arith, ℕ, List, ◌++◌, ◌≤◌, ◌∙◌, ◌+◌, ◌==◌, [], zero, suc, ◌<◌}
-use Rattle.link_walks.proofs.CallTerms.{nat_tests}
-use Rattle.link_walks.proofs.CallTerms.{SubKind, KeyCall, StreamCall, is_within, calls_from}
+use Rattle.link_walks.proofs.CallTerms.{nat_tests, SubKind, KeyCall, StreamCall, is_within, calls_from}
 use Rattle.link_walks.proofs.Streams.{one_if, calls_at, calls_append}
 
 -- one of two calls or both, if each comes between two exchanges

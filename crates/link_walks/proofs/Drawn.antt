@@ -1,21 +1,17 @@
 -- Every draw was made from a pool that had keys for it, and each stream's ID has one byte.
 use Rattle.link_walks.proofs.Terms.{◌≡◌, Bool, arith, true, ℕ, List, Plan, if◌then◌else◌, nat_tests, ◌≤◌, Reach}
-use Rattle.link_walks.proofs.Terms.{lane_key, Host, ◌+◌, [], ◌<◌, ◌∷◌, ◌/◌, Option, length, ◌*◌}
-use Rattle.link_walks.proofs.Terms.{is_some, All, reach_of, Manager}
-use Rattle.link_walks.proofs.Terms.{operated, manager_after, IsKey}
-use Rattle.link_walks.proofs.Terms.{FitsPlan, FitsStream, Verdict, KeyPlan, History, draws, status_of, PortView}
-use Rattle.link_walks.proofs.Terms.{ports_at, performed, work_of, op_of}
-use Rattle.key_laws.specs.Due.{has_refresh, may_establish, may_refresh, unless_open}
+use Rattle.link_walks.proofs.Terms.{lane_key, Host, ◌+◌, [], ◌<◌, ◌∷◌, ◌/◌, Option, length, ◌*◌, is_some, All, reach_of}
+use Rattle.link_walks.proofs.Terms.{Manager, operated, manager_after, IsKey, FitsPlan, FitsStream, Verdict, KeyPlan}
+use Rattle.link_walks.proofs.Terms.{History, draws, status_of, PortView, ports_at, performed, work_of, op_of}
+use Rattle.key_laws.specs.Due.{has_refresh, may_establish, may_refresh, unless_open, key_due}
 use Rattle.link_history.specs.Plan.{streams_by_link, streams_of, with_id, hop_by_link, hop_streams, peer_streams}
-use Rattle.link_history.specs.Plan.{lone_stream, in_eight, streams_by_line}
+use Rattle.link_history.specs.Plan.{lone_stream, in_eight, streams_by_line, stream_plan}
 use Rattle.ide_plan.specs.declared.plan.HopPlan.{HopPlan}
 use Rattle.ide_plan.specs.declared.plan.PeerPlan.{PeerPlan}
 use Rattle.ide_plan.specs.Fits.{FitsLink, FitsHopIf, FitsPeer}
 use Rattle.ide_types.specs.declared.port.PortName.{PortName}
 use Rattle.std.specs.Prelude.{map, replicate, slice_index_or, suc, take, zero, ◌++◌, Some, None}
 use Rattle.key_laws.specs.History.{manager}
-use Rattle.key_laws.specs.Due.{key_due}
-use Rattle.link_history.specs.Plan.{stream_plan}
 use Rattle.std.proofs.lemmas.List.Elements.{All-tail}
 use Rattle.ide_types.specs.declared.status.StreamStatus.{StreamStatus}
 use Rattle.ide_plan.specs.declared.plan.LinkPlan.{LinkPlan}

@@ -1,25 +1,8 @@
 -- The exchanges of an operation at a place whose keys are given by messages.
-use Rattle.link_walks.proofs.CallTerms.{
-  ◌≡◌,
-  Bool,
-  arith,
-  true,
-  false,
-  ℕ,
-  ◌++◌,
-  ◌≤◌,
-  ◌<◌,
-  ◌+◌,
-  ◌==◌,
-  zero,
-  suc,
-  refl,
-  ◌-◌,
-}
-use Rattle.link_walks.proofs.CallTerms.{nat_tests, ◌&&◌, if◌then◌else◌}
-use Rattle.link_walks.proofs.CallTerms.{SubKind, Plan, Work, work, last_exchange_of, makes_draw, lane_key, key_number}
-use Rattle.link_walks.proofs.CallTerms.{told_call, calls_from, Side, Host, Device, Operation, is_host, program_number}
-use Rattle.link_walks.proofs.CallTerms.{go_number, stop_number}
+use Rattle.link_walks.proofs.CallTerms.{◌≡◌, Bool, arith, true, false, ℕ, ◌++◌, ◌≤◌, ◌<◌, ◌+◌, ◌==◌, zero, suc, refl}
+use Rattle.link_walks.proofs.CallTerms.{◌-◌, nat_tests, ◌&&◌, if◌then◌else◌, SubKind, Plan, Work, work}
+use Rattle.link_walks.proofs.CallTerms.{last_exchange_of, makes_draw, lane_key, key_number, told_call, calls_from, Side}
+use Rattle.link_walks.proofs.CallTerms.{Host, Device, Operation, is_host, program_number, go_number, stop_number}
 use Rattle.ide_types.specs.Sub.{sub_bits}
 use Rattle.ide_types.proofs.KeySets.{one_of_set}
 use Rattle.link_verdicts.specs.declared.verdict.Operation.TheVariants as op

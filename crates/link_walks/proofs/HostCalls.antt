@@ -1,17 +1,7 @@
 -- The host's local calls at a place.
 use Rattle.link_walks.proofs.CallTerms.{◌≡◌, Bool, arith, true, ℕ, List, ◌++◌, SubKind, Plan, Work, Reach, makes_draw}
-use Rattle.link_walks.proofs.CallTerms.{
-  is_within,
-  lane_key,
-  key_number,
-  StreamCall,
-  stream_call,
-  Host,
-  lane,
-  place_at_end,
-}
-use Rattle.link_walks.proofs.CallTerms.{host_go}
-use Rattle.link_walks.proofs.CallTerms.{host_calls, if◌then◌else◌, map}
+use Rattle.link_walks.proofs.CallTerms.{is_within, lane_key, key_number, StreamCall, stream_call, Host, lane}
+use Rattle.link_walks.proofs.CallTerms.{place_at_end, host_go, host_calls, if◌then◌else◌, map}
 use Rattle.link_walks.proofs.Slots.{first_call, second_call, is_of}
 use Rattle.link_walks.proofs.Streams.{one_if, calls_at, all_by}
 

@@ -2,19 +2,15 @@
 use Rattle.link_walks.specs.Calls.{lane_sends}
 use Rattle.link_walks.proofs.Terms.{◌≡◌, arith, true, ℕ, List, ◌++◌, Work, Plan, if◌then◌else◌, Operation, ◌≤◌, ◌∙◌}
 use Rattle.link_walks.proofs.Terms.{sym, Device, Host, StreamState, ◌+◌, [], suc, refl, ◌-◌, ap, Some, subst, ◌∷◌}
-use Rattle.link_walks.proofs.Terms.{last_exchange_of, port_at, CallsAreTouches}
-use Rattle.link_walks.proofs.Terms.{◌/◌, Option, ◌%◌, None, length, nat_lt, reach_of, work_of, sub_from}
-use Rattle.link_walks.proofs.Terms.{all_called_at, FitsPlan, Loss, Verdict, History, refusal_at, performed}
-use Rattle.link_walks.proofs.Terms.{stays, unwrap_or}
-use Rattle.link_walks.proofs.Terms.{key_plan, LinkState, find, find_op}
-use Rattle.link_walks.proofs.Terms.{ports_of, status_at, AreTouches, Side, Pool, draws_in, true-lt}
-use Rattle.link_walks.proofs.Terms.{Refusal, PlaceCall, StreamView, draws_now, refusal_of, begun_stream, begun_pool}
-use Rattle.link_walks.proofs.Terms.{begun_calls, ManagerWalk, answers, walk}
-use Rattle.link_walks.proofs.Terms.{manager_walked, verdict_of, op_by, Comes, walk_comes, PortsStandFor}
-use Rattle.link_walks.proofs.Terms.{kept_is}
-use Rattle.link_walks.proofs.Terms.{StreamEnds, walk_on, begun_ends, walked_ends_unless, event_walk, host_of, KeysKept}
-use Rattle.link_walks.proofs.Terms.{verdict_due, IsJoined}
-use Rattle.link_walks.proofs.Terms.{OperationsJoin}
+use Rattle.link_walks.proofs.Terms.{last_exchange_of, port_at, CallsAreTouches, ◌/◌, Option, ◌%◌, None, length, nat_lt}
+use Rattle.link_walks.proofs.Terms.{reach_of, work_of, sub_from, all_called_at, FitsPlan, Loss, Verdict, History}
+use Rattle.link_walks.proofs.Terms.{refusal_at, performed, stays, unwrap_or, key_plan, LinkState, find, find_op}
+use Rattle.link_walks.proofs.Terms.{ports_of, status_at, AreTouches, Side, Pool, draws_in, true-lt, Refusal, PlaceCall}
+use Rattle.link_walks.proofs.Terms.{StreamView, draws_now, refusal_of, begun_stream, begun_pool, begun_calls}
+use Rattle.link_walks.proofs.Terms.{ManagerWalk, answers, walk, manager_walked, verdict_of, op_by, Comes, walk_comes}
+use Rattle.link_walks.proofs.Terms.{PortsStandFor, kept_is, StreamEnds, walk_on, begun_ends, walked_ends_unless}
+use Rattle.link_walks.proofs.Terms.{event_walk, host_of, KeysKept, verdict_due, IsJoined, OperationsJoin, first_from}
+use Rattle.link_walks.proofs.Terms.{cut_at, lost_in}
 use Rattle.tsm_host.proofs.Dues.{all_due}
 use Rattle.tsm_host.specs.Walk.{WalkIsDue}
 use Rattle.ide_types.specs.Lines.{is_hosted}
@@ -27,7 +23,6 @@ use Rattle.link_walks.proofs.Works.{same_operation, work_fits, begins_first, fir
 use Rattle.link_walks.proofs.Works.{begun_link, begun_id, begun_keys, refused_reach, has_room}
 use Rattle.link_walks.proofs.Walking.{Knows, IsNext, denial}
 use Rattle.tsm_host.proofs.Walks.{ends_as}
-use Rattle.link_walks.proofs.Terms.{first_from, cut_at, lost_in}
 use Rattle.link_walks.proofs.Resting.{goes_from, Rest, rest_is}
 
 calls_append : (side : Side) (cs more : List PlaceCall) (x : StreamState) → all_called_at side (cs ++ more) x
@@ -109,8 +104,8 @@ module _ (plan : Plan) (st : LinkState) (h : History) (operation : Operation) (l
 
   first_next : IsNext plan w e.keeper.id e.device w.first (begun_from plan st operation e)
   first_next = record {
-    op_is = begun_op operation e.keeper.op st.draws (pool_of plan st) e.keeper refl;
-    id_is = begun_id w (pool_of plan st) e.keeper;
+    op_is = begun_op true operation e.keeper.op st.draws (pool_of plan st) e.keeper refl;
+    id_is = begun_id true w (pool_of plan st) e.keeper;
     keys = begun_keys plan operation e.keeper.op st.draws e.keeper found.kept;
     fresh = λ makes lane lt le. refl;
     ready = λ makes lane lt past le. ready_before plan st h found.stands e.keeper.link e.keeper.id e.keeper.op
@@ -132,7 +127,7 @@ module _ (plan : Plan) (st : LinkState) (h : History) (operation : Operation) (l
       (begun_stream true w (pool_of plan st) e.keeper))) found.hosted
       (walk_comes w.operation w.set w.draw w.first w.begins (work_fits operation e.keeper.op st.draws)
       (ports_of plan st) e.keeper.link e.keeper.id loss e.keeper.op (begun_stream true w (pool_of plan st) e.keeper)
-      (rw found.hosted within.1) (begun_op operation e.keeper.op st.draws (pool_of plan st) e.keeper refl))
+      (rw found.hosted within.1) (begun_op true operation e.keeper.op st.draws (pool_of plan st) e.keeper refl))
 
   module _ (free : refusal_of operation e.keeper.op (host_of e.host) (pool_of plan st) ≡ None) where
     knows : Knows plan (ports_of plan st) w e.keeper.link e.keeper.id requester e.device
@@ -214,8 +209,8 @@ module _ (plan : Plan) (st : LinkState) (h : History) (operation : Operation) (l
           device_is = rw reached (rest.device_is ∙ same_touches.device_touched);
           draws_is = rw reached
               (draws_on w (pool_of plan st) (has_room operation e.keeper.op (host_of e.host) (pool_of plan st) free));
-          link_is = rest.names_are.0 ∙ begun_link w (pool_of plan st) e.keeper;
-          id_is = rest.names_are.1 ∙ begun_id w (pool_of plan st) e.keeper;
+          link_is = rest.names_are.0 ∙ begun_link true w (pool_of plan st) e.keeper;
+          id_is = rest.names_are.1 ∙ begun_id true w (pool_of plan st) e.keeper;
           keys_are = rest.keys_are;
         }
 

@@ -2,12 +2,11 @@
 -- an unfinished operation was made.
 use Rattle.link_walks.specs.Calls.{lane_sends}
 use Rattle.link_walks.proofs.Terms.{◌≡◌, Bool, arith, true, SubKind, ℕ, List, Plan, nat_tests, Operation, place_at_end}
-use Rattle.link_walks.proofs.Terms.{◌≤◌, ◌∙◌, makes_draw, Device, StreamState, ◌+◌, ap, KeyPlace, ◌<◌, Some}
-use Rattle.link_walks.proofs.Terms.{port_at, slots_at, LaneSlot, key_of, ◌/◌}
-use Rattle.link_walks.proofs.Terms.{◌%◌, length, option_map, work_of, Op, sub_from, lane_number, History, draws}
-use Rattle.link_walks.proofs.Terms.{moments, op_of, key_plan, slot_in_set, LinkState, find, find_op, draws_now}
-use Rattle.link_walks.proofs.Terms.{PortsStandFor, key_in, kept_in, Touch, keys}
-use Rattle.link_walks.proofs.Terms.{Shape, keys_of, Marks, key_cause}
+use Rattle.link_walks.proofs.Terms.{◌≤◌, ◌∙◌, makes_draw, Device, StreamState, ◌+◌, ap, KeyPlace, ◌<◌, Some, port_at}
+use Rattle.link_walks.proofs.Terms.{slots_at, LaneSlot, key_of, ◌/◌, ◌%◌, length, option_map, work_of, Op, sub_from}
+use Rattle.link_walks.proofs.Terms.{lane_number, History, draws, moments, op_of, key_plan, slot_in_set, LinkState, find}
+use Rattle.link_walks.proofs.Terms.{find_op, draws_now, PortsStandFor, key_in, kept_in, Touch, keys, Shape, keys_of}
+use Rattle.link_walks.proofs.Terms.{Marks, key_cause}
 use Rattle.key_laws.proofs.Stages.{Rising}
 use Rattle.key_laws.proofs.Fits.{FitsAt}
 use Rattle.key_states.proofs.States.{in_state}

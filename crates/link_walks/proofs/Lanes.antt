@@ -1,13 +1,10 @@
 -- Exchanges by number: the lanes that they speak of, with their slots, and which of them the device refuses.
 use Rattle.link_walks.specs.Calls.{lane_sends}
-use Rattle.link_walks.proofs.Terms.{◌≡◌, Bool, arith, true, ℕ, false, nat_tests, Operation, place_at_end}
-use Rattle.link_walks.proofs.Terms.{LaneSlots, ◌≤◌}
-use Rattle.link_walks.proofs.Terms.{makes_draw, Device, slot_pair, StreamState, ◌+◌, zero, suc, refl, ◌-◌, KeyPlace}
-use Rattle.link_walks.proofs.Terms.{◌<◌}
-use Rattle.link_walks.proofs.Terms.{last_exchange_of, key_slot}
-use Rattle.link_walks.proofs.Terms.{LaneSlot, ◌%◌, inl, inr, sub_from, cases_lt, PortView, refusal_at, slot_in_set}
-use Rattle.link_walks.proofs.Terms.{None}
-use Rattle.link_walks.proofs.Terms.{is_empty, slots_at, exchange_of, KeySet}
+use Rattle.link_walks.proofs.Terms.{◌≡◌, Bool, arith, true, ℕ, false, nat_tests, Operation, place_at_end, LaneSlots}
+use Rattle.link_walks.proofs.Terms.{◌≤◌, makes_draw, Device, slot_pair, StreamState, ◌+◌, zero, suc, refl, ◌-◌}
+use Rattle.link_walks.proofs.Terms.{KeyPlace, ◌<◌, last_exchange_of, key_slot, LaneSlot, ◌%◌, inl, inr, sub_from}
+use Rattle.link_walks.proofs.Terms.{cases_lt, PortView, refusal_at, slot_in_set, None, is_empty, slots_at, exchange_of}
+use Rattle.link_walks.proofs.Terms.{KeySet}
 use Rattle.ide_types.specs.declared.key_set.KeySet.TheVariants.{Zero, One}
 use Rattle.key_slots.specs as pair
 use Rattle.ide_types.specs.Lines.{is_hosted}

@@ -1,27 +1,16 @@
 -- An event of an operation on a line that is keyed by messages at both ends gives what the machine of links says.
 use Rattle.ide_types.specs.Lines.{is_hosted}
 use Rattle.link_walks.specs.Calls.{lane_sends, key_number}
-use Rattle.link_walks.specs.Paired.{PairEnds, pair_walk, begun_pair, pair_walked_unless, pair_event}
-use Rattle.link_walks.specs.Paired.{PairKeysKeptIn, IsPairJoined, PairOperationsJoin}
-use Rattle.link_walks.proofs.Terms.{◌≡◌, ◌≢◌, Bool, arith, false, ℕ, Work, Plan, Operation}
-use Rattle.link_walks.proofs.Terms.{◌≤◌, ◌<◌, ◌∙◌, sym, Device, Host, ◌+◌, suc, refl, ◌-◌, ap, Some, subst}
-use Rattle.link_walks.proofs.Terms.{last_exchange_of, port_at, ◌/◌, Option, ◌%◌, None, length, reach_of, work_of}
-use Rattle.link_walks.proofs.Terms.{
-  nat_tests,
-  sub_from,
-  FitsPlan,
-  Loss,
-  Verdict,
-  History,
-  refusal_at,
-  performed,
-  stays,
-  unwrap_or,
-}
-use Rattle.link_walks.proofs.Terms.{key_plan, LinkState, find, find_op, ports_of, status_at, Side, Pool}
-use Rattle.link_walks.proofs.Terms.{true-lt, Refusal, StreamView, HostView, refusal_of, begun_stream}
-use Rattle.link_walks.proofs.Terms.{ManagerWalk, answers, walk, manager_walked, verdict_of, op_by, Comes}
-use Rattle.link_walks.proofs.Terms.{walk_comes, PortsStandFor, kept_is, verdict_due, first_from, cut_at, lost_in}
+use Rattle.link_walks.specs.Paired.{PairEnds, pair_walk, begun_pair, pair_walked_unless, pair_event, PairKeysKeptIn}
+use Rattle.link_walks.specs.Paired.{IsPairJoined, PairOperationsJoin}
+use Rattle.link_walks.proofs.Terms.{◌≡◌, ◌≢◌, Bool, arith, false, ℕ, Work, Plan, Operation, ◌≤◌, ◌<◌, ◌∙◌, sym, Device}
+use Rattle.link_walks.proofs.Terms.{Host, ◌+◌, suc, refl, ◌-◌, ap, Some, subst, last_exchange_of, port_at, ◌/◌, Option}
+use Rattle.link_walks.proofs.Terms.{◌%◌, None, length, reach_of, work_of, nat_tests, sub_from, FitsPlan, Loss, Verdict}
+use Rattle.link_walks.proofs.Terms.{History, refusal_at, performed, stays, unwrap_or, key_plan, LinkState, find}
+use Rattle.link_walks.proofs.Terms.{find_op, ports_of, status_at, Side, Pool, true-lt, Refusal, StreamView, HostView}
+use Rattle.link_walks.proofs.Terms.{refusal_of, begun_stream, ManagerWalk, answers, walk, manager_walked, verdict_of}
+use Rattle.link_walks.proofs.Terms.{op_by, Comes, walk_comes, PortsStandFor, kept_is, verdict_due, first_from, cut_at}
+use Rattle.link_walks.proofs.Terms.{lost_in}
 use Rattle.link_verdicts.specs.declared.verdict.Operation.TheVariants as op
 use Rattle.tsm_host.specs.declared.operation.Outcome.TheVariants as outcome
 use Rattle.tsm_host.specs.Walk.{WalkIsDue}
@@ -30,12 +19,13 @@ use Rattle.tsm_host.proofs.Walks.{ends_as}
 use Rattle.link_walks.proofs.Drawn.{lane_keys, id_fits}
 use Rattle.link_walks.proofs.Standing.{is_sound, reads_stream}
 use Rattle.link_walks.proofs.Kept.{draw_below}
-use Rattle.link_walks.proofs.Works.{same_operation, work_fits, begins_first, refused_reach, has_room}
+use Rattle.link_walks.proofs.Works.{same_operation, work_fits, begins_first, begun_id, begun_link, begun_op}
+use Rattle.link_walks.proofs.Works.{refused_reach, has_room}
 use Rattle.link_walks.proofs.Walking.{denial}
 use Rattle.link_walks.proofs.Joins.{draws_on}
 use Rattle.link_walks.proofs.Touched.{are_told}
 use Rattle.link_walks.specs.Touches.{AreTold}
-use Rattle.link_walks.proofs.PairKept.{first_within, is_asked, begun_op, begun_keys, ready_before}
+use Rattle.link_walks.proofs.PairKept.{first_within, is_asked, begun_keys, ready_before}
 use Rattle.link_walks.proofs.PairWalking.{PairKnows, IsPairNext, state_at}
 use Rattle.link_walks.proofs.PairResting.{PairRest, pair_rest_is}
 
@@ -58,10 +48,6 @@ record Found (plan : Plan) (st : LinkState) (h : History) (requester : ℕ) (e :
 
 last_most : (o : Operation) → last_exchange_of false o ≤ 24
 last_most o = grind arith
-
-begun_names : (w : Work) (pool : Pool) (s : StreamView) → ((begun_stream false w pool s).link ≡ s.link)
-    × ((begun_stream false w pool s).id ≡ s.id)
-begun_names w pool s = grind arith
 
 number_low : (side : Side) (lane : ℕ) → lane < 6 → key_number side lane < 6
 number_low side lane lt = grind (arith, nat_tests)
@@ -133,8 +119,8 @@ module _ (plan : Plan) (st : LinkState) (h : History) (operation : Operation) (l
 
   first_next : IsPairNext plan w e.keeper.id e w.first (begun_from plan st operation e)
   first_next = record {
-    op_is = begun_op operation e.keeper.op st.draws (pool_of plan st) e.keeper refl;
-    id_is = (begun_names w (pool_of plan st) e.keeper).1;
+    op_is = begun_op false operation e.keeper.op st.draws (pool_of plan st) e.keeper refl;
+    id_is = begun_id false w (pool_of plan st) e.keeper;
     keys = begun_keys plan operation e.keeper.op st.draws e.keeper found.kept;
     fresh = λ makes side lane lt le. rw (same_end side) refl;
     ready = λ makes side lane lt past le. rw (same_end side) (ready_before plan st h found.stands e.keeper.link
@@ -156,7 +142,7 @@ module _ (plan : Plan) (st : LinkState) (h : History) (operation : Operation) (l
       (begun_stream false w (pool_of plan st) e.keeper))) found.line
       (walk_comes w.operation w.set w.draw w.first w.begins (work_fits operation e.keeper.op st.draws)
       (ports_of plan st) e.keeper.link e.keeper.id loss e.keeper.op (begun_stream false w (pool_of plan st) e.keeper)
-      (rw found.line within.1) (begun_op operation e.keeper.op st.draws (pool_of plan st) e.keeper refl))
+      (rw found.line within.1) (begun_op false operation e.keeper.op st.draws (pool_of plan st) e.keeper refl))
 
   module _ (free : refusal_of operation e.keeper.op host (pool_of plan st) ≡ None) where
     knows : PairKnows plan (ports_of plan st) w e.keeper.link e.keeper.id requester e
@@ -235,8 +221,8 @@ module _ (plan : Plan) (st : LinkState) (h : History) (operation : Operation) (l
           far_is = rw reached (rest.far_is ∙ same_touches.far_touched);
           draws_is = rw reached
               (draws_on w (pool_of plan st) (has_room operation e.keeper.op host (pool_of plan st) free));
-          link_is = rest.names_are.0 ∙ (begun_names w (pool_of plan st) e.keeper).0;
-          id_is = rest.names_are.1 ∙ (begun_names w (pool_of plan st) e.keeper).1;
+          link_is = rest.names_are.0 ∙ begun_link false w (pool_of plan st) e.keeper;
+          id_is = rest.names_are.1 ∙ begun_id false w (pool_of plan st) e.keeper;
           keys_are = rest.keys_are;
         }
 

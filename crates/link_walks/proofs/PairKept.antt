@@ -5,12 +5,12 @@ use Rattle.key_laws.specs.History.{program_at, program_number}
 use Rattle.key_laws.specs.Operations.{Idle, Establishing, Up, Refreshing, Stopping}
 use Rattle.link_walks.specs.Calls.{lane_sends, lane_key, key_number}
 use Rattle.link_walks.specs.Paired.{HasPairKeys, PairKeysKeptIn}
-use Rattle.link_walks.proofs.Terms.{◌≡◌, Bool, arith, true, false, ℕ, List, Plan, Operation, ◌≤◌, ◌∙◌}
-use Rattle.link_walks.proofs.Terms.{makes_draw, Side, Host, Device, StreamState, ap, ◌<◌, Some, port_at, slots_at}
-use Rattle.link_walks.proofs.Terms.{key_of, ◌%◌, option_map, work_of, Op, sub_from, History, draws, moments}
-use Rattle.link_walks.proofs.Terms.{key_plan, slot_in_set, LinkState, find, find_op, PortsStandFor, key_in, kept_in}
-use Rattle.link_walks.proofs.Terms.{Touch, keys, key_cause, Pool, six_keys, StreamView, begun_stream, asked_in}
-use Rattle.link_walks.proofs.Terms.{op_standing, kept_key, last_exchange_of, IsAsked, refl, WireKeys}
+use Rattle.link_walks.proofs.Terms.{◌≡◌, Bool, arith, true, false, ℕ, List, Plan, Operation, ◌≤◌, ◌∙◌, makes_draw, Side}
+use Rattle.link_walks.proofs.Terms.{Host, Device, StreamState, ap, ◌<◌, Some, port_at, slots_at, key_of, ◌%◌}
+use Rattle.link_walks.proofs.Terms.{option_map, work_of, Op, sub_from, History, draws, moments, key_plan, slot_in_set}
+use Rattle.link_walks.proofs.Terms.{LinkState, find, find_op, PortsStandFor, key_in, kept_in, Touch, keys, key_cause}
+use Rattle.link_walks.proofs.Terms.{Pool, six_keys, StreamView, begun_stream, asked_in, op_standing, kept_key}
+use Rattle.link_walks.proofs.Terms.{last_exchange_of, IsAsked, refl, WireKeys}
 use Rattle.tsm_host.specs.Exchanges.{wire_keys, wire_number}
 use Rattle.link_verdicts.specs.declared.verdict.Operation.TheVariants as op
 use Rattle.key_laws.proofs.Fits.{FitsAt}
@@ -30,10 +30,6 @@ first_within plan o q next keys kept = grind arith
 pub is_asked : (plan : Plan) (q : Op) (keys : WireKeys) → PairKeysKeptIn plan q keys → IsAsked false (asked_in q)
 is_asked plan q keys kept = grind arith
 
-pub begun_op : (o : Operation) (q : Op) (next : ℕ) (pool : Pool) (s : StreamView) → s.op ≡ q
-    → let w = work_of o q next in (begun_stream false w pool s).op ≡ op_standing w w.first
-begun_op o q next pool s is = grind arith
-
 -- the keys of a draw at both ends
 drawn_keys : (plan : Plan) (draw next : ℕ) → HasPairKeys plan draw next (wire_keys false (six_keys plan.pool draw))
 drawn_keys plan draw next Host lane lt le = by_lane
@@ -47,21 +43,7 @@ pub begun_keys : (plan : Plan) (o : Operation) (q : Op) (next : ℕ) (s : Stream
     → let w = work_of o q next in
     makes_draw w.operation ≡ true → HasPairKeys plan w.draw w.first
     (begun_stream false w (record { keys = plan.pool; draws = next }) s).keys
-begun_keys plan op.Stop Idle next s kept makes = absurd cc
-begun_keys plan op.Stop (Establishing j n) next s kept makes = absurd cc
-begun_keys plan op.Stop (Up k j) next s kept makes = absurd cc
-begun_keys plan op.Stop (Refreshing k j n) next s kept makes = absurd cc
-begun_keys plan op.Stop (Stopping n) next s kept makes = absurd cc
-begun_keys plan op.Establish (Establishing j n) next s kept makes = kept.2
-begun_keys plan op.Establish Idle next s kept makes = drawn_keys plan next 1
-begun_keys plan op.Establish (Up k j) next s kept makes = drawn_keys plan next 1
-begun_keys plan op.Establish (Refreshing k j n) next s kept makes = drawn_keys plan next 1
-begun_keys plan op.Establish (Stopping n) next s kept makes = drawn_keys plan next 1
-begun_keys plan op.Refresh (Refreshing k j n) next s kept makes = kept.2
-begun_keys plan op.Refresh Idle next s kept makes = drawn_keys plan next 1
-begun_keys plan op.Refresh (Establishing j n) next s kept makes = drawn_keys plan next 1
-begun_keys plan op.Refresh (Up k j) next s kept makes = drawn_keys plan next 1
-begun_keys plan op.Refresh (Stopping n) next s kept makes = drawn_keys plan next 1
+begun_keys plan o q next s kept makes side lane lt le = grind (arith, drawn_keys plan next 1 side lane lt)
 
 -- ---- a draw is kept after its KEY_PROG
 

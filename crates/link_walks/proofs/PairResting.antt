@@ -5,11 +5,10 @@ use Rattle.ide_types.specs.Lines.{is_hosted}
 use Rattle.link_walks.specs.Calls.{told_call, calls_from}
 use Rattle.link_walks.specs.Paired.{PairEnds, PairExchanged, PairWalked, pair_unless_lost, pair_after, pair_goes_on}
 use Rattle.link_walks.specs.Paired.{pair_walk, HasPairKeys, PairKeysKeptIn}
-use Rattle.link_walks.proofs.Terms.{◌≡◌, Bool, arith, true, false, ℕ, List, Work, Plan, nat_tests, work}
-use Rattle.link_walks.proofs.Terms.{Operation, ◌≤◌, ◌∙◌, sym, Reach, makes_draw, StreamCall, Host, Device}
-use Rattle.link_walks.proofs.Terms.{StreamState, ◌+◌, ◌==◌, [], zero, suc}
-use Rattle.link_walks.proofs.Terms.{refl, ◌-◌, ap, all_called, ◌<◌, Some, subst, last_exchange_of, Option, None}
-use Rattle.link_walks.proofs.Terms.{reach_of, Op, op_standing, reach, op_after, Loss, Verdict, PortView, lost_in}
+use Rattle.link_walks.proofs.Terms.{◌≡◌, Bool, arith, true, false, ℕ, List, Work, Plan, nat_tests, work, Operation, ◌≤◌}
+use Rattle.link_walks.proofs.Terms.{◌∙◌, sym, Reach, makes_draw, StreamCall, Host, Device, StreamState, ◌+◌, ◌==◌, []}
+use Rattle.link_walks.proofs.Terms.{zero, suc, refl, ◌-◌, ap, all_called, ◌<◌, Some, subst, last_exchange_of, Option}
+use Rattle.link_walks.proofs.Terms.{None, reach_of, Op, op_standing, reach, op_after, Loss, Verdict, PortView, lost_in}
 use Rattle.link_walks.proofs.Terms.{cut_at, carried_as, option_or, first_from, done, different-false, StreamView}
 use Rattle.link_walks.proofs.Terms.{asked_in, outcome_of, taken_stream, shown_at_end, ManagerWalk, answers, walk}
 use Rattle.link_walks.proofs.Terms.{continued, WireKeys, Judged, Expected, Refused, Lost, work_asked}
@@ -21,24 +20,8 @@ use Rattle.link_verdicts.specs.declared.verdict.Operation.TheVariants as op
 use Rattle.link_verdicts.specs.declared.verdict.Verdict.TheVariants as v
 use Rattle.tsm_host.specs.declared.operation.Outcome.TheVariants as outcome
 use Rattle.link_walks.proofs.Walking.{asked_of, denial}
-use Rattle.link_walks.proofs.Resting.{all_append, standing_asked}
+use Rattle.link_walks.proofs.Resting.{calls_more, calls_none, calls_one, standing_asked}
 use Rattle.link_walks.proofs.PairWalking.{PairKnows, IsPairNext, pair_came, pair_next_is}
-
--- ---- lists of calls
-
-more_from : (made : ℕ → List StreamCall) (n carried : ℕ) (x : StreamState) → n + 1 ≤ carried
-    → all_called (calls_from made (n + 1) (carried - (n + 1))) (all_called (made n) x)
-    ≡ all_called (calls_from made n (carried - n)) x
-more_from made n carried x le =
-    let count : carried - n ≡ suc (carried - (n + 1)) = omega (arith, le) in
-    rw (count, all_append (made n) (calls_from made (n + 1) (carried - (n + 1))) x)
-
-none_from : (made : ℕ → List StreamCall) (n : ℕ) (x : StreamState) → x ≡ all_called (calls_from made n (n - n)) x
-none_from made n x = let count : n - n ≡ 0 = omega arith in rw count
-
-one_from : (made : ℕ → List StreamCall) (n : ℕ) (x : StreamState) → all_called (made n) x
-    ≡ all_called (calls_from made n (n + 1 - n)) x
-one_from made n x = let count : n + 1 - n ≡ 1 = omega arith in rw (count, all_append (made n) [] x)
 
 -- ---- keys that are kept
 
@@ -142,9 +125,9 @@ module _ (plan : Plan) (ports : PortView) (w : Work) (link id requester : ℕ) (
         comes = rest.comes;
         says = rest.says;
         within = omega (arith, within);
-        near_is = rest.near_is ∙ more_from (told_call plan false Host w) n rest.comes.carried e.near
+        near_is = rest.near_is ∙ calls_more (told_call plan false Host w) n rest.comes.carried e.near
             (omega (arith, within));
-        far_is = rest.far_is ∙ more_from (told_call plan false Device w) n rest.comes.carried e.far
+        far_is = rest.far_is ∙ calls_more (told_call plan false Device w) n rest.comes.carried e.far
             (omega (arith, within));
         names_are = rest.names_are;
         keys_are = rest.keys_are;
@@ -158,8 +141,8 @@ module _ (plan : Plan) (ports : PortView) (w : Work) (link id requester : ℕ) (
       let next = after n e in
       let rest = stays (n + 1) next (kept_ended plan w n next.keeper.keys same) (done link id w) (n + 1)
       (done_says link id w n knows.line same) (omega arith)
-      (omega (arith, same)) next.near next.far (none_from (told_call plan false Host w) (n + 1) next.near)
-      (none_from (told_call plan false Device w) (n + 1) next.far)
+      (omega (arith, same)) next.near next.far (calls_none (told_call plan false Host w) (n + 1) next.near)
+      (calls_none (told_call plan false Device w) (n + 1) next.far)
       (outcome.Done (shown_at_end (asked_of w n))) in
       rw last (rw last at (back n e _ _ _ rest))
 
@@ -190,13 +173,13 @@ module _ (plan : Plan) (ports : PortView) (w : Work) (link id requester : ℕ) (
       (λ (q : Op). PairKeysKeptIn plan q e.keeper.keys) (sym at.op_is)
       (kept_as plan w.operation w.set w.draw w.first w.begins n e.keeper.keys least most at.keys) in
       let asked : asked_in e.keeper.op ≡ Some (asked_of w n) = ap asked_in at.op_is ∙ standing_asked w n knows.fits in
-      let one_near = one_from (told_call plan false Host w) n e.near in
-      let one_far = one_from (told_call plan false Device w) n e.far in
+      let one_near = calls_one (told_call plan false Host w) n e.near in
+      let one_far = calls_one (told_call plan false Device w) n e.far in
       rw (asked, pair_came plan ports w link id requester before knows n e at least most)
       (by_fate (λ verdict j x. PairRest plan w n e verdict (told n j k e.keeper) (walked n x more e)) link id w n
       rest (answered n r e) e (lost_in loss n) r
       (stays n e kept (v.LostRequest n) n refl (omega arith) (omega arith) e.near e.far
-      (none_from (told_call plan false Host w) n e.near) (none_from (told_call plan false Device w) n e.far) _)
+      (calls_none (told_call plan false Host w) n e.near) (calls_none (told_call plan false Device w) n e.far) _)
       (stays n e kept (v.LostReply n) (n + 1) refl (omega arith) (omega arith) near far one_near one_far _)
       (λ status denied. rw denied
       (stays n e kept (v.RefusedDevice n status) (n + 1) refl (omega arith) (omega arith) near far one_near one_far _))

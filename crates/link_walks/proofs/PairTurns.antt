@@ -36,9 +36,8 @@ pub data PairTurn (o : Operation) (set : KeySet) (n : ℕ) : Type 0 where
   pair_halts : (side : Side) (k : KeySet) (lane : ℕ) → lane < 6 → o ≡ op.Stop
       → end_of false o n ≡ side → exchange_of false o set n ≡ exchange.Stop k lane → PairTurn o set n
 
-keying_turn : (o : Operation) (set : KeySet) (n : ℕ) → makes_draw o ≡ true → 1 ≤ n → n ≤ 24 → PairTurn o set n
-keying_turn op.Stop set n draws least most = absurd cc
-keying_turn op.Establish set n draws least most = elim (cases_lt n 7) [
+establish_turn : (set : KeySet) (n : ℕ) → 1 ≤ n → n ≤ 24 → PairTurn op.Establish set n
+establish_turn set n least most = elim (cases_lt n 7) [
   | inl a ↦ pair_puts Host (n - 1) (omega (arith, a)) refl (omega (arith, least)) (grind (arith, nat_tests))
       (grind (arith, nat_tests))
   | inr b ↦ elim (cases_lt n 13) [
@@ -60,28 +59,12 @@ keying_turn op.Establish set n draws least most = elim (cases_lt n 7) [
     ]
   ]
 ]
-keying_turn op.Refresh set n draws least most = elim (cases_lt n 7) [
-  | inl a ↦ pair_puts Host (n - 1) (omega (arith, a)) refl (omega (arith, least)) (grind (arith, nat_tests))
-      (grind (arith, nat_tests))
-  | inr b ↦ elim (cases_lt n 13) [
-    | inl a ↦ pair_puts Device (n - 7) (omega (arith, a)) refl (omega (arith, b)) (grind (arith, nat_tests))
-        (grind (arith, nat_tests))
-    | inr c ↦ elim (cases_lt n 16) [
-      | inl a ↦ pair_goes Host (n - 13) (omega (arith, a)) refl (grind (arith, nat_tests)) (grind (arith, nat_tests))
-          (grind (arith, nat_tests))
-      | inr d ↦ elim (cases_lt n 19) [
-        | inl a ↦ pair_goes Device (n - 16) (omega (arith, a)) refl (grind (arith, nat_tests))
-            (grind (arith, nat_tests)) (grind (arith, nat_tests))
-        | inr e ↦ elim (cases_lt n 22) [
-          | inl a ↦ pair_goes Host (n - 16) (omega (arith, a)) refl (grind (arith, nat_tests))
-              (grind (arith, nat_tests)) (grind (arith, nat_tests))
-          | inr f ↦ pair_goes Device (n - 19) (omega (arith, most)) refl (grind (arith, nat_tests))
-              (grind (arith, nat_tests)) (grind (arith, nat_tests))
-        ]
-      ]
-    ]
-  ]
-]
+
+-- a refresh has the same exchanges
+as_refresh : (set : KeySet) (n : ℕ) → PairTurn op.Establish set n → PairTurn op.Refresh set n
+as_refresh set n (pair_puts side lane lt makes is_n ends is) = pair_puts side lane lt refl is_n ends is
+as_refresh set n (pair_goes side lane lt makes is_n ends is) = pair_goes side lane lt refl is_n ends is
+as_refresh set n (pair_halts side k lane lt is_o ends is) = absurd cc
 
 halting_turn : (set : KeySet) (n : ℕ) → 1 ≤ n → n ≤ 24 → PairTurn op.Stop set n
 halting_turn set n least most = elim (cases_lt n 7) [
@@ -98,8 +81,8 @@ halting_turn set n least most = elim (cases_lt n 7) [
 ]
 
 pub pair_turn : (o : Operation) (set : KeySet) (n : ℕ) → 1 ≤ n → n ≤ last_exchange_of false o → PairTurn o set n
-pair_turn op.Establish set n least most = keying_turn op.Establish set n refl least most
-pair_turn op.Refresh set n least most = keying_turn op.Refresh set n refl least most
+pair_turn op.Establish set n least most = establish_turn set n least most
+pair_turn op.Refresh set n least most = as_refresh set n (establish_turn set n least most)
 pair_turn op.Stop set n least most = halting_turn set n least most
 
 -- ---- refusals

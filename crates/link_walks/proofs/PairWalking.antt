@@ -4,16 +4,14 @@ use Rattle.ide_types.specs.Lines.{is_hosted}
 use Rattle.key_laws.specs.Places.{is_same_side}
 use Rattle.link_walks.specs.Calls.{lane_sends, lane_call, lane_key, key_number, told_call}
 use Rattle.link_walks.specs.Paired.{PairEnds, PairExchanged, came_to_end, pair_after, HasPairKeys}
-use Rattle.link_walks.proofs.Terms.{◌≡◌, ◌≢◌, Bool, arith, true, ℕ, List, Work, Plan, false, nat_tests}
-use Rattle.link_walks.proofs.Terms.{Operation, ◌≤◌, ◌∙◌, makes_draw, is_only_live, StreamState, ◌+◌}
-use Rattle.link_walks.proofs.Terms.{ap, refl, Host, Device, Side, [], ◌∷◌, if◌then◌else◌}
-use Rattle.link_walks.proofs.Terms.{all_called, ◌<◌, last_exchange_of, refuses_in, DrawsApart, Option}
-use Rattle.link_walks.proofs.Terms.{op_standing, reach, op_after, get_or-set_other, IsKey, PortView}
-use Rattle.link_walks.proofs.Terms.{refusal_at, refusal_if, carried_as, is_some, None, sym, slot_in_set, is_empty}
-use Rattle.link_walks.proofs.Terms.{subst, cases_lt, inl, inr}
-use Rattle.link_walks.proofs.Terms.{pair_slot, different-false, request_asked, keys_after, acknowledged, WorkFits}
-use Rattle.link_walks.proofs.Terms.{exchange_of, WireKeys, kept_key, one_of_set, work_asked}
-use Rattle.link_walks.proofs.Terms.{request_of, KeySet, key_set}
+use Rattle.link_walks.proofs.Terms.{◌≡◌, ◌≢◌, Bool, arith, true, ℕ, List, Work, Plan, false, nat_tests, Operation, ◌≤◌}
+use Rattle.link_walks.proofs.Terms.{◌∙◌, makes_draw, is_only_live, StreamState, ◌+◌, ap, refl, Host, Device, Side, []}
+use Rattle.link_walks.proofs.Terms.{◌∷◌, if◌then◌else◌, all_called, ◌<◌, last_exchange_of, refuses_in, DrawsApart}
+use Rattle.link_walks.proofs.Terms.{Option, op_standing, reach, op_after, get_or-set_other, IsKey, PortView, refusal_at}
+use Rattle.link_walks.proofs.Terms.{refusal_if, carried_as, is_some, None, sym, slot_in_set, is_empty, subst, cases_lt}
+use Rattle.link_walks.proofs.Terms.{inl, inr, pair_slot, different-false, request_asked, keys_after, acknowledged}
+use Rattle.link_walks.proofs.Terms.{WorkFits, exchange_of, WireKeys, kept_key, one_of_set, work_asked, request_of}
+use Rattle.link_walks.proofs.Terms.{KeySet, key_set}
 use Rattle.tsm_host.specs.Exchanges.{end_of, exchange_lane, wire_number}
 use Rattle.tsm_host.specs.Streams.{end_asked}
 use Rattle.key_slots.specs.{KeyCall, Program}
@@ -54,9 +52,6 @@ pub record IsPairNext (plan : Plan) (w : Work) (id : ℕ) (before : PairEnds) (n
 
 -- ---- one call at a lane
 
-same_end : (a b : Side) → is_same_side a b ≡ true → a ≡ b
-same_end a b e = grind arith
-
 -- no other lane changes
 other_lane : (lane l : ℕ) (call : KeyCall) (x : StreamState) → lane < 6 → l < 6 → l ≢ lane
     → lane_slots lane (lane_called l call x) ≡ lane_slots lane x
@@ -75,17 +70,12 @@ told_other Device Host lane l call x lt low other = refl
 
 -- ---- lanes by the exchanges that program them
 
-put_apart : (s side : Side) (l lane n : ℕ) → n ≡ put_at s l → n ≢ put_at side lane → s ≡ side → l ≢ lane
-put_apart Host Host l lane n is other same e = other (is ∙ ap (put_at Host) e)
-put_apart Device Device l lane n is other same e = other (is ∙ ap (put_at Device) e)
-put_apart Host Device l lane n is other same e = absurd cc
-put_apart Device Host l lane n is other same e = absurd cc
-
-go_apart : (s side : Side) (l lane n : ℕ) → n ≡ goes_at s l → n ≢ goes_at side lane → s ≡ side → l ≢ lane
-go_apart Host Host l lane n is other same e = other (is ∙ ap (goes_at Host) e)
-go_apart Device Device l lane n is other same e = other (is ∙ ap (goes_at Device) e)
-go_apart Host Device l lane n is other same e = absurd cc
-go_apart Device Host l lane n is other same e = absurd cc
+lane_apart : (at : Side → ℕ → ℕ) (s side : Side) (l lane n : ℕ) → n ≡ at s l → n ≢ at side lane → s ≡ side
+    → l ≢ lane
+lane_apart at Host Host l lane n is other same e = other (is ∙ ap (at Host) e)
+lane_apart at Device Device l lane n is other same e = other (is ∙ ap (at Device) e)
+lane_apart at Host Device l lane n is other same e = absurd cc
+lane_apart at Device Host l lane n is other same e = absurd cc
 
 put_below : (s side : Side) (l lane : ℕ) → lane < 6 → put_at side lane < goes_at s l
 put_below s side l lane lt = grind (arith, nat_tests)
@@ -101,7 +91,7 @@ module _ (plan : Plan) (w : Work) (n : ℕ) (least : 1 ≤ n) (most : n ≤ last
   fresh_turn : n + 1 ≤ put_at side lane → PairTurn w.operation (key_set w.set) n → told_slots
   fresh_turn le (pair_puts s l low draws is_n ends is) =
       rw (ends, is) (told_other s side lane l _ x lt low
-      (put_apart s side l lane n is_n (λ same. absurd (omega (arith, same, le)))))
+      (lane_apart put_at s side l lane n is_n (λ same. absurd (omega (arith, same, le)))))
   fresh_turn le (pair_goes s l low draws is_n ends is) =
       absurd (let below = put_below s side l lane lt in omega (arith, below, is_n, le))
   fresh_turn le (pair_halts s k l low is_o ends is) = absurd (let draws = makes in cc)
@@ -167,7 +157,7 @@ module _ (plan : Plan) (w : Work) (n : ℕ) (least : 1 ≤ n) (most : n ≤ last
       ends,
       is,
       told_other s side lane l _ x lt low
-          (put_apart s side l lane n is_n (λ same. absurd (omega (arith, same, behind)))),
+          (lane_apart put_at s side l lane n is_n (λ same. absurd (omega (arith, same, behind)))),
     ) (full behind)
     | inr here ↦
         let same : n ≡ put_at side lane = omega (arith, past, here) in
@@ -180,7 +170,7 @@ module _ (plan : Plan) (w : Work) (n : ℕ) (least : 1 ≤ n) (most : n ≤ last
         ends,
         is,
         told_other s side lane l _ x lt low
-            (go_apart s side l lane n is_n (λ same. absurd (omega (arith, same, le)))),
+            (lane_apart goes_at s side l lane n is_n (λ same. absurd (omega (arith, same, le)))),
       )
       (full (omega (arith, below, is_n)))
   ready_turn (pair_halts s k l low is_o ends is) = absurd (let draws = makes in cc)

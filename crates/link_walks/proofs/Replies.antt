@@ -1,10 +1,10 @@
 -- What the device's responder makes of each request of the manager, and what the manager makes of its reply.
 use Rattle.link_walks.specs.Calls.{lane_sends}
 use Rattle.link_walks.proofs.Terms.{◌≡◌, Bool, arith, true, ℕ, List, if◌then◌else◌, false, nat_tests, ◌≤◌, ◌∙◌, Device}
-use Rattle.link_walks.proofs.Terms.{is_only_live, StreamState, [], refl, ap, ◌<◌, Some, ◌∷◌, called, Option, ◌%◌}
-use Rattle.link_walks.proofs.Terms.{None, Ok, Err, sub_from, IsKey, KeySet, is_one}
-use Rattle.link_walks.proofs.Terms.{is_empty, SlotPair, same-true, sends_in, pair_at, came_to, shown_stream}
-use Rattle.link_walks.proofs.Terms.{port_called, judged_bytes, selector_of, Judged, Expected, carried_as, refusal_if}
+use Rattle.link_walks.proofs.Terms.{is_only_live, StreamState, [], refl, ap, ◌<◌, Some, ◌∷◌, called, Option, ◌%◌, None}
+use Rattle.link_walks.proofs.Terms.{Ok, Err, sub_from, IsKey, KeySet, is_one, is_empty, SlotPair, same-true, sends_in}
+use Rattle.link_walks.proofs.Terms.{pair_at, came_to, shown_stream, port_called, judged_bytes, selector_of, Judged}
+use Rattle.link_walks.proofs.Terms.{Expected, carried_as, refusal_if}
 use Rattle.std.specs.Prelude.{Result, is_ok, not}
 use Rattle.key_slots.specs.{slot_in, KeyCall, Program, Go, Halt}
 use Rattle.ide_km.specs.declared.object.KmView.{KmView}

@@ -4,23 +4,22 @@
 -- host's port is called after one exchange at the most, the last receiver's GO.
 use Rattle.link_walks.proofs.Terms.{◌≡◌, Bool, arith, true, ℕ, List, ◌++◌, Work, Plan, if◌then◌else◌, nat_tests}
 use Rattle.link_walks.proofs.Terms.{Operation, ◌≤◌, ◌∙◌, sym, Reach, makes_draw, is_within, StreamCall, Host}
-use Rattle.link_walks.proofs.Terms.{StreamState, ◌+◌, ◌==◌, [], zero, suc}
-use Rattle.link_walks.proofs.Terms.{refl, ◌-◌, ap, exchange_call, exchanges_called, all_called, host_go, ◌&&◌}
-use Rattle.link_walks.proofs.Terms.{◌<◌, Some, subst, ◌∷◌, last_exchange_of, Option, None, reach_of, Op, op_standing}
-use Rattle.link_walks.proofs.Terms.{reach, op_after, all_called_at, Loss}
-use Rattle.link_walks.proofs.Terms.{Verdict, PortView, lost_in, cut_at, carried_as, option_or, first_from}
-use Rattle.link_walks.proofs.Terms.{done, different-false, PlaceCall}
-use Rattle.link_walks.proofs.Terms.{host_goes, StreamView, asked_in, outcome_of, taken_stream, taken_calls}
-use Rattle.link_walks.proofs.Terms.{shown_at_end, ManagerWalk, answers, walk}
+use Rattle.link_walks.proofs.Terms.{StreamState, ◌+◌, ◌==◌, [], zero, suc, refl, ◌-◌, ap, exchange_call}
+use Rattle.link_walks.proofs.Terms.{exchanges_called, all_called, host_go, ◌&&◌, ◌<◌, Some, subst, ◌∷◌}
+use Rattle.link_walks.proofs.Terms.{last_exchange_of, Option, None, reach_of, Op, op_standing, reach, op_after}
+use Rattle.link_walks.proofs.Terms.{all_called_at, Loss, Verdict, PortView, lost_in, cut_at, carried_as, option_or}
+use Rattle.link_walks.proofs.Terms.{first_from, done, different-false, PlaceCall, host_goes, StreamView, asked_in}
+use Rattle.link_walks.proofs.Terms.{outcome_of, taken_stream, taken_calls, shown_at_end, ManagerWalk, answers, walk}
 use Rattle.link_walks.proofs.Terms.{continued, StreamEnds, walk_on, ends_after_exchange, Exchanged}
-use Rattle.link_walks.proofs.Terms.{exchanged_unless_lost, WalkedEnds, goes_on}
-use Rattle.link_walks.proofs.Terms.{HasKeys, KeysKept, KeysKeptIn, exchange_of, WireKeys, is_last_receiver_go, Judged}
-use Rattle.link_walks.proofs.Terms.{Expected, Refused, Lost, KeySet, key_set, one_of_set, work_asked}
+use Rattle.link_walks.proofs.Terms.{exchanged_unless_lost, WalkedEnds, goes_on, HasKeys, KeysKept, KeysKeptIn}
+use Rattle.link_walks.proofs.Terms.{exchange_of, WireKeys, is_last_receiver_go, Judged, Expected, Refused, Lost, KeySet}
+use Rattle.link_walks.proofs.Terms.{key_set, one_of_set, work_asked}
 use Rattle.tsm_host.specs.declared.operation.Outcome.{Outcome}
 use Rattle.tsm_host.proofs.Walks.{WorkFits, ends_as}
 use Rattle.link_verdicts.specs.declared.verdict.Verdict.TheVariants as v
 use Rattle.tsm_host.specs.declared.operation.Outcome.TheVariants as outcome
 use Rattle.link_walks.proofs.Lanes.{first_program}
+use Rattle.link_walks.specs.Calls.{calls_from}
 use Rattle.ide_types.specs.Lines.{is_hosted}
 use Rattle.link_walks.proofs.Walking.{asked_of, denial, Knows, IsNext, came_is, next_is}
 
@@ -31,19 +30,19 @@ all_append [] ys x = refl
 all_append (c ∷ cs) ys x = all_append cs ys _
 
 -- the calls of so many exchanges, and those of one more before them
-one_more : (plan : Plan) (w : Work) (n carried : ℕ) (x : StreamState) → n + 1 ≤ carried
-    → all_called (exchanges_called plan w (n + 1) (carried - (n + 1))) (all_called (exchange_call plan w n) x)
-    ≡ all_called (exchanges_called plan w n (carried - n)) x
-one_more plan w n carried x le =
+pub calls_more : (made : ℕ → List StreamCall) (n carried : ℕ) (x : StreamState) → n + 1 ≤ carried
+    → all_called (calls_from made (n + 1) (carried - (n + 1))) (all_called (made n) x)
+    ≡ all_called (calls_from made n (carried - n)) x
+calls_more made n carried x le =
     let count : carried - n ≡ suc (carried - (n + 1)) = omega (arith, le) in
-    rw (count, all_append (exchange_call plan w n) (exchanges_called plan w (n + 1) (carried - (n + 1))) x)
+    rw (count, all_append (made n) (calls_from made (n + 1) (carried - (n + 1))) x)
 
-none_carried : (plan : Plan) (w : Work) (n : ℕ) (x : StreamState) → x ≡ all_called (exchanges_called plan w n (n - n)) x
-none_carried plan w n x = let count : n - n ≡ 0 = omega arith in rw count
+pub calls_none : (made : ℕ → List StreamCall) (n : ℕ) (x : StreamState) → x ≡ all_called (calls_from made n (n - n)) x
+calls_none made n x = let count : n - n ≡ 0 = omega arith in rw count
 
-one_carried : (plan : Plan) (w : Work) (n : ℕ) (x : StreamState) → all_called (exchange_call plan w n) x
-    ≡ all_called (exchanges_called plan w n (n + 1 - n)) x
-one_carried plan w n x = let count : n + 1 - n ≡ 1 = omega arith in rw (count, all_append (exchange_call plan w n) [] x)
+pub calls_one : (made : ℕ → List StreamCall) (n : ℕ) (x : StreamState) → all_called (made n) x
+    ≡ all_called (calls_from made n (n + 1 - n)) x
+calls_one made n x = let count : n + 1 - n ≡ 1 = omega arith in rw (count, all_append (made n) [] x)
 
 -- ---- GOs of the host's port
 
@@ -181,7 +180,8 @@ module _ (plan : Plan) (ports : PortView) (w : Work) (link id requester : ℕ) (
             rest.host_is ∙ (ap (λ (z : ℕ). all_called_at Host (goes_from w id (n + 1) rest.comes.acknowledged)
             (all_called_at Host (taken_calls true (asked_of w n) Expected z) e.host)) at.id_is
             ∙ host_step w id n rest.comes.acknowledged e.host least most (omega (arith, within)));
-        device_is = rest.device_is ∙ one_more plan w n rest.comes.carried e.device (omega (arith, within));
+        device_is = rest.device_is ∙ calls_more (exchange_call plan w) n rest.comes.carried e.device
+            (omega (arith, within));
         names_are = rest.names_are;
         keys_are = rest.keys_are;
       }
@@ -194,7 +194,7 @@ module _ (plan : Plan) (ports : PortView) (w : Work) (link id requester : ℕ) (
       let next = after n e in
       let rest = stays (n + 1) next (kept_ended plan w n next.keeper.keys same) (done link id w) (n + 1)
       (done_says link id w n knows.hosted same) (omega arith)
-      (omega (arith, same)) next.device (none_carried plan w (n + 1) next.device)
+      (omega (arith, same)) next.device (calls_none (exchange_call plan w) (n + 1) next.device)
       (outcome.Done (shown_at_end (asked_of w n))) in
       rw last (rw last at (back n e at least (omega (arith, same)) _ _ _ rest))
 
@@ -227,11 +227,13 @@ module _ (plan : Plan) (ports : PortView) (w : Work) (link id requester : ℕ) (
       rw (asked, came_is plan ports w link id requester before knows n e at least most)
       (by_fate (λ verdict j x. Rest plan w id n e verdict (told n j k e.keeper) (walked n x more e)) link id w loss n
       rest r (answered n r e) e.device
-      (stays n e kept (v.LostRequest n) n refl (omega arith) (omega arith) e.device (none_carried plan w n e.device) _)
-      (stays n e kept (v.LostReply n) (n + 1) refl (omega arith) (omega arith) came (one_carried plan w n e.device) _)
+      (stays n e kept (v.LostRequest n) n refl (omega arith) (omega arith) e.device
+      (calls_none (exchange_call plan w) n e.device) _)
+      (stays n e kept (v.LostReply n) (n + 1) refl (omega arith) (omega arith) came
+      (calls_one (exchange_call plan w) n e.device) _)
       (λ status denied. rw denied
       (stays n e kept (v.RefusedDevice n status) (n + 1) refl (omega arith) (omega arith) came
-      (one_carried plan w n e.device) _))
+      (calls_one (exchange_call plan w) n e.device) _))
       (λ free. rw free (onward free)))
 
   pub rest_is : (k more n : ℕ) (e : StreamEnds) → n + k ≡ last_exchange_of true w.operation → 1 ≤ n → k ≤ more

@@ -1,17 +1,6 @@
 -- A stream whose slots changed, settled once or twice.
-use Rattle.link_walks.proofs.CallTerms.{
-  ◌≡◌,
-  Bool,
-  arith,
-  true,
-  subst,
-  SubKind,
-  LaneSlots,
-  StreamState,
-  at_sub,
-  each_sub,
-}
-use Rattle.link_walks.proofs.CallTerms.{if◌then◌else◌, ◌&&◌, ◌||◌, Pr, Npr, Cpl, any_live}
+use Rattle.link_walks.proofs.CallTerms.{◌≡◌, Bool, arith, true, subst, SubKind, LaneSlots, StreamState, at_sub}
+use Rattle.link_walks.proofs.CallTerms.{each_sub, if◌then◌else◌, ◌&&◌, ◌||◌, Pr, Npr, Cpl, any_live}
 
 -- ---- a stream by its slots
 

@@ -1,21 +1,9 @@
 -- What a call does to the slots of a place, and which of them stay Live.
 use Rattle.link_walks.proofs.CallTerms.{◌≡◌, Bool, arith, true, ℕ, List, false, sym, ◌≢◌, nat_tests, KeyCall, Program}
-use Rattle.link_walks.proofs.CallTerms.{Go}
-use Rattle.link_walks.proofs.CallTerms.{Halt, slots_called_out, slots_called_into, Work, makes_draw, Operation}
-use Rattle.link_walks.proofs.CallTerms.{refuses_in}
-use Rattle.link_walks.proofs.CallTerms.{is_last_in, is_only_live}
-use Rattle.link_walks.proofs.CallTerms.{
-  is_last_live,
-  live_draw,
-  slot_pair,
-  key_slot,
-  LaneSlots,
-  LaneSlot,
-  Live,
-  LiveKey,
-}
-use Rattle.link_walks.proofs.CallTerms.{WaitsBesideLive, DrawsApart, if◌then◌else◌, not, any_live, refl, is_some}
-use Rattle.link_walks.proofs.CallTerms.{refusal_if}
+use Rattle.link_walks.proofs.CallTerms.{Go, Halt, slots_called_out, slots_called_into, Work, makes_draw, Operation}
+use Rattle.link_walks.proofs.CallTerms.{refuses_in, is_last_in, is_only_live, is_last_live, live_draw, slot_pair}
+use Rattle.link_walks.proofs.CallTerms.{key_slot, LaneSlots, LaneSlot, Live, LiveKey, WaitsBesideLive, DrawsApart}
+use Rattle.link_walks.proofs.CallTerms.{if◌then◌else◌, not, any_live, refl, is_some, refusal_if}
 
 -- ---- KEY_PROG
 

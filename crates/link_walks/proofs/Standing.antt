@@ -1,24 +1,11 @@
 -- What is known of a stream that stands for a history.
 use Rattle.link_walks.proofs.Terms.{◌≡◌, Bool, arith, true, SubKind, ℕ, List, Plan, false, nat_tests, place_at_end}
-use Rattle.link_walks.proofs.Terms.{LaneSlots}
-use Rattle.link_walks.proofs.Terms.{◌∙◌, sym, Host, slot_pair, StreamState, refl, ap, SubStream, WaitsBesideLive, Pr}
-use Rattle.link_walks.proofs.Terms.{Npr, Cpl, Some, subst, ◌≢◌, port_at}
-use Rattle.link_walks.proofs.Terms.{
-  slots_at,
-  at_sub,
-  LaneSlot,
-  Live,
-  lane_out,
-  lane_in,
-  IsSound,
-  ReadsStream,
-  DrawsApart,
-}
-use Rattle.link_walks.proofs.Terms.{◌||◌, History, moments, key_plan, slot_in_set, Armed, LinkState, find}
-use Rattle.link_walks.proofs.Terms.{ports_of, status_at, refuses_at, refusal_if, Option}
-use Rattle.link_walks.proofs.Terms.{live_at, status_there, Side, live_set, is_set, Reads}
-use Rattle.link_walks.proofs.Terms.{tx_slots, rx_slots, PortsStand, kept_is, host_of, Keys, Shape}
-use Rattle.link_walks.proofs.Terms.{keys_of}
+use Rattle.link_walks.proofs.Terms.{LaneSlots, ◌∙◌, sym, Host, slot_pair, StreamState, refl, ap, SubStream}
+use Rattle.link_walks.proofs.Terms.{WaitsBesideLive, Pr, Npr, Cpl, Some, subst, ◌≢◌, port_at, slots_at, at_sub}
+use Rattle.link_walks.proofs.Terms.{LaneSlot, Live, lane_out, lane_in, IsSound, ReadsStream, DrawsApart, ◌||◌, History}
+use Rattle.link_walks.proofs.Terms.{moments, key_plan, slot_in_set, Armed, LinkState, find, ports_of, status_at}
+use Rattle.link_walks.proofs.Terms.{refuses_at, refusal_if, Option, live_at, status_there, Side, live_set, is_set}
+use Rattle.link_walks.proofs.Terms.{Reads, tx_slots, rx_slots, PortsStand, kept_is, host_of, Keys, Shape, keys_of}
 use Rattle.link_walks.proofs.Terms.{key_cause}
 use Rattle.port_operations.specs.{standing}
 use Rattle.ide_types.specs.declared.port.PortName.{PortName}

@@ -1,17 +1,8 @@
 -- Calls at a port, one after another: what they leave in each place, and that the stream is settled as it is by one
 -- settling at the end.
 use Rattle.link_walks.proofs.CallTerms.{◌≡◌, Bool, arith, true, List, ◌++◌, false, ◌∙◌, sym, [], refl, ap, ◌∷◌, SubKind}
-use Rattle.link_walks.proofs.CallTerms.{
-  KeyCall,
-  called,
-  StreamCall,
-  all_called,
-  LaneSlots,
-  StreamState,
-  WaitsBesideLive,
-}
-use Rattle.link_walks.proofs.CallTerms.{if◌then◌else◌, ◌&&◌, not, Pr, Npr, Cpl}
-use Rattle.link_walks.proofs.CallTerms.{any_live}
+use Rattle.link_walks.proofs.CallTerms.{KeyCall, called, StreamCall, all_called, LaneSlots, StreamState}
+use Rattle.link_walks.proofs.CallTerms.{WaitsBesideLive, if◌then◌else◌, ◌&&◌, not, Pr, Npr, Cpl, any_live}
 use Rattle.ide_types.specs.Sub.{is_same_sub}
 use Rattle.key_laws.proofs.Tests.{both-true}
 use Rattle.link_walks.proofs.Settling.{outs, ins, with_slots, settle, settled_again, stays_settled, any_each}

@@ -1,10 +1,10 @@
 -- The calls of an event leave the stream as its touches do.
 use Rattle.link_walks.proofs.CallTerms.{◌≡◌, Bool, arith, true, ℕ, List, ◌++◌, false, ◌∙◌, sym, ◌-◌, ap, SubKind, Plan}
-use Rattle.link_walks.proofs.CallTerms.{KeyCall, Work, Reach, lane_key, StreamCall, all_called, Device, Host}
-use Rattle.link_walks.proofs.CallTerms.{Operation}
-use Rattle.link_walks.proofs.CallTerms.{lane, KeyPlace, place_at_end, port_at, refuses_in, is_some}
-use Rattle.link_walks.proofs.CallTerms.{slots_at, touches_at, is_only_live, slot_pair, StreamState, SubStream, lane_out}
-use Rattle.link_walks.proofs.CallTerms.{lane_in, touched_stream, IsSound, ReadsStream, CallsAreTouches}
+use Rattle.link_walks.proofs.CallTerms.{KeyCall, Work, Reach, lane_key, StreamCall, all_called, Device, Host, Operation}
+use Rattle.link_walks.proofs.CallTerms.{lane, KeyPlace, place_at_end, port_at, refuses_in, is_some, slots_at}
+use Rattle.link_walks.proofs.CallTerms.{touches_at, is_only_live, slot_pair, StreamState, SubStream, lane_out, lane_in}
+use Rattle.link_walks.proofs.CallTerms.{touched_stream, IsSound, ReadsStream, CallsAreTouches, is_hosted, is_host}
+use Rattle.link_walks.proofs.CallTerms.{is_local, ◌&&◌, told_call, calls_from, key_number, Pr, refl, CallsAreTold}
 use Rattle.link_history.specs.Plan.{key_of}
 use Rattle.ide_types.specs.declared.port.PortName.{PortName}
 use Rattle.ide_types.specs.declared.port.Side.{Side}
@@ -16,8 +16,6 @@ use Rattle.link_walks.proofs.Streams.{one_if, calls_at, called_by, places_are, a
 use Rattle.link_walks.proofs.Streams.{halted_once}
 use Rattle.link_walks.proofs.Touches.{AreTouched, touches_told, touches_asked}
 use Rattle.link_walks.specs.Touches.{IsReached}
-use Rattle.link_walks.proofs.CallTerms.{is_hosted, is_host, is_local, ◌&&◌, told_call, calls_from, key_number, Pr, refl}
-use Rattle.link_walks.proofs.CallTerms.{CallsAreTold}
 use Rattle.link_walks.proofs.Exchanges.{calls_carried, kind_carried}
 use Rattle.link_walks.proofs.HostCalls.{host_stream_calls, calls_asked, kind_asked}
 

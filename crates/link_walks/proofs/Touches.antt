@@ -1,18 +1,15 @@
 -- The calls of a place leave its slots as the touches of its event do. The host's port stops both sets where it loses
 -- all keys, which is the same.
-use Rattle.link_walks.proofs.CallTerms.{◌≡◌, Bool, arith, true, ℕ, ◌++◌, false, ◌≤◌, Some, nat_tests, SubKind}
-use Rattle.link_walks.proofs.CallTerms.{Plan}
-use Rattle.link_walks.proofs.CallTerms.{Program, Go, Halt, Work, Reach, makes_draw, work, is_within}
-use Rattle.link_walks.proofs.CallTerms.{when, worked, Host}
+use Rattle.link_walks.proofs.CallTerms.{◌≡◌, Bool, arith, true, ℕ, ◌++◌, false, ◌≤◌, Some, nat_tests, SubKind, Plan}
+use Rattle.link_walks.proofs.CallTerms.{Program, Go, Halt, Work, Reach, makes_draw, work, is_within, when, worked, Host}
 use Rattle.link_walks.proofs.CallTerms.{Operation, KeyPlace, place_at_end, taken_touches, is_only_live, slot_pair}
-use Rattle.link_walks.proofs.CallTerms.{LaneSlots, SubStream}
-use Rattle.link_walks.proofs.CallTerms.{key_of, slots_touched, host_go, if◌then◌else◌}
+use Rattle.link_walks.proofs.CallTerms.{LaneSlots, SubStream, key_of, slots_touched, host_go, if◌then◌else◌, is_hosted}
+use Rattle.link_walks.proofs.CallTerms.{is_local, is_host, lane}
 use Rattle.key_laws.specs.Keys.{Program as ProgramTouch, Go as GoTouch, Stop as StopTouch}
 use Rattle.link_verdicts.specs.declared.verdict.Operation.TheVariants as op
 use Rattle.link_walks.proofs.Slots.{first_call, second_call}
 use Rattle.link_walks.proofs.Streams.{one_if, called_by}
 use Rattle.link_walks.proofs.Exchanges.{first_number, second_number}
-use Rattle.link_walks.proofs.CallTerms.{is_hosted, is_local, is_host, lane}
 
 -- what the calls of a place leave is what the touches of its event do
 abbrev pub AreTouched : Plan → Work → Reach → KeyPlace → SubStream → (Bool → Bool) → Bool → Bool → LaneSlots → Type 0

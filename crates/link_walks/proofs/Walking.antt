@@ -1,21 +1,17 @@
 -- One exchange after another: how the manager judges each, and what is left at both ends.
 use Rattle.link_walks.specs.Calls.{lane_sends}
-use Rattle.link_walks.proofs.Terms.{◌≡◌, Bool, arith, true, ℕ, List, Work, Plan, false, nat_tests}
-use Rattle.link_walks.proofs.Terms.{Operation, ◌≤◌, ◌∙◌, makes_draw, lane_key, is_only_live, StreamState, ◌+◌}
-use Rattle.link_walks.proofs.Terms.{ap}
-use Rattle.link_walks.proofs.Terms.{exchange_call, all_called, ◌<◌, Some, last_exchange_of, refuses_in, DrawsApart}
-use Rattle.link_walks.proofs.Terms.{Option}
-use Rattle.link_walks.proofs.Terms.{op_standing, reach, op_after, call_of_exchange, get_or-set_other, IsKey, PortView}
-use Rattle.link_walks.proofs.Terms.{refusal_at, refusal_if, carried_as, is_some, None, sym, slot_in_set, is_empty}
-use Rattle.link_walks.proofs.Terms.{pair_slot, different-false, request_asked, keys_after, acknowledged, WorkFits}
-use Rattle.link_walks.proofs.Terms.{StreamEnds, came_to, ends_after_exchange, HasKeys, exchange_of, WireKeys}
-use Rattle.link_walks.proofs.Terms.{kept_key}
-use Rattle.link_walks.proofs.Terms.{request_of, Expected, KeySet, key_set, one_of_set, work_asked}
+use Rattle.link_walks.proofs.Terms.{◌≡◌, Bool, arith, true, ℕ, List, Work, Plan, false, nat_tests, Operation, ◌≤◌, ◌∙◌}
+use Rattle.link_walks.proofs.Terms.{makes_draw, lane_key, is_only_live, StreamState, ◌+◌, ap, exchange_call, all_called}
+use Rattle.link_walks.proofs.Terms.{◌<◌, Some, last_exchange_of, refuses_in, DrawsApart, Option, op_standing, reach}
+use Rattle.link_walks.proofs.Terms.{op_after, call_of_exchange, get_or-set_other, IsKey, PortView, refusal_at}
+use Rattle.link_walks.proofs.Terms.{refusal_if, carried_as, is_some, None, sym, slot_in_set, is_empty, pair_slot}
+use Rattle.link_walks.proofs.Terms.{different-false, request_asked, keys_after, acknowledged, WorkFits, StreamEnds}
+use Rattle.link_walks.proofs.Terms.{came_to, ends_after_exchange, HasKeys, exchange_of, WireKeys, kept_key, request_of}
+use Rattle.link_walks.proofs.Terms.{Expected, KeySet, key_set, one_of_set, work_asked, Device}
 use Rattle.tsm_host.specs.declared.stage.Asked.{Asked}
 use Rattle.link_walks.proofs.Slots.{only_live_is, is_refusal}
 use Rattle.link_walks.proofs.Lanes.{lane_place, lane_slots, slot_seen, IsFull, first_program, Turn, asks, puts, goes}
 use Rattle.link_walks.proofs.Lanes.{halts, turn, put_refused, go_refused, query_refused}
-use Rattle.link_walks.proofs.Terms.{Device}
 use Rattle.ide_types.specs.Lines.{is_hosted}
 use Rattle.tsm_host.specs.Exchanges.{exchange_lane}
 use Rattle.link_walks.proofs.Replies.{lane_pair, query_comes, program_comes, go_comes, halt_comes}

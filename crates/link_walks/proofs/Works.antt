@@ -1,10 +1,23 @@
 -- An event of an operation as it begins, or goes on.
-use Rattle.link_walks.proofs.Terms.{◌≡◌, arith, true, ℕ, Work, Plan, Operation, ◌≤◌, makes_draw, lane_key, refl, Some}
+use Rattle.link_walks.proofs.Terms.{
+  ◌≡◌,
+  Bool,
+  arith,
+  true,
+  ℕ,
+  Work,
+  Plan,
+  Operation,
+  ◌≤◌,
+  makes_draw,
+  lane_key,
+  refl,
+  Some,
+}
 use Rattle.link_walks.proofs.Terms.{last_exchange_of, Option, None, nat_lt, reach_of, work_of, Op, op_standing, Loss}
-use Rattle.link_walks.proofs.Terms.{Pool}
-use Rattle.link_walks.proofs.Terms.{draws_in, six_keys, unspent, Refusal, Verdict}
-use Rattle.link_walks.proofs.Terms.{StreamView, draws_now, refusal_of, begun_stream, asked_in, HostView}
-use Rattle.link_walks.proofs.Terms.{key_refusal_verdict, IsAsked, HasKeys, KeysKeptIn, WireKeys, kept_key}
+use Rattle.link_walks.proofs.Terms.{Pool, draws_in, six_keys, unspent, Refusal, Verdict, StreamView, draws_now}
+use Rattle.link_walks.proofs.Terms.{refusal_of, begun_stream, asked_in, HostView, key_refusal_verdict, IsAsked, HasKeys}
+use Rattle.link_walks.proofs.Terms.{KeysKeptIn, WireKeys, kept_key}
 use Rattle.tsm_host.proofs.Walks.{WorkFits}
 use Rattle.link_walks.proofs.Lanes.{by_lane, first_program}
 
@@ -30,15 +43,16 @@ is_asked plan q keys kept = grind arith
 
 -- ---- the stream as it begins, or goes on
 
-pub begun_op : (o : Operation) (q : Op) (next : ℕ) (pool : Pool) (s : StreamView) → s.op ≡ q
-    → let w = work_of o q next in (begun_stream true w pool s).op ≡ op_standing w w.first
-begun_op o q next pool s is = grind arith
+pub begun_op : (hosted : Bool) (o : Operation) (q : Op) (next : ℕ) (pool : Pool) (s : StreamView) → s.op ≡ q
+    → let w = work_of o q next in (begun_stream hosted w pool s).op ≡ op_standing w w.first
+begun_op hosted o q next pool s is = grind arith
 
-pub begun_link : (w : Work) (pool : Pool) (s : StreamView) → (begun_stream true w pool s).link ≡ s.link
-begun_link w pool s = grind arith
+pub begun_link : (hosted : Bool) (w : Work) (pool : Pool) (s : StreamView) → (begun_stream hosted w pool s).link
+    ≡ s.link
+begun_link hosted w pool s = grind arith
 
-pub begun_id : (w : Work) (pool : Pool) (s : StreamView) → (begun_stream true w pool s).id ≡ s.id
-begun_id w pool s = grind arith
+pub begun_id : (hosted : Bool) (w : Work) (pool : Pool) (s : StreamView) → (begun_stream hosted w pool s).id ≡ s.id
+begun_id hosted w pool s = grind arith
 
 -- the six keys of a draw
 six_kept : (plan : Plan) (draw first next : ℕ) → HasKeys plan draw first next (unspent (six_keys plan.pool draw))

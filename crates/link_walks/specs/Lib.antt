@@ -6,8 +6,8 @@ pub mod Joined
 pub use Rattle.link_walks.specs.Walks.{StreamEnds, shown_stream, port_called, judged_bytes, Exchanged, exchanged}
 pub use Rattle.link_walks.specs.Walks.{ends_after_exchange, WalkedEnds, walk_on, begun_ends, event_walk}
 pub use Rattle.link_walks.specs.Joined.{host_of, KeysKept, IsJoined, OperationsJoin}
-pub use Rattle.link_walks.specs.Calls.{StreamCall, all_called, stream_call, all_called_at, lane_call}
-pub use Rattle.link_walks.specs.Calls.{lane_key, exchange_call, exchanges_called}
+pub use Rattle.link_walks.specs.Calls.{StreamCall, all_called, stream_call, all_called_at, lane_call, lane_key}
+pub use Rattle.link_walks.specs.Calls.{exchange_call, exchanges_called}
 pub use Rattle.link_walks.specs.Touches.{IsSound, host_calls, device_calls, IsReached, CallsAreTouches}
 pub mod Paired
 pub use Rattle.link_history.specs.Plan.{with_id}

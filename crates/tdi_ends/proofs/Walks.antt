@@ -15,6 +15,7 @@ use Rattle.tdi_device.specs.Replies.{DeviceTdis}
 use Rattle.tdi_walks.specs.Operations.{walked_once, walking_on, continued_walk, interface_walk}
 use Rattle.tdi_ends.specs.Keepers.{Ended, IsInterfaceExchanged, interface_exchanged, ended_if_over, by_current}
 use Rattle.tdi_ends.specs.Keepers.{manager_walk, walking_at}
+use Rattle.tdi_device.proofs.Errors.{set_same}
 use Rattle.tdi_ends.specs.Keepers.{IsInterfaceWalked, KeepersWalk}
 
 -- ---- the exchange that is asked
@@ -42,11 +43,6 @@ set_get : {A : Type 0} (xs : List A) (p : ℕ) (x y : A) → slice_get xs p ≡ 
 set_get [] p x y is = absurd cc
 set_get (z ∷ xs) zero x y is = refl
 set_get (z ∷ xs) (suc p) x y is = set_get xs p x y is
-
-set_same : {A : Type 0} (xs : List A) (p : ℕ) (x : A) → slice_get xs p ≡ Some x → slice_set xs p x ≡ xs
-set_same [] p x is = refl
-set_same (y ∷ xs) zero x is = ap (λ z. z ∷ xs) (let same : x ≡ y = cc in same)
-set_same (y ∷ xs) (suc p) x is = ap (λ zs. y ∷ zs) (set_same xs p x is)
 
 set_twice : {A : Type 0} (xs : List A) (p : ℕ) (x y : A) → slice_set (slice_set xs p x) p y ≡ slice_set xs p y
 set_twice [] p x y = refl

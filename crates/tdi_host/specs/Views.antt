@@ -1,6 +1,6 @@
 -- The manager's views of interfaces, and what moves them (this profile).
 use Rattle.std.specs.Prelude.{ℕ, Bool, true, false, ◌&&◌, nat_lt, ◌==◌, List, replicate, slice_get, slice_set}
-use Rattle.std.specs.Prelude.{unwrap_or, Option, Some, None, Result, Ok}
+use Rattle.std.specs.Prelude.{◌-◌, unwrap_or, Option, Some, None, Result, Ok}
 use Rattle.std.specs.Prelude.{Err, if◌then◌else◌}
 use Rattle.ide_types.specs.declared.status.StreamStatus.{StreamStatus}
 use Rattle.ide_types.specs.declared.status.StreamStatus.TheVariants as status
@@ -221,9 +221,13 @@ needs_after s draws judged was_started needs = needs
 
 -- ---- take: the streams between devices whose BIND_P2P was asked since LOCK_INTERFACE was, after this exchange
 
+-- lines from 24 on are these streams, by their number
+abbrev pub peer_number : ℕ → ℕ
+peer_number line = line - 24
+
 abbrev pub asked_after : Step → List Bool → List Bool
 asked_after step.Lock asked = replicate 8 false
-asked_after (step.Bind peer) asked = slice_set asked peer.number true
+asked_after (step.Bind peer) asked = slice_set asked (peer_number peer.line) true
 asked_after s asked = asked
 
 abbrev pub taken_interface : Step → ℕ → Judged → HostTdi → HostTdi
@@ -268,12 +272,12 @@ state_outcome exchange (State code) = outcome.Done (shown.State code)
 state_outcome exchange judged = cut_outcome exchange judged
 
 abbrev pub bind_outcome : ℕ → ℕ → Judged → Outcome
-bind_outcome exchange number Passed = outcome.Done (shown.Bound number)
-bind_outcome exchange number judged = cut_outcome exchange judged
+bind_outcome exchange line Passed = outcome.Done (shown.Bound line)
+bind_outcome exchange line judged = cut_outcome exchange judged
 
 abbrev pub unbind_outcome : ℕ → ℕ → Judged → Outcome
-unbind_outcome exchange number Passed = outcome.Done (shown.Unbound number)
-unbind_outcome exchange number judged = cut_outcome exchange judged
+unbind_outcome exchange line Passed = outcome.Done (shown.Unbound line)
+unbind_outcome exchange line judged = cut_outcome exchange judged
 
 -- `after` is the interface after the exchange
 abbrev pub interface_outcome : Step → ℕ → Judged → HostTdi → Outcome
@@ -284,8 +288,8 @@ interface_outcome step.Report exchange judged after = report_outcome exchange ju
 interface_outcome step.Start exchange judged after = start_outcome exchange after.draw judged
 interface_outcome step.Halt exchange judged after = halt_outcome exchange after.needs judged
 interface_outcome step.State exchange judged after = state_outcome exchange judged
-interface_outcome (step.Bind peer) exchange judged after = bind_outcome exchange peer.number judged
-interface_outcome (step.Unbind peer) exchange judged after = unbind_outcome exchange peer.number judged
+interface_outcome (step.Bind peer) exchange judged after = bind_outcome exchange peer.line judged
+interface_outcome (step.Unbind peer) exchange judged after = unbind_outcome exchange peer.line judged
 
 -- ---- what breaks views
 

@@ -1,18 +1,12 @@
 //! An interface, for the manager.
 
 ghost use Rattle.std.specs.Prelude.{◌≡◌, Some, None, slice_set, true};
+ghost use Rattle.tdi_host.specs.Facts.{interface_facts};
 ghost use Rattle.tdi_host.specs.Judging.{answer_shown};
-ghost use Rattle.tdi_host.specs.Views.{
-  interface_unless_secure,
-  key_refusal,
-  cut_outcome,
-  next_or_cut,
-  lock_outcome,
-  report_outcome,
-};
-ghost use Rattle.tdi_host.specs.Views.{bind_outcome, unbind_outcome, asked_after};
-ghost use Rattle.tdi_host.specs.Views.{start_outcome, halt_outcome, state_outcome, was_started_after, needs_after};
+ghost use Rattle.tdi_host.specs.Views.{interface_unless_secure, key_refusal, cut_outcome, peer_number, asked_after};
+ghost use Rattle.tdi_host.specs.Views.{was_started_after, needs_after};
 
+use crate::facts::InterfaceFacts;
 use crate::judge::Answer;
 use crate::operation::{InterfaceOp, Outcome, Refusal, Shown, View};
 use crate::standing::Standing;
@@ -88,82 +82,11 @@ fn cut(exchange: u32, answer: Answer) -> Outcome
     }
 }
 
-fn goes_on(exchange: u32, answer: Answer) -> Outcome
-    ensures { result ≡ next_or_cut exchange (answer_shown answer.entry) }
+// The number of a stream between devices, by its line.
+fn peer_number(line: u8) -> u8
+    ensures { result ≡ peer_number line }
 {
-    match answer {
-        Answer::Passed => Outcome::Next,
-        _ => cut(exchange, answer),
-    }
-}
-
-fn lock_outcome(exchange: u32, answer: Answer) -> Outcome
-    ensures { result ≡ lock_outcome exchange (answer_shown answer.entry) }
-{
-    match answer {
-        Answer::Nonce(nonce) => Outcome::Done(Shown::Nonce(nonce)),
-        _ => cut(exchange, answer),
-    }
-}
-
-fn report_outcome(exchange: u32, answer: Answer) -> Outcome
-    ensures { result ≡ report_outcome exchange (answer_shown answer.entry) }
-{
-    match answer {
-        Answer::Portion { remainder, .. } => {
-            if remainder == 0 {
-                Outcome::Done(Shown::Report)
-            } else {
-                Outcome::Next
-            }
-        }
-        _ => cut(exchange, answer),
-    }
-}
-
-fn start_outcome(exchange: u32, draw: u32, answer: Answer) -> Outcome
-    ensures { result ≡ start_outcome exchange draw (answer_shown answer.entry) }
-{
-    match answer {
-        Answer::Passed => Outcome::Done(Shown::Draw(draw)),
-        _ => cut(exchange, answer),
-    }
-}
-
-fn halt_outcome(exchange: u32, needs: u32, answer: Answer) -> Outcome
-    ensures { result ≡ halt_outcome exchange needs (answer_shown answer.entry) }
-{
-    match answer {
-        Answer::Passed => Outcome::Done(Shown::Needs(needs)),
-        _ => cut(exchange, answer),
-    }
-}
-
-fn state_outcome(exchange: u32, answer: Answer) -> Outcome
-    ensures { result ≡ state_outcome exchange (answer_shown answer.entry) }
-{
-    match answer {
-        Answer::State(code) => Outcome::Done(Shown::State(code)),
-        _ => cut(exchange, answer),
-    }
-}
-
-fn bind_outcome(exchange: u32, number: u8, answer: Answer) -> Outcome
-    ensures { result ≡ bind_outcome exchange number (answer_shown answer.entry) }
-{
-    match answer {
-        Answer::Passed => Outcome::Done(Shown::Bound(number)),
-        _ => cut(exchange, answer),
-    }
-}
-
-fn unbind_outcome(exchange: u32, number: u8, answer: Answer) -> Outcome
-    ensures { result ≡ unbind_outcome exchange number (answer_shown answer.entry) }
-{
-    match answer {
-        Answer::Passed => Outcome::Done(Shown::Unbound(number)),
-        _ => cut(exchange, answer),
-    }
+    line.saturating_sub(24)
 }
 
 // Notes that this one is true, if there is such a one.
@@ -181,7 +104,7 @@ fn ask(step: Step, asked: &mut [bool; 8])
 {
     match step {
         Step::Lock => *asked = [false; 8],
-        Step::Bind(peer) => set(asked, peer.number),
+        Step::Bind(peer) => set(asked, peer_number(peer.line)),
         _ => {}
     }
 }
@@ -347,15 +270,22 @@ impl HostInterface {
     pub(crate) fn outcome(&self, step: Step, exchange: u32, answer: Answer) -> Outcome
         ensures { result ≡ interface_outcome step exchange (answer_shown answer.entry) self.now }
     {
-        match step {
-            Step::Version | Step::Capabilities => goes_on(exchange, answer),
-            Step::Lock => lock_outcome(exchange, answer),
-            Step::Report => report_outcome(exchange, answer),
-            Step::Start => start_outcome(exchange, self.draw, answer),
-            Step::Halt => halt_outcome(exchange, self.needs, answer),
-            Step::State => state_outcome(exchange, answer),
-            Step::Bind(peer) => bind_outcome(exchange, peer.number, answer),
-            Step::Unbind(peer) => unbind_outcome(exchange, peer.number, answer),
+        match (step, answer) {
+            (Step::Version | Step::Capabilities, Answer::Passed) => Outcome::Next,
+            (Step::Lock, Answer::Nonce(nonce)) => Outcome::Done(Shown::Nonce(nonce)),
+            (Step::Report, Answer::Portion { remainder, .. }) => {
+                if remainder == 0 {
+                    Outcome::Done(Shown::Report)
+                } else {
+                    Outcome::Next
+                }
+            }
+            (Step::Start, Answer::Passed) => Outcome::Done(Shown::Draw(self.draw)),
+            (Step::Halt, Answer::Passed) => Outcome::Done(Shown::Needs(self.needs)),
+            (Step::State, Answer::State(code)) => Outcome::Done(Shown::State(code)),
+            (Step::Bind(peer), Answer::Passed) => Outcome::Done(Shown::Bound(peer.line)),
+            (Step::Unbind(peer), Answer::Passed) => Outcome::Done(Shown::Unbound(peer.line)),
+            (_, answer) => cut(exchange, answer),
         }
     }
 
@@ -483,6 +413,26 @@ impl HostInterface {
                 function,
                 stream: peer.id,
             },
+        }
+    }
+}
+
+// ---- what is seen of it
+
+impl HostInterface {
+    /// What the manager keeps of it.
+    pub(crate) fn facts(&self) -> InterfaceFacts
+        ensures { result ≡ interface_facts self.now }
+    {
+        InterfaceFacts {
+            link: self.link,
+            stream: self.stream,
+            view: self.standing.view(),
+            draw: self.draw,
+            needs: self.needs,
+            started: self.was_started,
+            reported: self.standing.reported_in(),
+            floor: self.standing.floor(),
         }
     }
 }

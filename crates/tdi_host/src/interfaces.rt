@@ -12,9 +12,11 @@ ghost use Rattle.tdi_host.specs.Views.{
   keyed_by,
   left_by_reset,
 };
+ghost use Rattle.tdi_host.specs.Facts.{interface_facts};
 ghost use Rattle.tdi_host.specs.Views.{is_granted, is_requester};
 ghost use Rattle.tdi_host.specs.Managers.{new_interfaces, interface_asking_after};
 
+use crate::facts::InterfaceFacts;
 use crate::interface::HostInterface;
 use crate::judge::judge;
 use crate::operation::{InterfaceOp, Outcome, Refusal, View};
@@ -371,5 +373,17 @@ impl Interfaces {
     {
         reset_all(&mut self.interfaces, link);
         self.asking = None;
+    }
+}
+
+// ---- what is seen of them
+
+impl Interfaces {
+    /// What is kept of an interface.
+    pub fn facts(&self, interface: usize) -> InterfaceFacts
+        requires { interface < length self.now.interfaces }
+        ensures { IfSome (slice_get self.now.interfaces interface) (λ i. result ≡ interface_facts i) }
+    {
+        self.interfaces[interface].facts()
     }
 }

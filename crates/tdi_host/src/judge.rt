@@ -2,9 +2,8 @@
 
 ghost use Rattle.std.specs.Prelude.{◌≡◌, ◌+◌, ◌≤◌, length};
 ghost use Rattle.tdisp_codec.specs.Replies.{reply_shown, reply_answer, reply_reading};
-ghost use Rattle.tdi_host.specs.Judging.{answer_shown, if_same, error_judged, version_in, capabilities_in, nonce_in};
-ghost use Rattle.tdi_host.specs.Judging.{is_portion, if_portion, portion_in, start_in, halt_in, state_in, judged_as};
-ghost use Rattle.tdi_host.specs.Judging.{bind_in, unbind_in, interface_reply_judged, interface_judged, HasRoom};
+ghost use Rattle.tdi_host.specs.Judging.{answer_shown, if_same, error_judged, is_portion, if_portion, portion_in};
+ghost use Rattle.tdi_host.specs.Judging.{judged_as, interface_reply_judged, interface_judged, HasRoom};
 
 use crate::step::Step;
 use tdisp_codec::{ReplyView, reply_read};
@@ -40,36 +39,6 @@ fn refusal<'a>(reply: ReplyView<'a>) -> Answer<'a>
     match reply {
         ReplyView::Error { code, .. } => Answer::Refused(code),
         _ => Answer::Bad,
-    }
-}
-
-fn version<'a>(function: u32, reply: ReplyView<'a>) -> Answer<'a>
-    ensures { answer_shown result ≡ version_in function (reply_shown reply.entry) }
-{
-    match reply {
-        ReplyView::Version { function: back, .. } => if_same(function, back, Answer::Passed),
-        _ => refusal(reply),
-    }
-}
-
-fn capabilities<'a>(function: u32, reply: ReplyView<'a>) -> Answer<'a>
-    ensures { answer_shown result ≡ capabilities_in function (reply_shown reply.entry) }
-{
-    match reply {
-        ReplyView::Capabilities { function: back, .. } => if_same(function, back, Answer::Passed),
-        _ => refusal(reply),
-    }
-}
-
-fn nonce<'a>(function: u32, reply: ReplyView<'a>) -> Answer<'a>
-    ensures { answer_shown result ≡ nonce_in function (reply_shown reply.entry) }
-{
-    match reply {
-        ReplyView::LockInterface {
-            function: back,
-            nonce,
-        } => if_same(function, back, Answer::Nonce(nonce)),
-        _ => refusal(reply),
     }
 }
 
@@ -109,54 +78,6 @@ fn portion<'a>(asked: u16, read: usize, function: u32, reply: ReplyView<'a>) -> 
     }
 }
 
-fn start<'a>(function: u32, reply: ReplyView<'a>) -> Answer<'a>
-    ensures { answer_shown result ≡ start_in function (reply_shown reply.entry) }
-{
-    match reply {
-        ReplyView::StartInterface { function: back } => if_same(function, back, Answer::Passed),
-        _ => refusal(reply),
-    }
-}
-
-fn halt<'a>(function: u32, reply: ReplyView<'a>) -> Answer<'a>
-    ensures { answer_shown result ≡ halt_in function (reply_shown reply.entry) }
-{
-    match reply {
-        ReplyView::StopInterface { function: back } => if_same(function, back, Answer::Passed),
-        _ => refusal(reply),
-    }
-}
-
-fn state<'a>(function: u32, reply: ReplyView<'a>) -> Answer<'a>
-    ensures { answer_shown result ≡ state_in function (reply_shown reply.entry) }
-{
-    match reply {
-        ReplyView::DeviceInterfaceState {
-            function: back,
-            state,
-        } => if_same(function, back, Answer::State(state)),
-        _ => refusal(reply),
-    }
-}
-
-fn bind<'a>(function: u32, reply: ReplyView<'a>) -> Answer<'a>
-    ensures { answer_shown result ≡ bind_in function (reply_shown reply.entry) }
-{
-    match reply {
-        ReplyView::BindP2p { function: back } => if_same(function, back, Answer::Passed),
-        _ => refusal(reply),
-    }
-}
-
-fn unbind<'a>(function: u32, reply: ReplyView<'a>) -> Answer<'a>
-    ensures { answer_shown result ≡ unbind_in function (reply_shown reply.entry) }
-{
-    match reply {
-        ReplyView::UnbindP2p { function: back } => if_same(function, back, Answer::Passed),
-        _ => refusal(reply),
-    }
-}
-
 fn of_step<'a>(
     step: Step,
     function: u32,
@@ -167,16 +88,31 @@ fn of_step<'a>(
     requires { read ≤ 1140 }
     ensures { answer_shown result ≡ judged_as step function asked read (reply_shown reply.entry) }
 {
-    match step {
-        Step::Version => version(function, reply),
-        Step::Capabilities => capabilities(function, reply),
-        Step::Lock => nonce(function, reply),
-        Step::Report => portion(asked, read, function, reply),
-        Step::Start => start(function, reply),
-        Step::Halt => halt(function, reply),
-        Step::State => state(function, reply),
-        Step::Bind(_) => bind(function, reply),
-        Step::Unbind(_) => unbind(function, reply),
+    match (step, reply) {
+        (Step::Version, ReplyView::Version { function: back, .. })
+        | (Step::Capabilities, ReplyView::Capabilities { function: back, .. })
+        | (Step::Start, ReplyView::StartInterface { function: back })
+        | (Step::Halt, ReplyView::StopInterface { function: back })
+        | (Step::Bind(_), ReplyView::BindP2p { function: back })
+        | (Step::Unbind(_), ReplyView::UnbindP2p { function: back }) => {
+            if_same(function, back, Answer::Passed)
+        }
+        (
+            Step::Lock,
+            ReplyView::LockInterface {
+                function: back,
+                nonce,
+            },
+        ) => { if_same(function, back, Answer::Nonce(nonce)) }
+        (Step::Report, reply) => portion(asked, read, function, reply),
+        (
+            Step::State,
+            ReplyView::DeviceInterfaceState {
+                function: back,
+                state,
+            },
+        ) => { if_same(function, back, Answer::State(state)) }
+        (_, reply) => refusal(reply),
     }
 }
 

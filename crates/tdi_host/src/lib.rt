@@ -6,6 +6,7 @@
 //! `Interfaces::make` takes memory.
 #![tactic(auto)]
 
+mod facts;
 mod interface;
 mod interfaces;
 mod judge;
@@ -15,6 +16,7 @@ mod standing;
 mod step;
 mod tdi;
 
+pub use facts::InterfaceFacts;
 pub use interfaces::Interfaces;
 pub use operation::{InterfaceOp, Outcome, PeerStream, Refusal, Shown, View};
 pub use step::Step;

@@ -24,8 +24,8 @@ pub enum InterfaceOp {
 /// A stream between two devices, as the manager of keys has it (this profile).
 #[derive(Clone, Copy, PartialEq, Eq)]
 pub struct PeerStream {
-    /// Its number among those between devices, below 8.
-    pub number: u8,
+    /// Its line, from 24 on.
+    pub line: u8,
     /// Its ID.
     pub id: u8,
     /// Its draw.
@@ -70,7 +70,7 @@ pub enum Shown {
     Needs(u32),
     /// Of state: the device's state, by its code.
     State(u8),
-    /// Of bind: the interface is bound to the stream between devices of this number.
+    /// Of bind: the interface is bound to the stream between devices of this line.
     Bound(u8),
     /// Of unbind: it is no longer bound to it.
     Unbound(u8),

@@ -1,9 +1,9 @@
 //! The views of an interface, each as its own value.
 
 ghost use Rattle.std.specs.Prelude.{◌≡◌};
+ghost use Rattle.tdi_host.specs.Facts.{reported_in};
 ghost use Rattle.tdi_host.specs.Judging.{answer_shown};
-ghost use Rattle.tdi_host.specs.Views.{seen, IsUnlocked, locked_by, reported, started, compared, after_lock};
-ghost use Rattle.tdi_host.specs.Views.{after_report, seen_after_start, after_halt, after_state, seen_after, broken};
+ghost use Rattle.tdi_host.specs.Views.{seen, IsUnlocked, locked_by, reported, started, compared, seen_after, broken};
 
 use crate::judge::Answer;
 use crate::operation::View;
@@ -126,71 +126,35 @@ impl Standing {
         }
     }
 
-    fn after_lock(self, answer: Answer) -> Standing
-        ensures { seen result ≡ after_lock (answer_shown answer.entry) (seen self) }
-    {
-        match answer {
-            Answer::Nonce(nonce) => self.locked(nonce),
-            Answer::Refused(_) => self,
-            _ => Standing::Doubt(Tdi::doubted()),
-        }
-    }
-
-    fn after_report(self, answer: Answer) -> Standing
-        ensures { seen result ≡ after_report (answer_shown answer.entry) (seen self) }
-    {
-        match answer {
-            Answer::Portion { remainder, .. } => {
-                if remainder == 0 {
-                    self.reported()
-                } else {
-                    self
-                }
-            }
-            _ => self,
-        }
-    }
-
-    fn after_start(self, draw: u32, answer: Answer) -> Standing
-        ensures { seen result ≡ seen_after_start draw (answer_shown answer.entry) (seen self) }
-    {
-        match answer {
-            Answer::Passed => self.started(draw),
-            Answer::Refused(_) => Standing::Broken(Tdi::broken()),
-            _ => Standing::Doubt(Tdi::doubted()),
-        }
-    }
-
-    fn after_halt(self, answer: Answer) -> Standing
-        ensures { seen result ≡ after_halt (answer_shown answer.entry) (seen self) }
-    {
-        match answer {
-            Answer::Passed => Standing::Unlocked(Tdi::unlocked()),
-            Answer::Refused(_) => self,
-            _ => Standing::Doubt(Tdi::doubted()),
-        }
-    }
-
-    fn after_state(self, answer: Answer) -> Standing
-        ensures { seen result ≡ after_state (answer_shown answer.entry) (seen self) }
-    {
-        match answer {
-            Answer::State(code) => self.compared(code),
-            _ => self,
-        }
-    }
-
     /// The view after an exchange; `draw` is that of the bound stream.
     pub(crate) fn after(self, step: Step, draw: u32, answer: Answer) -> Standing
         ensures { seen result ≡ seen_after step draw (answer_shown answer.entry) (seen self) }
     {
-        match step {
-            Step::Version | Step::Capabilities | Step::Bind(_) | Step::Unbind(_) => self,
-            Step::Lock => self.after_lock(answer),
-            Step::Report => self.after_report(answer),
-            Step::Start => self.after_start(draw, answer),
-            Step::Halt => self.after_halt(answer),
-            Step::State => self.after_state(answer),
+        match (step, answer) {
+            (Step::Lock, Answer::Nonce(nonce)) => self.locked(nonce),
+            (Step::Report, Answer::Portion { remainder: 0, .. }) => self.reported(),
+            (Step::Start, Answer::Passed) => self.started(draw),
+            (Step::Start, Answer::Refused(_)) => Standing::Broken(Tdi::broken()),
+            (Step::Halt, Answer::Passed) => Standing::Unlocked(Tdi::unlocked()),
+            (Step::State, Answer::State(code)) => self.compared(code),
+            (Step::Lock | Step::Halt, Answer::Refused(_)) => self,
+            (Step::Lock | Step::Start | Step::Halt, _) => Standing::Doubt(Tdi::doubted()),
+            _ => self,
+        }
+    }
+}
+
+// ---- what is seen of it
+
+impl Standing {
+    /// Whether the report of a lock was read; `None` if it is no lock.
+    pub(crate) fn reported_in(&self) -> Option<bool>
+        ensures { result ≡ reported_in (seen self.now) }
+    {
+        match self {
+            Standing::Locked(tdi) => Some(tdi.is_reported()),
+            Standing::Unlocked(_) | Standing::Running(_) => None,
+            Standing::Doubt(_) | Standing::Broken(_) => None,
         }
     }
 }

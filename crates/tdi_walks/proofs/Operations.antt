@@ -1,11 +1,10 @@
 -- Operations of up to three exchanges.
-use Rattle.std.proofs.Common.{◌≡◌, ℕ, suc, zero, ◌≤◌, List, [], ◌∷◌, length, Option, Some, None, refl, ap, sym}
+use Rattle.std.proofs.Common.{◌≡◌, ℕ, suc, ◌≤◌, length, Option, Some, None, refl, ap, sym}
 use Rattle.std.proofs.Common.{subst, ◌∙◌, arith}
-use Rattle.std.specs.Prelude.{slice_set, slice_get}
+use Rattle.std.specs.Prelude.{slice_set}
 use Rattle.link_events.specs.declared.event.Loss.{Loss}
 use Rattle.link_events.specs.declared.event.Lost.{Lost}
 use Rattle.link_events.specs.declared.event.Lost.TheVariants.{Request, Reply}
-use Rattle.tdi_state.specs.Machine.{Tdi}
 use Rattle.tdi_host.specs.declared.operation.InterfaceOp.TheVariants as op
 use Rattle.tdi_host.specs.declared.operation.Outcome.{Outcome}
 use Rattle.tdi_host.specs.declared.operation.Outcome.TheVariants as outcome
@@ -15,35 +14,16 @@ use Rattle.tdi_host.specs.Judging.{Judged, Passed, Nonce, Portion, State, Refuse
 use Rattle.tdi_host.specs.Views.{HostTdi, start_outcome, halt_outcome, state_outcome, lock_outcome, bind_outcome}
 use Rattle.tdi_host.specs.Views.{unbind_outcome}
 use Rattle.tdi_device.specs.declared.said.StreamSaid.{StreamSaid}
-use Rattle.tdi_device.specs.Replies.{DeviceTdis, NamedTdi, named_tdi, named_tdi_in, named_tdi_at, tdi_place, next_nonce}
+use Rattle.tdi_device.specs.Replies.{DeviceTdis, NamedTdi, named_tdi, tdi_place, next_nonce}
 use Rattle.tdi_walks.specs.Exchanges.{device_as, judged_due, FitsStep, Meets, ExchangesAreDue}
 use Rattle.key_laws.specs.Due.{lost_in}
 use Rattle.tdi_walks.specs.Operations.{carried, reached, Walking, WalkedInterface, walked_by, walked_once, walking_on}
 use Rattle.tdi_walks.specs.Operations.{continued_walk, interface_walk, begun_at, walking_exchange, stated_once, at_step}
 use Rattle.tdi_walks.specs.Operations.{lost_early}
+use Rattle.tdi_device.proofs.Errors.{set_same, in_list}
 use Rattle.tdi_walks.specs.Operations.{walked_unless_lost, stated_lock, OperationsAreStated}
 
 -- ---- a device that is asked what changes nothing
-
-set_same : {A : Type 0} (xs : List A) (p : ℕ) (x : A) → slice_get xs p ≡ Some x → slice_set xs p x ≡ xs
-set_same [] p x is = refl
-set_same (y ∷ xs) zero x is = ap (λ z. z ∷ xs) (sym (same_some is))
-  where
-    same_some : {A : Type 0} {a b : A} → Some a ≡ Some b → a ≡ b
-    same_some e = cc
-set_same (y ∷ xs) (suc p) x is = ap (λ zs. y ∷ zs) (set_same xs p x is)
-
-at_place : (xs : List Tdi) (p : ℕ) (t : Option Tdi) (n : NamedTdi) → slice_get xs p ≡ t → named_tdi_at p t ≡ Some n
-    → slice_get xs n.place ≡ Some n.tdi
-at_place xs p None n g e = absurd cc
-at_place xs p (Some t) n g e =
-    let same : (let k : NamedTdi = record { place = p; tdi = t } in k) ≡ n = cc in
-    subst (λ (k : NamedTdi). slice_get xs k.place ≡ Some k.tdi) same g
-
-in_list : (xs : List Tdi) (place : Option ℕ) (n : NamedTdi) → named_tdi_in xs place ≡ Some n → slice_get xs n.place
-    ≡ Some n.tdi
-in_list xs None n e = absurd cc
-in_list xs (Some p) n e = at_place xs p (slice_get xs p) n refl e
 
 pub same_set : (d : DeviceTdis) (f : ℕ) (n : NamedTdi) → named_tdi d f ≡ Some n → slice_set d.interfaces n.place n.tdi
     ≡ d.interfaces

@@ -7,3 +7,4 @@ pub mod Managers
 pub mod Walk
 pub mod Wires
 pub mod Fits
+pub mod Facts

@@ -6,6 +6,7 @@
 #![tactic(auto)]
 
 mod exchange;
+mod facts;
 mod judge;
 mod laws;
 mod local;
@@ -16,6 +17,7 @@ mod stage;
 mod stream;
 mod wires;
 
+pub use facts::StageFacts;
 pub use laws::{pairs_fit, walks_are_due};
 pub use link_verdicts::Operation;
 pub use manager::Manager;

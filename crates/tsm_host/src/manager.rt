@@ -4,12 +4,15 @@ ghost use Rattle.std.specs.Prelude.{◌≡◌, ℕ, ◌+◌, ◌++◌, ◌≤◌
 ghost use Rattle.std.specs.Prelude.{slice_get, vec_len, vec_capacity};
 ghost use Rattle.ide_km.specs.{spelling};
 ghost use Rattle.key_laws.specs.Operations.{work_of};
+ghost use Rattle.std.specs.Option.{option_map};
+ghost use Rattle.tsm_host.specs.Facts.{op_seen};
 ghost use Rattle.tsm_host.specs.Local.{CallsMove};
 ghost use Rattle.tsm_host.specs.Operations.{op_name};
 ghost use Rattle.tsm_host.specs.Streams.{reset_stream, has_host, end_asked, request_asked, host_view, ok_unless};
 ghost use Rattle.tsm_host.specs.Managers.{new_streams, streams_from, new_hop, hops_from, peers_from, asking_begun};
-ghost use Rattle.tsm_host.specs.Managers.{asking_after};
+ghost use Rattle.tsm_host.specs.Managers.{asking_after, named, op_named};
 
+use crate::facts::StageFacts;
 use crate::operation::{Carried, Op, Outcome, Refusal};
 use crate::port::HostPort;
 use crate::stage::Asked;
@@ -333,5 +336,19 @@ fn reset_streams(streams: &mut Vec<StreamKeys>, ends: &[PortName])
 {
     for stream in streams.iter_mut() {
         stream.reset(ends);
+    }
+}
+
+// ---- what is seen of it
+
+impl Manager {
+    /// The state of a stream's operations; `None` if the line has no such stream.
+    pub fn facts(&self, line: u8, stream: u8) -> Option<StageFacts>
+        ensures { option_map op_seen result ≡ op_named (named self.now line stream) }
+    {
+        match self.place(line, stream) {
+            None => None,
+            Some(place) => Some(self.streams[place].facts()),
+        }
     }
 }

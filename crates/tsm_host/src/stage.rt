@@ -4,6 +4,7 @@ ghost use Rattle.std.specs.Prelude.{◌≡◌, ◌+◌, ◌<◌, ◌≤◌, IsSo
 ghost use Rattle.ide_types.specs.{is_one};
 ghost use Rattle.key_laws.specs.Operations.{work_of, last_exchange_of, op_after, reach};
 ghost use Rattle.tsm_host.specs.Exchanges.{exchange_of, exchange_lane, kept_key, key_or_none};
+ghost use Rattle.tsm_host.specs.Facts.{op_seen};
 ghost use Rattle.tsm_host.specs.Streams.{op_in, stage_keys, StageHolds, asked_in, exchange_asked, work_asked};
 ghost use Rattle.tsm_host.specs.Streams.{
   host_view,
@@ -17,6 +18,7 @@ ghost use Rattle.tsm_host.specs.Streams.{keys_after, establish_refusal, refresh_
 ghost use Rattle.tsm_host.specs.Streams.{op_advanced};
 
 use crate::exchange::{Exchange, end_at, exchange_at, last, wire_number};
+use crate::facts::StageFacts;
 use crate::operation::{Refusal, Shown};
 use crate::port::HostPort;
 use crate::wires::Wires;
@@ -298,6 +300,38 @@ impl Stage {
             },
             Stage::Stopping { next } => Stage::Stopping { next: next + 1 },
             stage => stage,
+        }
+    }
+}
+
+// ---- what is seen of it
+
+impl Stage {
+    /// Its state without its keys.
+    pub fn facts(&self) -> StageFacts
+        ensures { op_seen result ≡ op_in self.now }
+    {
+        match self {
+            Stage::Idle => StageFacts::Idle,
+            Stage::Establishing { draw, next, .. } => StageFacts::Establishing {
+                draw: *draw,
+                next: *next,
+            },
+            Stage::Up { set, draw } => StageFacts::Up {
+                set: *set,
+                draw: *draw,
+            },
+            Stage::Refreshing {
+                set,
+                draw,
+                next,
+                ..
+            } => StageFacts::Refreshing {
+                set: *set,
+                draw: *draw,
+                next: *next,
+            },
+            Stage::Stopping { next } => StageFacts::Stopping { next: *next },
         }
     }
 }

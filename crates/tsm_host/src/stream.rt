@@ -7,11 +7,13 @@ ghost use Rattle.key_laws.specs.Places.{is_cut, is_peer};
 ghost use Rattle.tsm_host.specs.declared.judge.Judged.TheVariants.{Expected};
 ghost use Rattle.ide_types.specs.Lines.{is_hosted};
 ghost use Rattle.tsm_host.specs.Exchanges.{wire_keys};
+ghost use Rattle.tsm_host.specs.Facts.{op_seen};
 ghost use Rattle.tsm_host.specs.Local.{CallsMove, programs, halts};
 ghost use Rattle.tsm_host.specs.Streams.{key_status, op_in, stage_keys, work_asked, StageHolds, keyed_stage};
 ghost use Rattle.tsm_host.specs.Streams.{taken_calls};
 
 use crate::exchange::{Exchange, selector};
+use crate::facts::StageFacts;
 use crate::judge::{Judged, judge};
 use crate::local::{go_six, halt_all, program_six};
 use crate::operation::{Carried, Outcome, Refusal};
@@ -391,5 +393,16 @@ fn ended(hosted: bool, asked: Asked) -> Stage
             draw: asked.draw,
         },
         Operation::Stop => Stage::Idle,
+    }
+}
+
+// ---- what is seen of it
+
+impl StreamKeys {
+    /// The state of its operations.
+    pub fn facts(&self) -> StageFacts
+        ensures { op_seen result ≡ self.now.op }
+    {
+        self.stage.facts()
     }
 }

@@ -1,26 +1,9 @@
 -- What events make of the accesses of all links: of one link, or of none.
-use Rattle.std.proofs.Common.{
-  ◌≡◌,
-  ℕ,
-  ◌==◌,
-  ◌<◌,
-  ◌≤◌,
-  Bool,
-  true,
-  false,
-  List,
-  [],
-  ◌∷◌,
-  length,
-  refl,
-  ap,
-  sym,
-  subst,
-  ◌∙◌,
-}
-use Rattle.std.proofs.Common.{drop, arith, zero, suc}
+use Rattle.std.proofs.Common.{◌≡◌, ℕ, ◌==◌, Bool, true, false, List, [], ◌∷◌, length, refl, ap, sym, subst}
+use Rattle.std.proofs.Common.{◌∙◌, drop, arith, zero, suc}
 use Rattle.std.proofs.lemmas.Bool.Decides.{nat_tests}
-use Rattle.std.specs.Prelude.{Option, Some, None, slice_get, slice_set, if◌then◌else◌, ◌&&◌, nat_lt}
+use Rattle.std.specs.Prelude.{Option, Some, None, slice_get, slice_set, if◌then◌else◌, ◌&&◌, nat_lt, IfSome, IfOk}
+use Rattle.std.specs.Prelude.{Result, Ok, Err}
 use Rattle.ide_types.specs.declared.direction.Direction.{Direction}
 use Rattle.ide_types.specs.declared.direction.Direction.TheVariants.{Downstream, Upstream}
 use Rattle.ide_types.specs.declared.port.PortName.{PortName}
@@ -41,13 +24,12 @@ use Rattle.guarded_memory.specs.Contents.{GuardedMemory, MmioLeads}
 use Rattle.link_history.specs.Hops.{clears_hop, is_forward_on}
 use Rattle.accesses.specs.declared.link.LinkAccesses.{LinkAccesses}
 use Rattle.access_turns.specs.Turns.{hops_cleared}
-use Rattle.access_turns.proofs.Turns.{RestsAt, turn_at, rests_all, turn_then}
+use Rattle.access_turns.proofs.Turns.{turn_at, rests_all, turn_then}
 use Rattle.all_links.specs.{waiting_reads_after, LinkEnds}
 use Rattle.all_links.specs.declared.links.Links.{Links}
 use Rattle.all_links.specs.Interfaces.{interface_named}
 use Rattle.all_links.specs.Accesses.{is_sending, AccessesTurn, carried_at, same_reads, same_floors, same_carried}
 use Rattle.all_links.specs.Accesses.{device_draw, nothing_happens}
-use Rattle.std.specs.Prelude.{IfSome, IfOk, Result, Ok, Err}
 use Rattle.ide_types.specs.declared.memory.Memory.{Memory}
 use Rattle.link_events.specs.declared.event.Loss.{Loss}
 use Rattle.link_events.specs.declared.event.InterfaceEvent.{InterfaceEvent}
@@ -56,17 +38,8 @@ use Rattle.whole_links.specs.declared.whole.WholeLinks.{WholeLinks}
 use Rattle.std.specs.Option.{option_map_or}
 use Rattle.tdi_state.specs.Machine.{Tdi}
 use Rattle.all_links.proofs.Asked.{if_some, is_found}
-use Rattle.whole_links.specs.Accesses.{
-  takes_read,
-  is_sealed,
-  happens_at,
-  bars_named,
-  floors_if,
-  floors_set,
-  reset_happens,
-  carried_by,
-}
-use Rattle.whole_links.specs.Accesses.{AccessesInterface, AccessesAnswer, AccessesReset, AccessesForward}
+use Rattle.whole_links.specs.Accesses.{takes_read, is_sealed, happens_at, bars_named, floors_if, floors_set}
+use Rattle.whole_links.specs.Accesses.{reset_happens, carried_by, AccessesInterface}
 
 -- ---- answers to reads
 

@@ -1,31 +1,12 @@
 -- An answer to the oldest read of a link, as the machine has it: a verdict ahead of the ports, a refusal for an older
 -- draw, or the send of the completion.
-use Rattle.std.proofs.Common.{
-  ◌≡◌,
-  ℕ,
-  zero,
-  suc,
-  ◌+◌,
-  ◌<◌,
-  ◌≤◌,
-  true,
-  false,
-  [],
-  length,
-  refl,
-  ap,
-  sym,
-  subst,
-  ◌∙◌,
-  arith,
-}
-use Rattle.std.proofs.Common.{Bool}
+use Rattle.std.proofs.Common.{◌≡◌, ℕ, zero, suc, ◌+◌, ◌<◌, ◌≤◌, true, false, [], length, refl, ap, sym, subst, ◌∙◌}
+use Rattle.std.proofs.Common.{arith, Bool}
 use Rattle.std.proofs.lemmas.Bool.Decides.{nat_tests}
 use Rattle.std.specs.Prelude.{Option, Some, None, Result, Ok, Err, unwrap_or, slice_get, nat_lt, if◌then◌else◌, ◌||◌}
 use Rattle.std.specs.Option.{option_map, option_map_or, option_and_then}
 use Rattle.std.proofs.lemmas.Option.{none-some, slice_get_within}
 use Rattle.key_laws.specs.Keys.{is_below}
-use Rattle.key_laws.specs.History.{History}
 use Rattle.ide_types.specs.declared.memory.Memory.{Memory}
 use Rattle.ide_types.specs.declared.port.Side.TheVariants.{Host}
 use Rattle.ide_types.specs.declared.sub.SubKind.{SubKind}
@@ -41,14 +22,12 @@ use Rattle.link_history.specs.Plan.{has_link, has_port, streams_of}
 use Rattle.stream_rules.specs.Stream.{StreamState, at_sub}
 use Rattle.stream_rules.specs.Slots.{sealing_draw}
 use Rattle.link_ports.specs.Replies.{BoundCompletion}
-use Rattle.link_ports.specs.Stands.{PortsStandFor}
 use Rattle.link_ports.specs.Machine.{Beside, LinkState, Stepped, port_at, sealing_draw_at, stepped_completion}
 use Rattle.link_ports.specs.Machine.{stepped_reply, stepped_send}
 unfoldable use Rattle.link_ports.specs.Machine.{find, step_of}
-use Rattle.ide_port.specs.{Found, PortEnd, found, sealing_draw_in}
-use Rattle.all_links.specs.{port_in}
+use Rattle.ide_port.specs.{Found, found, sealing_draw_in}
+use Rattle.all_links.specs.{port_in, LinkEnds, EndsView, AreLinks, port_on}
 use Rattle.all_links.proofs.{find_at, port_is, wired}
-use Rattle.all_links.specs.{LinkEnds, EndsView, AreLinks, port_on}
 use Rattle.all_links.specs.declared.links.Links.{Links}
 use Rattle.all_links.specs.States.{links_state}
 use Rattle.all_links.specs.Links.{Ends, EndsIf, EndsSending, EndsSendingOr}

@@ -1,9 +1,7 @@
 -- Events that the links have a verdict of, with all that is said beside their ports.
-use Rattle.std.proofs.Common.{◌≡◌, length, refl, ap, sym, subst, ◌∙◌, List, []}
-use Rattle.std.proofs.Common.{◌+◌, true}
+use Rattle.std.proofs.Common.{◌≡◌, length, refl, ap, sym, subst, ◌∙◌, List, [], ◌+◌, true}
 use Rattle.std.proofs.lemmas.Bool.{true≢false}
-use Rattle.std.specs.Prelude.{Option, Some, None, Result, Ok, Err}
-use Rattle.std.specs.Prelude.{IsErr}
+use Rattle.std.specs.Prelude.{Option, Some, None, Result, Ok, Err, IsErr}
 use Rattle.ide_types.specs.declared.memory.Memory.{Memory}
 use Rattle.ide_plan.specs.declared.plan.Plan.{Plan}
 use Rattle.link_events.specs.declared.event.Event.{Event}
@@ -18,14 +16,13 @@ use Rattle.all_links.proofs.Finds.{nothing_changes}
 use Rattle.all_links.specs.{IsBounded}
 use Rattle.all_links.specs.declared.links.Links.{Links}
 use Rattle.all_links.specs.States.{links_state}
-use Rattle.all_links.specs.Links.{Ends, EndsIf, EndsWith, EndsArriving, EndsAs, EndsAsOr, Stays}
+use Rattle.all_links.specs.Links.{Ends, EndsIf, EndsWith, EndsAs, EndsAsOr, Stays}
 use Rattle.all_links.specs.Accesses.{AccessesStay}
 use Rattle.accesses.specs.declared.link.LinkAccesses.{LinkAccesses}
 use Rattle.access_turns.proofs.Turns.{stays_all}
 use Rattle.whole_links.specs.declared.whole.WholeLinks.{WholeLinks}
 use Rattle.whole_links.specs.Besides.{beside_whole}
-use Rattle.whole_links.specs.Whole.{IsWhole, IsBoundedWhole, IsSaid, WholeEnds, WholeStays, WholeEndsAs}
-use Rattle.whole_links.specs.Whole.{WholeEndsAsOr}
+use Rattle.whole_links.specs.Whole.{IsWhole, IsBoundedWhole, IsSaid, WholeEnds, WholeStays, WholeEndsAs, WholeEndsAsOr}
 
 -- what is said of every plan may be taken of this one
 pub any_plan : Plan
@@ -56,12 +53,6 @@ pub ends_with : {verdict : Verdict} {old new : WholeLinks} {event : Event} (plan
     → WholeEnds plan verdict old new event
 ends_with plan x whole same = ends_if plan x whole (ap length same) (λ answer by regions. by)
 
-pub ends_arriving : {verdict : Verdict} {old new : WholeLinks} {event : Event} (plan : Plan)
-    → EndsArriving plan verdict old.accesses old.links new.links event → IsWhole old
-    → length new.accesses ≡ length old.accesses → WholeEnds plan verdict old new event
-ends_arriving plan x whole many =
-    ends_if plan x whole many (λ answer by regions. record { regions = regions; effects_are = refl })
-
 -- an event, and how it is spelled
 pub ends_of : {verdict : Verdict} {event : Event} (plan : Plan) (old new : WholeLinks) (e : Event) (mid : Links)
     → event ≡ e → EndsWith plan verdict old.links mid e → IsWhole old → new.links ≡ mid → new.accesses ≡ old.accesses
@@ -69,15 +60,6 @@ pub ends_of : {verdict : Verdict} {event : Event} (plan : Plan) (old new : Whole
 ends_of {verdict} {event} plan old new e mid is x whole links same =
     subst (λ (v : Event). WholeEnds plan verdict old new v) (sym is)
     (ends_with plan (subst (λ (s : Links). EndsWith plan verdict old.links s e) (sym links) x) whole same)
-
-pub arriving_of : {verdict : Verdict} {event : Event} (plan : Plan) (old new : WholeLinks) (e : Event) (mid : Links)
-    → event ≡ e → EndsArriving plan verdict old.accesses old.links mid e → IsWhole old → new.links ≡ mid
-    → length new.accesses ≡ length old.accesses → WholeEnds plan verdict old new event
-arriving_of {verdict} {event} plan old new e mid is x whole links many =
-    subst (λ (v : Event). WholeEnds plan verdict old new v) (sym is)
-    (ends_arriving plan (subst (λ (s : Links). EndsArriving plan verdict old.accesses old.links s e) (sym links) x)
-    whole
-    many)
 
 -- what is noted of accesses once the links have a verdict
 pub ends_noted : {verdict : Verdict} {event : Event} (plan : Plan) (old new : WholeLinks) (mid : Links)
@@ -129,17 +111,19 @@ pub err_stays : (plan : Plan) (r : Result (Option Verdict) Memory) (old new : Wh
 err_stays plan (Ok o) old new event is x same = absurd (true≢false (sym is))
 err_stays plan (Err e) old new event is x same = stays_with x same
 
--- ---- what the topology does not have
+-- ---- nothing
 
-absent_step : (plan : Plan) (b : Beside) (st : LinkState) → step_of plan b st Absent ≡ (v.Nothing, st)
+pub absent_step : (plan : Plan) (b : Beside) (st : LinkState) → step_of plan b st Absent ≡ (v.Nothing, st)
 unfolding step_of
 absent_step plan b st = refl
 
-pub nothing_ends : {verdict : Verdict} {old new : WholeLinks} (plan : Plan) → verdict ≡ v.Nothing
-    → new.links ≡ record old.links { steps = old.links.steps + 1 } → new.accesses ≡ old.accesses → IsBoundedWhole old
-    → WholeEnds plan verdict old new Absent
-nothing_ends {verdict} {old} {new} plan says is same bounded =
+-- whatever is said beside the ports
+pub nothing_ends : {verdict : Verdict} {old new : WholeLinks} (plan : Plan) (e : Event)
+    → ((b : Beside) → step_of plan b (links_state plan old.links) e ≡ (v.Nothing, links_state plan old.links))
+    → verdict ≡ v.Nothing → new.links ≡ record old.links { steps = old.links.steps + 1 }
+    → new.accesses ≡ old.accesses → IsBoundedWhole old → WholeEnds plan verdict old new e
+nothing_ends {verdict} {old} {new} plan e step says is same bounded =
     ends_if plan
-    (nothing_changes {IsSo = λ b. true ≡ true} plan Absent says is bounded.bounded
-    (λ b so h links stands. absent_step plan (beside_in old.links b) (links_state plan old.links)))
+    (nothing_changes {IsSo = λ b. true ≡ true} plan e says is bounded.bounded
+    (λ b so h links stands. step (beside_in old.links b)))
     bounded.whole (ap length same) (λ answer by regions. refl)

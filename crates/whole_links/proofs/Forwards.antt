@@ -1,40 +1,10 @@
 -- A forward, as the machine has it: a verdict ahead of the ports, or the send of the first TLP that waits.
-use Rattle.std.proofs.Common.{
-  ◌≡◌,
-  ℕ,
-  ◌+◌,
-  ◌<◌,
-  ◌≤◌,
-  true,
-  false,
-  List,
-  [],
-  ◌∷◌,
-  length,
-  refl,
-  ap,
-  sym,
-  subst,
-  ◌∙◌,
-  arith,
-}
-use Rattle.std.proofs.Common.{Bool}
+use Rattle.std.proofs.Common.{◌≡◌, ℕ, ◌+◌, ◌<◌, true, false, List, [], ◌∷◌, length, refl, ap, sym, subst, ◌∙◌}
+use Rattle.std.proofs.Common.{arith, Bool}
 use Rattle.std.proofs.lemmas.Bool.Decides.{nat_tests}
-use Rattle.std.proofs.lemmas.Option.{none-some, slice_get_within}
-use Rattle.std.specs.Prelude.{
-  Option,
-  Some,
-  None,
-  Result,
-  Ok,
-  Err,
-  is_some,
-  slice_get,
-  nat_lt,
-  if◌then◌else◌,
-  ◌||◌,
-  ◌&&◌,
-}
+use Rattle.std.proofs.lemmas.Option.{slice_get_within}
+use Rattle.std.specs.Prelude.{Option, Some, None, Result, Ok, Err, is_some, slice_get, nat_lt, if◌then◌else◌, ◌||◌}
+use Rattle.std.specs.Prelude.{◌&&◌}
 use Rattle.std.specs.List.{slice_index_or}
 use Rattle.ide_types.specs.Lines.{is_link_line}
 use Rattle.ide_types.specs.declared.memory.Memory.{Memory}
@@ -53,10 +23,9 @@ use Rattle.link_verdicts.specs.declared.access.AccessVerdict.TheVariants as av
 use Rattle.link_history.specs.Hops.{has_hop, leaving_end}
 use Rattle.link_history.specs.Plan.{has_link, has_port, streams_of}
 use Rattle.link_history.proofs.HopRows.{near_row, far_row}
-use Rattle.link_ports.specs.Forwards.{first_waiting, forward_of}
+use Rattle.link_ports.specs.Forwards.{first_waiting}
 use Rattle.link_ports.specs.Machine.{Beside, LinkState, Stepped, stepped_forward}
 unfoldable use Rattle.link_ports.specs.Machine.{step_of}
-use Rattle.all_links.specs.{AreLinks}
 use Rattle.all_links.specs.States.{links_state}
 use Rattle.all_links.specs.Links.{Ends, EndsIf, EndsSending, EndsSendingOr}
 use Rattle.all_links.specs.Accesses.{carried_at}
@@ -109,7 +78,7 @@ line_there plan line s is = rw is (either (has_link plan line))
     either : (a : Bool) → (a || true) ≡ true
     either a = grind arith
 
-leaving_there : (plan : Plan) (link : ℕ) (d : Direction) → has_hop plan link ≡ true
+pub leaving_there : (plan : Plan) (link : ℕ) (d : Direction) → has_hop plan link ≡ true
     → has_port plan (leaving_end link d) ≡ true
 leaving_there plan link Downstream has =
     let x = hop_link plan link has in

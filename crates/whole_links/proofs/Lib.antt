@@ -3,4 +3,7 @@ mod Replies
 mod Answers
 mod Forwards
 mod Accesses
-pub use Rattle.all_links.proofs.{end_found, machine_found, op_is, set_read, unnamed}
+mod Arrivals
+pub use Rattle.all_links.proofs.{closed_at, end_found, ends_there, machine_found, none_found, op_is, port_is}
+pub use Rattle.all_links.proofs.{sealing_there, set_read, unnamed}
+pub use Rattle.whole_links.proofs.Forwards.{leaving_there}

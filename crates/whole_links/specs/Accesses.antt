@@ -1,5 +1,5 @@
 -- What an event makes of the accesses of all links.
-use Rattle.std.specs.Prelude.{ℕ, ◌≡◌, ◌==◌, ◌&&◌, not, Bool, true, false, if◌then◌else◌, List, [], ◌∷◌}
+use Rattle.std.specs.Prelude.{ℕ, ◌≡◌, ◌==◌, ◌&&◌, not, Bool, true, false, if◌then◌else◌, List, [], ◌∷◌, length}
 use Rattle.std.specs.Prelude.{slice_set, Option, Some, None}
 use Rattle.std.specs.Option.{option_map_or}
 use Rattle.ide_types.specs.declared.direction.Direction.{Direction}
@@ -15,14 +15,21 @@ use Rattle.link_verdicts.specs.declared.verdict.Verdict.TheVariants as v
 use Rattle.link_verdicts.specs.declared.access.AccessVerdict.TheVariants as av
 use Rattle.interface_states.specs.Exchanges.{carries, changes_device}
 use Rattle.guarded_memory.specs.Happenings.{Happened, InterfaceReset, AllReset, InterfaceStopped}
+use Rattle.key_laws.specs.History.{History}
+use Rattle.link_history.specs.Guarded.{happens_by}
+use Rattle.link_history.specs.History.{Arrival}
 use Rattle.link_history.specs.Hops.{HopTlp}
+use Rattle.link_ports.specs.Machine.{LinkState}
+use Rattle.link_ports.specs.Stands.{PortsStandFor}
+use Rattle.accesses.specs.declared.link.LinkAccesses.{LinkAccesses}
 use Rattle.access_turns.specs.{waiting_next}
-use Rattle.all_links.specs.{waiting_reads_after}
+use Rattle.all_links.specs.{AreLinks, carried_next, unit_in, unit_tlps, waiting_reads_after}
 use Rattle.tdi_state.specs.Machine.{Tdi}
 use Rattle.all_links.specs.Accesses.{runs_in, device_draw, same_reads, same_floors, nothing_happens, same_carried}
-use Rattle.all_links.specs.Accesses.{AccessesTurn, AccessesArrive}
+use Rattle.all_links.specs.Accesses.{AccessesTurn, policy_in}
 use Rattle.all_links.specs.Interfaces.{interface_named, tdi_named}
 use Rattle.all_links.specs.Sides.{arrival_at}
+use Rattle.all_links.specs.States.{links_state}
 use Rattle.all_links.specs.declared.links.Links.{Links}
 use Rattle.whole_links.specs.declared.whole.WholeLinks.{WholeLinks}
 
@@ -94,6 +101,16 @@ AccessesInterface (ie.Halt i loss) verdict old new =
 AccessesInterface (ie.Flr i) verdict old new =
     AccessesTurn same_reads same_floors (flr_at new.links i verdict) same_carried old.accesses new.accesses
 AccessesInterface e verdict old new = new.accesses ≡ old.accesses
+
+-- bytes arrive
+pub record AccessesArrive (plan : Plan) (arrival : LinkState → Option Arrival) (e : Event) (verdict : Verdict)
+    (old : Links) (xs ys : List LinkAccesses) : Type 0 where
+  pub many : length ys ≡ length xs
+  pub turn : (h : History) → AreLinks plan old.ends old.keeper.keys → PortsStandFor plan (links_state plan old) h
+      → let ps = unit_in plan (links_state plan old) (arrival (links_state plan old)) in
+      AccessesTurn (waiting_reads_after plan ps e verdict) same_floors
+      (λ link. happens_by plan (policy_in old.keeper.interfaces old.ends xs).standings ps e verdict link)
+      (carried_next (unit_tlps plan ps verdict) e verdict) xs ys
 
 abbrev pub AccessesArriveAt : Plan → Event → Verdict → WholeLinks → WholeLinks → Type 0
 AccessesArriveAt plan e verdict old new =

@@ -1,8 +1,7 @@
 -- What all links say beside their ports: also the effects of accepted units, the answers to reads that wait, what is
 -- shown of the memory of devices, and what the first TLP comes to that waits at a switch.
 use Rattle.std.specs.Prelude.{ℕ, nat_lt, nat_le, not, Bool, false, if◌then◌else◌, List, [], ◌∷◌, Option, Some, None}
-use Rattle.std.specs.Prelude.{Result}
-use Rattle.std.specs.Prelude.{Ok, Err, slice_get}
+use Rattle.std.specs.Prelude.{Result, Ok, Err, slice_get}
 use Rattle.ide_types.specs.declared.direction.Direction.{Direction}
 use Rattle.ide_plan.specs.declared.plan.Plan.{Plan}
 use Rattle.link_events.specs.declared.event.InterfaceEvent.{InterfaceEvent}

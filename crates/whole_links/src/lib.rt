@@ -2,8 +2,10 @@
 //! TLPs that wait at switches, event by event (PCI Express Base 6.0 section 6.33 and chapter 11, in this profile).
 #![tactic(auto)]
 
+mod packets;
 mod reply;
 mod verdicts;
 mod whole;
 
+pub use packets::Passage;
 pub use whole::WholeLinks;

@@ -16,6 +16,7 @@ ghost use Rattle.all_links.specs.Accesses.{AccessesTurn, carried_at, same_carrie
 ghost use Rattle.all_links.specs.Sides.{SidesKeep, SidesOperate, SidesReset, SidesInterface, Sides};
 ghost use Rattle.link_history.specs.Hops.{has_hop as has_hop_in};
 
+use crate::packets::Passage;
 use crate::reply::{draw_below, judged, small_number};
 use crate::verdicts::{changes_device, dropped, empty, is_sealed, reaches, takes_read};
 use access_turns::clear_hops;
@@ -45,7 +46,7 @@ impl WholeLinks {
     ghost use Rattle.whole_links.specs.Besides.{replied, reply_numbered, reply_on};
     ghost use Rattle.whole_links.specs.Besides.{reader_of};
     ghost use Rattle.whole_links.specs.Besides.{has_shown, bytes_shown};
-    ghost use Rattle.whole_links.specs.Whole.{IsFirstWhole, IsBoundedWhole, WholeEnds, WholeEndsAs};
+    ghost use Rattle.whole_links.specs.Whole.{IsFirstWhole, IsWhole, IsBoundedWhole, WholeEnds, WholeEndsAs};
     ghost use Rattle.whole_links.specs.Whole.{WholeEndsOr, WholeEndsAsOr};
     ghost use Rattle.whole_links.specs.Accesses.{takes_read, is_sealed, floors_if, halted_in, flr_at};
     ghost use Rattle.whole_links.specs.Accesses.{AccessesInterface, AccessesForward, AccessesAfter};
@@ -116,7 +117,7 @@ impl WholeLinks {
     // Appends the completion of the oldest read of the link, or gives the verdict without one. There is room for it.
     fn reply(&self, link: u8, bytes: &mut Vec<u8>) -> Result<(u8, u32), Verdict>
         requires here { link < length self.now.links.ends.links }
-        requires bounded { IsBoundedWhole self.now }
+        requires whole { IsWhole self.now }
         requires empty { bytes.old.items ≡ [] }
         requires room { vec_len bytes.old + 4108 ≤ vec_capacity bytes.old }
         ensures { replied result bytes.new.items ≡ reply_on self.now link }
@@ -541,27 +542,19 @@ impl WholeLinks {
                 let bytes = bytes.as_slice();
                 Ok(Some(self.links.send(plan, *port, bytes, *more, *trusted)?))
             }
-            Event::Pass { packet } => {
-                let accesses = &mut self.accesses;
-                Ok(Some(self.links.pass(alloc, plan, *packet, accesses)?))
-            }
+            Event::Pass { packet } => { Ok(Some(self.pass(alloc, plan, *packet, Passage::Whole)?)) }
             Event::Alter { packet, at, mask } => {
-                let accesses = &mut self.accesses;
-                Ok(Some(
-                    self.links
-                        .alter(alloc, plan, *packet, *at, *mask, accesses)?,
-                ))
+                let (at, mask) = (*at, *mask);
+                let passage = Passage::Altered { at, mask };
+                Ok(Some(self.pass(alloc, plan, *packet, passage)?))
             }
             Event::Cut { packet, length } => {
-                let accesses = &mut self.accesses;
-                Ok(Some(self.links.cut(alloc, plan, *packet, *length, accesses)?))
+                let passage = Passage::Cut { length: *length };
+                Ok(Some(self.pass(alloc, plan, *packet, passage)?))
             }
             Event::Arrive { port, bytes } => {
-                let accesses = &mut self.accesses;
-                Ok(Some(
-                    self.links
-                        .arrive(alloc, plan, *port, bytes.as_slice(), accesses)?,
-                ))
+                let bytes = bytes.as_slice();
+                Ok(Some(self.arrive(alloc, plan, *port, bytes)?))
             }
             Event::Dump { packet } => Ok(Some(self.links.dump(alloc, *packet)?)),
             Event::Status { link, stream } => Ok(Some(self.links.status(*link, *stream))),

@@ -24,7 +24,6 @@ use Rattle.std.proofs.Common.{false}
 use Rattle.std.specs.Prelude.{slice_get, slice_set, if◌then◌else◌}
 use Rattle.std.specs.Prelude.{◌<◌}
 use Rattle.std.proofs.lemmas.Bool.{cases_Bool, cases_lt}
-use Rattle.ide_types.specs.Lines.{peer_line}
 use Rattle.ide_plan.specs.declared.plan.Plan.{Plan}
 use Rattle.ide_plan.specs.declared.plan.PeerPlan.{PeerPlan}
 use Rattle.link_events.specs.declared.event.Event.TheVariants as event
@@ -35,7 +34,7 @@ use Rattle.link_verdicts.specs.declared.verdict.Verdict.{Verdict}
 use Rattle.link_verdicts.specs.declared.verdict.Verdict.TheVariants as v
 use Rattle.interface_states.specs.Peers.{has_peer}
 use Rattle.interface_states.specs.Sites.{Site, sites}
-use Rattle.interface_states.specs.Views.{number_in, peer_of}
+use Rattle.interface_states.specs.Views.{number_in}
 use Rattle.interface_states.specs.Devices.{accepts_lock, one_if}
 use Rattle.interface_machine.specs.Machine.{around_of, face_after}
 use Rattle.tdi_host.specs.declared.operation.InterfaceOp.{InterfaceOp}
@@ -150,32 +149,29 @@ module _ (plan : Plan) (old new : Links) (w : Whole) (verdict : Verdict) (both :
       ap (has_peer_at old.ends line stream)
       (interface_absent plan old.ends.links old.keeper.interfaces old.trusted.contents w i both.whole.beside past)
 
-  -- an operation on a stream of this line, by its event
-  record IsPeerOp (i line stream : ℕ) (loss : Option Loss) (o : InterfaceOp) (e : ℕ → InterfaceEvent) : Type 0 where
-    event_is : op_event o i loss ≡ e (peer_line (peer_of line))
-    number_is : number_in (e line) ≡ Some i
-    of_peer : is_of_peer (e line) ≡ true
-    fits : (x : Site) → has_peer plan.peers x.link line stream ≡ true → Fits x o × (line ≡ peer_line (peer_of line))
+  -- an operation on a stream of this line
+  record IsPeerOp (i line stream : ℕ) (loss : Option Loss) (o : InterfaceOp) : Type 0 where
+    number_is : number_in (op_event o i loss) ≡ Some i
+    of_peer : is_of_peer (op_event o i loss) ≡ true
+    fits : (x : Site) → has_peer plan.peers x.link line stream ≡ true → Fits x o
     few : (x : Site) → has_peer plan.peers x.link line stream ≡ true → stream < 256
     answers : (x : Site) → slice_get (sites plan) i ≡ Some x → has_peer plan.peers x.link line stream ≡ false
-        → (beside_of plan w).answer (e line) ≡ v.Nothing
+        → (beside_of plan w).answer (op_event o i loss) ≡ v.Nothing
 
-  peer_beside : (i line stream : ℕ) (loss : Option Loss) (o : InterfaceOp) (e : ℕ → InterfaceEvent)
-      → IsPeerOp i line stream loss o e → SidesPeer i line stream o loss old new → IsAsked (e line)
-  peer_beside i line stream loss o e c sides = ⊎_elim
+  peer_beside : (i line stream : ℕ) (loss : Option Loss) (o : InterfaceOp)
+      → IsPeerOp i line stream loss o → SidesPeer i line stream o loss old new → IsAsked (op_event o i loss)
+  peer_beside i line stream loss o c sides = ⊎_elim
       (λ lt.
       let x = get_there (sites plan) i lt in
       let has_is = has_there i line stream x.0 x.1 in
       ⊎_elim
-      (λ has.
-      let f = c.fits x.0 has in
-      subst (λ (n : ℕ). IsAsked (e n)) (sym f.1)
-      (subst IsAsked c.event_is (there_asked i x.0 o loss (sides.asked (c.few x.0 has) (has_is ∙ has)) x.1 f.0)))
+      (λ has. there_asked i x.0 o loss (sides.asked (c.few x.0 has) (has_is ∙ has)) x.1 (c.fits x.0 has))
       (λ none is.
-      unasked_beside plan old new w verdict (beside_of plan w) both (sides.absent (has_is ∙ none)) (e line) c.of_peer
-      ((interface_step plan w (links_state plan new) (e line) verdict is).0 ∙ c.answers x.0 x.1 none) is)
+      unasked_beside plan old new w verdict (beside_of plan w) both (sides.absent (has_is ∙ none)) (op_event o i loss)
+      c.of_peer ((interface_step plan w (links_state plan new) (op_event o i loss) verdict is).0 ∙ c.answers x.0 x.1
+      none) is)
       (cases_Bool (has_peer plan.peers x.0.link line stream)))
-      (λ past is. nowhere_beside plan old new w (e line) verdict i both
+      (λ past is. nowhere_beside plan old new w (op_event o i loss) verdict i both
       (sides.absent (has_nowhere i line stream past)) c.number_is past is)
       (cases_lt i (length (sites plan)))
 
@@ -184,7 +180,6 @@ module _ (plan : Plan) (old new : Links) (w : Whole) (verdict : Verdict) (both :
 
   peers_fit : (x : Site) (line stream : ℕ) → has_peer plan.peers x.link line stream ≡ true
       → Fits x (op.Bind (peer_stream old.keeper line stream)) × Fits x (op.Unbind (peer_stream old.keeper line stream))
-      × (line ≡ peer_line (peer_of line))
   peers_fit = peer_fits plan old.ends old.keeper old.packets.packets old.trusted.contents w join both.links
       both.whole.beside both.whole.drawn both.whole.links
 
@@ -192,12 +187,11 @@ module _ (plan : Plan) (old new : Links) (w : Whole) (verdict : Verdict) (both :
       → SidesPeer i line stream (op.Bind (peer_stream old.keeper line stream)) loss old new
       → IsAsked (ie.Bind i line stream loss)
   bind_beside i line stream loss =
-      peer_beside i line stream loss (op.Bind (peer_stream old.keeper line stream)) (λ n. ie.Bind i n stream loss)
+      peer_beside i line stream loss (op.Bind (peer_stream old.keeper line stream))
       (record {
-        event_is = refl;
         number_is = refl;
         of_peer = refl;
-        fits = λ x has. let f = peers_fit x line stream has in (f.0, f.2);
+        fits = λ x has. (peers_fit x line stream has).0;
         few = λ x has. (peers_fit x line stream has).1.1;
         answers = λ x at none.
             let p = both.whole.beside.placed i x at in
@@ -209,12 +203,11 @@ module _ (plan : Plan) (old new : Links) (w : Whole) (verdict : Verdict) (both :
       → SidesPeer i line stream (op.Unbind (peer_stream old.keeper line stream)) loss old new
       → IsAsked (ie.Unbind i line stream loss)
   unbind_beside i line stream loss =
-      peer_beside i line stream loss (op.Unbind (peer_stream old.keeper line stream)) (λ n. ie.Unbind i n stream loss)
+      peer_beside i line stream loss (op.Unbind (peer_stream old.keeper line stream))
       (record {
-        event_is = refl;
         number_is = refl;
         of_peer = refl;
-        fits = λ x has. let f = peers_fit x line stream has in (f.1, f.2);
+        fits = λ x has. (peers_fit x line stream has).1;
         few = λ x has. (peers_fit x line stream has).1.1;
         answers = λ x at none.
             let p = both.whole.beside.placed i x at in

@@ -1,2 +1,4 @@
 -- what clauses and crates above cite
 pub use Rattle.access_states.specs.{WorldView, Stands, IsNewWorld, IsStep}
+pub use Rattle.access_states.specs.{AreLinks, IsPlaced, IsWorld, LinkEnds, WholeLinks, carried_at, interface_named}
+pub use Rattle.access_states.specs.{links_state, located, port_on, reads_at, stream_named, tdi_of_ends, world_of}

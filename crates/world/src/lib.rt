@@ -5,4 +5,5 @@
 
 mod world;
 
+pub use access_states::WholeLinks;
 pub use world::World;

@@ -82,3 +82,17 @@ impl World {
         Ok(verdict.unwrap())
     }
 }
+
+// ---- what is seen of it
+
+impl World {
+    ghost use Rattle.access_states.specs.{IsWorld, world_of};
+
+    /// What is kept of all links and the managers, lent.
+    pub fn links(&self) -> &WholeLinks
+        ensures kept { self.now ≡ world_of self.now.plan result.now }
+        ensures world { IsWorld self.now.plan result.now }
+    {
+        &self.links
+    }
+}

@@ -7,7 +7,6 @@ use Rattle.std.proofs.lemmas.Bool.{cases_Bool, true≢false}
 use Rattle.std.specs.List.{slice_index_or}
 use Rattle.std.specs.Option.{option_and_then}
 use Rattle.std.specs.Prelude.{slice_get, if◌then◌else◌}
-use Rattle.ide_types.specs.Lines.{peer_line}
 use Rattle.ide_types.specs.declared.port.Side.TheVariants.{Host}
 use Rattle.ide_types.specs.declared.status.StreamStatus.{StreamStatus}
 use Rattle.ide_plan.specs.declared.plan.PeerPlan.{PeerPlan}
@@ -95,8 +94,8 @@ module _ (plan : Plan) (v : EndsView) (k : HostKeeper) (packets : List LinkPacke
   status_is i op.Start x p = host_is i x p
   status_is i op.Halt x p = host_is i x p
   status_is i op.State x p = host_is i x p
-  status_is i (op.Bind peer) x p = peer_status (peer_line peer.number) peer.id
-  status_is i (op.Unbind peer) x p = peer_status (peer_line peer.number) peer.id
+  status_is i (op.Bind peer) x p = peer_status peer.line peer.id
+  status_is i (op.Unbind peer) x p = peer_status peer.line peer.id
 
   -- the operation reads of the ends and of the draws what the machine has
   operated_is : (i : ℕ) (o : InterfaceOp) (loss : Option Loss) (x : Site)
@@ -130,19 +129,15 @@ module _ (plan : Plan) (v : EndsView) (k : HostKeeper) (packets : List LinkPacke
 
   pub peer_fits : (x : Site) (line stream : ℕ) → has_peer plan.peers x.link line stream ≡ true
       → PeerFits x (op.Bind (peer_stream k line stream)) × PeerFits x (op.Unbind (peer_stream k line stream))
-      × (line ≡ peer_line (peer_of line))
   peer_fits x line stream has =
       let r = peer_line_is plan x.link line stream links.fits has in
-      let same : line ≡ peer_line (peer_of line) = sym r.line_is ∙ ap peer_line (sym r.number_is) in
-      let there : has_peer plan.peers x.link (peer_line (peer_of line)) stream ≡ true =
-      ap (λ (n : ℕ). has_peer plan.peers x.link n stream) (sym same) ∙ has in
-      let draw : slice_index_or k.peer_draws (peer_of line) 0 ≡ w.draw (peer_line (peer_of line)) stream =
+      let draw : slice_index_or k.peer_draws (peer_of line) 0 ≡ w.draw line stream =
       ap (λ (n : ℕ). slice_index_or k.peer_draws n 0) r.number_is ∙ drawn.each r.number r.peer r.peer_is
-      ∙ (λ n. w.draw (peer_line (sym r.number_is n)) (r.id_is n)) in
+      ∙ (λ n. w.draw (r.line_is n) (r.id_is n)) in
       let live : live_on v x.link stream ≡ live_by (live_in plan w.links) plan.peers x.link stream =
       sym (live_is plan v k.keys packets links x.link stream)
       ∙ ap (λ (st : LinkState). live_by (live_in plan st) plan.peers x.link stream) (sym state_is) in
-      ((there, r.id_most, draw, live), (there, r.id_most), same)
+      ((has, r.id_most, draw, live), (has, r.id_most))
 
   -- ---- answers
 
@@ -166,24 +161,21 @@ module _ (plan : Plan) (v : EndsView) (k : HostKeeper) (packets : List LinkPacke
       (λ x p is. verdict_is i o loss x p is (peer x p))
 
   -- of an operation on a stream between devices
-  peer_if : (i : ℕ) (e : InterfaceEvent) (o : InterfaceOp) (loss : Option Loss) (line stream : ℕ) (x : Site)
+  peer_if : (i : ℕ) (o : InterfaceOp) (loss : Option Loss) (line stream : ℕ) (x : Site)
       (p : IsPlaced plan v.links k.interfaces w i x) → slice_get (sites plan) i ≡ Some x
-      → (has_peer plan.peers x.link line stream ≡ true → PeerFits x o × (op_event o i loss ≡ e))
-      → (has_peer plan.peers x.link line stream ≡ false
-      → said.Nothing ≡ asked_due plan x (face_standing plan (whole_streams plan w) w.faces.used x p.face) e)
+      → (has_peer plan.peers x.link line stream ≡ true → PeerFits x o)
+      → (has_peer plan.peers x.link line stream ≡ false → said.Nothing
+      ≡ asked_due plan x (face_standing plan (whole_streams plan w) w.faces.used x p.face) (op_event o i loss))
       → (if has_peer v.peers x.link line stream then verdict_in i o loss
       (ended_at k v i o loss (Some (x.link, p.place)))
       else Some said.Nothing)
-      ≡ Some (asked_due plan x (face_standing plan (whole_streams plan w) w.faces.used x p.face) e)
-  peer_if i e o loss line stream x p is there absent =
+      ≡ Some (asked_due plan x (face_standing plan (whole_streams plan w) w.faces.used x p.face) (op_event o i loss))
+  peer_if i o loss line stream x p is there absent =
       let with_peer = λ (b : Bool). if b then verdict_in i o loss (ended_at k v i o loss (Some (x.link, p.place)))
       else Some said.Nothing in
       ap (λ (ps : List PeerPlan). with_peer (has_peer ps x.link line stream)) links.peers_are
       ∙ ⊎_elim
-      (λ has.
-      ap with_peer has ∙ verdict_is i o loss x p is (there has).0
-      ∙ ap (λ (f : InterfaceEvent). Some
-      (asked_due plan x (face_standing plan (whole_streams plan w) w.faces.used x p.face) f)) (there has).1)
+      (λ has. ap with_peer has ∙ verdict_is i o loss x p is (there has))
       (λ none. ap with_peer none ∙ ap Some (absent none))
       (cases_Bool (has_peer plan.peers x.link line stream))
 
@@ -198,10 +190,8 @@ module _ (plan : Plan) (v : EndsView) (k : HostKeeper) (packets : List LinkPacke
       answered plan v.links k.interfaces memory w beside links.fits links.many i (ie.Bind i line stream loss)
       (λ at. if has_peer_at v line stream at then verdict_in i o loss (ended_at k v i o loss at) else Some said.Nothing)
       refl
-      (λ x p is. peer_if i (ie.Bind i line stream loss) o loss line stream x p is
-      (λ has.
-      let fits = peer_fits x line stream has in
-      (fits.0, ap (λ (n : ℕ). ie.Bind i n stream loss) (sym fits.2)))
+      (λ x p is. peer_if i o loss line stream x p is
+      (λ has. (peer_fits x line stream has).0)
       (λ none. no_peer (has_peer plan.peers x.link line stream) _ none))
 
   unbind_is : (i line stream : ℕ) (loss : Option Loss)
@@ -212,10 +202,8 @@ module _ (plan : Plan) (v : EndsView) (k : HostKeeper) (packets : List LinkPacke
       answered plan v.links k.interfaces memory w beside links.fits links.many i (ie.Unbind i line stream loss)
       (λ at. if has_peer_at v line stream at then verdict_in i o loss (ended_at k v i o loss at) else Some said.Nothing)
       refl
-      (λ x p is. peer_if i (ie.Unbind i line stream loss) o loss line stream x p is
-      (λ has.
-      let fits = peer_fits x line stream has in
-      (fits.1, ap (λ (n : ℕ). ie.Unbind i n stream loss) (sym fits.2)))
+      (λ x p is. peer_if i o loss line stream x p is
+      (λ has. (peer_fits x line stream has).1)
       (λ none. no_peer (has_peer plan.peers x.link line stream) _ none))
 
   -- every event has the verdict that the machine answers it with

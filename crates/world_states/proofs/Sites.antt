@@ -123,27 +123,6 @@ located_kept link n (x ∷ old) (y ∷ new) many kept =
 
 -- ---- all of them
 
-located_some : (link n : ℕ) (ends : List LinkEnds) → n < held_in_all ends
-    → (at : ℕ × ℕ) × (located link n ends ≡ Some at)
-located_some link n [] lt = absurd (omega (arith, lt))
-located_some link n (l ∷ ls) lt =
-    ⊎_elim here (λ le. later le (located_some (link + 1) (n - length l.device.interfaces.interfaces) ls
-    (omega (arith, lt, le)))) (cases_lt n (length l.device.interfaces.interfaces))
-  where
-    here : n < length l.device.interfaces.interfaces → (at : ℕ × ℕ) × (located link n (l ∷ ls) ≡ Some at)
-    here less = ((link, n), rw (lt-ltb n (length l.device.interfaces.interfaces) less) refl)
-
-    later : length l.device.interfaces.interfaces ≤ n
-        → (at : ℕ × ℕ) × (located (link + 1) (n - length l.device.interfaces.interfaces) ls ≡ Some at)
-        → (at : ℕ × ℕ) × (located link n (l ∷ ls) ≡ Some at)
-    later le r = (r.0, rw (le-ltb n (length l.device.interfaces.interfaces) le) r.1)
-
-located_past : (link n : ℕ) (ends : List LinkEnds) → held_in_all ends ≤ n → located link n ends ≡ None
-located_past link n [] le = refl
-located_past link n (l ∷ ls) le =
-    rw (le-ltb n (length l.device.interfaces.interfaces) (omega (arith, le)))
-    (located_past (link + 1) (n - length l.device.interfaces.interfaces) ls (omega (arith, le)))
-
 held_less : (ends : List LinkEnds) (on place : ℕ) (l : LinkEnds) → slice_get ends on ≡ Some l
     → place < length l.device.interfaces.interfaces → held_before ends on + place < held_in_all ends
 held_less [] on place l is lt = absurd (none-some l is)

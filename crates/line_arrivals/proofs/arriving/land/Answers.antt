@@ -35,5 +35,5 @@ returns-else-port-count-clause-lands c =
     land_take c.args.arriving.now.plan.now c.args.arriving.now.keeper.now c.args.arriving.now.end
     c.args.arriving.now.bytes.now c.args.ends.now c.args.trusted.now.contents c.args.accesses.now c.reached-end.result
     c.reached-end.ensures c.bring.result c.bring.new.ends c.bring.new.trusted.contents c.bring.new.accesses
-    c.port_of-port.result c.if-goes_through.ensures c.in-None.ensures c.if-not-has_end.ensures c.port_of-port.ensures
+    c.port_of-port.result c.if-goes_through.ensures c.in-None.ensures c.port_of-port.ensures
     (omega (arith, c.if-port-count.false, c.count-in-None.ensures.value)) c.requires.many c.bring.ensures.brings

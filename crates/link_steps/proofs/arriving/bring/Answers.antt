@@ -31,4 +31,4 @@ returns-clause-brings c =
       same = c.in_ok-spare-2.ensures.reads;
       sizes = c.in_ok-spare-2.ensures.sizes;
       leads = c.in_ok-spare-2.ensures.leads;
-    }) c.arrive.ensures.arrives c.arrive.ensures.regions
+    }) c.arrive.ensures.arrives c.arrive.ensures.absent c.arrive.ensures.regions

@@ -1,6 +1,6 @@
 use Rattle.all_ends.proofs.Terms.{◌≡◌, ◌∙◌, ◌<◌, ap, sym, subst, refl, length, Option, Some, slice_get, same_Some}
 use Rattle.all_ends.proofs.Terms.{slice_get_within, EndsView, PortEnd, port_on, with_port_on, take_step}
-use Rattle.std.specs.Prelude.{IsSome}
+use Rattle.std.specs.Prelude.{IsSome, is_some, true, false}
 use Rattle.ide_prefix.specs.Reading.{cut_of}
 use Rattle.ide_port.specs.declared.answer.Arrival.{Arrival}
 use Rattle.accesses.specs.declared.link.LinkAccesses.{LinkAccesses}
@@ -13,7 +13,7 @@ use Rattle.all_ends.proofs.all_ends.AllEnds.arrive.Goals as goal
 
 pub arrived-verdict-requires-clause-here : goal.arrived-verdict-requires-clause-here
 arrived-verdict-requires-clause-here c =
-    let e = some_port (port_on c.args.self.now c.args.end) c.requires.here in
+    let e = some_port (port_on c.args.self.now c.args.end) (sym c.if-not-has_end.ensures) in
     let t = c.take-arrival.ensures e.0 e.1 in
     subst (λ (o : Option PortEnd). IsSome o)
     (sym (ap (λ (v : EndsView). port_on v c.args.end) t.new_is
@@ -21,13 +21,26 @@ arrived-verdict-requires-clause-here c =
 
 pub arrived-verdict-requires-clause-link : goal.arrived-verdict-requires-clause-link
 arrived-verdict-requires-clause-link c =
-    let e = some_port (port_on c.args.self.now c.args.end) c.requires.here in
+    let e = some_port (port_on c.args.self.now c.args.end) (sym c.if-not-has_end.ensures) in
     let t = c.take-arrival.ensures e.0 e.1 in
     let p : PortEnd = (take_step e.0 (cut_of c.args.bytes.now)).port in
     let l = there c.args.self.now.links c.args.port.link c.requires.link in
     let l' = link_after c.args.self.now c.args.end p c.args.port.link l.0 l.1 in
     subst (λ (v : EndsView). c.args.port.link < length v.links) (sym t.new_is)
     (slice_get_within (with_port_on c.args.self.now c.args.end p).links c.args.port.link l'.0 l'.1)
+
+pub returns-then-not-has_end-clause-arrives : goal.returns-then-not-has_end-clause-arrives
+returns-then-not-has_end-clause-arrives c = λ e l a is at access.
+    let here : true ≡ false = ap (λ (o : Option PortEnd). is_some o) (sym is) ∙ sym c.if-not-has_end.ensures in absurd
+    cc
+
+pub returns-then-not-has_end-clause-absent : goal.returns-then-not-has_end-clause-absent
+returns-then-not-has_end-clause-absent c none =
+    record { verdict_is = refl; ends_stay = refl; memory_stays = refl; accesses_stay = refl }
+
+pub returns-clause-absent : goal.returns-clause-absent
+returns-clause-absent c none =
+    let never : true ≡ false = c.if-not-has_end.ensures ∙ none in absurd cc
 
 pub returns-clause-arrives : goal.returns-clause-arrives
 returns-clause-arrives c = λ e l a is at access.

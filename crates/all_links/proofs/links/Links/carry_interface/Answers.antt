@@ -1,8 +1,7 @@
-use Rattle.all_links.proofs.Terms.{subst, ◌<◌, ℕ, [], length, slice_get_within, sym}
+use Rattle.all_links.proofs.Terms.{subst, ◌<◌, ℕ, [], length, slice_get_within}
 use Rattle.interface_answers.proofs.{answered_no_bad_reply}
-use Rattle.interface_answers.specs.{AsksAt}
 use Rattle.all_links.specs.Interfaces.{interface_named}
-use Rattle.all_links.proofs.Asked.{link_of, is_there, is_found, answered, names_in}
+use Rattle.all_links.proofs.Asked.{link_of, is_there, is_found, answered}
 use Rattle.all_links.proofs.links.Links.carry_interface.Goals as goal
 
 pub operate_on-requires-clause-here : goal.operate_on-requires-clause-here
@@ -29,12 +28,3 @@ returns-clause-no_bad_reply c some =
     answered_no_bad_reply c.args.number c.args.loss [] c.operate_on.result
     (answered c.args.self.now c.args.number c.args.link c.args.op c.args.loss c.operate_on.result
     c.operate_on.new.self c.operate_on.new.keeper c.requires.here c.operate_on.ensures some [])
-
-pub returns-clause-shows : goal.returns-clause-shows
-returns-clause-shows c =
-    let m = c.args.self.now.keeper.interfaces in
-    let at = link_of (interface_named m c.args.self.now.ends.links c.args.number) c.args.link c.requires.here in
-    names_in c.args.self.now c.args.number at.0 c.args.op c.args.loss c.operate_on.result c.operate_on.new.self
-    c.operate_on.new.keeper c.requires.peer at.1
-    (subst (λ (i : ℕ). AsksAt c.args.self.now.ends i c.args.self.now.keeper c.args.number c.args.op c.args.loss
-    c.operate_on.result c.operate_on.new.self c.operate_on.new.keeper) (sym at.2) c.operate_on.ensures)

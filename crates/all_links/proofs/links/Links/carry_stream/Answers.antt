@@ -1,5 +1,5 @@
-use Rattle.all_links.proofs.Terms.{ℕ, refl, subst, sym, IsSome, Option, Verdict, OperatesAt, named, Named}
-use Rattle.all_links.proofs.Terms.{told_at, drawn_at, ◌≡◌, ◌==◌, not, work_of, ◌∙◌, ap}
+use Rattle.all_links.proofs.Terms.{ℕ, refl, subst, sym, IsSome, Option, Verdict, OperatesAt, named, Named, told_at}
+use Rattle.all_links.proofs.Terms.{drawn_at, ◌≡◌, ◌==◌, not, work_of, ◌∙◌, ap}
 use Rattle.std.specs.Prelude.{IfSome}
 use Rattle.tsm_host.specs.Operations.{op_name}
 use Rattle.tsm_host.proofs.Walks.{no_bad_reply}
@@ -31,18 +31,18 @@ returns-clause-peer_draws c =
     c.args.self.now.keeper.peer_draws) c.link.ensures
 
 pub returns-clause-answered : goal.returns-clause-answered
-returns-clause-answered c plan stands =
+returns-clause-answered c works plan stands =
     let due = operates_due c.operations_join.ensures c.pair_operations_join.ensures plan c.args.self.now
-    c.operate.new.self c.operate.new.keeper.keys c.args.op c.args.loss c.operate.result stands c.requires.works
+    c.operate.new.self c.operate.new.keeper.keys c.args.op c.args.loss c.operate.result stands works
     c.requires.here c.requires.stream
     (subst (λ (line : ℕ). OperatesAt c.args.self.now.ends line c.args.self.now.keeper.keys c.args.op c.args.loss
     c.operate.result c.operate.new.self c.operate.new.keeper.keys) c.link.ensures c.operate.ensures.operates) in
     subst (λ (o : Option Verdict). IsSome o) (sym due.1) refl
 
 pub returns-clause-no_bad_reply : goal.returns-clause-no_bad_reply
-returns-clause-no_bad_reply c plan stands =
+returns-clause-no_bad_reply c works plan stands =
     let due = operates_due c.operations_join.ensures c.pair_operations_join.ensures plan c.args.self.now
-    c.operate.new.self c.operate.new.keeper.keys c.args.op c.args.loss c.operate.result stands c.requires.works
+    c.operate.new.self c.operate.new.keeper.keys c.args.op c.args.loss c.operate.result stands works
     c.requires.here c.requires.stream
     (subst (λ (line : ℕ). OperatesAt c.args.self.now.ends line c.args.self.now.keeper.keys c.args.op c.args.loss
     c.operate.result c.operate.new.self c.operate.new.keeper.keys) c.link.ensures c.operate.ensures.operates) in

@@ -1,31 +1,27 @@
-use Rattle.all_links.proofs.Terms.{ℕ, ap, sym, ◌∙◌, ◌<◌, subst, IfSome, IsSome, Verdict, EndsAs, named}
-use Rattle.all_links.proofs.Terms.{operation_event, links_state, beside_in, port_on}
+use Rattle.all_links.proofs.Terms.{ℕ, ◌+◌, ap, sym, ◌∙◌, subst, true, IfSome, IsSome, Verdict, EndsAs, EndsWith, named}
+use Rattle.all_links.proofs.Terms.{◌≡◌, Links, OperatesAt, operation_event, links_state, beside_in, port_on}
 use Rattle.ide_types.specs.Ports.{host_port}
-use Rattle.all_links.proofs.Finds.{nothing_changes}
-use Rattle.line_arrivals.proofs.{name_is, unnamed, step_none}
+use Rattle.tsm_host.specs.Operations.{OpName}
+use Rattle.tsm_host.specs.Walk.{verdict_of}
+use Rattle.all_links.proofs.Finds.{ends_as, if_some, nothing_changes, some_none}
+use Rattle.line_arrivals.proofs.{unnamed, step_none}
 use Rattle.all_links.specs.Sides.{SidesOperate, works_on}
-use Rattle.all_links.proofs.Operations.{not_stepped}
-use Rattle.all_links.proofs.Sides.{nothing_operates, not_operated}
+use Rattle.all_links.proofs.Operations.{found_is, not_stepped, operates_on}
+use Rattle.all_links.proofs.Sides.{nothing_operates, not_operated, operated_beside}
 use Rattle.all_links.proofs.links.Links.operate.Goals as goal
 
-pub operate_on-requires-clause-within : goal.operate_on-requires-clause-within
-operate_on-requires-clause-within c =
-    let n = name_is c.args.self.now.keeper.keys.manager c.args.self.now.ends c.args.line c.args.stream
+pub carry_stream-outcome-requires-clause-here : goal.carry_stream-outcome-requires-clause-here
+carry_stream-outcome-requires-clause-here c =
+    let n = found_is c.args.self.now.keeper.keys.manager c.args.self.now.ends c.args.line c.args.stream
     c.in-Some.line c.in-Some.stream c.in-Some.ensures in
-    subst (λ (i : ℕ). i < 32) (sym n.line_is) n.within
+    subst (λ (a : OpName). IsSome (port_on c.args.self.now.ends (host_port a.link))) (sym c.named_op-op.ensures) n.here
 
-pub operate_on-requires-clause-here : goal.operate_on-requires-clause-here
-operate_on-requires-clause-here c =
-    let n = name_is c.args.self.now.keeper.keys.manager c.args.self.now.ends c.args.line c.args.stream
+pub carry_stream-outcome-requires-clause-stream : goal.carry_stream-outcome-requires-clause-stream
+carry_stream-outcome-requires-clause-stream c =
+    let n = found_is c.args.self.now.keeper.keys.manager c.args.self.now.ends c.args.line c.args.stream
     c.in-Some.line c.in-Some.stream c.in-Some.ensures in
-    subst (λ (i : ℕ). IsSome (port_on c.args.self.now.ends (host_port i))) (sym n.line_is) n.end_there
-
-pub operate_on-requires-clause-stream : goal.operate_on-requires-clause-stream
-operate_on-requires-clause-stream c =
-    let n = name_is c.args.self.now.keeper.keys.manager c.args.self.now.ends c.args.line c.args.stream
-    c.in-Some.line c.in-Some.stream c.in-Some.ensures in
-    subst (λ (p : ℕ × ℕ). IsSome (named c.args.self.now.keeper.keys.manager p.0 p.1))
-    (λ i. (sym n.line_is i, sym n.stream_is i)) n.there
+    subst (λ (a : OpName). IsSome (named c.args.self.now.keeper.keys.manager a.link a.stream))
+    (sym c.named_op-op.ensures) n.there
 
 pub returns-in-None-clause-ends : goal.returns-in-None-clause-ends
 returns-in-None-clause-ends c plan =
@@ -36,41 +32,70 @@ returns-in-None-clause-ends c plan =
     (unnamed plan c.args.self.now.ends c.args.self.now.keeper.keys c.args.self.now.packets.packets c.args.line
     c.args.stream links c.in-None.ensures))
 
-pub returns-then-works_on-clause-ends : goal.returns-then-works_on-clause-ends
-returns-then-works_on-clause-ends c plan =
-    let n = name_is c.args.self.now.keeper.keys.manager c.args.self.now.ends c.args.line c.args.stream
+pub returns-then-not-works_on-clause-ends : goal.returns-then-not-works_on-clause-ends
+returns-then-not-works_on-clause-ends c plan =
+    let n = found_is c.args.self.now.keeper.keys.manager c.args.self.now.ends c.args.line c.args.stream
     c.in-Some.line c.in-Some.stream c.in-Some.ensures in
-    subst (λ (p : ℕ × ℕ). EndsAs plan c.operate_on.result c.args.self.now c.operate_on.new.self
-    (operation_event c.args.operation p.0 p.1 c.args.loss))
-    (λ i. (n.line_is i, n.stream_is i)) (c.operate_on.ensures.ends plan)
-
-pub returns-else-works_on-clause-ends : goal.returns-else-works_on-clause-ends
-returns-else-works_on-clause-ends c plan =
-    let n = name_is c.args.self.now.keeper.keys.manager c.args.self.now.ends c.args.line c.args.stream
-    c.in-Some.line c.in-Some.stream c.in-Some.ensures in
-    let not_here = ap (λ (i : ℕ). works_on c.args.operation i) (sym n.line_is) ∙ sym c.works_on.ensures
-    ∙ c.if-works_on.false in
+    let not_here = ap (λ (p : ℕ × ℕ). works_on c.args.operation p.0) (sym n.same) ∙ sym c.if-not-works_on.ensures in
     nothing_changes plan (operation_event c.args.operation c.args.line c.args.stream c.args.loss)
-    c.only-else-works_on.ensures.value c.only-else-works_on.ensures.links c.requires.bounded
+    c.only-then-not-works_on.ensures.value c.only-then-not-works_on.ensures.links c.requires.bounded
     (λ b by h links stands. not_stepped plan (beside_in c.args.self.now b) (links_state plan c.args.self.now)
     c.args.operation c.args.line c.args.stream c.args.loss not_here)
+
+pub returns-else-not-works_on-clause-ends : goal.returns-else-not-works_on-clause-ends
+returns-else-not-works_on-clause-ends c plan =
+    let n = found_is c.args.self.now.keeper.keys.manager c.args.self.now.ends c.args.line c.args.stream
+    c.in-Some.line c.in-Some.stream c.in-Some.ensures in
+    let after : Links = c.carry_stream-outcome.new.self in
+    let works : works_on c.args.operation c.in-Some.line ≡ true = sym c.if-not-works_on.ensures in
+    let event = operation_event c.args.operation c.in-Some.line c.in-Some.stream c.args.loss in
+    subst (λ (p : ℕ × ℕ). EndsAs plan c.operated_verdict.result c.args.self.now
+    (record after { steps = after.steps + 1 })
+    (operation_event c.args.operation p.0 p.1 c.args.loss)) n.same
+    (ends_as plan c.operated_verdict.result c.args.self.now (record after { steps = after.steps + 1 }) event
+    (λ verdict is. subst (λ (s : Links). EndsWith plan verdict c.args.self.now (record s { steps = s.steps + 1 }) event)
+    (sym c.carry_stream-outcome.ensures.links)
+    (operates_on c.operations_join.ensures c.pair_operations_join.ensures plan c.args.self.now after.ends
+    after.keeper c.named_op-op.result c.args.operation c.in-Some.line c.in-Some.stream c.args.loss
+    c.carry_stream-outcome.result verdict c.requires.bounded works n.here n.there
+    c.named_op-op.ensures
+    (subst (λ (a : OpName). OperatesAt c.args.self.now.ends a.link c.args.self.now.keeper.keys c.named_op-op.result
+    c.args.loss c.carry_stream-outcome.result after.ends after.keeper.keys) c.named_op-op.ensures
+    c.carry_stream-outcome.ensures.operates)
+    (sym c.operated_verdict.ensures ∙ is)))
+    (λ none stands answered. some_none (subst
+    (λ (a : OpName). IsSome (verdict_of a.operation a.link a.stream c.args.loss c.carry_stream-outcome.result))
+    c.named_op-op.ensures (c.carry_stream-outcome.ensures.answered
+    (subst (λ (a : OpName). works_on a.operation a.link ≡ true) (sym c.named_op-op.ensures) works) plan stands))
+    (sym c.operated_verdict.ensures ∙ none)))
 
 pub returns-in-None-clause-sides : goal.returns-in-None-clause-sides
 returns-in-None-clause-sides c =
     nothing_operates c.args.operation c.args.line c.args.stream _ c.in-None.ensures c.only.ensures.links
 
-pub returns-then-works_on-clause-sides : goal.returns-then-works_on-clause-sides
-returns-then-works_on-clause-sides c =
-    let n = name_is c.args.self.now.keeper.keys.manager c.args.self.now.ends c.args.line c.args.stream
-    c.in-Some.line c.in-Some.stream c.in-Some.ensures in
-    subst (λ (p : ℕ × ℕ). IfSome c.operate_on.result
-    (λ (w : Verdict). SidesOperate c.args.operation p.0 p.1 w c.args.self.now c.operate_on.new.self))
-    (λ i. (n.line_is i, n.stream_is i)) c.operate_on.ensures.sides
-
-pub returns-else-works_on-clause-sides : goal.returns-else-works_on-clause-sides
-returns-else-works_on-clause-sides c =
-    let n = name_is c.args.self.now.keeper.keys.manager c.args.self.now.ends c.args.line c.args.stream
+pub returns-then-not-works_on-clause-sides : goal.returns-then-not-works_on-clause-sides
+returns-then-not-works_on-clause-sides c =
+    let n = found_is c.args.self.now.keeper.keys.manager c.args.self.now.ends c.args.line c.args.stream
     c.in-Some.line c.in-Some.stream c.in-Some.ensures in
     not_operated c.args.operation c.args.line c.args.stream _
-    (ap (λ (i : ℕ). works_on c.args.operation i) (sym n.line_is) ∙ sym c.works_on.ensures ∙ c.if-works_on.false)
-    c.only-else-works_on.ensures.links
+    (ap (λ (p : ℕ × ℕ). works_on c.args.operation p.0) (sym n.same) ∙ sym c.if-not-works_on.ensures)
+    c.only-then-not-works_on.ensures.links
+
+pub returns-else-not-works_on-clause-sides : goal.returns-else-not-works_on-clause-sides
+returns-else-not-works_on-clause-sides c =
+    let n = found_is c.args.self.now.keeper.keys.manager c.args.self.now.ends c.args.line c.args.stream
+    c.in-Some.line c.in-Some.stream c.in-Some.ensures in
+    let after : Links = c.carry_stream-outcome.new.self in
+    subst (λ (p : ℕ × ℕ). IfSome c.operated_verdict.result (λ (w : Verdict). SidesOperate c.args.operation p.0 p.1 w
+    c.args.self.now (record after { steps = after.steps + 1 }))) n.same
+    (if_some c.operated_verdict.result _
+    (λ verdict is. subst (λ (s : Links). SidesOperate c.args.operation c.in-Some.line c.in-Some.stream verdict
+    c.args.self.now (record s { steps = s.steps + 1 })) (sym c.carry_stream-outcome.ensures.links)
+    (operated_beside c.args.self.now after.ends after.keeper c.named_op-op.result
+    c.args.operation c.in-Some.line c.in-Some.stream c.args.loss c.carry_stream-outcome.result verdict
+    n.named_is n.here c.named_op-op.ensures
+    (subst (λ (a : OpName). OperatesAt c.args.self.now.ends a.link c.args.self.now.keeper.keys c.named_op-op.result
+    c.args.loss c.carry_stream-outcome.result after.ends after.keeper.keys) c.named_op-op.ensures
+    c.carry_stream-outcome.ensures.operates)
+    c.carry_stream-outcome.ensures.interfaces c.carry_stream-outcome.ensures.peer_draws
+    (sym c.operated_verdict.ensures ∙ is))))

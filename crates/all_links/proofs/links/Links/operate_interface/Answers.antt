@@ -6,8 +6,8 @@ use Rattle.all_links.proofs.Finds.{ends_as, if_some, some_none}
 use Rattle.all_links.proofs.Sides.{nothing_asked, asked_beside}
 use Rattle.all_links.proofs.links.Links.operate_interface.Goals as goal
 
-pub carry_interface-outcome-requires-clause-here : goal.carry_interface-outcome-requires-clause-here
-carry_interface-outcome-requires-clause-here c = ap (option_map (λ (at : ℕ × ℕ). at.0)) (sym c.in-Some.ensures)
+pub carry_interface-outcome-requires : goal.carry_interface-outcome-requires
+carry_interface-outcome-requires c = record { here = ap (option_map (λ (at : ℕ × ℕ). at.0)) (sym c.in-Some.ensures) }
 
 pub returns-in-None-clause-ends : goal.returns-in-None-clause-ends
 returns-in-None-clause-ends c plan event same =

@@ -1,5 +1,4 @@
-use Rattle.all_links.proofs.Terms.{Reset}
-use Rattle.all_links.proofs.Terms.{ap, sym, false}
+use Rattle.all_links.proofs.Terms.{Reset, ap, sym, false}
 use Rattle.interface_answers.specs.{HostKeeper}
 use Rattle.all_links.proofs.Finds.{nothing_changes}
 use Rattle.all_links.proofs.Resets.{reset_step, resets}

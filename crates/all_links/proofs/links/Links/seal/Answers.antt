@@ -1,6 +1,5 @@
 use Rattle.all_links.proofs.Terms.{ap, sym, ◌∙◌, ◌≡◌, ◌+◌, ℕ, length, subst, List, ◌++◌, map, Some, append-nil, Plan}
-use Rattle.all_links.proofs.Terms.{SealedPacket, Sent, lengths_sent, Links, SendsAt, EndsView}
-use Rattle.all_links.proofs.Terms.{port_on}
+use Rattle.all_links.proofs.Terms.{SealedPacket, Sent, lengths_sent, Links, SendsAt, EndsView, port_on}
 use Rattle.ide_port.specs.{PortEnd}
 use Rattle.interface_answers.specs.{cut_packets, end_sent_verdict}
 use Rattle.ide_types.specs.declared.port.PortName.{PortName}

@@ -13,11 +13,6 @@ use Rattle.all_links.proofs.links.Links.unbind.Goals as goal
 pub operate_interface-requires-clause-short : goal.operate_interface-requires-clause-short
 operate_interface-requires-clause-short c = refl
 
-pub operate_interface-requires-clause-peer : goal.operate_interface-requires-clause-peer
-operate_interface-requires-clause-peer c =
-    (is_peer c.args.self.now.keeper c.args.self.now.ends c.args.number c.args.line c.args.stream c.in-Some.peer
-    c.requires.peer c.in-Some.ensures).few
-
 pub returns-in-None-clause-ends : goal.returns-in-None-clause-ends
 returns-in-None-clause-ends c plan =
     let s = c.args.self.now in
@@ -33,7 +28,7 @@ returns-in-Some-clause-ends c plan =
     c.operate_interface.ensures.ends plan (ie.Unbind c.args.number c.args.line c.args.stream c.args.loss)
     (peer_verdict s.keeper s.ends c.args.number c.args.line c.args.stream c.in-Some.peer
     (λ (p : PeerStream). op.Unbind p) c.args.loss
-    (is_peer s.keeper s.ends c.args.number c.args.line c.args.stream c.in-Some.peer c.requires.peer
+    (is_peer s.keeper s.ends c.args.number c.args.line c.args.stream c.in-Some.peer
     c.in-Some.ensures))
 
 pub returns-in-None-clause-sides : goal.returns-in-None-clause-sides
@@ -47,7 +42,7 @@ returns-in-None-clause-sides c =
 pub returns-in-Some-clause-sides : goal.returns-in-Some-clause-sides
 returns-in-Some-clause-sides c =
     let s = c.args.self.now in
-    let p = is_peer s.keeper s.ends c.args.number c.args.line c.args.stream c.in-Some.peer c.requires.peer
+    let p = is_peer s.keeper s.ends c.args.number c.args.line c.args.stream c.in-Some.peer
     c.in-Some.ensures in
     if_some c.operate_interface.result _
     (λ verdict is. peer_beside s c.operate_interface.new.self c.args.number c.args.line c.args.stream

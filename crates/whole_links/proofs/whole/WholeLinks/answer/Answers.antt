@@ -1,11 +1,12 @@
 use Rattle.std.proofs.Common.{refl, subst, sym, List, ℕ}
 use Rattle.ide_types.specs.declared.port.PortName.{PortName}
 use Rattle.link_events.specs.declared.event.Event.{Event}
-use Rattle.link_events.specs.declared.event.Event.TheVariants.{Send, Arrive, Reset}
-use Rattle.all_links.specs.Links.{EndsWith, EndsArriving}
+use Rattle.link_events.specs.declared.event.Event.TheVariants.{Send, Reset, Absent}
+use Rattle.all_links.specs.Links.{EndsWith}
+use Rattle.all_links.specs.States.{links_state}
 use Rattle.whole_links.specs.Accesses.{AccessesAfter}
 use Rattle.whole_links.specs.Whole.{WholeEnds}
-use Rattle.whole_links.proofs.Ends.{ends_of, arriving_of, err_stays, nothing_ends}
+use Rattle.whole_links.proofs.Ends.{absent_step, ends_of, err_stays, nothing_ends}
 use Rattle.whole_links.proofs.whole.WholeLinks.answer.Goals as goal
 
 pub returns-in_ok-send-in-Send-clause-ends : goal.returns-in_ok-send-in-Send-clause-ends
@@ -15,30 +16,6 @@ returns-in_ok-send-in-Send-clause-ends c =
     (subst (λ (bs : List ℕ). EndsWith c.args.plan.now c.in_ok-send-in-Send.field-0 c.args.self.now.links
     c.send.new.self (Send e.port bs e.more e.trusted)) c.as_slice-bytes.ensures c.in_ok-send-in-Send.ensures.ends)
     c.requires.bounded.whole refl refl
-
-pub returns-in_ok-pass-in-Pass-clause-ends : goal.returns-in_ok-pass-in-Pass-clause-ends
-returns-in_ok-pass-in-Pass-clause-ends c =
-    arriving_of c.args.plan.now c.args.self.now _ _ c.pass.new.self c.in-Pass.is c.in_ok-pass-in-Pass.ensures.ends
-    c.requires.bounded.whole refl c.in_ok-pass-in-Pass.ensures.accesses.many
-
-pub returns-in_ok-alter-in-Alter-clause-ends : goal.returns-in_ok-alter-in-Alter-clause-ends
-returns-in_ok-alter-in-Alter-clause-ends c =
-    arriving_of c.args.plan.now c.args.self.now _ _ c.alter.new.self c.in-Alter.is
-    c.in_ok-alter-in-Alter.ensures.ends c.requires.bounded.whole refl c.in_ok-alter-in-Alter.ensures.accesses.many
-
-pub returns-in_ok-cut-in-Cut-clause-ends : goal.returns-in_ok-cut-in-Cut-clause-ends
-returns-in_ok-cut-in-Cut-clause-ends c =
-    arriving_of c.args.plan.now c.args.self.now _ _ c.cut.new.self c.in-Cut.is c.in_ok-cut-in-Cut.ensures.ends
-    c.requires.bounded.whole refl c.in_ok-cut-in-Cut.ensures.accesses.many
-
-pub returns-in_ok-arrive-in-Arrive-clause-ends : goal.returns-in_ok-arrive-in-Arrive-clause-ends
-returns-in_ok-arrive-in-Arrive-clause-ends c =
-    let e = c.in-Arrive in
-    arriving_of c.args.plan.now c.args.self.now _ (Arrive e.port e.bytes) c.arrive.new.self e.is
-    (subst (λ (bs : List ℕ). EndsArriving c.args.plan.now c.in_ok-arrive-in-Arrive.field-0 c.args.self.now.accesses
-    c.args.self.now.links c.arrive.new.self (Arrive e.port bs)) c.as_slice-in-Arrive.ensures
-    c.in_ok-arrive-in-Arrive.ensures.ends) c.requires.bounded.whole refl
-    c.in_ok-arrive-in-Arrive.ensures.accesses.many
 
 pub returns-in_ok-dump-in-Dump-clause-ends : goal.returns-in_ok-dump-in-Dump-clause-ends
 returns-in_ok-dump-in-Dump-clause-ends c =
@@ -74,4 +51,6 @@ pub returns-in-Absent-clause-ends : goal.returns-in-Absent-clause-ends
 returns-in-Absent-clause-ends c =
     subst (λ (x : Event). WholeEnds c.args.plan.now c.only.result c.args.self.now
     (record { links = c.only.new.self; accesses = c.args.self.now.accesses }) x) (sym c.in-Absent.is)
-    (nothing_ends c.args.plan.now c.only.ensures.value c.only.ensures.links refl c.requires.bounded)
+    (nothing_ends c.args.plan.now Absent
+    (λ b. absent_step c.args.plan.now b (links_state c.args.plan.now c.args.self.now.links)) c.only.ensures.value
+    c.only.ensures.links refl c.requires.bounded)

@@ -1,5 +1,4 @@
-use Rattle.std.proofs.Common.{ℕ, refl, ◌++◌, take, drop, List, true, false, length, ap, sym, ◌∙◌}
-use Rattle.std.proofs.Common.{◌≡◌, arith}
+use Rattle.std.proofs.Common.{ℕ, refl, ◌++◌, take, drop, List, true, false, length, ap, sym, ◌∙◌, ◌≡◌, arith}
 use Rattle.std.proofs.Math.Seq.{take-append_seam}
 use Rattle.std.specs.Prelude.{vec_len}
 use Rattle.link_history.specs.Guarded.{mmio_if}

@@ -6,7 +6,7 @@ use Rattle.whole_links.proofs.Replies.{reply_empty, reply_read}
 use Rattle.whole_links.proofs.whole.WholeLinks.reply.Goals as goal
 
 pub at-requires : goal.at-requires
-at-requires c = subst (λ (n : ℕ). c.args.link < n) (sym c.requires.bounded.whole) c.requires.here
+at-requires c = subst (λ (n : ℕ). c.args.link < n) (sym c.requires.whole) c.requires.here
 
 pub returns-in-None : goal.returns-in-None
 returns-in-None c =

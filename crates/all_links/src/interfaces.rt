@@ -1,0 +1,367 @@
+//! Operations and events on the interfaces of all links, and reads of trusted memory.
+
+ghost use Rattle.std.specs.Prelude.{◌≡◌, ◌+◌, ◌<◌, ◌≤◌, ◌^◌, ◌&&◌, ℕ, Some, None, [], IfOk, IfSome, IsSome};
+ghost use Rattle.std.specs.Prelude.{true, List, length, nat_lt, if◌then◌else◌};
+ghost use Rattle.ide_types.specs.Lines.{is_peer_line};
+ghost use Rattle.link_events.specs.Interfaces.{IsAllowedInterface};
+ghost use Rattle.interface_words.specs.RegisterNames.{width_of};
+
+use crate::links::Links;
+use ide_types::{Bytes, Memory, SubKind};
+use interface_answers::{asked_verdict, view_shown};
+use interface_words::{InterfaceVerdict, Register};
+use link_events::{Event, InterfaceEvent, Loss};
+use link_verdicts::Verdict;
+use std::alloc::Global;
+use tdi_host::{InterfaceOp, PeerStream};
+
+/// The most bytes of a report.
+const MOST_REPORT: usize = 1_140;
+
+/// The first line of a stream between devices.
+const FIRST_PEER_LINE: u64 = 24;
+
+impl Links {
+    ghost use Rattle.ide_plan.specs.declared.plan.Plan.{Plan as PlanView};
+    ghost use Rattle.interface_answers.specs.{IsBounded, AsksAt, report_of, asked_as, NoBadInterfaceReply};
+    ghost use Rattle.all_links.specs.Links.{EndsWith, EndsOr, EndsAs, EndsAsOr};
+    ghost use Rattle.all_links.specs.Accesses.{runs_in, device_draw};
+    ghost use Rattle.all_links.specs.Sides.{SidesKeep, SidesAsk, SidesInterface};
+    ghost use Rattle.all_links.specs.Besides.{answer_of_links, op_verdict};
+    ghost use Rattle.all_links.specs.Interfaces.{interface_named, link_named, has_peer_in, peer_stream};
+
+    fn shows(&mut self, verdict: InterfaceVerdict) -> Verdict
+        requires { self.old.steps < 2 ^ 28 }
+        ensures value { result ≡ Verdict.Interface verdict }
+        ensures links { self.new ≡ record self.old { steps = self.old.steps + 1 } }
+    {
+        self.only(Verdict::Interface { verdict })
+    }
+
+    /// The link and the place on it of the interface of a number, if there is one.
+    pub fn interface(&self, number: u64) -> Option<(u8, usize)>
+        requires { length self.now.ends.links ≤ 8 }
+        ensures { result ≡ interface_named self.now.keeper.interfaces self.now.ends.links number }
+    {
+        if number >= self.keeper.interfaces.manager().count() as u64 {
+            return None;
+        }
+        if number > 255 {
+            return None;
+        }
+        self.ends.interface(number)
+    }
+
+    /// Whether the interface of a number is in RUN; false if there is none.
+    pub fn runs(&self, number: u64) -> bool
+        requires { length self.now.ends.links ≤ 8 }
+        ensures { result ≡ runs_in self.now number }
+    {
+        match self.interface(number) {
+            None => false,
+            Some((link, place)) => self.ends.runs(link, place),
+        }
+    }
+
+    /// The greatest draw under which the device of a link opens posted requests on the stream of the interface of a
+    /// number, 0 if there is none.
+    pub fn device_draw(&self, link: u8, number: u64) -> u32
+        requires here { link < length self.now.ends.links }
+        requires interface { number < length self.now.keeper.interfaces.interfaces }
+        ensures { result ≡ device_draw self.now number link }
+    {
+        let stream = self.keeper.interfaces.manager().stream(number as usize);
+        let port = &self.ends.link(link).device.port;
+        match port.receiving_draw(stream, SubKind::Pr) {
+            None => 0,
+            Some(draw) => draw,
+        }
+    }
+
+    // Carries an operation on the interface of this number, which is on this link. If it has a verdict no reply is bad.
+    fn carry_interface(
+        &mut self,
+        link: u8,
+        number: u64,
+        op: InterfaceOp,
+        loss: Option<Loss>,
+    ) -> tdi_host::Outcome
+        requires here { link_named self.old.keeper.interfaces self.old.ends.links number ≡ Some link }
+        ensures links { self.new ≡ record self.old { ends = self.new.ends; keeper = self.new.keeper } }
+        ensures asks { AsksAt self.old.ends link self.old.keeper number op loss result self.new.ends self.new.keeper }
+        ensures answered { IsSome (op_verdict self.old number op loss)
+            → (report : List ℕ) → IsSome (asked_as number loss report result) }
+        ensures no_bad_reply { IsSome (op_verdict self.old number op loss) → NoBadInterfaceReply loss result }
+    {
+        let interface = number as usize;
+        self.ends
+            .operate_on(link, &mut self.keeper, interface, op, loss)
+    }
+
+    /// An operation on an interface that reads no report, of any event that has its verdict. It has none if a reply is
+    /// bad, or if an exchange is lost none of whose messages is lost.
+    pub fn operate_interface(
+        &mut self,
+        alloc: Global,
+        op: InterfaceOp,
+        number: u64,
+        loss: Option<Loss>,
+    ) -> Option<Verdict>
+        requires steps { self.old.steps < 2 ^ 28 }
+        requires bounded { IsBounded self.old.ends self.old.packets.packets self.old.steps }
+        requires short { report_of op ≡ (λ e. []) }
+        ensures ends { (plan : PlanView) (event : InterfaceEvent)
+            → answer_of_links self.old event ≡ op_verdict self.old number op loss
+            → EndsAs plan result self.old self.new (Event.Interface event) }
+        ensures sides { IfSome result (λ v. SidesAsk number op loss self.old self.new) }
+    {
+        match self.interface(number) {
+            None => Some(self.only(Verdict::Nothing)),
+            Some((link, _)) => {
+                let outcome = self.carry_interface(link, number, op, loss);
+                let none = Bytes::new(Vec::new(alloc));
+                self.steps += 1;
+                asked_verdict(number as u8, loss, outcome, none)
+            }
+        }
+    }
+
+    // The stream between devices as the manager has it, by its line and its ID, if the device of the interface has it.
+    fn peer(&self, number: u64, line: u64, stream: u64) -> Option<PeerStream>
+        requires few { length self.now.ends.links ≤ 8 }
+        requires peer { is_peer_line line ≡ true }
+        ensures { result ≡ (if nat_lt stream 256 && has_peer_in self.now.keeper self.now.ends number line stream
+            then Some (peer_stream self.now.keeper line stream) else None) }
+    {
+        if stream > 255 {
+            return None;
+        }
+        match self.interface(number) {
+            None => None,
+            Some((link, _)) => {
+                if self.ends.has_peer(link, line, stream) {
+                    let number = (line - FIRST_PEER_LINE) as usize;
+                    let draw = self.keeper.peer_draws[number];
+                    let line = line as u8;
+                    let id = stream as u8;
+                    Some(PeerStream { line, id, draw })
+                } else {
+                    None
+                }
+            }
+        }
+    }
+
+    // Binds an interface to a stream between devices, which is named by its line and its ID.
+    fn bind(
+        &mut self,
+        alloc: Global,
+        number: u64,
+        line: u64,
+        stream: u64,
+        loss: Option<Loss>,
+    ) -> Option<Verdict>
+        requires steps { self.old.steps < 2 ^ 28 }
+        requires bounded { IsBounded self.old.ends self.old.packets.packets self.old.steps }
+        requires peer { is_peer_line line ≡ true }
+        ensures ends { (plan : PlanView) → EndsAs plan result self.old self.new
+            (Event.Interface (InterfaceEvent.Bind number line stream loss)) }
+        ensures sides { IfSome result (λ v. SidesInterface (InterfaceEvent.Bind number line stream loss) self.old
+            self.new) }
+    {
+        match self.peer(number, line, stream) {
+            None => Some(self.only(Verdict::Nothing)),
+            Some(peer) => self.operate_interface(alloc, InterfaceOp::Bind(peer), number, loss),
+        }
+    }
+
+    // Ends that binding.
+    fn unbind(
+        &mut self,
+        alloc: Global,
+        number: u64,
+        line: u64,
+        stream: u64,
+        loss: Option<Loss>,
+    ) -> Option<Verdict>
+        requires steps { self.old.steps < 2 ^ 28 }
+        requires bounded { IsBounded self.old.ends self.old.packets.packets self.old.steps }
+        requires peer { is_peer_line line ≡ true }
+        ensures ends { (plan : PlanView) → EndsAs plan result self.old self.new
+            (Event.Interface (InterfaceEvent.Unbind number line stream loss)) }
+        ensures sides { IfSome result (λ v. SidesInterface (InterfaceEvent.Unbind number line stream loss) self.old
+            self.new) }
+    {
+        match self.peer(number, line, stream) {
+            None => Some(self.only(Verdict::Nothing)),
+            Some(peer) => self.operate_interface(alloc, InterfaceOp::Unbind(peer), number, loss),
+        }
+    }
+
+    // Reads a report; the room for the longest is taken first.
+    fn report(
+        &mut self,
+        alloc: Global,
+        number: u64,
+        loss: Option<Loss>,
+    ) -> Result<Option<Verdict>, Memory>
+        requires steps { self.old.steps < 2 ^ 28 }
+        requires bounded { IsBounded self.old.ends self.old.packets.packets self.old.steps }
+        ensures ends { (plan : PlanView) → EndsAsOr plan result self.old self.new
+            (Event.Interface (InterfaceEvent.Report number loss)) }
+        ensures sides { IfOk result (λ o. IfSome o (λ v. SidesAsk number InterfaceOp.Report loss self.old self.new)) }
+    {
+        match self.interface(number) {
+            None => Ok(Some(self.only(Verdict::Nothing))),
+            Some((link, _)) => {
+                let mut report = Vec::with_capacity(alloc, MOST_REPORT)?;
+                let outcome = self.carry_interface(link, number, InterfaceOp::Report, loss);
+                report
+                    .extend_from_slice(self.keeper.interfaces.manager().report())
+                    .unwrap();
+                let report = Bytes::new(report);
+                self.steps += 1;
+                Ok(asked_verdict(number as u8, loss, outcome, report))
+            }
+        }
+    }
+
+    fn view(&mut self, number: u64) -> Verdict
+        requires steps { self.old.steps < 2 ^ 28 }
+        requires bounded { IsBounded self.old.ends self.old.packets.packets self.old.steps }
+        ensures ends { (plan : PlanView) → EndsWith plan result self.old self.new
+            (Event.Interface (InterfaceEvent.View number)) }
+        ensures sides { SidesKeep self.old self.new }
+    {
+        match self.interface(number) {
+            None => self.only(Verdict::Nothing),
+            Some(_) => {
+                let interface = number as u8;
+                let view = view_shown(self.keeper.interfaces.manager().view(number as usize));
+                self.shows(InterfaceVerdict::View { interface, view })
+            }
+        }
+    }
+
+    fn write(&mut self, number: u64, register: Register, value: u64) -> Verdict
+        requires steps { self.old.steps < 2 ^ 28 }
+        requires bounded { IsBounded self.old.ends self.old.packets.packets self.old.steps }
+        requires width { value < 2 ^ width_of register }
+        ensures ends { (plan : PlanView) → EndsWith plan result self.old self.new
+            (Event.Interface (InterfaceEvent.Write number register value)) }
+        ensures sides { SidesInterface (InterfaceEvent.Write number register value) self.old self.new }
+    {
+        match self.interface(number) {
+            None => self.only(Verdict::Nothing),
+            Some((link, place)) => {
+                if self.ends.has_register(link, place, register) {
+                    let interface = number as u8;
+                    let state = self.ends.write_register(link, place, register, value);
+                    self.shows(InterfaceVerdict::Written { interface, state })
+                } else {
+                    self.only(Verdict::Nothing)
+                }
+            }
+        }
+    }
+
+    /// A function level reset of an interface.
+    pub fn flr(&mut self, number: u64) -> Verdict
+        requires steps { self.old.steps < 2 ^ 28 }
+        requires bounded { IsBounded self.old.ends self.old.packets.packets self.old.steps }
+        ensures ends { (plan : PlanView) → EndsWith plan result self.old self.new
+            (Event.Interface (InterfaceEvent.Flr number)) }
+        ensures sides { SidesInterface (InterfaceEvent.Flr number) self.old self.new }
+    {
+        match self.interface(number) {
+            None => self.only(Verdict::Nothing),
+            Some((link, place)) => {
+                let interface = number as u8;
+                let state = self.ends.flr(link, place);
+                self.shows(InterfaceVerdict::Flr { interface, state })
+            }
+        }
+    }
+
+    fn firmware(&mut self, number: u64) -> Verdict
+        requires steps { self.old.steps < 2 ^ 28 }
+        requires bounded { IsBounded self.old.ends self.old.packets.packets self.old.steps }
+        ensures ends { (plan : PlanView) → EndsWith plan result self.old self.new
+            (Event.Interface (InterfaceEvent.Firmware number)) }
+        ensures sides { SidesInterface (InterfaceEvent.Firmware number) self.old self.new }
+    {
+        match self.interface(number) {
+            None => self.only(Verdict::Nothing),
+            Some((link, place)) => {
+                let interface = number as u8;
+                let state = self.ends.firmware(link, place);
+                self.shows(InterfaceVerdict::Firmware { interface, state })
+            }
+        }
+    }
+
+    // Bytes of trusted memory, if one region has them all.
+    fn memory(&mut self, alloc: Global, address: u64, length: u64) -> Result<Verdict, Memory>
+        requires steps { self.old.steps < 2 ^ 28 }
+        requires bounded { IsBounded self.old.ends self.old.packets.packets self.old.steps }
+        ensures ends { (plan : PlanView) → EndsOr plan result self.old self.new
+            (Event.Interface (InterfaceEvent.Memory address length)) }
+        ensures sides { IfOk result (λ v. SidesKeep self.old self.new) }
+    {
+        let mut bytes = vec![in alloc; 0; length as usize]?;
+        if self.trusted.peek(address, &mut bytes) {
+            let bytes = Bytes::new(bytes);
+            Ok(self.shows(InterfaceVerdict::Memory { bytes }))
+        } else {
+            Ok(self.only(Verdict::Nothing))
+        }
+    }
+
+    /// The verdict of an event on an interface or on trusted memory, if it has one. For want of memory nothing changes.
+    pub fn ask(&mut self, alloc: Global, event: &InterfaceEvent) -> Result<Option<Verdict>, Memory>
+        requires steps { self.old.steps < 2 ^ 28 }
+        requires bounded { IsBounded self.old.ends self.old.packets.packets self.old.steps }
+        requires allowed { IsAllowedInterface event.now }
+        ensures ends { (plan : PlanView) → EndsAsOr plan result self.old self.new (Event.Interface event.now) }
+        ensures sides { IfOk result (λ o. IfSome o (λ v. SidesInterface event.now self.old self.new)) }
+    {
+        match event {
+            InterfaceEvent::Lock { interface, lose } => {
+                Ok(self.operate_interface(alloc, InterfaceOp::Lock, *interface, *lose))
+            }
+            InterfaceEvent::Report { interface, lose } => self.report(alloc, *interface, *lose),
+            InterfaceEvent::Start { interface, lose } => {
+                Ok(self.operate_interface(alloc, InterfaceOp::Start, *interface, *lose))
+            }
+            InterfaceEvent::Halt { interface, lose } => {
+                Ok(self.operate_interface(alloc, InterfaceOp::Halt, *interface, *lose))
+            }
+            InterfaceEvent::State { interface, lose } => {
+                Ok(self.operate_interface(alloc, InterfaceOp::State, *interface, *lose))
+            }
+            InterfaceEvent::Bind {
+                interface,
+                line,
+                stream,
+                lose,
+            } => Ok(self.bind(alloc, *interface, *line, *stream, *lose)),
+            InterfaceEvent::Unbind {
+                interface,
+                line,
+                stream,
+                lose,
+            } => Ok(self.unbind(alloc, *interface, *line, *stream, *lose)),
+            InterfaceEvent::View { interface } => Ok(Some(self.view(*interface))),
+            InterfaceEvent::Write {
+                interface,
+                register,
+                value,
+            } => Ok(Some(self.write(*interface, *register, *value))),
+            InterfaceEvent::Flr { interface } => Ok(Some(self.flr(*interface))),
+            InterfaceEvent::Firmware { interface } => Ok(Some(self.firmware(*interface))),
+            InterfaceEvent::Memory { address, length } => {
+                Ok(Some(self.memory(alloc, *address, *length)?))
+            }
+        }
+    }
+}

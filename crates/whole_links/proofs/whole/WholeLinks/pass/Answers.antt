@@ -1,0 +1,79 @@
+use Rattle.std.proofs.Common.{ℕ, List, refl, ap, sym, subst, ◌∙◌}
+use Rattle.std.specs.Prelude.{Some}
+use Rattle.link_events.specs.declared.event.Event.{Event}
+use Rattle.link_ports.specs.Machine.{LinkPacket}
+use Rattle.all_links.specs.Sides.{SidesArriveAt}
+use Rattle.all_links.specs.States.{links_state}
+use Rattle.whole_links.specs.Accesses.{AccessesArriveAt}
+use Rattle.whole_links.specs.Packets.{packet_event}
+use Rattle.whole_links.specs.Whole.{WholeEnds}
+use Rattle.whole_links.specs.declared.whole.WholeLinks.{WholeLinks}
+use Rattle.whole_links.proofs.Ends.{nothing_ends}
+use Rattle.whole_links.proofs.Arrivals.{arrived, arrived_accesses, arrived_beside, brought_packet, no_packet, too_short}
+use Rattle.whole_links.proofs.whole.WholeLinks.pass.Goals.{in-Borrowed-2, in-Owned-2}
+use Rattle.whole_links.proofs.whole.WholeLinks.pass.Goals as goal
+
+pub returns-in-None-clause-ends : goal.returns-in-None-clause-ends
+returns-in-None-clause-ends c =
+    nothing_ends c.args.plan.now (packet_event c.args.packet c.args.passage)
+    (no_packet c.args.plan.now (links_state c.args.plan.now c.args.self.now.links) c.args.packet c.args.passage
+    c.in-None.ensures) c.only.ensures.value c.only.ensures.links refl c.requires.bounded
+
+pub returns-in-None-2-clause-ends : goal.returns-in-None-2-clause-ends
+returns-in-None-2-clause-ends c =
+    nothing_ends c.args.plan.now (packet_event c.args.packet c.args.passage)
+    (too_short c.args.plan.now (links_state c.args.plan.now c.args.self.now.links) c.args.packet c.args.passage
+    (record { port = c.in-Some.end; bytes = c.in-Some.bytes.now }) c.in-Some.ensures
+    (rw c.in-None-2.is at c.in_ok-bytes_left-in-Some.ensures)) c.only-in-None-2.ensures.value
+    c.only-in-None-2.ensures.links refl c.requires.bounded
+
+pub returns-in_ok-verdict-in-Some-2-clause-ends : goal.returns-in_ok-verdict-in-Some-2-clause-ends
+returns-in_ok-verdict-in-Some-2-clause-ends c =
+    let event : Event = packet_event c.args.packet c.args.passage in
+    let x : LinkPacket = record { port = c.in-Some.end; bytes = c.in-Some.bytes.now } in
+    let came = arrived c.args.plan.now c.args.self.now event c.partner-end.result c.as_slice.result.now
+    c.in_ok-verdict-in-Some-2.verdict c.land.new.ends c.land.new.trusted c.land.new.accesses
+    (brought_packet c.args.plan.now c.args.self.now.links c.args.packet c.args.passage x c.partner-end.result
+    c.as_slice.result.now c.partner-end.ensures c.in-Some.ensures
+    (ap (λ (bytes : List ℕ). Some bytes) c.as_slice.ensures.value
+    ∙ (rw c.in-Some-2.is at c.in_ok-bytes_left-in-Some.ensures)))
+    c.in_ok-verdict-in-Some-2.ensures.lands c.requires.bounded in
+    let IsSo = λ (s : WholeLinks). WholeEnds c.args.plan.now c.in_ok-verdict-in-Some-2.verdict c.args.self.now s event in
+    elim c.match-bytes-2.branch [
+      | in-Borrowed-2 w ↦ subst IsSo (sym w.self-is) came
+      | in-Owned-2 w ↦ subst IsSo (sym w.self-is) came
+    ]
+
+pub returns-in_ok-verdict-in-Some-2-clause-sides : goal.returns-in_ok-verdict-in-Some-2-clause-sides
+returns-in_ok-verdict-in-Some-2-clause-sides c =
+    let event : Event = packet_event c.args.packet c.args.passage in
+    let x : LinkPacket = record { port = c.in-Some.end; bytes = c.in-Some.bytes.now } in
+    let came = arrived_beside c.args.plan.now c.args.self.now event c.partner-end.result c.as_slice.result.now
+    c.in_ok-verdict-in-Some-2.verdict c.land.new.ends c.land.new.trusted c.land.new.accesses
+    (brought_packet c.args.plan.now c.args.self.now.links c.args.packet c.args.passage x c.partner-end.result
+    c.as_slice.result.now c.partner-end.ensures c.in-Some.ensures
+    (ap (λ (bytes : List ℕ). Some bytes) c.as_slice.ensures.value
+    ∙ (rw c.in-Some-2.is at c.in_ok-bytes_left-in-Some.ensures)))
+    c.in_ok-verdict-in-Some-2.ensures.lands in
+    let IsSo = λ (s : WholeLinks). SidesArriveAt c.args.plan.now event c.in_ok-verdict-in-Some-2.verdict c.args.self.now.links s.links in
+    elim c.match-bytes-2.branch [
+      | in-Borrowed-2 w ↦ subst IsSo (sym w.self-is) came
+      | in-Owned-2 w ↦ subst IsSo (sym w.self-is) came
+    ]
+
+pub returns-in_ok-verdict-in-Some-2-clause-accesses : goal.returns-in_ok-verdict-in-Some-2-clause-accesses
+returns-in_ok-verdict-in-Some-2-clause-accesses c =
+    let event : Event = packet_event c.args.packet c.args.passage in
+    let x : LinkPacket = record { port = c.in-Some.end; bytes = c.in-Some.bytes.now } in
+    let came = arrived_accesses c.args.plan.now c.args.self.now event c.partner-end.result c.as_slice.result.now
+    c.in_ok-verdict-in-Some-2.verdict c.land.new.ends c.land.new.trusted c.land.new.accesses
+    (brought_packet c.args.plan.now c.args.self.now.links c.args.packet c.args.passage x c.partner-end.result
+    c.as_slice.result.now c.partner-end.ensures c.in-Some.ensures
+    (ap (λ (bytes : List ℕ). Some bytes) c.as_slice.ensures.value
+    ∙ (rw c.in-Some-2.is at c.in_ok-bytes_left-in-Some.ensures)))
+    c.in_ok-verdict-in-Some-2.ensures.lands in
+    let IsSo = λ (s : WholeLinks). AccessesArriveAt c.args.plan.now event c.in_ok-verdict-in-Some-2.verdict c.args.self.now s in
+    elim c.match-bytes-2.branch [
+      | in-Borrowed-2 w ↦ subst IsSo (sym w.self-is) came
+      | in-Owned-2 w ↦ subst IsSo (sym w.self-is) came
+    ]

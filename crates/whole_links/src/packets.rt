@@ -1,0 +1,141 @@
+//! Bytes that arrive: those of an event, and those of packets that were sealed.
+
+ghost use Rattle.std.specs.Prelude.{◌≡◌, ◌<◌, ◌^◌, IfOk, option_map};
+ghost use Rattle.std.specs.Cow.{cow_slice_items};
+ghost use Rattle.all_links.specs.Sides.{SidesArriveAt};
+ghost use Rattle.whole_links.specs.Packets.{bytes_left, packet_event};
+
+use crate::whole::WholeLinks;
+use all_links::{Arriving, land};
+use ide_types::{Memory, PortName};
+use line_routes::{has_port, partner};
+use link_events::Event;
+use link_verdicts::Verdict;
+use std::alloc::Global;
+use std::borrow::CowSlice;
+use valid_plan::ValidPlan;
+
+/// What becomes of a packet on its way to the other end of its line (this profile).
+#[derive(Clone, Copy)]
+pub enum Passage {
+    /// It arrives as it was sealed.
+    Whole,
+    /// Its byte at `at` is combined with `mask`.
+    Altered { at: u64, mask: u8 },
+    /// Its first `length` bytes arrive.
+    Cut { length: u64 },
+}
+
+// The bytes of a packet that arrive; `None` if it ends before the byte that is altered, or before it is cut.
+fn bytes_left<'a>(
+    alloc: Global,
+    bytes: &'a [u8],
+    passage: Passage,
+) -> Result<Option<CowSlice<'a, u8, Global>>, Memory>
+    ensures { IfOk result (λ o. option_map cow_slice_items o ≡ bytes_left passage bytes.now) }
+{
+    match passage {
+        Passage::Whole => Ok(Some(CowSlice::Borrowed(bytes))),
+        Passage::Altered { at, mask } => {
+            if at >= bytes.len() as u64 {
+                return Ok(None);
+            }
+            let mut copy = Vec::from_slice(alloc, bytes)?;
+            copy[at as usize] ^= mask;
+            Ok(Some(CowSlice::Owned(copy)))
+        }
+        Passage::Cut { length } => {
+            if length > bytes.len() as u64 {
+                return Ok(None);
+            }
+            Ok(Some(CowSlice::Borrowed(&bytes[..length as usize])))
+        }
+    }
+}
+
+impl WholeLinks {
+    ghost use Rattle.whole_links.specs.Accesses.{AccessesArriveAt};
+    ghost use Rattle.whole_links.specs.Whole.{IsBoundedWhole, WholeEndsOr};
+
+    /// Bytes arrive at a port: they meet the end of the line that has their stream. The memory for what they may
+    /// write, and for a TLP that waits at a switch, is taken first. For want of memory nothing changes.
+    pub fn arrive(
+        &mut self,
+        alloc: Global,
+        plan: &ValidPlan,
+        port: PortName,
+        bytes: &[u8],
+    ) -> Result<Verdict, Memory>
+        requires steps { self.old.links.steps < 2 ^ 28 }
+        requires bounded { IsBoundedWhole self.old }
+        ensures ends { WholeEndsOr plan.now result self.old self.new (Event.Arrive port bytes.now) }
+        ensures sides { IfOk result (λ v.
+            SidesArriveAt plan.now (Event.Arrive port bytes.now) v self.old.links self.new.links) }
+        ensures accesses { IfOk result (λ v.
+            AccessesArriveAt plan.now (Event.Arrive port bytes.now) v self.old self.new) }
+    {
+        if !has_port(plan, port) {
+            return Ok(self.links.only(Verdict::Nothing));
+        }
+        let keeper = &self.links.keeper.interfaces;
+        let arriving = Arriving {
+            plan,
+            keeper,
+            end: port,
+            bytes,
+        };
+        let verdict = land(
+            alloc,
+            &arriving,
+            &mut self.links.ends,
+            &mut self.links.trusted,
+            &mut self.accesses,
+        )?;
+        self.links.steps += 1;
+        Ok(verdict)
+    }
+
+    /// A packet by its number arrives, as its passage leaves it, at the port of the other end of its line. For want of
+    /// memory nothing changes.
+    pub fn pass(
+        &mut self,
+        alloc: Global,
+        plan: &ValidPlan,
+        packet: u64,
+        passage: Passage,
+    ) -> Result<Verdict, Memory>
+        requires steps { self.old.links.steps < 2 ^ 28 }
+        requires bounded { IsBoundedWhole self.old }
+        ensures ends { WholeEndsOr plan.now result self.old self.new (packet_event packet passage) }
+        ensures sides { IfOk result (λ v.
+            SidesArriveAt plan.now (packet_event packet passage) v self.old.links self.new.links) }
+        ensures accesses { IfOk result (λ v.
+            AccessesArriveAt plan.now (packet_event packet passage) v self.old self.new) }
+    {
+        match self.links.packets.get(packet) {
+            None => Ok(self.links.only(Verdict::Nothing)),
+            Some((end, bytes)) => match bytes_left(alloc, bytes, passage)? {
+                None => Ok(self.links.only(Verdict::Nothing)),
+                Some(bytes) => {
+                    let keeper = &self.links.keeper.interfaces;
+                    let end = partner(end);
+                    let arriving = Arriving {
+                        plan,
+                        keeper,
+                        end,
+                        bytes: bytes.as_slice(),
+                    };
+                    let verdict = land(
+                        alloc,
+                        &arriving,
+                        &mut self.links.ends,
+                        &mut self.links.trusted,
+                        &mut self.accesses,
+                    )?;
+                    self.links.steps += 1;
+                    Ok(verdict)
+                }
+            },
+        }
+    }
+}
