@@ -1,9 +1,9 @@
 -- What becomes of what stands at the links: one link changes, and no other (`turn_at`); one event after another.
-use Rattle.std.proofs.Common.{Bool, List, [], ap, arith, false, length, refl, subst, suc, sym, true, zero, ℕ, ◌==◌}
-use Rattle.std.proofs.Common.{◌∙◌, ◌∷◌, ◌≡◌, ◌+◌, ◌<◌}
+use Rattle.std.proofs.Common.{Bool, List, [], ap, arith, false, refl, subst, suc, sym, true, zero, ℕ, ◌==◌}
+use Rattle.std.proofs.Common.{◌∙◌, ◌∷◌, ◌≡◌, ◌+◌}
 use Rattle.std.proofs.lemmas.Bool.Decides.{nat_tests}
 use Rattle.std.proofs.lemmas.List.{length-set}
-use Rattle.std.specs.Prelude.{Option, Some, None, ◌&&◌, nat_lt, if◌then◌else◌, slice_get, slice_set}
+use Rattle.std.specs.Prelude.{Option, Some, ◌&&◌, nat_lt, if◌then◌else◌, slice_get, slice_set}
 use Rattle.std.specs.Option.{option_map_or}
 use Rattle.key_laws.proofs.Tests.{same-true, true-same}
 use Rattle.ide_types.specs.declared.direction.Direction.{Direction}
@@ -286,12 +286,3 @@ pub keeps_next : (ends : List PortName) (xs ys : List LinkAccesses) (link : ℕ)
     → AccessesTurn same_reads same_floors nothing_happens (hops_cleared ends (link + 1)) xs ys
 keeps_next ends xs ys link turn stays = turns_as turn (hops_cleared ends (link + 1))
     (λ k d ts. none_more ends link k ts stays)
-
-none_below : (ends : List PortName) (k : ℕ) (ts : List HopTlp)
-    → (if nat_lt k 0 && clears_hop ends k then [] else ts) ≡ ts
-none_below ends k ts =
-    let no : nat_lt k 0 ≡ false = grind (arith, nat_tests) in rw no refl
-
-pub clears_none : (ends : List PortName) (xs : List LinkAccesses)
-    → AccessesTurn same_reads same_floors nothing_happens (hops_cleared ends 0) xs xs
-clears_none ends xs = turns_as (stays_all xs) (hops_cleared ends 0) (λ k d ts. sym (none_below ends k ts))

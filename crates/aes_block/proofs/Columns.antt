@@ -1,6 +1,6 @@
 -- Bytes of words, and elements of lists one by one.
-use Rattle.std.proofs.Common.{◌≡◌, ◌≤◌, ◌-◌, take, slice_range, ℕ, ◌+◌, ◌/◌, ◌%◌, ◌^◌, List, [], ◌∷◌, ◌++◌, bit_xor}
-use Rattle.std.proofs.Common.{slice_index, zero, suc, length, drop, drop-cons, refl, ap, ◌∙◌, arith}
+use Rattle.std.proofs.Common.{◌≡◌, ℕ, ◌+◌, ◌/◌, ◌%◌, ◌^◌, List, [], ◌∷◌, ◌++◌, bit_xor}
+use Rattle.std.proofs.Common.{slice_index, zero, suc, length, drop, drop-cons, refl, arith}
 use Rattle.std.proofs.lemmas.Nat.{xor_lt}
 use Rattle.std.proofs.lemmas.List.{drop_all}
 use Rattle.std.specs.Int.{w32, to_be_bytes}
@@ -39,20 +39,3 @@ word_of-bytes a b c d v ha hb hc hd e =
     let e2 : v / 2 ^ 8 % 2 ^ 8 ≡ c = omega arith in
     let e3 : v % 2 ^ 8 ≡ d = omega arith in
     λ i. e0 i ∷ e1 i ∷ e2 i ∷ e3 i ∷ []
-
--- four elements from place i on
-pub four : (xs : List ℕ) (i : ℕ) → i + 4 ≤ length xs
-    → slice_range xs i (i + 4) ≡ slice_index xs i ∷ slice_index xs (i + 1) ∷ slice_index xs (i + 2)
-    ∷ slice_index xs (i + 3) ∷ []
-four xs i le =
-    let count : i + 4 - i ≡ 4 = omega arith in
-    let e1 : i + 1 ≡ suc i = omega arith in
-    let e2 : i + 2 ≡ suc (suc i) = omega arith in
-    let e3 : i + 3 ≡ suc (suc (suc i)) = omega arith in
-    rw (count, e1, e2, e3)
-    (ap (take 4) (drop-cons xs i 0 (omega arith))
-    ∙ ap (λ (r : List ℕ). slice_index xs i ∷ take 3 r) (drop-cons xs (suc i) 0 (omega arith))
-    ∙ ap (λ (r : List ℕ). slice_index xs i ∷ slice_index xs (suc i) ∷ take 2 r)
-    (drop-cons xs (suc (suc i)) 0 (omega arith))
-    ∙ ap (λ (r : List ℕ). slice_index xs i ∷ slice_index xs (suc i) ∷ slice_index xs (suc (suc i)) ∷ take 1 r)
-    (drop-cons xs (suc (suc (suc i))) 0 (omega arith)))

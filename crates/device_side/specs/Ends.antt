@@ -1,8 +1,6 @@
 -- The device's end of a link: its port, what its responder of keys answers, and its interfaces (PCI Express Base 6.0
 -- section 6.33 and chapter 11, in this profile).
-use Rattle.std.specs.Prelude.{ℕ, ◌==◌, ◌||◌, Bool, true, false, List, [], ◌∷◌, Option, Some, None, is_some}
-use Rattle.std.specs.Prelude.{if◌then◌else◌}
-use Rattle.std.specs.Option.{option_and_then}
+use Rattle.std.specs.Prelude.{ℕ, ◌||◌, Bool, true, false, List, Option, Some, None, is_some}
 use Rattle.ide_types.specs.Ports.{device_port}
 use Rattle.ide_types.specs.declared.port.Side.TheVariants as side
 use Rattle.ide_types.specs.declared.status.StreamStatus.{StreamStatus}
@@ -12,17 +10,7 @@ use Rattle.ide_plan.specs.declared.stream.StreamPlan.{StreamPlan}
 use Rattle.tlp_layout.specs.declared.head.HeadView.{HeadView}
 use Rattle.association.specs.Choice.{id_of}
 use Rattle.ide_km.specs.{PlaceCall, call_of, is_done, reply_of}
-use Rattle.tdi_device.specs.Replies.{
-  DeviceTdis,
-  new_tdis,
-  settled_tdis,
-  tdis_set_t,
-  tdis_set_peer_t,
-  answered,
-  answer_bytes,
-}
-use Rattle.tdi_device.specs.Replies.{stream_asked}
-use Rattle.tdi_device.specs.declared.said.StreamSaid.{StreamSaid}
+use Rattle.tdi_device.specs.Replies.{DeviceTdis, new_tdis, settled_tdis, tdis_set_t, tdis_set_peer_t}
 use Rattle.tdi_device.specs.Replies.{reset_tdis}
 use Rattle.ide_port.specs.{PortEnd, new_port, reset_port, shown, called_port, status_in}
 use Rattle.device_side.specs.declared.device.Device.{Device}
@@ -73,39 +61,6 @@ after_call port (Some call) = called_port call port
 
 abbrev pub asked_device : DeviceEnd → List ℕ → ℕ → DeviceEnd
 asked_device e request draw = record e { port = after_call e.port (call_of request draw) }
-
--- ---- interfaces
-
--- whether the stream that a LOCK_INTERFACE names is Secure
-abbrev pub is_lockable : PortEnd → Option ℕ → Bool
-is_lockable port None = false
-is_lockable port (Some stream) = secure_at port stream
-
--- what the device says of the stream that a request names
-abbrev pub said_of : PortEnd → (ℕ → Option ℕ) → Option ℕ → StreamSaid
-said_of port live stream = record { secure = is_lockable port stream; live = option_and_then live stream }
-
-abbrev pub asked_interfaces : (ℕ → Option ℕ) → DeviceEnd → List ℕ → DeviceEnd
-asked_interfaces live e request =
-    record e { interfaces = answered e.interfaces request (said_of e.port live (stream_asked request)) }
-
-abbrev pub reply_of_interfaces : (ℕ → Option ℕ) → DeviceEnd → List ℕ → List ℕ
-reply_of_interfaces live e request = answer_bytes e.interfaces request (said_of e.port live (stream_asked request))
-
--- ---- any message: the first byte of those to interfaces is 1
-
-abbrev pub is_to_interfaces : List ℕ → Bool
-is_to_interfaces [] = false
-is_to_interfaces (b ∷ bs) = b == 1
-
-abbrev pub device_asked : (ℕ → Option ℕ) → DeviceEnd → List ℕ → ℕ → DeviceEnd
-device_asked live e request draw =
-    if is_to_interfaces request then asked_interfaces live e request
-    else settled_device live (asked_device e request draw)
-
-abbrev pub device_reply : (ℕ → Option ℕ) → DeviceEnd → List ℕ → ℕ → List ℕ
-device_reply live e request draw =
-    if is_to_interfaces request then reply_of_interfaces live e request else reply_given e request draw
 
 -- ---- T
 

@@ -1,6 +1,6 @@
 //! A device.
 
-ghost use Rattle.std.specs.Prelude.{◌≡◌, ◌+◌, ◌<◌, ◌≤◌, ◌^◌, ◌++◌, ℕ, Some, true, IfOk, IfSome, All, length};
+ghost use Rattle.std.specs.Prelude.{◌≡◌, ◌+◌, ◌<◌, ◌≤◌, ◌^◌, ◌++◌, ℕ, true, IfOk, IfSome, All, length};
 ghost use Rattle.std.specs.Prelude.{slice_get, vec_len, vec_capacity};
 ghost use Rattle.ide_plan.specs.Fits.{FitsStream};
 ghost use Rattle.tdi_state.specs.Held.{FitsTdi};
@@ -8,8 +8,7 @@ ghost use Rattle.interface_words.specs.RegisterNames.{has_register, width_of};
 ghost use Rattle.tdi_state.specs.Machine.{state_code, LevelReset, FirmwareUpdate, WriteRegister};
 ghost use Rattle.tdi_device.specs.Replies.{called_at};
 ghost use Rattle.ide_port.specs.{IsSentAtPort};
-ghost use Rattle.std.specs.Option.{option_and_then};
-ghost use Rattle.device_side.specs.Ends.{is_to_interfaces, is_lockable, said_of, secure_at};
+ghost use Rattle.device_side.specs.Ends.{secure_at};
 
 use crate::wiring::{Owners, PeerStreams, SecureStreams, is_secure_at};
 use ide_km::Responder;
@@ -17,62 +16,19 @@ use ide_plan::{InterfacePlan, StreamPlan};
 use ide_port::{Port, Sent};
 use ide_types::{Items, Memory, PortName, Side};
 use std::alloc::Global;
-use tdi_device::{DeviceInterfaces, StreamSaid, TDISP_REPLY_ROOM, stream_asked};
+use tdi_device::DeviceInterfaces;
 use tdi_state::Register;
-
-/// The room that a reply needs, in bytes.
-pub const REPLY_ROOM: usize = TDISP_REPLY_ROOM;
 
 /// The device of a link: its port with the link's streams, whose keys its responder moves, and its interfaces (PCI
 /// Express Base 6.0 section 6.33 and chapter 11, in this profile).
 #[derive(Drop)]
 pub struct Device {
-    /// The port, whose keys are moved by `answer` alone. After an arrival there the caller calls `settle`.
+    /// The port, whose keys are moved by `answer_of_keys` alone. After an arrival there the caller calls `settle`.
     pub port: Port,
     /// The requester ID that the responder gives in its answer to QUERY.
     pub requester: u16,
     /// The interfaces, by their place on the link.
     pub interfaces: DeviceInterfaces,
-}
-
-// Whether a message is to the interfaces.
-fn is_to_interfaces(message: &[u8]) -> bool
-    ensures { result ≡ is_to_interfaces message.now }
-{
-    match message.first() {
-        None => false,
-        Some(byte) => *byte == 1,
-    }
-}
-
-// Whether the stream that a LOCK_INTERFACE names is Secure at the port.
-fn is_lockable(port: &Port, stream: Option<u8>) -> bool
-    ensures { result ≡ is_lockable port.now stream }
-{
-    match stream {
-        None => false,
-        Some(stream) => is_secure_at(port, stream),
-    }
-}
-
-// What it says of one between it and another device.
-fn live_at<P: PeerStreams>(peers: &P, stream: Option<u8>) -> Option<u32>
-    ensures { result ≡ option_and_then (P.live peers.now) stream }
-{
-    match stream {
-        None => None,
-        Some(stream) => peers.live(stream),
-    }
-}
-
-// What the device says of the stream that a request names.
-fn said_of<P: PeerStreams>(port: &Port, peers: &P, stream: Option<u8>) -> StreamSaid
-    ensures { result ≡ said_of port.now (P.live peers.now) stream }
-{
-    StreamSaid {
-        secure: is_lockable(port, stream),
-        live: live_at(peers, stream),
-    }
 }
 
 impl Device {
@@ -81,10 +37,6 @@ impl Device {
       settled_device,
       asked_device,
       reply_given,
-      asked_interfaces,
-      reply_of_interfaces,
-      device_asked,
-      device_reply,
       device_trusting,
       reset_device,
     };
@@ -130,30 +82,6 @@ impl Device {
         self.interfaces.settle(&streams);
     }
 
-    /// Answers a message of the host, of key management or to an interface, which its first byte tells: makes at most
-    /// one call of its port or of one interface, and appends the reply, or nothing. `draw` is the number under which a
-    /// KEY_PROG's key is kept. After it, each interface in CONFIG_LOCKED or RUN goes to ERROR if a stream that it is
-    /// bound to is not Secure. `reply` has room for `REPLY_ROOM` bytes.
-    pub fn answer<P: PeerStreams>(
-        &mut self,
-        request: &[u8],
-        draw: u32,
-        peers: &P,
-        reply: &mut Vec<u8>,
-    )
-        requires { vec_len reply.old + REPLY_ROOM ≤ vec_capacity reply.old }
-        ensures device { self.new ≡ device_asked (P.live peers.now) self.old request.now draw }
-        ensures reply { reply.new.items ≡ reply.old.items ++ device_reply (P.live peers.now) self.old request.now draw }
-        ensures capacity { vec_capacity reply.old ≤ vec_capacity reply.new }
-    {
-        if is_to_interfaces(request) {
-            self.answer_to_interfaces(request, peers, reply)
-        } else {
-            self.answer_of_keys(request, draw, reply);
-            self.settle(peers);
-        }
-    }
-
     /// Answers a message of key management, one of several that reach the device at one event; after the last of them
     /// the caller calls `settle`. `reply` has 8 bytes of room.
     pub fn answer_of_keys(&mut self, request: &[u8], draw: u32, reply: &mut Vec<u8>)
@@ -164,23 +92,6 @@ impl Device {
     {
         let mut responder = Responder::make(self.requester);
         responder.answer(&mut self.port, request, draw, reply);
-    }
-
-    // Answers a message to an interface.
-    fn answer_to_interfaces<P: PeerStreams>(
-        &mut self,
-        request: &[u8],
-        peers: &P,
-        reply: &mut Vec<u8>,
-    )
-        requires { vec_len reply.old + REPLY_ROOM ≤ vec_capacity reply.old }
-        ensures device { self.new ≡ asked_interfaces (P.live peers.now) self.old request.now }
-        ensures reply { reply.new.items ≡ reply.old.items ++ reply_of_interfaces
-            (P.live peers.now) self.old request.now }
-        ensures capacity { vec_capacity reply.old ≤ vec_capacity reply.new }
-    {
-        let said = said_of(&self.port, peers, stream_asked(request));
-        self.interfaces.answer(request, said, reply);
     }
 
     /// Whether the port has the stream, and it is Secure there.

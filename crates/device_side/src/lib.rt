@@ -5,5 +5,5 @@
 mod device;
 mod wiring;
 
-pub use device::{Device, REPLY_ROOM};
-pub use wiring::{BoundOwners, NoPeers, PeerStreams};
+pub use device::Device;
+pub use wiring::{BoundOwners, PeerStreams};

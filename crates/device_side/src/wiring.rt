@@ -21,18 +21,6 @@ pub trait PeerStreams {
         ensures { result ≡ live self.now stream };
 }
 
-/// A device with no stream to another.
-#[derive(Clone, Copy, Drop)]
-pub struct NoPeers;
-
-impl PeerStreams for NoPeers {
-    ghost live = { λ s stream. None };
-
-    fn live(&self, _stream: u8) -> Option<u32> {
-        None
-    }
-}
-
 /// The streams of a device, as its interfaces see them: those of its port, and those between it and others.
 #[derive(Drop)]
 pub struct SecureStreams<'a, P> {

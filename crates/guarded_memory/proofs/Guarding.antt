@@ -3,7 +3,7 @@ use Rattle.std.proofs.Common.{◌≡◌, ℕ, Bool, true, false, cond, not, ◌&
 use Rattle.std.proofs.Common.{unwrap_or, is_some, refl, sym, ap, ◌∙◌, subst, inl, inr, arith}
 use Rattle.std.specs.Prelude.{slice_get}
 use Rattle.std.specs.Option.{option_map_or}
-use Rattle.std.proofs.lemmas.Bool.{cases_Bool, true≢false, eqb-true}
+use Rattle.std.proofs.lemmas.Bool.{and_parts, cases_Bool, eqb-true, true≢false}
 use Rattle.std.proofs.lemmas.Bool.Decides.{nat_tests}
 use Rattle.ide_plan.specs.declared.interface.BarPlan.{BarPlan}
 use Rattle.tdi_state.specs.Bindings.{floor_on}
@@ -23,10 +23,6 @@ use Rattle.guarded_memory.specs.Happenings.{contents_by}
 use Rattle.guarded_memory.specs.Stored.{stored_unless, stored_by_claim}
 use Rattle.guarded_memory.specs.Laws.{is_guarded, is_from_floor, is_admitted, GuardedBytesStay}
 use Rattle.guarded_memory.proofs.Claimed.{IsClaimed, claimed}
-
-pub both : (p q : Bool) → (p && q) ≡ true → (p ≡ true) × (q ≡ true)
-both true q e = (refl, e)
-both false q e = absurd (true≢false (sym e))
 
 none_is_not : (c : BlockCause) → Some c ≡ None → ⊥
 none_is_not c e = true≢false (ap (λ (o : Option BlockCause). is_some o) e)
@@ -81,13 +77,13 @@ not_guarded : (xs : List Standing) (w : Write) (c : Claim) (t : Bool) (stream dr
     → (eqb c.interface i && eqb c.bar b) ≡ true → slice_get xs i ≡ Some x → is_guarded x b ≡ true
     → is_admitted x t stream draw ≡ true
 not_guarded xs w c t stream draw i b x is none placed there guarded =
-    let places = both (eqb c.interface i) (eqb c.bar b) placed in
+    let places = and_parts (eqb c.interface i) (eqb c.bar b) placed in
     let interface = eqb-true c.interface i places.0 in
     let bar = eqb-true c.bar b places.1 in
     let same : c.standing ≡ x =
     ap (λ (o : Option Standing). unwrap_or o c.standing)
     (sym is.interface ∙ ap (λ (k : ℕ). slice_get xs k) interface ∙ there) in
-    let parts = both (is_locked_or_run x.state) (not (has_open_range x.bars b)) guarded in
+    let parts = and_parts (is_locked_or_run x.state) (not (has_open_range x.bars b)) guarded in
     let held : is_locked_or_run c.standing.state ≡ true = ap (λ (y : Standing). is_locked_or_run y.state) same ∙ parts.0
     in
     let shut_there : has_open_range c.standing.bars c.bar ≡ false =

@@ -1,24 +1,23 @@
 -- One page put, set or taken away: what is read at each place afterwards. A place is in the page or in another.
-use Rattle.std.proofs.Common.{◌≡◌, ◌≢◌, ℕ, ◌/◌, ◌%◌, ◌<◌, Bool, true, false, cond, not, ◌&&◌, ◌||◌, eqb, List, []}
+use Rattle.std.proofs.Common.{◌≡◌, ◌≢◌, ℕ, ◌/◌, ◌%◌, ◌<◌, Bool, true, false, cond, not, ◌&&◌, eqb, List, []}
 use Rattle.std.proofs.Common.{length, get_or, replicate, Option, Some, None, unwrap_or, is_some, refl}
 use Rattle.std.proofs.Common.{sym, ap, ◌∙◌, subst, inl, inr, arith, get_or-set_other, get_or-set_same}
 use Rattle.std.proofs.Math.ListN.{set}
 use Rattle.std.specs.Map.{lookup}
 use Rattle.std.specs.Prelude.{filter}
-use Rattle.std.proofs.lemmas.Bool.{cases_Bool, true≢false, eqb-true, eqb-false}
+use Rattle.std.proofs.lemmas.Bool.{and_parts, cases_Bool, eqb-false, eqb-true, true≢false}
 use Rattle.std.proofs.lemmas.Bool.Decides.{nat_tests}
 use Rattle.std.proofs.lemmas.List.{get_or-replicate}
 use Rattle.std.proofs.lemmas.Map.Entries.{lookup-filter-keys}
 use Rattle.guarded_memory.specs.declared.names.PageName.{PageName}
 use Rattle.guarded_memory.specs.Contents.{is_page_name, name_at, bytes_of_page, byte_in_pages}
-use Rattle.guarded_memory.proofs.Guarding.{both}
 
 -- ---- names
 
 pub same_name : (p q : PageName) → is_page_name p q ≡ true → p ≡ q
 same_name p q e =
-    let parts = both (eqb p.interface q.interface) (eqb p.bar q.bar && eqb p.number q.number) e in
-    let rest = both (eqb p.bar q.bar) (eqb p.number q.number) parts.1 in
+    let parts = and_parts (eqb p.interface q.interface) (eqb p.bar q.bar && eqb p.number q.number) e in
+    let rest = and_parts (eqb p.bar q.bar) (eqb p.number q.number) parts.1 in
     let interface = eqb-true p.interface q.interface parts.0 in
     let bar = eqb-true p.bar q.bar rest.0 in
     let number = eqb-true p.number q.number rest.1 in
@@ -155,14 +154,6 @@ byte_left taken es es' is j c a =
     ∙ left_or_zero (taken n) (lookup (is_page_name n) es) (a % 4096)
 
 -- ---- which pages are there
-
-or-true : (b : Bool) → (b || true) ≡ true
-or-true true = refl
-or-true false = refl
-
-or-false : (b : Bool) → (b || false) ≡ b
-or-false true = refl
-or-false false = refl
 
 -- a page that was there is put
 pub keeps_same : (name : PageName) (new : List ℕ) (es es' : List (PageName × List ℕ)) → PutsPage name new es es'

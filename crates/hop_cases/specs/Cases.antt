@@ -1,5 +1,5 @@
 -- Worked cases of a hop: events with the verdicts that were worked out by hand, in order.
-use Rattle.std.specs.Prelude.{◌≡◌, ℕ, Bool, false, true, Some, None, List, [], ◌∷◌, ◌++◌, replicate}
+use Rattle.std.specs.Prelude.{◌≡◌, ℕ, false, true, Some, None, List, [], ◌∷◌, ◌++◌, replicate}
 use Rattle.ide_types.specs.Ports.{host_port, device_port}
 use Rattle.ide_types.specs.declared.port.PortName.{PortName}
 use Rattle.ide_types.specs.declared.fault_word.FaultWord.TheVariants as fault
@@ -48,10 +48,6 @@ hop_plan = record {
 -- a read at 10000000h by the requester 0300h, of traffic class 1
 abbrev pub read : List ℕ
 read = 0x00 ∷ 0x10 ∷ 0x00 ∷ 0x01 ∷ 0x03 ∷ 0x00 ∷ 0x01 ∷ 0x0f ∷ 0x10 ∷ 0x00 ∷ 0x00 ∷ 0x00 ∷ []
-
--- the ends of the hop: at the host, at the switch towards the host, at the switch towards the device, at the device
-abbrev pub at_host : PortName
-at_host = host_port 8
 
 abbrev pub at_u : PortName
 at_u = device_port 8

@@ -1,25 +1,24 @@
 -- Across a segment that had one draw since its link's last reset: what was accepted since then is, in each sub-stream,
 -- a prefix of what was sealed since then. All of it came under that draw, and nothing before the reset did.
-use Rattle.sealing_laws.proofs.Terms.{◌≡◌, ℕ, ◌<◌, ◌≤◌, ◌+◌, ◌==◌, ◌&&◌, Bool, true, false, List, [], ◌∷◌, ◌++◌, length}
-use Rattle.sealing_laws.proofs.Terms.{Some, None, refl, ap, sym, subst, ◌∙◌, arith, nat_tests, inl, inr, ◌⊎◌}
+use Rattle.sealing_laws.proofs.Terms.{◌≡◌, ℕ, ◌<◌, ◌≤◌, ◌+◌, ◌==◌, ◌&&◌, Bool, true, false, List, [], ◌∷◌, ◌++◌}
+use Rattle.sealing_laws.proofs.Terms.{refl, ap, sym, subst, ◌∙◌, arith, nat_tests, inl, inr}
 use Rattle.sealing_laws.proofs.Terms.{if◌then◌else◌, cases_Bool, AllByRecursion, map, filter, not, append-nil, eqb-true}
 use Rattle.sealing_laws.proofs.Terms.{and_parts, filter-append, is_some, Plan, History, Event, Verdict, Sealed}
 use Rattle.sealing_laws.proofs.Terms.{Accepted}
 use Rattle.sealing_laws.proofs.Terms.{Held, PortName, UnitName, Effect, SealedPacket, SubKind, SubStream, Packet}
-use Rattle.sealing_laws.proofs.Terms.{CauseLaw, NoForgery, IsPrefixOf, DrawFacts, StreamsFit, is_of, is_same, lane_in}
-use Rattle.sealing_laws.proofs.Terms.{lane_out, is_same_port, same_stream, same_port, same_sub, received_in, receiving}
-use Rattle.sealing_laws.proofs.Terms.{arrived_packet, sub_bits, sub_stream_of, sent_bytes, sealing_is, sending_port}
+use Rattle.sealing_laws.proofs.Terms.{CauseLaw, DrawFacts, is_of, is_same, lane_in}
+use Rattle.sealing_laws.proofs.Terms.{lane_out, is_same_port, same_stream, same_port, received_in, receiving}
+use Rattle.sealing_laws.proofs.Terms.{sub_stream_of, sent_bytes, sealing_is, sending_port}
 use Rattle.sealing_laws.proofs.Terms.{stream_plan}
-use Rattle.sealing_laws.proofs.Terms.{accepted_by, received_there, packet_that_came, held_by, Passed, key_in, keys_at}
+use Rattle.sealing_laws.proofs.Terms.{accepted_by, received_there, packet_that_came, held_by, key_in, keys_at}
 use Rattle.sealing_laws.proofs.Terms.{On}
-use Rattle.sealing_laws.proofs.Terms.{IsLive, AllLive, all_live, has_stream, is_sync_packet, drop, take}
+use Rattle.sealing_laws.proofs.Terms.{IsLive, AllLive, all_live, is_sync_packet}
 unfoldable use Rattle.sealing_laws.proofs.Terms.{held}
-use Rattle.link_history.proofs.Terms.{Establish, Refresh, Stop, Reset, draws, op_of, begins_keyed, partner, arith}
-unfoldable use Rattle.link_history.proofs.Terms.{manager}
+use Rattle.link_history.proofs.Terms.{Establish, Reset, draws, op_of, begins_keyed, arith}
 use Rattle.link_history.proofs.UnitLemmas.{All-snoc}
 use Rattle.link_history.proofs.Tests.{same_in}
 use Rattle.link_history.proofs.Senders.{in_lane}
-use Rattle.ide_types.specs.Sub.{is_same_sub, sent_direction, received_direction}
+use Rattle.ide_types.specs.Sub.{is_same_sub}
 use Rattle.interface_states.proofs.Trusted.{draws_grow}
 use Rattle.link_keys.proofs.SealedKeys.{live_on, live_below}
 use Rattle.link_history.specs.Delivered.{carries_tlp_of}
@@ -30,12 +29,10 @@ unfoldable use Rattle.link_history.specs.HopLaws.{sealed_since, draws_since}
 use Rattle.link_history.specs.Memory.{taken, unit_ended}
 use Rattle.link_verdicts.specs.declared.verdict.Verdict.TheVariants as v
 use Rattle.delivery_laws.proofs.Orders.{on_there}
-use Rattle.delivery_laws.proofs.Deliveries.{delivery_law}
-use Rattle.delivery_laws.proofs.Prefixes.{got_begins}
 use Rattle.read_order.proofs.Taken.{tlps_of, here_after, taken_accepted}
-use Rattle.hop_laws.proofs.Since.{IsSegment, marked, on_since, on_begun}
+use Rattle.hop_laws.proofs.Since.{IsSegment, on_since, on_begun}
 unfoldable use Rattle.hop_laws.proofs.Since.{mark}
-use Rattle.hop_laws.proofs.Carried.{InSub, both_begin}
+use Rattle.hop_laws.proofs.Carried.{InSub}
 unfoldable use Rattle.hop_laws.proofs.Carried.{hop_got, hop_sent}
 
 -- ---- the stream of a segment
@@ -89,9 +86,6 @@ with_sub u plain (p ∷ ps) all = let later = with_sub u _ ps all.1 in elim (cas
   | inl sync ↦ rw sync later
   | inr carries ↦ rw carries (all.0, later)
 ]
-
-same_subs : (u w : SubKind) → u ≡ w → is_same_sub u w ≡ true
-same_subs u w is = grind arith
 
 -- the whole list, or nothing of it
 in_own : (u w : SubKind) (xs : List HopTlp) → InSub u xs → in_sub w xs ≡ (if is_same_sub u w then xs else [])

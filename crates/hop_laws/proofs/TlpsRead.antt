@@ -1,11 +1,11 @@
 -- Each TLP that was accepted at an end of a hop reads as a TLP of its sub-stream: its packet was cut so, and its
 -- payload in plain has as many bytes as in ciphertext.
 use Rattle.sealing_laws.proofs.Terms.{◌≡◌, ℕ, ◌<◌, ◌≤◌, ◌+◌, Bool, true, false, List, [], ◌∷◌, ◌++◌, length, drop, take}
-use Rattle.sealing_laws.proofs.Terms.{Ok, refl, ap, sym, subst, ◌∙◌, arith, inl, inr, if◌then◌else◌, All, cases_Bool}
-use Rattle.sealing_laws.proofs.Terms.{AllByRecursion, length-append, length-drop, slice_index, All-nil, SubKind, Pr}
+use Rattle.sealing_laws.proofs.Terms.{Ok, ap, sym, subst, ◌∙◌, arith, inl, inr, if◌then◌else◌, All, cases_Bool}
+use Rattle.sealing_laws.proofs.Terms.{AllByRecursion, length-append, length-drop, slice_index, All-nil}
 use Rattle.sealing_laws.proofs.Terms.{Packet, FitsPacket, is_sync_packet, begins_sync, encrypted, Tlp, header, read_of}
 use Rattle.sealing_laws.proofs.Terms.{read_spells_tlp, class_of, masked-bytes, length-open_of, Plan, History, Event}
-use Rattle.sealing_laws.proofs.Terms.{PortName, UnitName, Accepted, Verdict, CauseLaw, accepted_by, iv_of, key_of}
+use Rattle.sealing_laws.proofs.Terms.{PortName, UnitName, Accepted, CauseLaw, accepted_by, iv_of, key_of}
 use Rattle.sealing_laws.proofs.Terms.{received_in, held, arrived_packet, packet_that_came, is_same_port}
 unfoldable use Rattle.sealing_laws.proofs.Terms.{open_of}
 use Rattle.std.proofs.Common.{zero, suc}
@@ -13,7 +13,7 @@ use Rattle.sealing_laws.proofs.Terms.{slice_get, Some, Effect}
 use Rattle.std.proofs.lemmas.List.Elements.{All-append, All-take, All-drop}
 use Rattle.std.proofs.lemmas.List.{length-take-le}
 use Rattle.tlp_layout.specs.Tlp.{with_payload}
-use Rattle.ide_prefix.specs.Packet.{IsCarried, IsSync}
+use Rattle.ide_prefix.specs.Packet.{IsSync}
 use Rattle.ide_prefix.proofs.Grammar.{sync_begins}
 use Rattle.link_history.specs.Hops.{HopTlp, tlps_with, clears_hop}
 unfoldable use Rattle.link_history.specs.Hops.{taken_in}
@@ -82,7 +82,7 @@ plain_bytes : (plan : Plan) (port : PortName) (unit : UnitName) (ps : List Packe
 unfolding open_of
 plain_bytes plan port unit ps fits = masked-bytes _ _ 0 (encrypted ps) (bodies ps fits)
 
-snoc_fits : (ps : List Packet) (p : Packet) → AllByRecursion FitsPacket ps → FitsPacket p
+pub snoc_fits : (ps : List Packet) (p : Packet) → AllByRecursion FitsPacket ps → FitsPacket p
     → AllByRecursion FitsPacket (ps ++ p ∷ [])
 snoc_fits [] p fits last = (last, tt)
 snoc_fits (q ∷ ps) p fits last = (fits.0, snoc_fits ps p fits.1 last)

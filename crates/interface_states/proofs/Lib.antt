@@ -6,3 +6,4 @@ pub mod Views
 pub mod Floors
 pub mod Bound
 pub mod OnLinks
+pub mod Binds

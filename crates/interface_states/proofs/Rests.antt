@@ -20,7 +20,7 @@ use Rattle.std.proofs.Common.{ap, ◌∙◌, arith}
 use Rattle.std.proofs.lemmas.Bool.Decides.{nat_tests}
 use Rattle.interface_states.specs.Terms.{Plan, Event, Verdict, History, Lock, Tdi, lock_answer, Call, LockInterface}
 use Rattle.interface_states.specs.Terms.{StartInterface, StopInterface, WriteRegister, LevelReset, FirmwareUpdate}
-use Rattle.interface_states.specs.Terms.{StreamLeft, LinkReset, BindStream, UnbindStream, tdi_after, bind_answer}
+use Rattle.interface_states.specs.Terms.{StreamLeft, BindStream, UnbindStream, tdi_after, bind_answer}
 use Rattle.interface_states.specs.Terms.{unbind_answer}
 use Rattle.tdi_state.proofs.Bound.{bound_state, unbound_state}
 use Rattle.tdi_state.specs.Machine.{new_lock, locked_with}
@@ -35,7 +35,7 @@ use Rattle.link_verdicts.specs.declared.verdict.Verdict.TheVariants as v
 
 -- ---- RUN is entered by START_INTERFACE alone
 
-abbrev is_start : Call → Bool
+abbrev pub is_start : Call → Bool
 is_start (StartInterface nonce) = true
 is_start _ = false
 
@@ -44,7 +44,8 @@ locked_rests : (tdi : Tdi) (new : Lock) (answer : Result (List ℕ) ℕ) → is_
 locked_rests tdi new (Ok nonce) rests = refl
 locked_rests tdi new (Err code) rests = rests
 
-after_rests : (tdi : Tdi) (c : Call) → is_start c ≡ false → is_run tdi.state ≡ false → is_run (tdi_after tdi c).state
+pub after_rests : (tdi : Tdi) (c : Call) → is_start c ≡ false → is_run tdi.state ≡ false
+    → is_run (tdi_after tdi c).state
     ≡ false
 after_rests tdi (LockInterface flags stream offset secure drawn) other rests =
     locked_rests tdi (new_lock tdi flags stream offset) (lock_answer tdi flags offset secure drawn) rests
@@ -75,7 +76,7 @@ start_rests false c call tdi none rests = rests
 start_rests true false call tdi none rests = rests
 start_rests true true call tdi none rests = absurd cc
 
-reset_starts_none : (own : Bool) → is_start (reset_call own) ≡ false
+pub reset_starts_none : (own : Bool) → is_start (reset_call own) ≡ false
 reset_starts_none own = grind arith
 
 next_rests : (a : Around) (left : Bool) (x : Site) (e : Event) (w : Verdict) (tdi : Tdi) → starts x e w ≡ false

@@ -1,26 +1,17 @@
 -- Streams between two devices, as a device knows them: by their IDs.
-use Rattle.std.specs.Prelude.{ℕ, ◌+◌, ◌==◌, ◌&&◌, max, Bool, true, false, not, is_some, List, [], ◌∷◌, unwrap_or}
+use Rattle.std.specs.Prelude.{ℕ, ◌==◌, ◌&&◌, max, Bool, true, false, not, is_some, List, unwrap_or}
 use Rattle.std.specs.Prelude.{Option}
 use Rattle.std.specs.Prelude.{Some, None, if◌then◌else◌}
-use Rattle.ide_types.specs.Lines.{peer_line}
-use Rattle.ide_types.specs.Ports.{host_port, device_port}
 use Rattle.ide_types.specs.declared.status.StreamStatus.TheVariants as status
 use Rattle.ide_types.specs.declared.sub.SubKind.TheVariants.{Pr}
 use Rattle.ide_plan.specs.declared.plan.PeerPlan.{PeerPlan}
+unfoldable pub use Rattle.ide_plan.specs.Ends.{peer_end}
 use Rattle.key_laws.specs.Keys.{Keys, on_in}
 use Rattle.key_laws.specs.Places.{KeyPlace}
 use Rattle.key_laws.specs.History.{keys_there}
 use Rattle.tdi_state.specs.declared.bindings.Binding.{Binding}
 use Rattle.interface_states.specs.Terms.{list_any, option_and_then, option_map_or, PortName, StreamStatus, History}
 use Rattle.interface_states.specs.Terms.{status_of}
-
--- the end at a link's device of the first of these streams that has the ID and ends there; they are numbered on
-unfoldable pub peer_end : List PeerPlan → ℕ → ℕ → ℕ → Option PortName
-peer_end [] n link id = None
-peer_end (p ∷ ps) n link id =
-    if (p.id == id) && (p.near == link) then Some (host_port (peer_line n))
-    else if (p.id == id) && (p.far == link) then Some (device_port (peer_line n))
-    else peer_end ps (n + 1) link id
 
 -- the link's device has the stream between devices of this line and ID
 abbrev pub has_peer : List PeerPlan → ℕ → ℕ → ℕ → Bool

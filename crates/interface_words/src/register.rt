@@ -1,7 +1,7 @@
 //! The registers of a device interface.
 
 ghost use Rattle.std.specs.Prelude.{◌≡◌};
-ghost use Rattle.interface_words.specs.RegisterNames.{has_register, width_of};
+ghost use Rattle.interface_words.specs.RegisterNames.{has_register};
 
 use ide_plan::InterfacePlan;
 
@@ -27,18 +27,6 @@ pub enum Register {
 }
 
 impl Register {
-    /// How many bits it has: 8, 16, 32 or 64.
-    pub fn width(self) -> u8
-        ensures { result ≡ width_of self }
-    {
-        match self {
-            Register::CacheLine => 8,
-            Register::Tph => 32,
-            Register::Bar(_) => 64,
-            _ => 16,
-        }
-    }
-
     /// Whether an interface of this layout has it.
     pub fn is_of(self, plan: &InterfacePlan) -> bool
         ensures { result ≡ has_register plan.now self }

@@ -8,10 +8,6 @@ pub record Pool : Type 0 where
   pub keys : List (List ℕ)
   pub draws : ℕ
 
--- the place of a direction (0 from host to device, 1 from device to host) and a sub-stream among the six of a draw
-abbrev pub place_among_six : ℕ → ℕ → ℕ
-place_among_six direction sub = 3 * direction + sub
-
 -- the key of a draw at a place: number 6 * draw + place of the pool
 abbrev pub pool_key : List (List ℕ) → ℕ → ℕ → List ℕ
 pool_key keys draw place = slice_index_or keys (6 * draw + place) []

@@ -137,20 +137,6 @@ after_end zero one = (zero, one)
 abbrev pub ended_pair : SlotPair → SlotPair
 ended_pair pair = with_both pair.sender false (after_end pair.zero pair.one)
 
--- ---- a unit was accepted under a Live slot of a receiver
-
--- this slot is Live, and the other is a newer Live one
-abbrev pub is_older : Bool → Option ℕ → Option ℕ → Bool
-is_older set None other = false
-is_older set (Some draw) other = is_newer_than set draw other
-
--- an older Live other slot is emptied
-abbrev pub accepted : SlotPair → Bool → SlotPair
-accepted pair set =
-    if is_older (not set) (live_draw (slot_in pair (not set))) (live_draw (slot_in pair set)) then
-    with_both pair.sender set (slot_in pair set, Empty)
-    else pair
-
 -- ---- what always holds
 
 abbrev pub is_live : Slot → Bool

@@ -3,7 +3,7 @@
 ghost use Rattle.std.specs.Prelude.{◌≡◌, true, false, not, is_ok, if◌then◌else◌, IfOk, ◌||◌};
 ghost use Rattle.std.specs.Option.{option_copied, option_map};
 ghost use Rattle.ide_types.specs.KeySets.{is_one};
-ghost use Rattle.key_slots.specs.Slots.{is_newer_than, is_older, live_draw, after_go, after_end};
+ghost use Rattle.key_slots.specs.Slots.{is_newer_than, live_draw, after_go, after_end};
 
 use crate::Key;
 use crate::slot::{HeldKey, Slot, SlotState};
@@ -65,7 +65,6 @@ impl Slots {
       armed,
       halted,
       ended_pair,
-      accepted,
       live_set,
       slot_state,
       held_key,
@@ -195,27 +194,6 @@ impl Slots {
             let (zero, one) = self.take(KeySet::Zero);
             let (zero, one) = after_end(zero, one);
             self.put(KeySet::Zero, zero, one);
-        }
-    }
-
-    /// Notes that a unit was accepted under this Live slot of a receiver: an older Live one is emptied.
-    pub fn accepted(&mut self, set: KeySet)
-        ensures { self.new ≡ accepted self.old (is_one set) }
-    {
-        if self.is_other_older(set) {
-            let (mine, _) = self.take(set);
-            self.put(set, mine, Slot::Empty);
-        }
-    }
-
-    fn is_other_older(&self, set: KeySet) -> bool
-        ensures { let mine = slot_in self.now (is_one set) in
-            let other = slot_in self.now (not (is_one set)) in
-            result ≡ is_older (not (is_one set)) (live_draw other) (live_draw mine) }
-    {
-        match self.slot_ref(set.other()).live_draw() {
-            None => false,
-            Some(draw) => is_newer_than(set.other(), draw, self.slot_ref(set).live_draw()),
         }
     }
 

@@ -1,5 +1,5 @@
 -- The streams of a line, as they are looked up of a plan.
-use Rattle.link_history.proofs.Terms.{◌≡◌, ◌∙◌, ◌+◌, ◌-◌, ◌<◌, ◌≤◌, ◌&&◌, ◌||◌, ℕ, zero, suc, List, [], ◌∷◌, Bool, true}
+use Rattle.link_history.proofs.Terms.{◌≡◌, ◌∙◌, ◌-◌, ◌<◌, ◌≤◌, ◌&&◌, ℕ, zero, suc, List, [], ◌∷◌, Bool, true}
 use Rattle.link_history.proofs.Terms.{
   false,
   Option,
@@ -14,45 +14,25 @@ use Rattle.link_history.proofs.Terms.{
   refl,
   sym,
 }
-use Rattle.link_history.proofs.Terms.{
-  ap,
-  nat_tests,
-  inl,
-  inr,
-  ◌⊎◌,
-  if◌then◌else◌,
-  not,
-  slice_get_within,
-  Plan,
-  PortName,
-}
-use Rattle.link_history.proofs.Terms.{with_id, streams_of}
+use Rattle.link_history.proofs.Terms.{ap, nat_tests, not, slice_get_within, Plan, PortName}
+use Rattle.link_history.proofs.Terms.{streams_of}
 use Rattle.std.specs.List.{slice_index_or}
-use Rattle.std.proofs.lemmas.Bool.{cases_lt}
 use Rattle.ide_plan.specs.declared.plan.LinkPlan.{LinkPlan}
 use Rattle.ide_plan.specs.declared.plan.HopPlan.{HopPlan}
 use Rattle.ide_plan.specs.declared.plan.PeerPlan.{PeerPlan}
 use Rattle.ide_plan.specs.declared.stream.StreamPlan.{StreamPlan}
 use Rattle.ide_plan.specs.Ends.{link_hop, line_has}
 use Rattle.ide_plan.specs.Fits.{FitsPlan}
-use Rattle.ide_types.specs.declared.port.Side.{Side}
 use Rattle.tlp_layout.specs.Reading.{read_of}
 use Rattle.association.specs.Outgoing.{outgoing_of}
 use Rattle.link_history.specs.Plan.{has_link, has_line, hop_by_link, hop_streams, lone_stream, peer_streams}
 use Rattle.link_history.specs.Plan.{streams_by_link, behind_links, behind_near}
 unfoldable use Rattle.link_history.specs.Plan.{streams_by_line}
-use Rattle.link_history.specs.Ports.{at_switch, goes_to_hop, hop_lists, lacks_stream, outgoing_at, takes_none}
+use Rattle.link_history.specs.Ports.{at_switch, goes_to_hop, hop_lists, lacks_stream, takes_none}
 use Rattle.link_history.proofs.Ends.{among_eight, behind_eight, link_row, stream_is_there}
 use Rattle.line_routes.specs.Rows.{goes_to_hop_by, has_line_by, hop_line_has, is_left_to_hop, lacks_hop_stream}
 
 -- ---- rows
-
-abbrev pub row_by : Plan → ℕ → List StreamPlan
-row_by plan line =
-    if nat_lt line 8 then slice_index_or (streams_by_link plan) line []
-    else if nat_lt line 16 then slice_index_or (hop_by_link plan) (line - 8) []
-    else if nat_lt line 24 then slice_index_or (hop_by_link plan) (line - 16) []
-    else slice_index_or (peer_streams plan) (line - 24) []
 
 pub row_link : (plan : Plan) (line : ℕ) → nat_lt line 8 ≡ true
     → streams_of plan line ≡ slice_index_or (streams_by_link plan) line []

@@ -19,21 +19,19 @@ use Rattle.link_history.proofs.Terms.{
   sym,
 }
 use Rattle.link_history.proofs.Terms.{true, ℕ, ◌++◌, ◌+◌, ◌-◌, ◌==◌, ◌∙◌, ◌∷◌, ◌≡◌, nat_tests, slice_get, suc, zero}
-use Rattle.link_history.proofs.Terms.{PortName, Plan, Packet, SealedPacket, has_stream, is_some, streams_of, with_id}
+use Rattle.link_history.proofs.Terms.{PortName, Plan, Packet, has_stream, is_some, streams_of, with_id}
 use Rattle.link_history.proofs.Terms.{if◌then◌else◌, ◌&&◌}
 unfoldable use Rattle.link_history.specs.Plan.{stream_plan, streams_by_line}
 use Rattle.link_history.specs.Plan.{streams_by_link, hop_streams, hop_by_link, peer_streams, lone_stream}
 use Rattle.link_history.specs.Plan.{in_eight}
-use Rattle.link_history.specs.Plan.{behind_near, behind_links, partner}
-use Rattle.link_history.specs.Packets.{Arrival, brought}
-unfoldable use Rattle.link_history.specs.Ports.{goes_through, id_in, port_of, reached}
+use Rattle.link_history.specs.Plan.{behind_near, behind_links}
+unfoldable use Rattle.link_history.specs.Ports.{goes_through, id_in, port_of}
 use Rattle.link_history.specs.Ports.{at_switch}
 use Rattle.std.specs.Prelude.{◌<◌, ◌≤◌, ◌≢◌, ◌||◌, All, AllPairs, nat_lt, replicate}
-use Rattle.std.specs.List.{slice_index_or, list_any}
-use Rattle.std.specs.Option.{unwrap_or}
+use Rattle.std.specs.List.{slice_index_or}
 use Rattle.std.proofs.Common.{inl, inr, ◌⊎◌}
-use Rattle.std.proofs.lemmas.Bool.{cases_lt, cases_Bool, eqb-true}
-use Rattle.std.proofs.lemmas.List.{get_or_append_left, get_or-append_right, length-append, length-map}
+use Rattle.std.proofs.lemmas.Bool.{cases_lt, eqb-true}
+use Rattle.std.proofs.lemmas.List.{get_or_append_left, get_or-append_right, length-append}
 use Rattle.std.proofs.lemmas.List.{get_or-take, length-replicate, length-take-le}
 use Rattle.std.proofs.lemmas.Option.{get_or_from_slice_get, slice_get_within}
 use Rattle.ide_types.specs.declared.port.Side.{Side}
@@ -373,23 +371,6 @@ own_end plan fits e id has = line_met plan fits e.link id has e.side
 pub id_is : (p : Packet) → id_in (packet_bytes p) ≡ Some p.prefix.stream
 unfolding id_in
 id_is p = refl
-
--- a packet that was not altered meets the other end of its line
-pub arrives_at_partner : (plan : Plan) → FitsPlan plan → (e : PortName) (p : Packet)
-    → has_stream plan e p.prefix.stream ≡ true → reached plan (partner e) (packet_bytes p) ≡ partner e
-unfolding reached
-arrives_at_partner plan fits e p known =
-    rw (id_is p) (own_end plan fits (partner e) p.prefix.stream
-    (sym (stream_is_there plan e.link p.prefix.stream) ∙ known))
-
-abbrev came_whole : PortName → Packet → Arrival
-came_whole port p = record { port = port; bytes = packet_bytes p }
-
-pub passes_to_partner : (plan : Plan) → FitsPlan plan → (d : SealedPacket) (p : Packet) → d.stream ≡ p.prefix.stream
-    → has_stream plan d.port d.stream ≡ true
-    → brought plan (d, p) (packet_bytes p) ≡ came_whole (partner d.port) p
-passes_to_partner plan fits d p same known = ap (λ (q : PortName). came_whole q p)
-    (arrives_at_partner plan fits d.port p (subst (λ (n : ℕ). has_stream plan d.port n ≡ true) same known))
 
 -- ---- the streams of links themselves
 

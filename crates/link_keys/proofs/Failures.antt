@@ -6,15 +6,6 @@ use Rattle.link_history.proofs.Terms.{History, KeyPlace, PortName, SubKind, Verd
 use Rattle.link_history.proofs.Terms.{◌&&◌, ◌||◌}
 use Rattle.link_keys.proofs.Seats.{keys_out, keys_into}
 
--- ---- six tests
-
-pub six_or : (a b c d e f : Bool) → (a || b || c || (d || e || f)) ≡ (a || (b || (c || (d || (e || (f || false))))))
-six_or a b c d e f = grind arith
-
-pub six_or_back : (a b c d e f : Bool) → (a || b || c || (d || e || f))
-    ≡ (d || (e || (f || (a || (b || (c || false))))))
-six_or_back a b c d e f = grind arith
-
 -- ---- keys
 
 -- a port's place of a stream

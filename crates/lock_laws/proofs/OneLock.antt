@@ -8,7 +8,6 @@ use Rattle.link_history.proofs.Terms.{Plan, History, Event, Accepted, UnitName, 
 use Rattle.link_history.proofs.Terms.{received_in}
 use Rattle.link_history.specs.Terms.{is_sync_packet}
 use Rattle.link_history.proofs.Causes.{accepted_by, unit_that_ends}
-unfoldable use Rattle.link_history.proofs.Terms.{due}
 use Rattle.std.proofs.lemmas.Bool.{true≢false}
 use Rattle.std.specs.Option.{option_and_then, option_or}
 use Rattle.ide_types.specs.Sub.{sent_direction}
@@ -261,7 +260,7 @@ module _ (plan : Plan) (h : History) (cause : CauseLaw plan h) (x : Site) where
       ∙ one_lock plan a.unit.draw made.0 since a.older x at causes made.1 runs.was_started first.view view floor
 
 -- of two fronts of one list the one is a front of the other
-fronts : {A : Type 0} (xs ys g k : List A) → xs ++ g ≡ ys ++ k
+pub fronts : {A : Type 0} (xs ys g k : List A) → xs ++ g ≡ ys ++ k
     → ((s : List A) × (s ++ k ≡ g)) ⊎ ((s : List A) × (s ++ g ≡ k))
 fronts [] ys g k is = inl (ys, sym is)
 fronts (x ∷ xs) [] g k is = inr (x ∷ xs, is)

@@ -1,7 +1,8 @@
 -- An interface in RUN was reported since its lock.
-use Rattle.std.proofs.Common.{◌≡◌, ◌⊎◌, ℕ, ◌==◌, ◌&&◌, ◌∷◌, Bool, true, false, List, [], Option, Some}
+use Rattle.std.proofs.Common.{◌≡◌, ◌⊎◌, ℕ, ◌==◌, ◌∷◌, Bool, true, false, List, [], Option, Some}
 use Rattle.std.proofs.Common.{if◌then◌else◌, refl, sym, ap, ◌∙◌, inl, inr, subst, arith}
-use Rattle.std.proofs.lemmas.Bool.{cases_Bool, true≢false}
+use Rattle.std.proofs.lemmas.Bool.{and_parts, cases_Bool, true≢false}
+use Rattle.lock_laws.proofs.Runs.{other_not}
 use Rattle.interface_states.specs.Terms.{Plan, View, Unlocked, Locked, Running, Doubt, Broken, Event, InterfaceEvent}
 use Rattle.interface_states.specs.Terms.{Loss, Verdict, History, op_of}
 use Rattle.interface_states.specs.Terms.{draws, kept_report, lock_of, option_map}
@@ -157,11 +158,6 @@ own_turn plan h (ie.Bind i line stream loss) w x at own cause has =
 own_turn plan h e w x at own cause has =
     still plan h (event.Interface e) w x refl (same_leaves (managed h x) _ (managed_own h e w x own)) has
 
-other_not : (x : Site) (e : InterfaceEvent) (w : Verdict) → is_number (number_in e) x.number ≡ false
-    → locks_it x (event.Interface e) w ≡ false
-other_not x (ie.Lock i loss) w other = rw other refl
-other_not x e w other = refl
-
 turn : (plan : Plan) (h : History) (e : Event) (w : Verdict) (x : Site) → site_at plan x.number ≡ Some x
     → InterfaceCause plan ((e, w) ∷ h) → HasReport plan h x → HasReport plan ((e, w) ∷ h) x
 turn plan h (event.Interface e) w x at cause has = elim (cases_Bool (is_number (number_in e) x.number)) [
@@ -194,14 +190,10 @@ asked_reported Running b z w is carried = absurd (true≢false (sym carried ∙ 
 asked_reported Doubt b z w is carried = absurd (true≢false (sym carried ∙ ap (λ (u : Verdict). carries u 1) is))
 asked_reported Broken b z w is carried = absurd (true≢false (sym carried ∙ ap (λ (u : Verdict). carries u 1) is))
 
-both : (p q : Bool) → (p && q) ≡ true → (p ≡ true) × (q ≡ true)
-both true q e = (refl, e)
-both false q e = absurd (true≢false (sym e))
-
 had : (plan : Plan) (h : History) (e : Event) (w : Verdict) (x : Site) → site_at plan x.number ≡ Some x
     → InterfaceCause plan ((e, w) ∷ h) → HasReport plan h x → starts x e w ≡ true → IsReported plan h x
 had plan h (event.Interface (ie.Start i loss)) w x at cause has is =
-    let parts = both (i == x.number) (carries w 1) is in
+    let parts = and_parts (i == x.number) (carries w 1) is in
     let asked = asked_reported (managed h x).view (managed h x).reported _ w
     (due_own plan h x (ie.Start i loss) i w at refl parts.0 cause.0) parts.1 in
     has asked.0 asked.1

@@ -250,7 +250,7 @@ own_turn plan locks j h (ie.Bind i line stream loss) w x at own cause less since
 own_turn plan locks j h e w x at own cause less since =
     still plan locks j h (event.Interface e) w x refl (same_leaves (managed h x) _ (managed_own h e w x own)) since
 
-other_not : (x : Site) (e : InterfaceEvent) (w : Verdict) → is_number (number_in e) x.number ≡ false
+pub other_not : (x : Site) (e : InterfaceEvent) (w : Verdict) → is_number (number_in e) x.number ≡ false
     → locks_it x (event.Interface e) w ≡ false
 other_not x (ie.Lock i loss) w other = rw other refl
 other_not x e w other = refl

@@ -8,7 +8,7 @@ use Rattle.std.proofs.Common.{Option, Some, None, Result, Ok, Err, length, if◌
 use Rattle.std.proofs.Common.{arith}
 use Rattle.std.specs.Prelude.{slice_get, slice_index, take, drop}
 use Rattle.std.specs.Option.{option_map, option_map_or}
-use Rattle.std.proofs.lemmas.Bool.{cases_Bool, true≢false, eqb-true, leb-true}
+use Rattle.std.proofs.lemmas.Bool.{and_parts, cases_Bool, true≢false, eqb-true, leb-true}
 use Rattle.link_history.specs.Terms.{PortName, Plan, Event, Effect, UnitName, Verdict, Accepted, Packet, History}
 use Rattle.link_history.specs.Terms.{
   is_sync_packet,
@@ -41,10 +41,9 @@ use Rattle.tdi_state.specs.declared.register_set.Registers.{Registers}
 use Rattle.tdi_state.specs.declared.states.TdiState.{TdiState}
 use Rattle.tdi_state.specs.declared.states.TdiState.TheVariants as tdi
 use Rattle.tdi_state.specs.Bars.{bars_of, bar_moved}
-use Rattle.tdi_state.specs.Machine.{Tdi, lock_of, bound_stream, Call}
-use Rattle.tdi_state.specs.Machine.{StopInterface, LevelReset, LinkReset, tdi_after}
+use Rattle.tdi_state.specs.Machine.{Tdi, Call}
+use Rattle.tdi_state.specs.Machine.{StopInterface, LevelReset, tdi_after}
 use Rattle.interface_states.specs.Devices.{reset_call}
-use Rattle.tdi_state.specs.declared.states.Lock.{Lock}
 use Rattle.ide_plan.specs.declared.interface.BarPlan.{BarPlan}
 use Rattle.ide_plan.specs.declared.interface.InterfacePlan.{InterfacePlan}
 use Rattle.trusted_memory.specs.declared.span.Span.{Span}
@@ -66,7 +65,7 @@ use Rattle.mmio_laws.specs.Stored.{asked_zero, sets_to_zero}
 unfoldable use Rattle.mmio_laws.specs.Stored.{stored_since}
 use Rattle.mmio_laws.specs.Mmio.{IsStoredInRun, GuardsBytes}
 use Rattle.mmio_laws.proofs.SameWrites.{some_is, effects_there}
-use Rattle.mmio_laws.proofs.Secure.{both, Held, not_failed}
+use Rattle.mmio_laws.proofs.Secure.{Held, not_failed}
 use Rattle.link_verdicts.specs.declared.verdict.BlockCause.{BlockCause}
 use Rattle.link_verdicts.specs.declared.verdict.Effect.TheVariants as effect
 use Rattle.link_verdicts.specs.declared.verdict.Verdict.TheVariants as v
@@ -148,7 +147,8 @@ record IsStored (xs : List Standing) (place bar : ℕ) (es : List Effect) (ps : 
     payload : List ℕ
     claimed : claimed_write xs place bar (write_read payload (read_head_of packet.head)) ≡ Some w
 
-of_effect : (e : Effect) (o : Option Write) (w : Write) → if_stored e o ≡ Some w → (e ≡ effect.Stored) × (o ≡ Some w)
+pub of_effect : (e : Effect) (o : Option Write) (w : Write) → if_stored e o ≡ Some w → (e ≡ effect.Stored)
+    × (o ≡ Some w)
 of_effect e o w is = grind arith
 
 none_is_not : {A : Type 0} (x : A) → None ≡ Some x → ⊥
@@ -206,7 +206,7 @@ cause_stores : (o : Option BlockCause) (c : Claim) (w : Write) (place bar : ℕ)
 cause_stores (Some cause) c w place bar to stored is = absurd cc
 cause_stores None c w place bar to stored is = elim (cases_Bool ((c.interface == place) && (c.bar == bar))) [
   | inl there ↦
-      let at = both (c.interface == place) (c.bar == bar) there in
+      let at = and_parts (c.interface == place) (c.bar == bar) there in
       let same = some_is (write_from c.range.base w) to (rw there at is) in
       (λ k. Some (WriteStored (eqb-true c.interface place at.0 k) (eqb-true c.bar bar at.1 k) (same k)))
   | inr other ↦ absurd (none_is_not to (rw other at is))
@@ -263,7 +263,7 @@ held_state (tdi.Run lock) h = refl
 held_state tdi.Error (inl e) = absurd cc
 held_state tdi.Error (inr e) = absurd cc
 
-run_state : (s : TdiState) → is_in_run (interface_state s) ≡ true → is_run s ≡ true
+pub run_state : (s : TdiState) → is_in_run (interface_state s) ≡ true → is_run s ≡ true
 run_state tdi.ConfigUnlocked e = absurd (true≢false (sym e))
 run_state (tdi.ConfigLocked lock nonce) e = absurd (true≢false (sym e))
 run_state (tdi.Run lock) e = refl
@@ -317,8 +317,8 @@ in_run : (plan : Plan) (h : History) (x : Site) (t : Bool) (stream draw : ℕ)
 in_run plan h x t stream draw is =
     let state = (tdi_at plan h x).state in
     let o = floor_on stream (all_bindings (device_floor plan h x) (tdi_at plan h x)) in
-    let parts = both t (is_in_run (interface_state state) && is_from_floor o draw) is in
-    let run = both (is_in_run (interface_state state)) (is_from_floor o draw) parts.1 in
+    let parts = and_parts t (is_in_run (interface_state state) && is_from_floor o draw) is in
+    let run = and_parts (is_in_run (interface_state state)) (is_from_floor o draw) parts.1 in
     let on = floor_by o draw run.1 in
     record {
       trusted = parts.0;

@@ -1,71 +1,12 @@
 -- Interfaces are on links of the plan.
-use Rattle.std.proofs.Common.{
-  ◌≡◌,
-  ℕ,
-  ◌+◌,
-  ◌≤◌,
-  ◌==◌,
-  ◌∷◌,
-  ◌++◌,
-  Bool,
-  true,
-  false,
-  List,
-  [],
-  length,
-  Some,
-  if◌then◌else◌,
-}
-use Rattle.std.proofs.Common.{refl, subst, arith}
-use Rattle.std.proofs.lemmas.Bool.Decides.{nat_tests}
-use Rattle.std.specs.Prelude.{find, nat_lt}
-use Rattle.std.specs.List.{AllByRecursion}
-use Rattle.ide_plan.specs.declared.interface.InterfacePlan.{InterfacePlan}
-use Rattle.ide_plan.specs.declared.plan.LinkPlan.{LinkPlan}
+use Rattle.std.proofs.Common.{◌≡◌, false, Some, refl}
 use Rattle.ide_types.specs.Ports.{device_port}
-use Rattle.interface_states.specs.Sites.{Site, site_at, sites_from, sites_on}
-unfoldable use Rattle.interface_states.specs.Sites.{sites}
+use Rattle.interface_states.specs.Sites.{Site, site_at}
+use Rattle.interface_states.proofs.OnLinks.{number_on_link}
 use Rattle.link_history.specs.Terms.{Plan}
-use Rattle.link_history.specs.Plan.{has_link}
 use Rattle.link_history.specs.Ports.{at_switch}
 
-abbrev IsBelow : ℕ → Site → Type 0
-IsBelow n x = nat_lt x.link n ≡ true
-
-all_behind : (n : ℕ) (xs ys : List Site) → AllByRecursion (IsBelow n) xs → AllByRecursion (IsBelow n) ys
-    → AllByRecursion (IsBelow n) (xs ++ ys)
-all_behind n [] ys one two = two
-all_behind n (x ∷ xs) ys one two = (one.0, all_behind n xs ys one.1 two)
-
-on_one : (n number link : ℕ) (ps : List InterfacePlan) → nat_lt link n ≡ true
-    → AllByRecursion (IsBelow n) (sites_on number link ps)
-on_one n number link [] less = tt
-on_one n number link (p ∷ ps) less = (less, on_one n (number + 1) link ps less)
-
-on_all : (n number link : ℕ) (ls : List LinkPlan) → link + length ls ≤ n
-    → AllByRecursion (IsBelow n) (sites_from number link ls)
-on_all n number link [] le = tt
-on_all n number link (l ∷ ls) le =
-    let less : nat_lt link n ≡ true = grind (arith, nat_tests) in
-    all_behind n (sites_on number link l.interfaces) _ (on_one n number link l.interfaces less)
-    (on_all n (number + length l.interfaces) (link + 1) ls (omega (arith, le)))
-
-found_below : (n : ℕ) (test : Site → Bool) (xs : List Site) (x : Site) → AllByRecursion (IsBelow n) xs
-    → find test xs ≡ Some x → nat_lt x.link n ≡ true
-found_below n test [] x all is = absurd cc
-found_below n test (y ∷ ys) x all is = by (test y) is (found_below n test ys x all.1)
-  where
-    by : (b : Bool) → (if b then Some y else find test ys) ≡ Some x
-        → (find test ys ≡ Some x → nat_lt x.link n ≡ true) → nat_lt x.link n ≡ true
-    by true is more = let same : y ≡ x = cc (is) in subst (IsBelow n) same all.0
-    by false is more = more is
-
 -- the port of an interface's device is at no switch
-pub on_link : (plan : Plan) (x : Site) → site_at plan x.number ≡ Some x → has_link plan x.link ≡ true
-unfolding sites
-on_link plan x known = found_below (length plan.links) (λ y. y.number == x.number) (sites plan) x
-    (on_all (length plan.links) 0 0 plan.links (omega arith)) known
-
 pub no_switch : (plan : Plan) (x : Site) → site_at plan x.number ≡ Some x
     → at_switch plan (device_port x.link) ≡ false
-no_switch plan x known = rw (on_link plan x known) refl
+no_switch plan x known = rw (number_on_link plan x known) refl

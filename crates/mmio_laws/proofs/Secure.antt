@@ -1,45 +1,37 @@
 -- While a lock stands, its stream is Secure at the device's port.
-use Rattle.std.proofs.Common.{if◌then◌else◌}
 use Rattle.ide_types.specs.declared.port.Side.{Side}
-use Rattle.ide_types.specs.declared.port.Side.TheVariants.{Host, Device}
+use Rattle.ide_types.specs.declared.port.Side.TheVariants.{Device}
 use Rattle.std.specs.Prelude.{◌||◌, ◌&&◌}
-use Rattle.std.proofs.Common.{◌≡◌, ℕ, ◌==◌, ◌&&◌, ◌∷◌, ◌⊎◌, Bool, true, false, not, List, [], Option, Some}
+use Rattle.std.proofs.Common.{◌≡◌, ℕ, ◌==◌, ◌&&◌, ◌∷◌, ◌⊎◌, Bool, true, false, not, [], Some}
 use Rattle.std.proofs.Common.{refl, sym, ap, ◌∙◌, inl, inr, arith}
 use Rattle.std.proofs.lemmas.Bool.{true≢false}
-use Rattle.std.proofs.lemmas.Bool.Decides.{nat_tests}
-use Rattle.std.specs.Prelude.{is_ok}
 use Rattle.ide_types.specs.declared.sub.SubKind.TheVariants.{Pr, Npr, Cpl}
 use Rattle.ide_types.specs.declared.port.Side.TheVariants.{Device}
 use Rattle.key_laws.specs.Keys.{Keys}
 use Rattle.key_laws.specs.Places.{KeyPlace, key_place_at}
-use Rattle.key_laws.specs.History.{History, touches, keys_there, has_key, has_all}
+use Rattle.key_laws.specs.History.{History, touches, keys_there, has_key, has_all, status_of}
 use Rattle.key_laws.specs.History.{fails_there, draws, came}
 use Rattle.ide_types.specs.Ports.{status_by}
 unfoldable use Rattle.key_laws.specs.History.{moments, failed_there, manager}
-use Rattle.link_history.specs.Terms.{Plan, Event, Verdict}
+use Rattle.link_history.specs.Terms.{Plan, Event, InterfaceEvent, Verdict}
 use Rattle.link_history.specs.Cause.{CauseLaw}
 use Rattle.link_history.specs.KeyFacts.{is_quiet}
 unfoldable use Rattle.link_history.specs.Due.{due}
 use Rattle.link_history.proofs.KeyVerdicts.{interface_due_quiet}
 use Rattle.interface_states.specs.Sites.{Site}
-use Rattle.interface_states.specs.Exchanges.{carries}
 unfoldable use Rattle.interface_states.specs.Devices.{devices}
-use Rattle.interface_states.specs.Devices.{Around, around_at, tdi_at, tdi_if_called, next_tdi, is_left, is_secure}
-use Rattle.interface_states.specs.Devices.{has_secure_stream, accepts_lock}
+use Rattle.interface_states.specs.Devices.{around_at, tdi_at, tdi_if_called, next_tdi, is_left, is_secure}
+use Rattle.interface_states.specs.Devices.{has_secure_stream}
 use Rattle.interface_states.specs.Laws.{IsLocked}
+use Rattle.interface_states.proofs.Binds.{accepts_secure}
 use Rattle.interface_states.proofs.Locks.{Made, next_made}
 use Rattle.tdi_state.specs.declared.states.Lock.{Lock}
 use Rattle.tdi_state.specs.declared.states.TdiState.{TdiState}
 use Rattle.tdi_state.specs.declared.states.TdiState.TheVariants as tdi
-use Rattle.tdi_state.specs.Machine.{Tdi, state_code, lock_of, lock_answer, after_failure, StreamLeft}
+use Rattle.tdi_state.specs.Machine.{Tdi, state_code, lock_of, after_failure, StreamLeft}
 use Rattle.interface_states.specs.Devices.{reset_call}
 use Rattle.link_verdicts.specs.declared.verdict.Verdict.TheVariants as v
 use Rattle.link_events.specs.declared.event.Event.TheVariants as event
-use Rattle.link_events.specs.declared.event.InterfaceEvent.TheVariants as ie
-
-pub both : (p q : Bool) → (p && q) ≡ true → (p ≡ true) × (q ≡ true)
-both true q e = (refl, e)
-both false q e = absurd (true≢false (sym e))
 
 -- ---- locked, and a lock that stands
 
@@ -74,19 +66,6 @@ not_failed (tdi.Run lock) (inr e) = absurd cc
 not_failed tdi.Error (inl e) = absurd cc
 not_failed tdi.Error (inr e) = absurd cc
 
--- a lock is accepted only if the stream is Secure
-given_secure : (t : Tdi) (flags offset : ℕ) (secure : Bool) (drawn : Option (List ℕ))
-    → is_ok (lock_answer t flags offset secure drawn) ≡ true → secure ≡ true
-given_secure t flags offset true drawn is = refl
-given_secure t flags offset false drawn is = grind arith
-
-accepts_secure : (a : Around) (x : Site) (e : Event) (w : Verdict) (t : Tdi) → accepts_lock a x e w t ≡ true
-    → a.secure ≡ true
-accepts_secure a x (event.Interface (ie.Lock i loss)) w t is =
-    let given = is_ok (lock_answer t x.plan.flags x.plan.offset a.secure a.drawn) in
-    given_secure t x.plan.flags x.plan.offset a.secure a.drawn (both ((i == x.number) && carries w 3) given is).1
-accepts_secure a x e w t is = absurd (true≢false (sym is))
-
 -- ---- Secure by keys
 
 pub secure_parts : (f some all : Bool) → is_secure (status_by f some all) ≡ true → (f ≡ false) × (all ≡ true)
@@ -95,16 +74,16 @@ secure_parts f some all is = grind (arith, is)
 secure_by : (f some all : Bool) → f ≡ false → all ≡ true → is_secure (status_by f some all) ≡ true
 secure_by f some all none full = rw (none, full) refl
 
-all_same : (ks ls : KeyPlace → Keys) (link stream : ℕ) → ((p : KeyPlace) → p.link ≡ link → ks p ≡ ls p)
-    → has_all ks Device link stream ≡ has_all ls Device link stream
-all_same ks ls link stream same =
+all_same : (ks ls : KeyPlace → Keys) (side : Side) (link stream : ℕ)
+    → ((p : KeyPlace) → p.link ≡ link → ks p ≡ ls p) → has_all ks side link stream ≡ has_all ls side link stream
+all_same ks ls side link stream same =
     rw (
-      same (key_place_at Device link stream false Pr) refl,
-      same (key_place_at Device link stream false Npr) refl,
-      same (key_place_at Device link stream false Cpl) refl,
-      same (key_place_at Device link stream true Pr) refl,
-      same (key_place_at Device link stream true Npr) refl,
-      same (key_place_at Device link stream true Cpl) refl,
+      same (key_place_at side link stream false Pr) refl,
+      same (key_place_at side link stream false Npr) refl,
+      same (key_place_at side link stream false Cpl) refl,
+      same (key_place_at side link stream true Pr) refl,
+      same (key_place_at side link stream true Npr) refl,
+      same (key_place_at side link stream true Cpl) refl,
     ) refl
 
 -- the pair touches no place of the link
@@ -116,22 +95,21 @@ keys_same : (h : History) (e : Event) (w : Verdict) (p : KeyPlace) → touches (
 unfolding moments
 keys_same h e w p none = rw none refl
 
-stays_whole : (h : History) (e : Event) (w : Verdict) (link stream : ℕ) → fails_there Device link stream w ≡ false
-    → failed_there h Device link stream ≡ false → failed_there ((e, w) ∷ h) Device link stream ≡ false
+stays_whole : (h : History) (e : Event) (w : Verdict) (side : Side) (link stream : ℕ)
+    → fails_there side link stream w ≡ false → failed_there h side link stream ≡ false
+    → failed_there ((e, w) ∷ h) side link stream ≡ false
 unfolding failed_there
-stays_whole h e w link stream none whole = rw (none, whole) refl
+stays_whole h e w side link stream none whole = rw (none, whole) refl
 
-stays_secure : (h : History) (e : Event) (w : Verdict) (x : Site) → TouchesNone h e w x.link
-    → fails_there Device x.link x.plan.stream w ≡ false → has_secure_stream h x ≡ true
-    → has_secure_stream ((e, w) ∷ h) x ≡ true
-stays_secure h e w x none fails is =
-    let parts = secure_parts (failed_there h Device x.link x.plan.stream)
-    (has_key (keys_there h) Device x.link x.plan.stream) (has_all (keys_there h) Device x.link x.plan.stream) is in
-    secure_by (failed_there ((e, w) ∷ h) Device x.link x.plan.stream)
-    (has_key (keys_there ((e, w) ∷ h)) Device x.link x.plan.stream)
-    (has_all (keys_there ((e, w) ∷ h)) Device x.link x.plan.stream)
-    (stays_whole h e w x.link x.plan.stream fails parts.0)
-    (all_same (keys_there ((e, w) ∷ h)) (keys_there h) x.link x.plan.stream (λ p at. keys_same h e w p (none p at))
+stays_secure : (h : History) (e : Event) (w : Verdict) (side : Side) (link stream : ℕ) → TouchesNone h e w link
+    → fails_there side link stream w ≡ false → is_secure (status_of h side link stream) ≡ true
+    → is_secure (status_of ((e, w) ∷ h) side link stream) ≡ true
+stays_secure h e w side link stream none fails is =
+    let parts = secure_parts (failed_there h side link stream) (has_key (keys_there h) side link stream)
+    (has_all (keys_there h) side link stream) is in
+    secure_by (failed_there ((e, w) ∷ h) side link stream) (has_key (keys_there ((e, w) ∷ h)) side link stream)
+    (has_all (keys_there ((e, w) ∷ h)) side link stream) (stays_whole h e w side link stream fails parts.0)
+    (all_same (keys_there ((e, w) ∷ h)) (keys_there h) side link stream (λ p at. keys_same h e w p (none p at))
     ∙ parts.1)
 
 -- ---- pairs that touch nothing
@@ -139,8 +117,18 @@ stays_secure h e w x none fails is =
 quiet_came : (p : KeyPlace) (w : Verdict) → is_quiet w ≡ true → came p w ≡ []
 quiet_came p w quiet = grind (arith, quiet)
 
-quiet_fails : (link stream : ℕ) (w : Verdict) → is_quiet w ≡ true → fails_there Device link stream w ≡ false
-quiet_fails link stream w quiet = grind (arith, quiet)
+quiet_fails : (side : Side) (link stream : ℕ) (w : Verdict) → is_quiet w ≡ true
+    → fails_there side link stream w ≡ false
+quiet_fails side link stream w quiet = grind (arith, quiet)
+
+-- at an event on an interface a stream that is Secure at an end stays so
+pub interface_leaves_secure : (plan : Plan) (h : History) (e : InterfaceEvent) (w : Verdict) (side : Side)
+    (link stream : ℕ) → w ≡ due plan h (event.Interface e) → is_secure (status_of h side link stream) ≡ true
+    → is_secure (status_of ((event.Interface e, w) ∷ h) side link stream) ≡ true
+interface_leaves_secure plan h e w side link stream is secure =
+    let quiet : is_quiet w ≡ true = ap (λ (u : Verdict). is_quiet u) is ∙ interface_due_quiet plan h e in
+    stays_secure h (event.Interface e) w side link stream (λ p at. quiet_came p w quiet)
+    (quiet_fails side link stream w quiet) secure
 
 -- ---- the pair
 
@@ -177,9 +165,7 @@ after : (plan : Plan) (h : History) (e : Event) (w : Verdict) (x : Site) → w �
     → Held (next_tdi (around_at plan h x) (is_left plan h e w x (tdi_at plan h x)) x e w (tdi_at plan h x)).state
     → has_secure_stream h x ≡ true → has_secure_stream ((e, w) ∷ h) x ≡ true
 after plan h (event.Interface e) w x is held secure =
-    let quiet : is_quiet w ≡ true = ap (λ (u : Verdict). is_quiet u) is ∙ interface_due_quiet plan h e in
-    stays_secure h (event.Interface e) w x (λ p at. quiet_came p w quiet)
-    (quiet_fails x.link x.plan.stream w quiet) secure
+    interface_leaves_secure plan h e w Device x.link x.plan.stream is secure
 after plan h (event.Reset l ends) (v.Reset k) x is held secure =
     other_link (l == x.link) (has_secure_stream h x) (has_secure_stream ((event.Reset l ends, v.Reset k) ∷ h) x) _
     (tdi_at plan h x) held secure

@@ -1,17 +1,15 @@
 -- In RUN the floor is the greatest draw that was On at the device when the interface was started.
 use Rattle.std.proofs.Common.{◌≡◌, ℕ, ◌==◌, ◌&&◌, ◌||◌, ◌∷◌, Bool, true, false, not, List, [], Some}
-use Rattle.std.proofs.Common.{Result, Ok, Err}
 use Rattle.std.proofs.Common.{if◌then◌else◌, refl, sym, ap, ◌∙◌, inl, inr, arith}
 use Rattle.std.specs.Prelude.{max, nat_le}
-use Rattle.std.proofs.lemmas.Bool.{cases_Bool, true≢false}
+use Rattle.std.proofs.lemmas.Bool.{and_parts, cases_Bool, true≢false}
 use Rattle.std.proofs.lemmas.Bool.Decides.{nat_tests}
 use Rattle.ide_types.specs.declared.port.Side.TheVariants.{Device}
 use Rattle.key_laws.specs.Keys.{Keyed, Off, Loaded, On, Keys, key_in, on_in, is_on}
 use Rattle.key_laws.specs.History.{History, keys_there, keeps_live, has_key, has_all, failed_there}
 use Rattle.link_history.specs.Terms.{Plan, Event, Verdict}
 use Rattle.link_history.specs.Cause.{CauseLaw}
-use Rattle.tdi_state.specs.Machine.{BindStream, UnbindStream, bind_answer, unbind_answer}
-use Rattle.tdi_state.proofs.Bound.{bound_state, unbound_state}
+use Rattle.tdi_state.specs.Machine.{BindStream, UnbindStream}
 use Rattle.interface_states.specs.Sites.{Site}
 use Rattle.interface_states.specs.Exchanges.{carries, changes_device}
 use Rattle.interface_states.specs.Views.{is_number, number_in}
@@ -24,9 +22,7 @@ use Rattle.tdi_state.specs.declared.states.TdiState.{TdiState}
 use Rattle.tdi_state.specs.declared.states.TdiState.TheVariants as tdi
 use Rattle.tdi_state.specs.Machine.{Tdi, Call, StartInterface, StopInterface, WriteRegister, LevelReset}
 use Rattle.interface_states.specs.Devices.{reset_call}
-use Rattle.tdi_state.specs.Machine.{FirmwareUpdate, StreamLeft, LinkReset, LockInterface, tdi_after, after_failure}
-use Rattle.tdi_state.specs.Machine.{after_change, locked_with, new_lock, lock_answer, lock_flags}
-use Rattle.tdi_state.specs.RegisterValues.{changes_listed, has_bit}
+use Rattle.tdi_state.specs.Machine.{FirmwareUpdate, StreamLeft, tdi_after}
 use Rattle.tdi_state.specs.declared.states.Lock.{Lock}
 use Rattle.mmio_laws.specs.Mmio.{IsStartedUnder, KeepsFloors}
 use Rattle.mmio_laws.proofs.SameWrites.{and_none}
@@ -34,6 +30,7 @@ use Rattle.mmio_laws.proofs.Secure.{Held, secure_parts, locked_secure}
 use Rattle.mmio_laws.proofs.RunLocks.{runs_unlocked, same_locks}
 use Rattle.link_verdicts.specs.declared.verdict.Verdict.TheVariants as v
 use Rattle.link_events.specs.declared.event.Event.TheVariants as event
+use Rattle.interface_states.proofs.Rests.{is_start, after_rests, reset_starts_none}
 use Rattle.link_events.specs.declared.event.InterfaceEvent.TheVariants as ie
 
 -- ---- a draw is On
@@ -73,55 +70,14 @@ greatest_is ks live = by ks.first ks.second live
     by (Loaded i) (Loaded j) live = absurd (true≢false (sym live))
 
 -- Secure, a stream has one at the device's posted receiver
-first_live : (a b : Bool) → (a && b) ≡ true → a ≡ true
-first_live true b is = refl
-first_live false b is = absurd (true≢false (sym is))
-
 secure_on : (h : History) (x : Site) → has_secure_stream h x ≡ true → IsOnIn (keys_there h (posted_receiver x))
 secure_on h x is =
     let parts = secure_parts (failed_there h Device x.link x.plan.stream)
     (has_key (keys_there h) Device x.link x.plan.stream) (has_all (keys_there h) Device x.link x.plan.stream) is in
     greatest_is (keys_there h (posted_receiver x))
-    (first_live (keeps_live (keys_there h (posted_receiver x))) _ parts.1)
+    (and_parts (keeps_live (keys_there h (posted_receiver x))) _ parts.1).0
 
 -- ---- only a start brings an interface into RUN
-
-is_start : Call → Bool
-is_start (StartInterface nonce) = true
-is_start c = false
-
-failed_rests : (s : TdiState) → is_run (after_failure s) ≡ false
-failed_rests tdi.ConfigUnlocked = refl
-failed_rests (tdi.ConfigLocked lock nonce) = refl
-failed_rests (tdi.Run lock) = refl
-failed_rests tdi.Error = refl
-
-changed_rests : (b : Bool) (s : TdiState) → is_run s ≡ false → is_run (after_change b s) ≡ false
-changed_rests true s rests = failed_rests s
-changed_rests false s rests = rests
-
-locked_rests : (t : Tdi) (l : Lock) (answer : Result (List ℕ) ℕ) → is_run t.state ≡ false
-    → is_run (locked_with t l answer).state ≡ false
-locked_rests t l (Ok nonce) rests = refl
-locked_rests t l (Err code) rests = rests
-
--- no other call does; a start does so from CONFIG_LOCKED
-call_rests : (t : Tdi) (c : Call) → is_start c ≡ false → is_run t.state ≡ false → is_run (tdi_after t c).state ≡ false
-unfolding is_start
-call_rests t (LockInterface flags stream offset secure drawn) other rests =
-    locked_rests t (new_lock t flags stream offset) (lock_answer t flags offset secure drawn) rests
-call_rests t (StartInterface nonce) other rests = absurd (true≢false other)
-call_rests t StopInterface other rests = refl
-call_rests t (BindStream stream live) other rests =
-    ap is_run (bound_state t stream (bind_answer t stream live)) ∙ rests
-call_rests t (UnbindStream stream) other rests =
-    ap is_run (unbound_state t stream (unbind_answer t stream)) ∙ rests
-call_rests t (WriteRegister register value) other rests = changed_rests
-    (changes_listed (lock_flags t.state) t.registers register value) t.state rests
-call_rests t LevelReset other rests = failed_rests t.state
-call_rests t FirmwareUpdate other rests = changed_rests (has_bit 0 (lock_flags t.state)) t.state rests
-call_rests t StreamLeft other rests = failed_rests t.state
-call_rests t LinkReset other rests = refl
 
 start_held : (t : Tdi) (nonce : List ℕ) → is_run t.state ≡ false → is_run (tdi_after t (StartInterface nonce)).state
     ≡ true
@@ -139,7 +95,7 @@ start_held t nonce rests runs = by t.state rests runs
 -- what a call other than a start is_left, if it comes, and if it is this interface's
 left_at_rest : (n b : Bool) (c : Call) (t : Tdi) → is_start c ≡ false → is_run t.state ≡ false
     → is_run (if n then tdi_if_called b c t else t).state ≡ true → ⊥
-left_at_rest true true c t other rests runs = true≢false (sym runs ∙ call_rests t c other rests)
+left_at_rest true true c t other rests runs = true≢false (sym runs ∙ after_rests t c other rests)
 left_at_rest true false c t other rests runs = true≢false (sym runs ∙ rests)
 left_at_rest false b c t other rests runs = true≢false (sym runs ∙ rests)
 
@@ -159,14 +115,8 @@ start_starts true true nonce t draw floor rests runs = (refl, start_held t nonce
 start_starts true false nonce t draw floor rests runs = absurd (true≢false (sym runs ∙ rests))
 start_starts false b nonce t draw floor rests runs = absurd (true≢false (sym runs ∙ rests))
 
-reset_starts_none : (own : Bool) → is_start (reset_call own) ≡ false
-unfolding is_start
-reset_starts_none true = refl
-reset_starts_none false = refl
-
 starts_it : (a : Around) (left : Bool) (e : Event) (w : Verdict) (x : Site) (t : Tdi) (draw floor : ℕ)
     → is_run t.state ≡ false → is_run (next_tdi a left x e w t).state ≡ true → StartsIt e x t draw floor
-unfolding is_start
 starts_it a left (event.Interface (ie.Start i loss)) w x t draw floor rests runs =
     let r = start_starts (i == x.number) (carries w 1) a.nonce t draw floor rests runs in
     record { floor_is = r.0; held = r.1 }

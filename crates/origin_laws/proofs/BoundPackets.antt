@@ -6,7 +6,7 @@ use Rattle.sealing_laws.proofs.Terms.{if◌then◌else◌, Plan, SubStream, Hist
 use Rattle.sealing_laws.proofs.Terms.{UnitName, Effect, SealedPacket, Packet, Prefix, PortName, received_in, sent}
 use Rattle.sealing_laws.proofs.Terms.{CauseLaw}
 use Rattle.sealing_laws.proofs.Terms.{NoForgery, DrawFacts, StreamsFit}
-unfoldable use Rattle.sealing_laws.proofs.Terms.{got, sealed_packets, packet_of}
+unfoldable use Rattle.sealing_laws.proofs.Terms.{got, sealed_packets}
 use Rattle.std.specs.Prelude.{◌-◌, nat_le, nat_lt}
 use Rattle.std.specs.Option.{unwrap_or}
 use Rattle.std.proofs.lemmas.List.{length-take-le}
@@ -19,7 +19,6 @@ use Rattle.ide_plan.specs.declared.plan.PeerPlan.{PeerPlan}
 use Rattle.ide_plan.specs.Fits.{FitsPlan, FitsPeer}
 use Rattle.ide_plan.specs.Ends.{end_on, hop_end, line_has, link_hop, own_has_id, peer_link, port_at}
 use Rattle.ide_plan.specs.Plans.{hop_has_id}
-unfoldable use Rattle.ide_plan.specs.Ends.{peer_end as found_end}
 use Rattle.ide_plan.proofs.EndsFound.{all_at, end_found}
 use Rattle.link_history.specs.Plan.{has_link}
 use Rattle.link_history.specs.Hops.{has_hop, leaving_end}
@@ -37,12 +36,6 @@ use Rattle.origin_laws.proofs.Found.{all_get, cause_before, get_less, sealing_by
 use Rattle.origin_laws.proofs.Origins.{accepted_known, sent_at}
 
 -- ---- the end at a device
-
--- a device and a topology name it alike
-same_end : (ps : List PeerPlan) (n link id : ℕ) → peer_end ps n link id ≡ found_end ps n link id
-unfolding peer_end found_end
-same_end [] n link id = refl
-same_end (p ∷ ps) n link id = rw (same_end ps (n + 1) link id) refl
 
 low_link : (a b : PortName) → a ≡ b → a.link < 24 → nat_le 24 b.link ≡ true → ⊥
 low_link a b same low late = let links = ap (λ (q : PortName). q.link) same in grind (arith, nat_tests)
@@ -93,12 +86,11 @@ at_device plan fits e id late has = by (slice_get plan.peers (e.link - 24)) refl
         let there = among_peers (nat_lt (peer_link e.side p) 8)
         (own_has_id (slice_get plan.links (peer_link e.side p)) id)
         (hop_has_id (link_hop (slice_get plan.links (peer_link e.side p))) id)
-        (found_end plan.peers 0 (peer_link e.side p) id) (peer_link e.side p) e (few e.side p fit) late met in
+        (peer_end plan.peers 0 (peer_link e.side p) id) (peer_link e.side p) e (few e.side p fit) late met in
         let link : owners_link plan e ≡ peer_link e.side p = rw peer (ap (λ (q : PortName). q.link) port) in
         record {
           is_peer = peer;
-          found = ap (λ (l : ℕ). peer_end plan.peers 0 l id) link
-              ∙ (same_end plan.peers 0 (peer_link e.side p) id ∙ there);
+          found = ap (λ (l : ℕ). peer_end plan.peers 0 l id) link ∙ there;
         }
 
 -- ---- neither an answer nor what a switch forwards is sealed there

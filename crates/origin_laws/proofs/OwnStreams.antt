@@ -16,9 +16,6 @@ unfoldable use Rattle.interface_states.specs.Sites.{sites}
 abbrev HasOwn : List LinkPlan → Site → Type 0
 HasOwn links x = own_has_id (slice_get links x.link) x.plan.stream ≡ true
 
-selective_is : (a b : Bool) (c : Bool) → ((a && b) || c) ≡ true → (c ≡ true → b ≡ true) → b ≡ true
-selective_is a b c is more = grind arith
-
 own_selective : (id : ℕ) (ss : List StreamPlan) → has_selective id ss ≡ true → has_stream_id ss id ≡ true
 own_selective id [] is = absurd cc
 own_selective id (s ∷ ss) is = by (is_selective s.selector) (s.id == id) (has_selective id ss) (own_selective id ss) is

@@ -1,24 +1,13 @@
 -- A forward that seals found a TLP that waits, the first, so no more are forwarded than came.
-use Rattle.link_history.proofs.Terms.{◌≡◌, ℕ, ◌+◌, ◌≤◌, ◌<◌, ◌&&◌, ◌==◌, Bool, true, false, List, [], ◌∷◌, ◌++◌, length}
-use Rattle.link_history.proofs.Terms.{slice_get, Option, Some, refl, ap, ◌∙◌, arith, if◌then◌else◌, length-append, Plan}
-use Rattle.link_history.proofs.Terms.{
-  Event,
-  Verdict,
-  Sealed,
-  Accepted,
-  UnitName,
-  Effect,
-  PortName,
-  SealedPacket,
-  CauseLaw,
-}
+use Rattle.link_history.proofs.Terms.{◌≡◌, ℕ, ◌+◌, ◌≤◌, ◌&&◌, ◌==◌, Bool, true, false, List, [], ◌∷◌, ◌++◌, length}
+use Rattle.link_history.proofs.Terms.{slice_get, Some, refl, ap, ◌∙◌, arith, if◌then◌else◌, length-append, Plan}
+use Rattle.link_history.proofs.Terms.{Event, Sealed, Accepted, SealedPacket, CauseLaw}
 use Rattle.link_history.proofs.Terms.{History, Reset, is_same_port, sealed_packets}
 use Rattle.std.proofs.lemmas.Bool.{eqb-true}
 use Rattle.link_history.proofs.Growth.{at_front}
 unfoldable use Rattle.link_history.proofs.Terms.{due}
 use Rattle.ide_types.specs.Sub.{direction_number}
 use Rattle.ide_types.specs.declared.direction.Direction.{Direction}
-use Rattle.ide_types.specs.declared.direction.Direction.TheVariants.{Downstream, Upstream}
 use Rattle.link_events.specs.declared.event.Event.TheVariants.{Forward}
 use Rattle.link_verdicts.specs.declared.access.AccessVerdict.TheVariants as av
 use Rattle.link_verdicts.specs.declared.verdict.Verdict.TheVariants as v
@@ -26,7 +15,7 @@ use Rattle.link_history.specs.Due.{send_due, forward_out, forward_first}
 use Rattle.link_history.specs.Hops.{HopTlp, has_hop, entering_end, leaving_end, clears_hop, is_forward_on}
 unfoldable use Rattle.link_history.specs.Hops.{taken_in, forwarded}
 use Rattle.link_history.specs.Memory.{taken, hop_waiting, unit_ended}
-use Rattle.read_order.proofs.Oldest.{drop_first}
+use Rattle.link_history.proofs.HopFirst.{drop_first}
 use Rattle.read_order.proofs.Taken.{here_after, taken_accepted, tlps_of}
 
 no_empty : (link : ℕ) (ds : List SealedPacket) → v.Sealed ds ≡ v.Access (av.Empty link) → ⊥

@@ -1,20 +1,5 @@
 -- An answer that takes a read found one that waits, the oldest.
-use Rattle.link_history.proofs.Terms.{
-  ◌≡◌,
-  ℕ,
-  zero,
-  suc,
-  Bool,
-  true,
-  false,
-  List,
-  [],
-  ◌∷◌,
-  drop,
-  slice_get,
-  Option,
-  Some,
-}
+use Rattle.link_history.proofs.Terms.{◌≡◌, ℕ, Bool, true, false, List, [], ◌∷◌, slice_get, Option, Some}
 use Rattle.link_history.proofs.Terms.{refl, ap, sym, ◌∙◌, if◌then◌else◌, append-nil, Plan, History, Verdict}
 use Rattle.link_history.proofs.Terms.{Sealed, CauseLaw, Access, WaitingRead, waiting, has_link, sending_port}
 use Rattle.link_history.proofs.Terms.{sealed_packets, sent_bytes, site_with, answer_due, answer_first, answer_from}
@@ -30,14 +15,8 @@ use Rattle.waiting_reads.specs.Completions.{completion_bytes}
 use Rattle.link_events.specs.declared.event.AccessEvent.TheVariants as ae
 use Rattle.link_verdicts.specs.declared.access.AccessVerdict.TheVariants as av
 use Rattle.link_verdicts.specs.declared.verdict.Verdict.TheVariants as v
+use Rattle.link_history.proofs.HopFirst.{drop_first}
 use Rattle.read_order.proofs.ByNumber.{writes_same}
-
-pub drop_first : {A : Type 0} (n : ℕ) (xs : List A) (x : A) (rest : List A) → drop n xs ≡ x ∷ rest → slice_get xs n
-    ≡ Some x
-drop_first zero [] x rest is = absurd cc
-drop_first zero (y ∷ xs) x rest is = cc (is)
-drop_first (suc n) [] x rest is = absurd cc
-drop_first (suc n) (y ∷ xs) x rest is = drop_first n xs x rest is
 
 -- it takes a read
 abbrev pub takes : Verdict → Bool

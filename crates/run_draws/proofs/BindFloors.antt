@@ -4,10 +4,9 @@ use Rattle.sealing_laws.proofs.Terms.{◌≡◌, inl, inr, ℕ, ◌≤◌, ◌==
 use Rattle.sealing_laws.proofs.Terms.{◌∷◌, ◌++◌, Option, Some, None, Result, Ok, Err, refl, ap, sym, subst, ◌∙◌, arith}
 use Rattle.sealing_laws.proofs.Terms.{nat_tests, if◌then◌else◌, cases_Bool, eqb-true, AllByRecursion, Plan, PortName}
 use Rattle.sealing_laws.proofs.Terms.{History, Event, Verdict, CauseLaw}
-unfoldable use Rattle.sealing_laws.proofs.Terms.{due}
 use Rattle.std.specs.Prelude.{nat_lt, find, is_ok}
 use Rattle.std.specs.Option.{option_and_then, option_map, option_map_or}
-use Rattle.std.proofs.lemmas.Bool.{true≢false}
+use Rattle.std.proofs.lemmas.Bool.{and_parts, true≢false}
 use Rattle.key_laws.specs.Operations.{Op, Idle, Establishing, Up, Refreshing, Stopping}
 use Rattle.key_laws.specs.History.{keys_there, op_of, status_of}
 use Rattle.link_keys.proofs.Given.{key_cause}
@@ -36,7 +35,7 @@ use Rattle.interface_states.proofs.Locks.{bound_at}
 use Rattle.interface_states.proofs.Rests.{locks_stay}
 use Rattle.interface_states.proofs.Views.{due_own}
 use Rattle.verdict_laws.specs.{CameFrom}
-use Rattle.verdict_laws.proofs.{interface_cause}
+use Rattle.verdict_laws.proofs.{interface_cause, same_locks}
 use Rattle.run_draws.proofs.StreamDraws.{up_at_most}
 use Rattle.link_events.specs.declared.event.Event.TheVariants as event
 use Rattle.link_events.specs.declared.event.InterfaceEvent.{InterfaceEvent}
@@ -262,27 +261,16 @@ each_more : (P Q : ℕ → Type 0) (bs : List Binding) → ((floor : ℕ) → P 
 each_more P Q [] more each = tt
 each_more P Q (b ∷ bs) more each = (more b.floor each.0, each_more P Q bs more each.1)
 
--- the pair that takes no lock leaves as many
-same_locks : (plan : Plan) (h : History) (e : Event) (w : Verdict) (x : Site)
-    → accepts_lock (around_at plan h x) x e w (tdi_at plan h x) ≡ false
-    → locks_at plan ((e, w) ∷ h) x ≡ locks_at plan h x
-unfolding devices
-same_locks plan h e w x none = rw none (omega arith)
-
 -- a lock is taken from CONFIG_UNLOCKED alone
 lock_unlocked : (t : Tdi) (flags offset : ℕ) (secure : Bool) (drawn : Option (List ℕ))
     → is_ok (lock_answer t flags offset secure drawn) ≡ true → is_locked t.state ≡ false
 lock_unlocked t flags offset secure drawn is = grind (arith, is)
 
-both : (a b : Bool) → (a && b) ≡ true → (a ≡ true) × (b ≡ true)
-both true b is = (refl, is)
-both false b is = absurd (true≢false (sym is))
-
 accepts_unlocked : (a : Around) (x : Site) (e : Event) (w : Verdict) (t : Tdi) → accepts_lock a x e w t ≡ true
     → is_locked t.state ≡ false
 accepts_unlocked a x (event.Interface (ie.Lock i loss)) w t is =
     let given = is_ok (lock_answer t x.plan.flags x.plan.offset a.secure a.drawn) in
-    lock_unlocked t x.plan.flags x.plan.offset a.secure a.drawn (both ((i == x.number) && carries w 3) given is).1
+    lock_unlocked t x.plan.flags x.plan.offset a.secure a.drawn (and_parts ((i == x.number) && carries w 3) given is).1
 accepts_unlocked a x e w t is = absurd (true≢false (sym is))
 
 -- before the pair: by what is known of the floors, or there is none

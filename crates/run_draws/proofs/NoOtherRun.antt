@@ -1,24 +1,7 @@
 -- What was sealed under a draw from the device's floor on was sealed since the interface was in another RUN last. In an
 -- earlier RUN the manager had it started; the halt that ended its lock made every draw so far too small for the start
 -- of this RUN, and the floor of this RUN is at least the draw of its start.
-use Rattle.sealing_laws.proofs.Terms.{
-  ◌≡◌,
-  ◌⊎◌,
-  inl,
-  inr,
-  ℕ,
-  ◌+◌,
-  ◌<◌,
-  ◌≤◌,
-  ◌==◌,
-  ◌&&◌,
-  Bool,
-  true,
-  false,
-  List,
-  [],
-  ◌∷◌,
-}
+use Rattle.sealing_laws.proofs.Terms.{◌≡◌, inl, inr, ℕ, ◌+◌, ◌<◌, ◌≤◌, ◌==◌, Bool, true, false, List, [], ◌∷◌}
 use Rattle.sealing_laws.proofs.Terms.{◌++◌, Some, refl, ap, sym, subst, ◌∙◌, arith, nat_tests}
 use Rattle.sealing_laws.proofs.Terms.{
   if◌then◌else◌,
@@ -44,7 +27,7 @@ use Rattle.sealing_laws.proofs.Terms.{
 }
 use Rattle.sealing_laws.proofs.Terms.{IsLive, all_live, sub_stream_of}
 unfoldable use Rattle.sealing_laws.proofs.Terms.{due}
-use Rattle.std.proofs.lemmas.Bool.{true≢false}
+use Rattle.std.proofs.lemmas.Bool.{and_parts, true≢false}
 use Rattle.std.specs.Prelude.{nat_lt}
 use Rattle.ide_plan.specs.Fits.{FitsPlan}
 use Rattle.key_laws.specs.Keys.{Keys, key_in, on_in}
@@ -68,7 +51,7 @@ use Rattle.interface_states.specs.Due.{if_locked, if_reported, if_fresh, unless_
 use Rattle.interface_states.proofs.OnLinks.{number_on_link}
 use Rattle.interface_states.proofs.Rests.{starts, rests_on}
 use Rattle.interface_states.proofs.Views.{views_hold, due_own}
-use Rattle.verdict_laws.proofs.{Since, Stands, cause_at, interface_cause, keeps_floors, later}
+use Rattle.verdict_laws.proofs.{Since, Stands, cause_at, fronts, interface_cause, keeps_floors, later}
 use Rattle.verdict_laws.specs.{CameFrom}
 use Rattle.run_draws.specs.NoOtherRun.{IsInNoOtherRun}
 use Rattle.run_draws.proofs.StreamDraws.{draw_at_most}
@@ -106,16 +89,12 @@ fresh_start view reported host draw needs z w is reaches =
     by Locked true status.Secure true less reaches = absurd (true≢false (sym reaches))
     by Locked true status.Secure false less reaches = record { secure = refl; least = grind (arith, nat_tests, less) }
 
-both : (a b : Bool) → (a && b) ≡ true → (a ≡ true) × (b ≡ true)
-both true b is = (refl, is)
-both false b is = absurd (true≢false (sym is))
-
 -- the event that started it is a start of it
 start_fresh : (plan : Plan) (h : History) (e : Event) (w : Verdict) (x : Site) → site_at plan x.number ≡ Some x
     → CauseLaw plan ((e, w) ∷ h) → starts x e w ≡ true
     → IsFresh (stream_draw h x.link x.plan.stream) (needs_at h x) (host_status h x)
 start_fresh plan h (event.Interface (ie.Start i loss)) w x at cause is =
-    let own = both (i == x.number) (carries w 1) is in
+    let own = and_parts (i == x.number) (carries w 1) is in
     let due = due_own plan h x (ie.Start i loss) i w at refl own.0
     (interface_cause plan ((event.Interface (ie.Start i loss), w) ∷ h) cause).0 in
     fresh_start (view_at h x) (managed h x).reported (host_status h x) (stream_draw h x.link x.plan.stream)
@@ -205,13 +184,6 @@ one_lock_then plan j b since k x at cause before runs made least =
     by (inr past) = let less = past.needs in absurd (omega (arith, less, least))
 
 -- ---- since a history
-
--- of two fronts of one list the one is a front of the other
-fronts : {A : Type 0} (xs ys g k : List A) → xs ++ g ≡ ys ++ k
-    → ((s : List A) × (s ++ k ≡ g)) ⊎ ((s : List A) × (s ++ g ≡ k))
-fronts [] ys g k is = inl (ys, sym is)
-fronts (x ∷ xs) [] g k is = inr (x ∷ xs, is)
-fronts (x ∷ xs) (y ∷ ys) g k is = fronts xs ys g k (cc (is))
 
 -- since a draw was made that the manager could need under the lock that stands
 pub no_other_since : (plan : Plan) (h : History) → CauseLaw plan h → (x : Site) → site_at plan x.number ≡ Some x

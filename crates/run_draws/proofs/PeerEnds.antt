@@ -12,6 +12,7 @@ use Rattle.ide_plan.proofs.EndsFound.{end_found}
 use Rattle.link_history.specs.Plan.{has_link}
 unfoldable use Rattle.link_history.specs.Ports.{port_of}
 use Rattle.link_history.proofs.Ends.{stream_is_there}
+use Rattle.std.proofs.lemmas.Bool.{and_parts}
 unfoldable use Rattle.interface_states.specs.Peers.{peer_end}
 
 -- ---- the end of the stream that has an ID
@@ -23,10 +24,6 @@ record IsPeerEnd (ps : List PeerPlan) (n link id : ℕ) (e : PortName) : Type 0 
   line : e.link ≡ peer_line (n + place)
   has : (peer.id == id) ≡ true
   meets : peer_link e.side peer ≡ link
-
-both : (a b : Bool) → (a && b) ≡ true → (a ≡ true) × (b ≡ true)
-both true b is = (refl, is)
-both false b is = absurd cc
 
 later_end : (p : PeerPlan) (ps : List PeerPlan) (n link id : ℕ) (e : PortName) → IsPeerEnd ps (n + 1) link id e
     → IsPeerEnd (p ∷ ps) n link id e
@@ -65,10 +62,10 @@ found_there (p ∷ ps) n link id e is =
         → (if a then Some (host_port (peer_line n)) else if b then Some (device_port (peer_line n))
         else peer_end ps (n + 1) link id) ≡ Some e → IsPeerEnd (p ∷ ps) n link id e
     by true b near far later is =
-        let parts = both (p.id == id) (p.near == link) near in
+        let parts = and_parts (p.id == id) (p.near == link) near in
         here (host_port (peer_line n)) refl parts.0 (eqb-true p.near link parts.1) is
     by false true near far later is =
-        let parts = both (p.id == id) (p.far == link) far in
+        let parts = and_parts (p.id == id) (p.far == link) far in
         here (device_port (peer_line n)) refl parts.0 (eqb-true p.far link parts.1) is
     by false false near far later is = later_end p ps n link id e (later is)
 

@@ -65,7 +65,7 @@ use Rattle.key_laws.specs.Due.{cut_at, lost_in, refusal_at}
 use Rattle.link_events.specs.declared.event.Event.TheVariants as event
 use Rattle.link_verdicts.specs.declared.verdict.Operation.TheVariants as op
 use Rattle.link_verdicts.specs.declared.verdict.Verdict.TheVariants as v
-use Rattle.std.proofs.lemmas.Bool.{cases_Bool, true≢false}
+use Rattle.std.proofs.lemmas.Bool.{and_parts, cases_Bool, true≢false}
 use Rattle.interface_states.specs.Peers.{greatest_on, is_secure}
 unfoldable use Rattle.interface_states.specs.Views.{stream_draw}
 
@@ -626,16 +626,12 @@ draw_most (Stopping n) top draw p ts sh at fit is live goes = absurd (true≢fal
 
 -- ---- Secure at the host's port
 
-first_live : (a b : Bool) → (a && b) ≡ true → a ≡ true
-first_live true b is = refl
-first_live false b is = absurd (true≢false (sym is))
-
 live_first : (h : History) (side : Side) (link stream : ℕ) → is_secure (status_of h side link stream) ≡ true
     → keeps_live (keys_there h (key_place_at side link stream false Pr)) ≡ true
 live_first h side link stream is =
     let parts = secure_parts (failed_there h side link stream) (has_key (keys_there h) side link stream)
     (has_all (keys_there h) side link stream) is in
-    first_live (keeps_live (keys_there h (key_place_at side link stream false Pr))) _ parts.1
+    (and_parts (keeps_live (keys_there h (key_place_at side link stream false Pr))) _ parts.1).0
 
 -- in a stop a host's port has no key
 not_stopping : (plan : KeyPlan) (h : History) → KeyCauseLaw plan h → (link stream : ℕ) → is_hosted link ≡ true

@@ -17,14 +17,12 @@ use Rattle.sealing_laws.proofs.Terms.{
 use Rattle.sealing_laws.proofs.Terms.{Event, Accepted, UnitName, Effect, Packet, PortName, is_sync_packet}
 use Rattle.sealing_laws.proofs.Terms.{same_port, is_same_port, nat_lt}
 unfoldable use Rattle.sealing_laws.proofs.Terms.{due}
-use Rattle.std.proofs.lemmas.Bool.{true≢false}
+use Rattle.std.proofs.lemmas.Bool.{and_parts}
 use Rattle.std.specs.Option.{option_map}
 use Rattle.ide_types.specs.Ports.{device_port}
 use Rattle.tlp_layout.specs.declared.head.HeadView.{HeadView}
 use Rattle.tlp_layout.specs.declared.fault.TlpFault.{TlpFault}
 use Rattle.tlp_layout.specs.Reading.{read_head_of}
-use Rattle.tdi_state.specs.declared.states.TdiState.{TdiState}
-use Rattle.tdi_state.specs.declared.states.TdiState.TheVariants as tdi
 use Rattle.tdi_state.specs.Machine.{all_bindings}
 use Rattle.tdi_state.specs.Bindings.{floor_on}
 use Rattle.trusted_memory.specs.declared.span.Span.{Span}
@@ -32,12 +30,12 @@ use Rattle.trusted_memory.specs.Spans.{write_span, crosses}
 use Rattle.trusted_memory.specs.Writes.{Write}
 use Rattle.guarded_memory.specs.declared.standing.Standing.{Standing}
 use Rattle.guarded_memory.specs.declared.claims.Claim.{Claim}
-use Rattle.guarded_memory.specs.Standings.{is_in_run, interface_state}
+use Rattle.guarded_memory.specs.Standings.{is_in_run}
 use Rattle.guarded_memory.specs.Claims.{claim_of}
 use Rattle.guarded_memory.specs.Causes.{floor_cause, mmio_cause, cause_effect, claim_effect, mmio_effect}
 use Rattle.guarded_memory.proofs.Claimed.{claimed}
 use Rattle.interface_states.specs.Sites.{Site, site_at}
-use Rattle.interface_states.specs.Devices.{is_run, runs_at, tdi_at}
+use Rattle.interface_states.specs.Devices.{runs_at, tdi_at}
 use Rattle.interface_states.specs.Floors.{place_of, standings_at, device_standing, device_floor}
 use Rattle.interface_states.proofs.Floors.{standing_placed}
 use Rattle.interface_states.proofs.OnLinks.{number_on_link}
@@ -46,7 +44,7 @@ use Rattle.link_history.specs.Admission.{switch_effect, effects_by}
 use Rattle.link_history.specs.Memory.{Policy, policy_at, device_effect, effect_by, unit_ended}
 use Rattle.link_history.specs.Memory.{plain_of}
 use Rattle.verdict_laws.specs.{claimed_write, if_claims, if_stored, stored_to, stores, write_read}
-use Rattle.verdict_laws.proofs.{effect_at, effects_there, some_is}
+use Rattle.verdict_laws.proofs.{effect_at, effects_there, of_effect, run_state, some_is}
 use Rattle.link_verdicts.specs.declared.verdict.BlockCause.{BlockCause}
 use Rattle.link_verdicts.specs.declared.verdict.BlockCause.TheVariants as cause
 use Rattle.link_verdicts.specs.declared.verdict.Effect.TheVariants as effect
@@ -57,9 +55,6 @@ record IsListed (xs : List Standing) (place bar : ℕ) (es : List Effect) (n : �
   effect_is : slice_get es n ≡ Some effect.Stored
   payload : List ℕ
   claims : claimed_write xs place bar (write_read payload (read_head_of p.head)) ≡ Some w
-
-of_effect : (e : Effect) (o : Option Write) (w : Write) → if_stored e o ≡ Some w → (e ≡ effect.Stored) × (o ≡ Some w)
-of_effect e o w is = grind arith
 
 listed_at : (xs : List Standing) (place bar : ℕ) (plain : List ℕ) (es : List Effect) (ps : List Packet) (n : ℕ)
     (p : Packet) (w : Write) → slice_get (stored_to xs place bar plain es ps) n ≡ Some (Some w)
@@ -116,13 +111,9 @@ no_effect : (o : Option BlockCause) → cause_effect o ≡ effect.Stored → o �
 no_effect None is = refl
 no_effect (Some c) is = absurd cc
 
-both : (a b : Bool) → (a && b) ≡ true → (a ≡ true) × (b ≡ true)
-both true b is = (refl, is)
-both false b is = absurd cc
-
 at_place : (place bar : ℕ) (w to : Write) (c : Claim) → if_claims place bar w (Some c) ≡ Some to → c.interface ≡ place
 at_place place bar w to c is = elim (cases_Bool ((c.interface == place) && (c.bar == bar))) [
-  | inl there ↦ eqb-true c.interface place (both (c.interface == place) (c.bar == bar) there).0
+  | inl there ↦ eqb-true c.interface place (and_parts (c.interface == place) (c.bar == bar) there).0
   | inr other ↦ absurd (let none = rw other at is in cc)
 ]
 
@@ -189,12 +180,6 @@ at_device plan policy k link unit p off is = by (is_sync_packet p) (at_switch pl
 
 no_switch : (plan : Plan) (x : Site) → site_at plan x.number ≡ Some x → at_switch plan (device_port x.link) ≡ false
 no_switch plan x known = rw (number_on_link plan x known) refl
-
-run_state : (s : TdiState) → is_in_run (interface_state s) ≡ true → is_run s ≡ true
-run_state tdi.ConfigUnlocked e = absurd (true≢false (sym e))
-run_state (tdi.ConfigLocked lock nonce) e = absurd (true≢false (sym e))
-run_state (tdi.Run lock) e = refl
-run_state tdi.Error e = absurd (true≢false (sym e))
 
 pub record IsTaken (plan : Plan) (h : History) (x : Site) (end : PortName) (unit : UnitName) (p : Packet) : Type 0
   where

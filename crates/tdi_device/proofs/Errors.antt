@@ -26,7 +26,7 @@ use Rattle.tdi_device.specs.Laws.{ErrorsChangeNothing}
 
 -- ---- the interface that is meant
 
-set_same : {A : Type 0} (xs : List A) (p : ℕ) (x : A) → slice_get xs p ≡ Some x → slice_set xs p x ≡ xs
+pub set_same : {A : Type 0} (xs : List A) (p : ℕ) (x : A) → slice_get xs p ≡ Some x → slice_set xs p x ≡ xs
 set_same [] p x is = refl
 set_same (y ∷ xs) zero x is = ap (λ z. z ∷ xs) (let same : x ≡ y = cc in same)
 set_same (y ∷ xs) (suc p) x is = ap (λ zs. y ∷ zs) (set_same xs p x is)
@@ -38,7 +38,7 @@ at_place xs p (Some t) n g e =
     let same : (let k : NamedTdi = record { place = p; tdi = t } in k) ≡ n = cc in
     subst (λ (k : NamedTdi). slice_get xs k.place ≡ Some k.tdi) same g
 
-in_list : (xs : List Tdi) (place : Option ℕ) (n : NamedTdi) → named_tdi_in xs place ≡ Some n → slice_get xs n.place
+pub in_list : (xs : List Tdi) (place : Option ℕ) (n : NamedTdi) → named_tdi_in xs place ≡ Some n → slice_get xs n.place
     ≡ Some n.tdi
 in_list xs None n e = absurd cc
 in_list xs (Some p) n e = at_place xs p (slice_get xs p) n refl e

@@ -1,7 +1,7 @@
 -- Lists, an element at a time.
-use Rattle.std.proofs.Common.{◌≡◌, ℕ, suc, zero, ◌+◌, ◌<◌, List, [], ◌∷◌, ◌++◌, length, map, take, drop, get_or, Some}
-use Rattle.std.proofs.Common.{ap, sym, add-one, arith}
-use Rattle.std.specs.Prelude.{slice_set, slice_get}
+use Rattle.std.proofs.Common.{◌≡◌, ℕ, suc, zero, ◌+◌, ◌<◌, List, [], ◌∷◌, ◌++◌, length, map, take, drop, get_or}
+use Rattle.std.proofs.Common.{ap, add-one, arith}
+use Rattle.std.specs.Prelude.{slice_set}
 
 one_more_of : {A : Type 0} (f : A → A) (xs : List A) (i : ℕ) (x : A) → i < length xs → x
     ≡ get_or (map f (take i xs) ++ drop i xs) i x
@@ -17,9 +17,3 @@ pub one_more : {A : Type 0} (f : A → A) (xs ys : List A) (i : ℕ) (x new : A)
 one_more f xs ys i x new lt ahead is changed =
     let read : x ≡ get_or (map f (take i xs) ++ drop i xs) i x = rw (← ahead) is in
     rw (changed, ← is, ahead, add-one) (one_more_of f xs i x lt read)
-
--- an element that is read at its place
-pub get_at : {A : Type 0} (xs : List A) (i : ℕ) (x : A) → i < length xs → x ≡ get_or xs i x → slice_get xs i ≡ Some x
-get_at [] i x lt is = absurd (omega arith)
-get_at (y ∷ xs) zero x lt is = ap Some (sym is)
-get_at (y ∷ xs) (suc i) x lt is = get_at xs i x (omega arith) is

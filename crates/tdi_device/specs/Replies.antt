@@ -221,19 +221,6 @@ tdi_answer d bytes said = tdi_reply_from d said (function_or_none bytes) (reques
 abbrev pub answer_bytes : DeviceTdis → List ℕ → StreamSaid → List ℕ
 answer_bytes d bytes said = reply_spelling (tdi_answer d bytes said)
 
--- the stream that a LOCK_INTERFACE or a BIND_P2P names
-abbrev pub stream_named : RequestView → Option ℕ
-stream_named (LockInterface function flags stream offset mask) = Some stream
-stream_named (BindP2p function stream) = Some stream
-stream_named request = None
-
-abbrev pub stream_by : Result RequestView ErrorCode → Option ℕ
-stream_by (Ok request) = stream_named request
-stream_by (Err code) = None
-
-abbrev pub stream_asked : List ℕ → Option ℕ
-stream_asked bytes = stream_by (request_checked bytes)
-
 -- ---- streams that are left, and a reset of the link
 
 -- bound to a stream that is not Secure

@@ -254,10 +254,9 @@ impl DeviceInterfaces {
     }
 
     /// Answers a message of TDISP, whose first byte says so: makes at most one call of one interface, and appends the
-    /// reply. `said` is what the device says of the stream that the request names (`stream_asked` says
-    /// which it is). `reply` has room for `TDISP_REPLY_ROOM` bytes, so it takes no memory. Refused
-    /// in the order of `request_asked`, then INVALID_INTERFACE if no interface has the function ID, and then as the
-    /// interface refuses the request.
+    /// reply. `said` is what the device says of the stream that the request names. `reply` has room for
+    /// `TDISP_REPLY_ROOM` bytes, so it takes no memory. Refused in the order of `request_asked`, then INVALID_INTERFACE
+    /// if no interface has the function ID, and then as the interface refuses the request.
     pub fn answer(&mut self, request: &[u8], said: StreamSaid, reply: &mut Vec<u8>)
         requires { vec_len reply.old + TDISP_REPLY_ROOM ≤ vec_capacity reply.old }
         ensures device { self.new ≡ answered self.old request.now said }

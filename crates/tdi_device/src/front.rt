@@ -1,7 +1,7 @@
 //! Requests as they come, and which are refused before an interface is looked for.
 
 ghost use Rattle.std.specs.Prelude.{◌≡◌, length};
-ghost use Rattle.tdi_device.specs.Replies.{code_by, function_or_none, request_checked, stream_asked, stream_named};
+ghost use Rattle.tdi_device.specs.Replies.{code_by, function_or_none, request_checked};
 
 use tdi_state::ErrorCode;
 use tdisp_codec::{RequestView, TdispFault, function_of, request_read};
@@ -39,24 +39,4 @@ pub(crate) fn function(bytes: &[u8]) -> u32
     ensures { result ≡ function_or_none bytes.now }
 {
     function_of(bytes).unwrap_or(0)
-}
-
-fn stream_named(request: RequestView) -> Option<u8>
-    ensures { result ≡ stream_named request }
-{
-    match request {
-        RequestView::LockInterface { stream, .. } => Some(stream),
-        RequestView::BindP2p { stream, .. } => Some(stream),
-        _ => None,
-    }
-}
-
-/// The stream that a LOCK_INTERFACE or a BIND_P2P names; `None` if the bytes spell another request, or none.
-pub fn stream_asked(bytes: &[u8]) -> Option<u8>
-    ensures { result ≡ stream_asked bytes.now }
-{
-    match request_asked(bytes) {
-        Ok(request) => stream_named(request),
-        Err(_) => None,
-    }
 }

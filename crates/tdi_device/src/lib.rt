@@ -10,6 +10,5 @@ mod replies;
 mod said;
 
 pub use device_interfaces::{DeviceInterfaces, StreamStates, TDISP_REPLY_ROOM};
-pub use front::{request_asked, stream_asked};
 pub use laws::errors_change_nothing;
 pub use said::StreamSaid;

@@ -1,11 +1,10 @@
 -- The ranges of a report, BAR by BAR.
 use Rattle.std.proofs.Common.{◌≡◌, ℕ, zero, suc, ◌+◌, ◌*◌, ◌/◌, ◌%◌, ◌^◌, ◌≤◌, ◌==◌, Bool, true, false, List, [], ◌∷◌}
-use Rattle.std.proofs.Common.{◌++◌, length, drop, Option, Some, None, if◌then◌else◌, refl, sym, ap, ◌∙◌, arith}
+use Rattle.std.proofs.Common.{◌++◌, length, drop, Some, None, if◌then◌else◌, sym, ap, ◌∙◌, arith}
 use Rattle.std.proofs.Common.{append-nil}
 use Rattle.std.proofs.lemmas.Bool.Decides.{nat_tests}
 use Rattle.std.specs.Prelude.{All, slice_get, slice_index}
 use Rattle.std.specs.List.{flat_map, filter_map, cons_option, enumerate_from, AllByRecursion}
-use Rattle.std.specs.Option.{option_to_list}
 use Rattle.std.proofs.Math.ListN.{drop_of_length-le}
 use Rattle.std.proofs.lemmas.List.Elements.{All-from_recursion, recursion_from_All}
 use Rattle.ide_plan.specs.declared.interface.BarPlan.{BarPlan}
@@ -24,11 +23,6 @@ bytes_from offset n bars = flat_map range_bytes (filter_map (reported_range offs
 pub record Reported (offset : ℕ) (bars : List BarPlan) (out : List ℕ) (i : ℕ) : Type 0 where
   pub bytes : out ++ bytes_from offset i (drop i bars) ≡ bytes_from offset 0 bars
   pub room : length out ≤ 16 * i
-
-one_more : (r : Option ReportRange) (rs : List ReportRange) → flat_map range_bytes (cons_option r rs)
-    ≡ flat_map range_bytes (option_to_list r) ++ flat_map range_bytes rs
-one_more None rs = refl
-one_more (Some r) rs = sym (ap (λ (x : List ℕ). x ++ flat_map range_bytes rs) (append-nil (range_bytes r)))
 
 pub reported_all : (offset i : ℕ) (bars : List BarPlan) (out : List ℕ) → Reported offset bars out i → length bars ≤ i
     → out ≡ flat_map range_bytes (reported_ranges offset bars)

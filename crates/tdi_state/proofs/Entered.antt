@@ -23,9 +23,6 @@ is_unlocked-true state e = grind (arith, nat_tests)
 both_left : (a b : Bool) → (a && b) ≡ true → a ≡ true
 both_left a b e = grind (arith, nat_tests)
 
-given : (drawn : Option (List ℕ)) (n : List ℕ) → nonce_answer drawn ≡ Ok n → drawn ≡ Some n
-given drawn n e = grind (arith, nat_tests)
-
 -- a lock that is not refused: each test was passed
 passed : (a b c : Bool) (x y z : ℕ) (drawn : Option (List ℕ)) (n : List ℕ)
     → (if not a then Err x else if not b then Err y else if not c then Err z else nonce_answer drawn) ≡ Ok n

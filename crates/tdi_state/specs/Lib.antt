@@ -28,7 +28,7 @@ pub use Rattle.tdi_state.specs.Machine.{StopInterface, WriteRegister, LevelReset
 pub use Rattle.tdi_state.specs.Machine.{BindStream, UnbindStream, tdi_after, is_locked, bindings_left, draw_answer}
 pub use Rattle.tdi_state.specs.Machine.{bindings_after}
 pub use Rattle.tdi_state.specs.Machine.{bind_answer, is_answered, bound_with, bound, unbind_answer, unbound_with}
-pub use Rattle.tdi_state.specs.Machine.{unbound, own_binding, all_bindings, is_bound_to}
+pub use Rattle.tdi_state.specs.Machine.{unbound, own_binding, all_bindings}
 pub use Rattle.tdi_state.specs.Bindings.{is_binding_on, binds, without, floor_on}
 pub use Rattle.tdi_state.specs.Held.{FitsTdi, FitsShown, IsBound}
 pub use Rattle.tdi_state.specs.Laws.{ChangesAreListed, ChangeIsError, HasByte, OverlapIsShared, OverlapsArePairs}

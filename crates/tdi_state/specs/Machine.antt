@@ -253,10 +253,6 @@ own_binding floor (Some stream) = record { stream = stream; floor = floor } ∷ 
 abbrev pub all_bindings : ℕ → Tdi → List Binding
 all_bindings floor tdi = own_binding floor (bound_stream tdi.state) ++ tdi.bindings
 
--- the stream of a link or one between two devices
-abbrev pub is_bound_to : ℕ → Tdi → Bool
-is_bound_to stream tdi = binds stream (all_bindings 0 tdi)
-
 -- ---- all calls
 
 pub data Call : Type 0 where

@@ -173,7 +173,6 @@ impl Interface {
       bind_answer,
       bound,
       is_answered,
-      is_bound_to,
       is_locked,
       unbind_answer,
       unbound,
@@ -477,13 +476,6 @@ impl Interface {
         }
         bindings.append(&self.bindings);
         bindings
-    }
-
-    /// Whether the interface is bound to this stream, be it of its link or between its device and another.
-    pub fn is_bound_to(&self, stream: u8) -> bool
-        ensures { result ≡ is_bound_to stream self.now }
-    {
-        self.bindings(0).binds(stream)
     }
 
     /// The requester ID of the interface.

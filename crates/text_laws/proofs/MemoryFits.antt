@@ -1,5 +1,5 @@
 -- What stands in trusted memory are bytes: the payloads of the packets of a unit are, and the key stream is.
-use Rattle.std.proofs.Common.{◌≡◌, ℕ, zero, suc, ◌+◌, ◌-◌, ◌<◌, ◌&&◌, Bool, true, false, List, [], ◌∷◌, ◌++◌, length}
+use Rattle.std.proofs.Common.{◌≡◌, ℕ, zero, suc, ◌+◌, ◌-◌, ◌<◌, ◌&&◌, Bool, true, false, List, [], ◌∷◌, length}
 use Rattle.std.proofs.Common.{take, drop, Option, Some, None, Result, Ok, Err, if◌then◌else◌, refl, sym, subst, arith}
 use Rattle.std.specs.Prelude.{find, All}
 use Rattle.std.specs.List.{AllByRecursion}
@@ -41,6 +41,7 @@ unfoldable use Rattle.link_history.specs.Memory.{writes}
 use Rattle.link_history.specs.Cause.{CauseLaw}
 use Rattle.link_history.specs.Due.{due}
 use Rattle.link_history.proofs.Causes.{accepted_by, packet_that_came}
+use Rattle.hop_laws.proofs.TlpsRead.{snoc_fits}
 use Rattle.hop_laws.proofs.{came_fits, held_fits}
 
 abbrev pub IsByte : ℕ → Type 0
@@ -54,11 +55,6 @@ AreOctets bytes = All IsByte bytes
 bodies : (ps : List Packet) → AllByRecursion FitsPacket ps → AreOctets (encrypted ps)
 bodies [] fits = All-nil IsByte
 bodies (p ∷ ps) fits = All-append IsByte p.body (encrypted ps) fits.0.body (bodies ps fits.1)
-
-snoc_fits : (ps : List Packet) (p : Packet) → AllByRecursion FitsPacket ps → FitsPacket p
-    → AllByRecursion FitsPacket (ps ++ p ∷ [])
-snoc_fits [] p fits last = (last, tt)
-snoc_fits (q ∷ ps) p fits last = (fits.0, snoc_fits ps p fits.1 last)
 
 pub plain_bytes : (plan : Plan) (port : PortName) (unit : UnitName) (ps : List Packet) → AllByRecursion FitsPacket ps
     → AreOctets (plain_of plan port unit ps)

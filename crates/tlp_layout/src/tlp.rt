@@ -24,20 +24,13 @@ pub struct TlpView<'a> {
 impl Tlp {
     ghost use Rattle.std.specs.Prelude.{◌≡◌};
     ghost use Rattle.tlp_layout.specs.Class.{class_of, kind_of};
-    ghost use Rattle.tlp_layout.specs.Tlp.{header, body};
+    ghost use Rattle.tlp_layout.specs.Tlp.{header};
 
     /// The header.
     pub fn head(&self) -> HeadView
         ensures { result ≡ header self.now }
     {
         self.head
-    }
-
-    /// The bytes after the header, none if it has no payload.
-    pub fn payload(&self) -> &[u8]
-        ensures { result.now ≡ body self.now }
-    {
-        self.payload.as_slice()
     }
 
     /// The kind of the TLP.

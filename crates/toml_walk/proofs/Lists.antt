@@ -1,5 +1,5 @@
 -- Lists of a table as lists, and reading them one element after the other.
-use Rattle.std.proofs.Common.{◌≡◌, ℕ, ◌+◌, List, [], ◌∷◌, ◌++◌, Result, Ok, Err, refl, sym, ap, ◌∙◌, append_assoc, map}
+use Rattle.std.proofs.Common.{◌≡◌, ◌+◌, List, [], ◌∷◌, ◌++◌, Result, Ok, refl, ap, map}
 use Rattle.std.proofs.Common.{String, string_bytes}
 use Rattle.toml.specs.Data.{Data}
 use Rattle.toml.specs.View.{view, items_view, items_of, members_view, table_view}
@@ -7,10 +7,8 @@ use Rattle.std.specs.BTreeMap.{BTreeMap, keys}
 use Rattle.std.specs.declared.alloc.Global.{Global}
 use Rattle.toml.specs.declared.value.Value.{Value}
 use Rattle.toml_walk.specs.declared.fault.PlanFault.{PlanFault}
-use Rattle.toml_walk.specs.declared.fault.PlanError.{PlanError}
-use Rattle.toml_walk.specs.declared.fault.PlanError.TheVariants as errors
-use Rattle.toml_walk.specs.Fault.{◌>>=◌, Fails}
-use Rattle.toml_walk.specs.Walk.{Text, Reader, place, list_of, each, key_names}
+use Rattle.toml_walk.specs.Fault.{◌>>=◌}
+use Rattle.toml_walk.specs.Walk.{Text, list_of, key_names}
 
 pub list_of_items : (ds : List Data) → list_of (items_of ds) ≡ ds
 list_of_items [] = refl
@@ -31,22 +29,3 @@ module _ {A : Type 0} where
   -- what was read before, and what is still read
   abbrev pub with_front : List A → Result (List A) PlanFault → Result (List A) PlanFault
   with_front front read = read >>= λ xs. Ok (front ++ xs)
-
-  regroup : (front : List A) (x : A) (read : Result (List A) PlanFault) → with_front front (read >>= λ xs. Ok (x ∷ xs))
-      ≡ with_front (front ++ x ∷ []) read
-  regroup front x (Ok xs) = ap (λ (ys : List A). Ok ys) (simp append_assoc)
-  regroup front x (Err f) = refl
-
-  -- one more element was read
-  pub goes_on : (one : Reader A) (path : Text) (front : List A) (i : ℕ) (d : Data) (ds : List Data) (x : A)
-      (total : Result (List A) PlanFault) → one (place path i) d ≡ Ok x
-      → with_front front (each one path i (d ∷ ds)) ≡ total → with_front (front ++ x ∷ []) (each one path (i + 1) ds)
-      ≡ total
-  goes_on one path front i d ds x total e so_far = sym (regroup front x (each one path (i + 1) ds)) ∙ (rw e at so_far)
-
-  -- an element was refused
-  pub ends : (one : Reader A) (path : Text) (front : List A) (i : ℕ) (d : Data) (ds : List Data) (e : PlanError)
-      (total : Result (List A) PlanFault) → Fails e (one (place path i) d)
-      → with_front front (each one path i (d ∷ ds)) ≡ total → Fails e total
-  ends one path front i d ds errors.Memory total h so_far = tt
-  ends one path front i d ds (errors.Fault f) total h so_far = sym so_far ∙ rw h refl

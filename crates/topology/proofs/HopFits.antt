@@ -20,9 +20,6 @@ use Rattle.topology.proofs.RuleFits.{PeerRuled, HopRuled, HopIsRuled, or_parts}
 
 -- ---- lists
 
-cond_false : (b : Bool) (c : Bool) → (b || c) ≡ false → b ≡ false
-cond_false b c e = (or_parts b c e).0
-
 -- none of the elements meets the test
 pub none_any : {A : Type 0} (f : A → Bool) (xs : List A) → list_any f xs ≡ false → (k : ℕ) (x : A)
     → slice_get xs k ≡ Some x → f x ≡ false

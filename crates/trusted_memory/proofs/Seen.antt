@@ -65,9 +65,6 @@ byte_in-seen f (r ∷ rs) a = elim (cases_Bool (is_inside r a)) [
 holds_inside : (r : Region) (at n a : ℕ) → holds_all r at n ≡ true → at ≤ a → a < at + n → is_inside r a ≡ true
 holds_inside r at n a h low high = grind (arith, nat_tests)
 
-holds_end : (r : Region) (at n : ℕ) → holds_all r at n ≡ true → at + n ≤ r.base + r.size
-holds_end r at n h = grind (arith, nat_tests)
-
 pub each_in_region : (rs : List Region) (at n a : ℕ) → in_one_region rs at n ≡ true → at ≤ a → a < at + n
     → in_region rs a ≡ true
 each_in_region [] at n a h low high = absurd (true≢false (sym h))
@@ -77,18 +74,6 @@ each_in_region (r ∷ rs) at n a h low high = elim (cases_Bool (holds_all r at n
     | inl i ↦ rw i refl
     | inr o ↦ rw o (each_in_region rs at n a (rw e at h) low high)
   ]
-]
-
--- regions end at 2^63 at the latest
-pub ends_low : (rs : List Region) (at n : ℕ) → All FitsRegion rs → in_one_region rs at n ≡ true → at + n ≤ 2 ^ 63
-ends_low [] at n fit h = absurd (true≢false (sym h))
-ends_low (r ∷ rs) at n fit h = elim (cases_Bool (holds_all r at n)) [
-  | inl e ↦
-      let fits = All-head FitsRegion r rs fit in
-      let end = holds_end r at n e in
-      let most : r.base + r.size ≤ 2 ^ 63 = fits.most in
-      omega arith
-  | inr e ↦ ends_low rs at n (All-tail FitsRegion r rs fit) (rw e at h)
 ]
 
 -- so none has a byte from there on

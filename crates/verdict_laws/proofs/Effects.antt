@@ -1,11 +1,10 @@
 -- Exactly the reads that ask are queued while fewer than 64 wait, and exactly the writes that are taken are stored.
 use Rattle.std.proofs.Common.{◌≡◌, ℕ, ◌+◌, ◌≤◌, ◌==◌, ◌&&◌, ◌⊎◌, inl, inr, Bool, true, false, List, [], ◌∷◌, map}
-use Rattle.std.proofs.Common.{Option, Some, None, Result, Ok, Err, refl, ap, sym, ◌∙◌, arith}
+use Rattle.std.proofs.Common.{Option, Some, None, Result, Ok, Err, refl, ap, ◌∙◌, arith}
 use Rattle.std.specs.Prelude.{not, if◌then◌else◌, nat_le, nat_lt, ◌||◌}
 use Rattle.std.proofs.lemmas.Bool.Decides.{nat_tests}
 use Rattle.link_history.proofs.Terms.{Plan, History, Event, Verdict, Accepted, UnitName, Effect, Packet, PortName}
 use Rattle.link_history.specs.Terms.{is_sync_packet}
-use Rattle.link_history.proofs.Causes.{accepted_by, unit_that_ends}
 unfoldable use Rattle.link_history.proofs.Terms.{due}
 use Rattle.std.specs.Option.{option_or}
 use Rattle.ide_types.specs.Sub.{sent_direction}
@@ -36,13 +35,14 @@ use Rattle.tdi_state.specs.Bindings.{floor_on}
 use Rattle.link_history.specs.Ports.{at_switch, port_of}
 use Rattle.link_history.specs.Admission.{switch_effect}
 use Rattle.link_history.specs.Memory.{Policy, policy_at, unit_grant, host_effect, device_effect, effect_by}
-use Rattle.link_history.specs.Memory.{effects_each, waiting_then, effects_of, unit_ended}
+use Rattle.link_history.specs.Memory.{effects_each, waiting_then, unit_ended}
 use Rattle.verdict_laws.specs.Effects.{is_queued, is_full, asks_by, asks_as, asks_read, before_64, behind_64}
 use Rattle.verdict_laws.specs.Effects.{takes_as, takes_claimed, takes_claim, takes_span, takes_write, is_waiting}
 use Rattle.verdict_laws.specs.Effects.{waits_at, HasExactEffects}
 use Rattle.link_verdicts.specs.declared.verdict.BlockCause.{BlockCause}
 use Rattle.link_verdicts.specs.declared.verdict.BlockCause.TheVariants as blocks
 use Rattle.ide_plan.specs.declared.interface.BarPlan.{BarPlan}
+use Rattle.lock_laws.proofs.{effects_there}
 use Rattle.link_verdicts.specs.declared.verdict.Effect.TheVariants as effect
 
 -- ---- what a cause says of reads
@@ -188,10 +188,6 @@ device_says xs unit p (Err f) = refl
 device_says xs unit p (Ok head) = span_says xs p.prefix.t unit.stream unit.draw (write_span head)
 
 -- ---- each at the other port
-
-cause_neither : (o : Option BlockCause) → is_full (cause_effect o) ≡ false → IsNeither (cause_effect o)
-cause_neither None is = (refl, is)
-cause_neither (Some c) is = (refl, is)
 
 floor_neither : (o : Option ℕ) (draw : ℕ) → IsNeither (cause_effect (floor_cause o draw))
 floor_neither None draw = (refl, refl)
@@ -438,18 +434,10 @@ all_waiting plan policy n port unit (p ∷ ps) =
 
 -- ---- the pair
 
-of_effects : (plan : Plan) (h : History) (e : Event) (port : PortName) (unit : UnitName) (effects : List Effect)
-    → Accepted port unit effects ≡ due plan h e
-    → effects ≡ effects_of plan h port unit (unit_ended plan h e port unit)
-of_effects plan h e port unit effects is =
-    let by = accepted_by plan h e port unit effects is in
-    by.effects_are ∙ ap (λ (ps : List Packet). effects_of plan h port unit ps)
-    (sym (unit_that_ends plan h e port unit by.packet by.came by.passed))
-
 accepted_effects : (plan : Plan) (h : History) (e : Event) (port : PortName) (unit : UnitName) (effects : List Effect)
     → Accepted port unit effects ≡ due plan h e → HasExactEffects plan h e (Accepted port unit effects)
 accepted_effects plan h e port unit effects is =
-    let are = of_effects plan h e port unit effects is in
+    let are = effects_there plan h e port unit effects is in
     let policy = policy_at plan h in
     let at = port_of plan port in
     let n = policy.waiting at.link in

@@ -5,11 +5,11 @@ pub mod Effects
 pub mod Answers
 pub mod AllLaws
 -- what crates above name
-pub use Rattle.lock_laws.proofs.OneLock.{cause_at, effect_at}
+pub use Rattle.lock_laws.proofs.OneLock.{cause_at, effect_at, fronts}
 pub use Rattle.lock_laws.proofs.{IsNew, all_get, cause_before, draws, get_less, interface_cause, live_port, memory_law}
 pub use Rattle.lock_laws.proofs.{Admitted, For, accepted_known, admitted_means, at_device_end, at_port, got_next}
 pub use Rattle.lock_laws.proofs.{effects_there, head_of, owner_means, read_law, secure_parts, sent_at, some_is}
-pub use Rattle.lock_laws.proofs.{trusted_before, trusted_there}
+pub use Rattle.lock_laws.proofs.{of_effect, run_state, same_locks, trusted_before, trusted_there}
 pub use Rattle.lock_laws.proofs.Runs.{Later, Since, Stands, later}
 pub use Rattle.lock_laws.proofs.SecurePeers.{bound_secure}
 pub use Rattle.lock_laws.proofs.{bind_origin_law, keeps_floors}

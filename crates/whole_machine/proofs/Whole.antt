@@ -21,7 +21,6 @@ unfoldable use Rattle.link_history.specs.Due.{t_sealed}
 use Rattle.link_history.specs.Ports.{at_switch}
 unfoldable use Rattle.link_history.specs.Ports.{port_of}
 use Rattle.interface_states.specs.Views.{grant_at}
-unfoldable use Rattle.interface_states.specs.Due.{interface_verdict_due as interface_due}
 use Rattle.interface_machine.specs.Machine.{Faces, faces_after, interface_answer, grant_of}
 use Rattle.interface_machine.specs.Stands.{FacesStandFor}
 use Rattle.interface_machine.proofs.Faces.{faces_stand}
@@ -39,7 +38,8 @@ use Rattle.link_history.specs.{WaitingRead}
 unfoldable use Rattle.link_history.specs.{completion_bytes}
 use Rattle.link_events.specs.declared.event.AccessEvent.TheVariants as ae
 use Rattle.port_operations.specs.{completion_of, completion_first, completion_to}
-use Rattle.read_order.proofs.Oldest.{drop_first, bytes_are}
+use Rattle.link_history.proofs.HopFirst.{drop_first}
+use Rattle.read_order.proofs.Oldest.{bytes_are}
 unfoldable use Rattle.link_history.specs.Memory.{writes}
 use Rattle.trusted_memory.specs.Writes.{Write, newest_first}
 unfoldable use Rattle.trusted_memory.specs.Writes.{byte_after}
