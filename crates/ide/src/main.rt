@@ -49,6 +49,7 @@ fn word(status: Status) -> Option<&'static str> {
         Status::WriteFault => Some("standard output could not be written"),
         Status::Memory => Some("there was no memory"),
         Status::TooLong => Some("a file is too long"),
+        Status::NoEvent => Some("the script has no such event"),
     }
 }
 

@@ -19,7 +19,7 @@ use Rattle.ide_words.specs.Words.{asked}
 use Rattle.ide_cli.specs.Headline.{AllJudged}
 use Rattle.ide_cli.specs.Meaning.{Answered, command_due}
 use Rattle.ide_cli.specs.Seen.{CallSeen}
-use Rattle.ide_cli.specs.Went.{AsksJudge, CameToEnd, Judged, Said}
+use Rattle.ide_cli.specs.Went.{AsksJudge, CameToEnd, Judged}
 use Rattle.ide_cli.proofs.Written.{at_end}
 
 ended_at : (verdicts : Option Text) (e : End) (text : Text) → e ≡ end.Done
@@ -45,12 +45,12 @@ asked_is : (migrated : Text) (call : CallSeen) (plan : Plan) (script : Script) (
 asked_is migrated call plan script a claimed claims = rw (a.asks, a.topology_is, a.script_is, claims) refl
 
 -- what came of it
-there : (read write quiet : Type 0) (gained : Text → Type 0) (r : Result End Fault) (e : End) (due : Due)
+pub there : (read write quiet : Type 0) (gained : Text → Type 0) (r : Result End Fault) (e : End) (due : Due)
     → r ≡ Ok e → EndsDue (Some due) read write quiet gained r → (e ≡ due.0) × gained due.1
 there read write quiet gained r e due is ran =
     let came = subst (λ (x : Result End Fault). EndsBy due read write quiet gained x) is ran in (came.0, came.1)
 
-ends_told : (call : CallSeen) (contents : Contents) (due : Contents → Option Due) (last : Due)
+pub ends_told : (call : CallSeen) (contents : Contents) (due : Contents → Option Due) (last : Due)
     (read write quiet : Type 0) (gained : Text → Type 0) → call.shelf_before.contents ≡ Some contents
     → due contents ≡ Some last → EndsOn call.shelf_before.contents due read write quiet gained call.outcome
     → EndsDue (Some last) read write quiet gained call.outcome
@@ -58,7 +58,7 @@ ends_told call contents due last read write quiet gained told is ran =
     subst (λ (d : Option Due). EndsDue d read write quiet gained call.outcome) is
     (subst (λ (t : Option Contents). EndsOn t due read write quiet gained call.outcome) told ran)
 
-at_this_end : {P : End → Type 0} (r : Result End Fault) → ((e : End) → r ≡ Ok e → P e) → IfOk r P
+pub at_this_end : {P : End → Type 0} (r : Result End Fault) → ((e : End) → r ≡ Ok e → P e) → IfOk r P
 at_this_end (Ok e) holds = holds e refl
 at_this_end (Err f) holds = tt
 

@@ -4,3 +4,4 @@ mod Furthers
 mod Requests
 mod GeneratedRuns
 mod Judging
+mod Telling

@@ -1,4 +1,5 @@
--- What is asked for is answered, and generated events whatever the shelf tells; who is told that a text differs.
+-- What is asked for is answered, and generated events whatever the shelf tells; who is told that a text differs, or
+-- that a script lacks an event.
 use Rattle.std.proofs.Common.{
   ◌≡◌,
   ◌≢◌,
@@ -21,7 +22,7 @@ use Rattle.std.proofs.Common.{
 }
 use Rattle.std.specs.Prelude.{IfOk}
 use Rattle.ide_base.specs.Outside.{Contents, ShelfSeen, SinkSeen}
-use Rattle.ide_words.specs.Words.{Asked, asked, run, judge, check, migrate, show, generate, generate_script}
+use Rattle.ide_words.specs.Words.{Asked, asked, run, judge, why, check, migrate, show, generate, generate_script}
 use Rattle.ide_words.specs.Words.{generate_topology}
 use Rattle.line_runs.specs.declared.ends.End.{End}
 use Rattle.line_runs.specs.declared.ends.End.TheVariants as end
@@ -36,10 +37,11 @@ use Rattle.ide_runs.specs.Judge.{judge_due}
 use Rattle.ide_runs.specs.Migrating.{MigratedFor}
 use Rattle.ide_runs.specs.Script.{run_due}
 use Rattle.ide_runs.specs.Topologies.{check_due}
+use Rattle.ide_runs.specs.Why.{why_due}
 use Rattle.ide_runs.proofs.{failed_migration}
 use Rattle.ide_cli.specs.Meaning.{AnsweredFor, MigratesTo, RanAlone, RanGenerated, command_due, show_due, usage_line}
 use Rattle.ide_cli.specs.Meaning.{script_text_due, topology_text_due}
-use Rattle.ide_cli.specs.Reads.{AsksToJudge, most_counted}
+use Rattle.ide_cli.specs.Reads.{most_counted}
 use Rattle.ide_cli.specs.Seen.{CallSeen, outcome_of_status}
 
 pub asks_for : {request : Option Asked} {a : Asked} {s0 s1 : ShelfSeen} {o0 o1 : SinkSeen} {r : Result End Fault}
@@ -56,6 +58,11 @@ pub answered_judge : (topology script verdicts : Text) (s0 s1 : ShelfSeen) (o0 o
     → RanOn (λ contents. judge_due (contents topology) (contents script) (contents verdicts)) s0 s1 o0 o1 r
     → AnsweredFor (Some (judge topology script verdicts)) s0 s1 o0 o1 r
 answered_judge topology script verdicts s0 s1 o0 o1 r ran = record { migrated = []; migrates = tt; ran = ran }
+
+pub answered_why : (topology script : Text) (n : ℕ) (s0 s1 : ShelfSeen) (o0 o1 : SinkSeen) (r : Result End Fault)
+    → RanOn (λ contents. why_due n (contents topology) (contents script)) s0 s1 o0 o1 r
+    → AnsweredFor (Some (why topology script n)) s0 s1 o0 o1 r
+answered_why topology script n s0 s1 o0 o1 r ran = record { migrated = []; migrates = tt; ran = ran }
 
 pub answered_migrate : (topology : Text) (s0 s1 : ShelfSeen) (o0 o1 : SinkSeen) (r : Result End Fault)
     → MigratedFor topology s0 s1 o0 o1 r → AnsweredFor (Some (migrate topology)) s0 s1 o0 o1 r
@@ -119,6 +126,7 @@ no_text : (request : Option Asked) (told : Option Contents) → MigratesTo reque
 no_text None told = tt
 no_text (Some (run topology script)) told = tt
 no_text (Some (judge topology script verdicts)) told = tt
+no_text (Some (why topology script n)) told = tt
 no_text (Some (check topology)) told = tt
 no_text (Some (migrate topology)) told = failed_migration told topology fault.Memory
 no_text (Some (show packets)) told = tt
@@ -148,6 +156,7 @@ pub alone_without_memory : (a : Option Asked) (o : SinkSeen) → RanAlone a o o 
 alone_without_memory None o = tt
 alone_without_memory (Some (run topology script)) o = tt
 alone_without_memory (Some (judge topology script verdicts)) o = tt
+alone_without_memory (Some (why topology script n)) o = tt
 alone_without_memory (Some (check topology)) o = tt
 alone_without_memory (Some (migrate topology)) o = tt
 alone_without_memory (Some (show packets)) o = tt
@@ -155,29 +164,31 @@ alone_without_memory (Some (generate seed count)) o = ran_without_memory (genera
 alone_without_memory (Some (generate_script seed count)) o = ran_without_memory (script_text_due seed count) o
 alone_without_memory (Some (generate_topology seed count)) o = ran_without_memory topology_text_due o
 
--- ---- a text that is judged
+-- ---- an end that comes to one command alone
 
-pub asks_to_judge : (words : Option Asked) (a : Asked) (r : Result End Fault) (before now : ℕ) → words ≡ Some a
-    → IfOk r (λ e. e ≡ end.Differs → AsksToJudge (Some a) × (now ≤ before + most_counted (Some a)))
-    → IfOk r (λ e. e ≡ end.Differs → AsksToJudge words × (now ≤ before + most_counted words))
-asks_to_judge words a r before now is other = subst
-    (λ (o : Option Asked). IfOk r (λ e. e ≡ end.Differs → AsksToJudge o × (now ≤ before + most_counted o))) (sym is)
-    other
+-- The run ended so: the words ask for it, and no more bytes were given than count.
+abbrev pub EndsFor : (Option Asked → Type 0) → End → Option Asked → Result End Fault → (before now : ℕ) → Type 0
+EndsFor Asks to words r before now = IfOk r (λ e. e ≡ to → Asks words × (now ≤ before + most_counted words))
 
-pub said : (r : Result End Fault) (A : Type 0) → IfOk r (λ e. e ≡ end.Differs → A)
-    → IfOk r (λ e. e ≡ end.Differs → Unit {0} × A)
-said (Ok e) A holds = λ is. (tt, holds is)
-said (Err f) A holds = tt
+pub ends_asked : (Asks : Option Asked → Type 0) (to : End) (words : Option Asked) (a : Asked) (r : Result End Fault)
+    (before now : ℕ) → words ≡ Some a → EndsFor Asks to (Some a) r before now → EndsFor Asks to words r before now
+ends_asked Asks to words a r before now is ended =
+    subst (λ (o : Option Asked). EndsFor Asks to o r before now) (sym is) ended
 
--- nothing was judged
-pub judges_nothing : (words : Option Asked) (r : Result End Fault) (before now : ℕ) → IfOk r (λ e. e ≢ end.Differs)
-    → IfOk r (λ e. e ≡ end.Differs → AsksToJudge words × (now ≤ before + most_counted words))
-judges_nothing words (Ok e) before now other = λ is. absurd (other is)
-judges_nothing words (Err f) before now other = tt
+pub said : (to : End) (r : Result End Fault) (A : Type 0) → IfOk r (λ e. e ≡ to → A)
+    → IfOk r (λ e. e ≡ to → Unit {0} × A)
+said to (Ok e) A holds = λ is. (tt, holds is)
+said to (Err f) A holds = tt
 
-pub ends_as : (r : Result End Fault) (e : End) → IfOk r (λ x. x ≡ e) → e ≢ end.Differs → IfOk r (λ x. x ≢ end.Differs)
-ends_as (Ok x) e is other = λ same. other (sym is ∙ same)
-ends_as (Err f) e is other = tt
+-- the run did not end so
+pub never_ends : (Asks : Option Asked → Type 0) (to : End) (words : Option Asked) (r : Result End Fault)
+    (before now : ℕ) → IfOk r (λ e. e ≢ to) → EndsFor Asks to words r before now
+never_ends Asks to words (Ok e) before now other = λ is. absurd (other is)
+never_ends Asks to words (Err f) before now other = tt
+
+pub ends_as : (to : End) (r : Result End Fault) (e : End) → IfOk r (λ x. x ≡ e) → e ≢ to → IfOk r (λ x. x ≢ to)
+ends_as to (Ok x) e is other = λ same. other (sym is ∙ same)
+ends_as to (Err f) e is other = tt
 
 -- ---- the status tells how the run ended
 

@@ -2,12 +2,13 @@
 use Rattle.std.proofs.Common.{◌≡◌, [], Option, Some, None, refl, sym, subst, arith}
 use Rattle.std.specs.Prelude.{IfErr}
 use Rattle.ide_base.specs.Outside.{Contents, ShelfSeen}
-use Rattle.ide_words.specs.Words.{Asked, run, judge, check, migrate, show, generate, generate_script, generate_topology}
-use Rattle.ide_words.specs.Words.{asked}
+use Rattle.ide_words.specs.Words.{Asked, run, judge, why, check, migrate, show, generate, generate_script}
+use Rattle.ide_words.specs.Words.{asked, generate_topology}
 use Rattle.line_runs.specs.Outcome.{Due, Ran}
 use Rattle.ide_cli.specs.Seen.{CallSeen}
 use Rattle.ide_cli.specs.SoFar.{WroteSoFar, asked_so_far, lines_given}
-use Rattle.ide_runs.specs.SoFar.{WroteBy}
+use Rattle.ide_runs.specs.SoFar.{WroteBy, script_so_far}
+use Rattle.ide_runs.specs.Why.{told_so_far}
 use Rattle.ide_runs.proofs.Loads.{NoLineOf, no_line_at_first, no_line_wrote, none_so_far}
 
 pub asked_wrote : (call : CallSeen) (a : Asked) → asked call.words ≡ Some a
@@ -21,8 +22,11 @@ asked_wrote call a is wrote = subst
 none_at_first : (a : Option Asked) (contents : Contents) → (asked_so_far a contents 0 ≡ [])
     × (lines_given a contents 0 ≡ [])
 none_at_first None contents = (refl, refl)
-none_at_first (Some (run topology script)) contents = none_so_far (contents topology) (contents script) 0 (omega arith)
+none_at_first (Some (run topology script)) contents =
+    none_so_far script_so_far (λ plan. refl) (contents topology) (contents script) 0 (omega arith)
 none_at_first (Some (judge topology script verdicts)) contents = (refl, refl)
+none_at_first (Some (why topology script n)) contents =
+    none_so_far (told_so_far n) (λ plan. refl) (contents topology) (contents script) 0 (omega arith)
 none_at_first (Some (check topology)) contents = (refl, refl)
 none_at_first (Some (migrate topology)) contents = (refl, refl)
 none_at_first (Some (show packets)) contents = (refl, refl)

@@ -24,15 +24,17 @@ use Rattle.line_runs.specs.Outcome.{Due, EndsBy, EndsDue, EndsOn}
 use Rattle.line_runs.specs.declared.ends.End.{End}
 use Rattle.line_runs.specs.declared.ends.Fault.{Fault}
 use Rattle.line_runs.proofs.Joins.{front_of_front, gained_front, later}
-use Rattle.ide_runs.specs.Script.{Script, last_line, due_after, events_on}
+use Rattle.ide_runs.specs.declared.topologies.Loaded.TheVariants.{Sound}
+use Rattle.ide_runs.specs.Script.{Script, last_line, due_after, events_on, script_of}
 use Rattle.ide_runs.specs.Generated.{generated_due, generated_history, generated_line}
+use Rattle.ide_runs.specs.Topologies.{loaded}
 use Rattle.ide_runs.proofs.Events.{events_allowed}
 use Rattle.ide_runs.proofs.Plans.{loaded_fits}
 use Rattle.ide_cli.specs.Meaning.{Answered, RanAlone, RanGenerated, command_due}
 use Rattle.ide_cli.specs.Laws.{IsDue}
 use Rattle.ide_cli.specs.Headline.{AllCounted, AllWritten, AsksFor, InEvery, Written}
 use Rattle.ide_cli.specs.Seen.{CallSeen}
-use Rattle.ide_cli.specs.Went.{AsksJudge, WentOver, WentThrough}
+use Rattle.ide_cli.specs.Went.{WentOver, WentThrough, WentUpTo}
 
 -- ---- the run that the words ask for
 
@@ -125,24 +127,40 @@ few_through : (plan : Plan) (first later events : List Event) → first ++ later
 few_through plan first later events same allowed = omega
     (arith, so_many plan [] first, length-append first later, ap length same, allowed.few)
 
+first_is_due : (topology bytes : Text) (plan : Plan) (script : Script) (first later : List Event)
+    → loaded topology ≡ Sound plan → script ≡ script_of bytes → first ++ later ≡ events_on plan script
+    → IsDue plan (history_on plan [] first)
+first_is_due topology bytes plan script first later plan_is read events_are =
+    let fits = loaded_fits topology plan plan_is in
+    let allowed : AreAllowed (events_on plan script) = subst (λ (t : Script). AreAllowed (events_on plan t))
+    (sym read) (events_allowed plan fits bytes) in
+    record {
+      fits = fits;
+      cause = caused plan [] first tt;
+      few = few_through plan first later (events_on plan script) events_are allowed;
+    }
+
 through_is_due : (call : CallSeen) (plan : Plan) (h : History) → WentThrough call plan h → IsDue plan h
 through_is_due call plan h w =
     let a = w.asks_judge in
-    let fits = loaded_fits a.topology plan a.plan_is in
-    let allowed : AreAllowed (events_on plan w.script) = subst (λ (t : Script). AreAllowed (events_on plan t))
-    (sym a.read) (events_allowed plan fits a.bytes) in
-    subst (IsDue plan) (sym w.history_is) (record {
-      fits = fits;
-      cause = caused plan [] w.first tt;
-      few = few_through plan w.first w.later (events_on plan w.script) w.events_are allowed;
-    })
+    subst (IsDue plan) (sym w.history_is)
+    (first_is_due a.topology a.bytes plan w.script w.first w.later a.plan_is a.read w.events_are)
+
+-- ---- an event that is told
+
+up_to_is_due : (call : CallSeen) (plan : Plan) (h : History) → WentUpTo call plan h → IsDue plan h
+up_to_is_due call plan h w =
+    let a = w.asks_why in
+    subst (IsDue plan) (sym w.history_is)
+    (first_is_due a.topology a.bytes plan w.script w.first w.later a.plan_is a.read w.events_are)
 
 -- ---- any of these
 
 pub history_is_due : LinesTell → (call : CallSeen) → Answered call → InEvery IsDue call
 history_is_due tell call answered plan h (inl w) = written_is_due tell call answered plan h w
 history_is_due tell call answered plan h (inr (inl w)) = went_is_due call plan h w
-history_is_due tell call answered plan h (inr (inr w)) = through_is_due call plan h w
+history_is_due tell call answered plan h (inr (inr (inl w))) = through_is_due call plan h w
+history_is_due tell call answered plan h (inr (inr (inr w))) = up_to_is_due call plan h w
 
 -- ---- a run that ends by itself
 

@@ -1,5 +1,5 @@
 -- The histories that a run writes.
-use Rattle.std.specs.Prelude.{ℕ, ◌≡◌, ◌⊎◌, List, [], ◌++◌, Some, IfOk}
+use Rattle.std.specs.Prelude.{ℕ, ◌≡◌, ◌⊎◌, List, [], ◌++◌, Some, IfOk, take}
 use Rattle.ide_base.specs.Outside.{Contents}
 use Rattle.ide_words.specs.Words.{run, generate, asked}
 use Rattle.generated_events.specs.Topology.{the_plan}
@@ -14,7 +14,7 @@ use Rattle.ide_runs.specs.Generated.{generated_history}
 use Rattle.ide_runs.specs.Script.{Script, events_on, script_of}
 use Rattle.ide_cli.specs.Seen.{CallSeen}
 use Rattle.ide_runs.specs.Topologies.{loaded}
-use Rattle.ide_cli.specs.Went.{AsksJudge, WentOver, WentThrough}
+use Rattle.ide_cli.specs.Went.{AsksJudge, AsksWhy, WentOver, WentThrough, WentUpTo}
 
 -- The words ask for a run: the shelf tells its contents, in which the names that the words give are a sound topology of
 -- this plan, and this script.
@@ -46,11 +46,11 @@ pub record Written (call : CallSeen) (plan : Plan) (h : History) : Type 0 where
   pub holds_now : call.sink_after.held ≡ Some (held ++ gained)
   pub lines : IsFront (lines_told plan h) gained
 
--- the law holds of every history that the call wrote, or went over up to some event: of generated events, or of the
--- script by which it judged a text
+-- the law holds of every history that the call wrote, or went over up to some event: of generated events, of the
+-- script by which it judged a text, or of that of which it told an event
 abbrev pub InEvery : (Plan → History → Type 0) → CallSeen → Type 0
 InEvery law call = (plan : Plan) (h : History)
-    → Written call plan h ⊎ (WentOver call plan h ⊎ WentThrough call plan h) → law plan h
+    → Written call plan h ⊎ (WentOver call plan h ⊎ (WentThrough call plan h ⊎ WentUpTo call plan h)) → law plan h
 
 -- if the call comes to an end of its own, the history of all events of the script was written, each with the verdict
 -- that is due
@@ -67,3 +67,8 @@ AllCounted call = IfOk call.outcome (λ e. (seed count : ℕ) (held : Text) → 
 abbrev pub AllJudged : CallSeen → Type 0
 AllJudged call = IfOk call.outcome (λ e. (plan : Plan) (script : Script) → AsksJudge call plan script
     → WentThrough call plan (history_on plan [] (events_on plan script)))
+
+-- and over the history of the events up to the one that it told, or of all if there are fewer
+abbrev pub AllTold : CallSeen → Type 0
+AllTold call = IfOk call.outcome (λ e. (plan : Plan) (script : Script) (n : ℕ) → AsksWhy call plan script n
+    → WentUpTo call plan (history_on plan [] (take n (events_on plan script))))

@@ -1,8 +1,8 @@
 -- What the program should write and answer, by its words and the contents of its files.
 use Rattle.std.specs.Prelude.{ℕ, ◌++◌, Option, Some, None, Result, option_map, codes}
 use Rattle.ide_base.specs.Outside.{Contents, ShelfSeen, SinkSeen}
-use Rattle.ide_words.specs.Words.{Asked, run, judge, check, migrate, show, generate, generate_script, generate_topology}
-use Rattle.ide_words.specs.Words.{asked}
+use Rattle.ide_words.specs.Words.{Asked, run, judge, why, check, migrate, show, generate, generate_script}
+use Rattle.ide_words.specs.Words.{asked, generate_topology}
 use Rattle.generated_texts.specs.Script.{generated_script}
 use Rattle.generated_texts.specs.Topology.{generated_topology}
 use Rattle.line_runs.specs.declared.ends.End.{End}
@@ -16,16 +16,17 @@ use Rattle.ide_runs.specs.Judge.{judge_due}
 use Rattle.ide_runs.specs.Migrating.{MigratesFile}
 use Rattle.ide_runs.specs.Script.{run_due}
 use Rattle.ide_runs.specs.Topologies.{check_due, migrate_due}
-use Rattle.ide_cli.specs.Packets.{shown_line, no_text}
+use Rattle.ide_runs.specs.Why.{why_due}
+use Rattle.ide_cli.specs.Packets.{nothing_due, shown_line}
 use Rattle.ide_cli.specs.Seen.{CallSeen}
 
 abbrev pub usage_line : Text
 usage_line =
-    codes "usage: run TOPOLOGY SCRIPT, judge TOPOLOGY SCRIPT VERDICTS, check TOPOLOGY [--migrate], show PACKETS, "
-    ++ codes "generate SEED COUNT [--script | --topology]\n"
+    codes "usage: run TOPOLOGY SCRIPT, judge TOPOLOGY SCRIPT VERDICTS, why TOPOLOGY SCRIPT N, "
+    ++ codes "check TOPOLOGY [--migrate], show PACKETS, generate SEED COUNT [--script | --topology]\n"
 
 abbrev pub show_due : Text → Due
-show_due file = file_due shown_line no_text tt file
+show_due file = file_due shown_line nothing_due tt file
 
 abbrev pub script_text_due : (seed count : ℕ) → Due
 script_text_due seed count = (end.Done, generated_script seed count)
@@ -40,6 +41,7 @@ command_due migrated None contents = Some (end.Usage, usage_line)
 command_due migrated (Some (run topology script)) contents = run_due (contents topology) (contents script)
 command_due migrated (Some (judge topology script verdicts)) contents =
     judge_due (contents topology) (contents script) (contents verdicts)
+command_due migrated (Some (why topology script n)) contents = why_due n (contents topology) (contents script)
 command_due migrated (Some (check topology)) contents = option_map check_due (contents topology)
 command_due migrated (Some (migrate topology)) contents = option_map (migrate_due migrated) (contents topology)
 command_due migrated (Some (show packets)) contents = option_map show_due (contents packets)

@@ -1,13 +1,14 @@
 -- What a line of a packet file gives: a line that is too long gives nothing, and what is written is whole lines.
-use Rattle.std.specs.Prelude.{ℕ, ◌≡◌, nat_lt, true, List, [], length, Option, Some, None, Result, Ok, Err, IfOk, refl}
+use Rattle.std.specs.Prelude.{ℕ, ◌≡◌, nat_lt, true, [], length, Option, Some, None, Result, Ok, Err, IfOk, refl}
 use Rattle.std.proofs.Common.{inl}
 use Rattle.link_events.specs.declared.fault.LineFault.{LineFault}
 use Rattle.link_events.specs.declared.fault.LineFault.TheVariants.{TooLong}
 use Rattle.link_events.specs.Words.{line_limit}
 use Rattle.packet_lines.specs.Reading.{packet_meaning}
 use Rattle.packet_lines.specs.Showing.{line_shown}
+use Rattle.line_runs.specs.declared.ends.End.TheVariants as end
 use Rattle.line_runs.specs.Gain.{Text}
-use Rattle.line_runs.specs.Outcome.{IsWholeLines}
+use Rattle.line_runs.specs.Outcome.{Due, IsWholeLines}
 use Rattle.ide_runs.specs.LineLaws.{whole_line}
 
 abbrev pub showing : ℕ → Result (Option Text) LineFault → Result (Unit {0} × Text) LineFault
@@ -19,8 +20,9 @@ showing n (Ok (Some bytes)) = Ok (tt, line_shown n bytes)
 abbrev pub shown_line : Unit {0} → ℕ → Text → Result (Unit {0} × Text) LineFault
 shown_line u n line = showing n (packet_meaning line)
 
-abbrev pub no_text : Unit {0} → Text
-no_text u = []
+-- after the last line nothing is written
+abbrev pub nothing_due : Unit {0} → Due
+nothing_due u = (end.Done, [])
 
 pub long_packet : (u : Unit {0}) (n : ℕ) (line : Text) → nat_lt line_limit (length line) ≡ true
     → shown_line u n line ≡ Err TooLong

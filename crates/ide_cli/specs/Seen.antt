@@ -38,6 +38,7 @@ outcome_of_status status.Usage = Ok end.Usage
 outcome_of_status status.Topology = Ok end.Topology
 outcome_of_status status.Script = Ok end.Script
 outcome_of_status status.TooLong = Ok end.TooLong
+outcome_of_status status.NoEvent = Ok end.NoEvent
 outcome_of_status status.ReadFault = Err fault.Read
 outcome_of_status status.WriteFault = Err fault.Write
 outcome_of_status status.Memory = Err fault.Memory

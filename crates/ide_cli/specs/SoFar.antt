@@ -1,24 +1,27 @@
 -- What the program has written if a fault ends it.
 use Rattle.std.specs.Prelude.{ℕ, [], take, Option, Some, None, IfErr}
 use Rattle.ide_base.specs.Outside.{Contents}
-use Rattle.ide_words.specs.Words.{Asked, run, judge, check, migrate, show, generate, generate_script, generate_topology}
-use Rattle.ide_words.specs.Words.{asked}
+use Rattle.ide_words.specs.Words.{Asked, run, judge, why, check, migrate, show, generate, generate_script}
+use Rattle.ide_words.specs.Words.{asked, generate_topology}
 use Rattle.line_runs.specs.Front.{bytes_of}
 use Rattle.line_runs.specs.Gain.{Text}
 use Rattle.line_runs.specs.Gathering.{ended_text}
-use Rattle.ide_runs.specs.SoFar.{WroteBy, run_so_far, script_given}
-use Rattle.ide_cli.specs.Packets.{shown_line, no_text}
+use Rattle.ide_runs.specs.SoFar.{WroteBy, files_so_far, run_so_far, script_given}
+use Rattle.ide_runs.specs.Why.{told_so_far}
+use Rattle.ide_cli.specs.Packets.{nothing_due, shown_line}
 use Rattle.ide_cli.specs.Seen.{CallSeen}
 
 -- the text that is due of some bytes of a packet file that goes on after them
 abbrev pub shown_so_far : Text → Text
-shown_so_far bytes = ended_text shown_line no_text tt bytes
+shown_so_far bytes = ended_text shown_line nothing_due tt bytes
 
 -- a text is judged when all is read
 abbrev pub asked_so_far : Option Asked → Contents → ℕ → Text
 asked_so_far None contents n = []
 asked_so_far (Some (run topology script)) contents n = run_so_far (contents topology) (contents script) n
 asked_so_far (Some (judge topology script verdicts)) contents n = []
+asked_so_far (Some (why topology script number)) contents n =
+    files_so_far (told_so_far number) (contents topology) (contents script) n
 asked_so_far (Some (check topology)) contents n = []
 asked_so_far (Some (migrate topology)) contents n = []
 asked_so_far (Some (show packets)) contents n = shown_so_far (take n (bytes_of (contents packets)))
@@ -31,6 +34,7 @@ abbrev pub lines_given : Option Asked → Contents → ℕ → Text
 lines_given None contents n = []
 lines_given (Some (run topology script)) contents n = script_given (contents topology) (contents script) n
 lines_given (Some (judge topology script verdicts)) contents n = []
+lines_given (Some (why topology script number)) contents n = script_given (contents topology) (contents script) n
 lines_given (Some (check topology)) contents n = []
 lines_given (Some (migrate topology)) contents n = []
 lines_given (Some (show packets)) contents n = take n (bytes_of (contents packets))

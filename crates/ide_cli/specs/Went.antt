@@ -1,7 +1,8 @@
 -- The histories that a call goes over and does not write.
-use Rattle.std.specs.Prelude.{ℕ, ◌≡◌, ◌≢◌, ◌⊎◌, List, [], ◌++◌, Some, Result, Ok, Err, IfOk}
+use Rattle.std.specs.Prelude.{ℕ, ◌≡◌, ◌≢◌, ◌⊎◌, ◌+◌, ◌<◌, ◌≤◌, List, [], ◌∷◌, ◌++◌, length, Some, Result, Ok, Err}
+use Rattle.std.specs.Prelude.{IfOk}
 use Rattle.ide_base.specs.Outside.{Contents}
-use Rattle.ide_words.specs.Words.{asked, generate, judge}
+use Rattle.ide_words.specs.Words.{asked, generate, judge, why}
 use Rattle.ide_plan.specs.declared.plan.Plan.{Plan}
 use Rattle.generated_events.specs.Events.{generated}
 use Rattle.generated_events.specs.Topology.{the_plan}
@@ -9,13 +10,15 @@ use Rattle.link_events.specs.declared.event.Event.{Event}
 use Rattle.key_laws.specs.History.{History}
 use Rattle.text_laws.specs.Runs.{history_on}
 use Rattle.line_runs.specs.declared.ends.End.{End}
+use Rattle.line_runs.specs.declared.ends.End.TheVariants as end
 use Rattle.line_runs.specs.declared.ends.Fault.{Fault}
 use Rattle.line_runs.specs.Gain.{Text}
 use Rattle.ide_runs.specs.{Tells}
 use Rattle.ide_runs.specs.declared.topologies.Loaded.TheVariants.{Sound}
 use Rattle.ide_runs.specs.Generated.{generated_history, generated_line}
-use Rattle.ide_runs.specs.Script.{AtEnd, Script, due_after, events_on, script_of}
+use Rattle.ide_runs.specs.Script.{AtEnd, Script, due_after, end_of_stop, events_on, script_of}
 use Rattle.ide_runs.specs.Topologies.{loaded}
+use Rattle.ide_runs.specs.Why.{event_told, left_line, no_event_line}
 use Rattle.ide_cli.specs.Seen.{CallSeen}
 
 -- ---- generated events
@@ -91,3 +94,56 @@ abbrev pub Judged : CallSeen → Type 0
 Judged call = IfOk call.outcome (λ e. (plan : Plan) (script : Script) (a : AsksJudge call plan script)
     (claimed held : Text) → script.stop ≡ AtEnd → a.contents a.verdicts_name ≡ Some claimed
     → call.sink_before.held ≡ Some held → Said (due_after plan [] script).1 claimed held call e)
+
+-- ---- an event that is told
+
+-- The words ask why the event of this number got its verdict: the shelf tells its contents, in which the names that the
+-- words give are a sound topology of this plan, and this script.
+pub record AsksWhy (call : CallSeen) (plan : Plan) (script : Script) (n : ℕ) : Type 0 where
+  pub contents : Contents
+  pub are_told : call.shelf_before.contents ≡ Some contents
+  pub topology_name : Text
+  pub script_name : Text
+  pub asks : asked call.words ≡ Some (why topology_name script_name n)
+  pub topology : Text
+  pub topology_is : contents topology_name ≡ Some topology
+  pub plan_is : loaded topology ≡ Sound plan
+  pub bytes : Text
+  pub script_is : contents script_name ≡ Some bytes
+  pub read : script ≡ script_of bytes
+
+-- The call told an event of a script: this is the history of the first of its events, up to that event at most, and the
+-- call came to an end of its own, or wrote.
+pub record WentUpTo (call : CallSeen) (plan : Plan) (h : History) : Type 0 where
+  pub script : Script
+  pub number : ℕ
+  pub asks_why : AsksWhy call plan script number
+  pub first : List Event
+  pub later : List Event
+  pub events_are : first ++ later ≡ events_on plan script
+  pub up_to : length first ≤ number
+  pub history_is : h ≡ history_on plan [] first
+  pub went : CameToEnd call.outcome ⊎ WroteSome call
+
+-- this is the event of a script that has this number, from 1, and this the history of the events before it
+pub record IsEventAt (plan : Plan) (script : Script) (n : ℕ) (h : History) (e : Event) : Type 0 where
+  pub before : List Event
+  pub later : List Event
+  pub events_are : before ++ e ∷ later ≡ events_on plan script
+  pub number_is : n ≡ length before + 1
+  pub history_is : h ≡ history_on plan [] before
+
+-- The sink gained the text of that event, and the line that is refused, if one is; or, if a script that was read to its
+-- end has fewer events, the line that says so.
+pub record ToldWhy (plan : Plan) (script : Script) (n : ℕ) (held : Text) (call : CallSeen) (e : End) : Type 0 where
+  pub told : (h : History) (x : Event) → IsEventAt plan script n h x
+      → (e ≡ end_of_stop script.stop)
+      × (call.sink_after.held ≡ Some (held ++ (event_told plan h x ++ left_line script.stop)))
+  pub none : length (events_on plan script) < n → script.stop ≡ AtEnd
+      → (e ≡ end.NoEvent)
+      × (call.sink_after.held ≡ Some (held ++ no_event_line n (length (events_on plan script))))
+
+-- if a call that is asked why an event got its verdict comes to an end of its own
+abbrev pub Explained : CallSeen → Type 0
+Explained call = IfOk call.outcome (λ e. (plan : Plan) (script : Script) (n : ℕ) (held : Text)
+    → AsksWhy call plan script n → call.sink_before.held ≡ Some held → ToldWhy plan script n held call e)

@@ -7,7 +7,7 @@ ghost use Rattle.line_runs.specs.Gathering.{GoesOn, NoFurther, ReadAsFar};
 ghost use Rattle.line_runs.specs.Lines.{file_limit};
 ghost use Rattle.line_runs.specs.Outcome.{RanOn};
 ghost use Rattle.ide_cli.specs.Meaning.{show_due};
-ghost use Rattle.ide_cli.specs.Packets.{long_packet, no_text, shown_line, whole_packet};
+ghost use Rattle.ide_cli.specs.Packets.{long_packet, nothing_due, shown_line, whole_packet};
 ghost use Rattle.ide_cli.specs.SoFar.{shown_so_far};
 ghost use Rattle.ide_runs.specs.SoFar.{WroteBy};
 
@@ -46,7 +46,9 @@ impl LineWork for PacketWork {
 
     ghost advance = { λ past n line. shown_line past n line };
 
-    ghost closing = { λ past. no_text past };
+    ghost closing = { λ past. nothing_due past };
+
+    ghost may_lack = { ⊥ };
 
     ghost long_lines = { λ past n line long. long_packet past n line long };
 
@@ -61,6 +63,10 @@ impl LineWork for PacketWork {
                 Err(_) => Err(LineError::Memory),
             },
         }
+    }
+
+    fn end(&self) -> End {
+        End::Done
     }
 
     fn closing(&self) -> Result<Bytes, Memory> {
@@ -78,12 +84,13 @@ pub(crate) fn show_packets<S: Shelf, O: Sink>(
 ) -> Result<End, Fault>
     ensures end { IfOk result (λ e. e ≢ End.Usage) }
     ensures unjudged { IfOk result (λ e. e ≢ End.Differs) }
+    ensures present { IfOk result (λ e. e ≢ End.NoEvent) }
     ensures answers { RanOn (λ contents. option_map show_due (contents packets.now)) (S.seen shelf.old)
         (S.seen shelf.new) (O.seen out.old) (O.seen out.new) result }
     ensures so_far { IfErr result (λ e. WroteBy e (λ contents n. shown_so_far
         (take n (bytes_of (contents packets.now)))) (λ contents n. take n (bytes_of (contents packets.now)))
         (S.seen shelf.old) (S.seen shelf.new) (O.seen out.old) (O.seen out.new)) }
-    ensures no_further { IfOk result (λ e. ReadAsFar (λ contents. NoFurther (GoesOn shown_line no_text tt)
+    ensures no_further { IfOk result (λ e. ReadAsFar (λ contents. NoFurther (GoesOn shown_line nothing_due tt)
         (bytes_of (contents packets.now))) (S.seen shelf.old) (S.seen shelf.new)) }
     ensures names { AsksFor packets.now (S.seen shelf.old).asked (S.seen shelf.new).asked }
     ensures cap { (S.seen shelf.new).given ≤ (S.seen shelf.old).given + (file_limit + 1) }

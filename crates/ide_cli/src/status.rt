@@ -4,7 +4,8 @@ ghost use Rattle.std.specs.Prelude.{◌≡◌};
 ghost use Rattle.ide_cli.specs.Codes.{code_of};
 
 /// The exit status: 0 if the input was read to its end and every line was written, 1 if a text that was judged is not
-/// the one that is due, else why the input was not read or the lines were not written (this profile).
+/// the one that is due, 9 if the script lacks the event that is asked for, else why the input was not read or the lines
+/// were not written (this profile).
 #[derive(Clone, Copy)]
 pub enum Status {
     /// The input was read to its end, and every line was written.
@@ -25,6 +26,8 @@ pub enum Status {
     Memory = 7,
     /// A file goes on past its limit.
     TooLong = 8,
+    /// The script has no event of the number that is asked for.
+    NoEvent = 9,
 }
 
 impl Status {

@@ -20,21 +20,22 @@ ghost use Rattle.mmio_laws.specs.Mmio.{MmioLaw};
 ghost use Rattle.origin_laws.specs.Bindings.{BindOriginLaw};
 ghost use Rattle.origin_laws.specs.Origin.{MemoryLaw, OriginLaw};
 ghost use Rattle.origin_laws.specs.ReadLaws.{ReadLaw, ReadOriginLaw};
-ghost use Rattle.ide_cli.specs.Headline.{AllCounted, AllJudged, AllWritten, InEvery};
+ghost use Rattle.ide_cli.specs.Headline.{AllCounted, AllJudged, AllTold, AllWritten, InEvery};
 ghost use Rattle.ide_cli.specs.Laws.{Unforged, ViewFacts};
 ghost use Rattle.ide_cli.specs.GeneratedRuns.{RunsGenerated};
 ghost use Rattle.ide_cli.specs.Meaning.{Answered, RanGenerated, usage_line};
 ghost use Rattle.ide_cli.specs.SoFar.{WroteSoFar};
-ghost use Rattle.ide_cli.specs.Reads.{AsksToJudge, Names, ReadNoFurther, ReadPast, most_counted, most_read};
+ghost use Rattle.ide_cli.specs.Reads.{AsksToJudge, AsksToTell, Names, ReadNoFurther, ReadPast, most_counted};
+ghost use Rattle.ide_cli.specs.Reads.{most_read};
 ghost use Rattle.ide_cli.specs.Seen.{call_seen, outcome_of_status, run_seen, said_words};
-ghost use Rattle.ide_cli.specs.Went.{Judged};
+ghost use Rattle.ide_cli.specs.Went.{Explained, Judged};
 
 use crate::laws::laws_hold;
 use crate::packets::show_packets;
 use crate::status::Status;
 use crate::texts::{generate_script, generate_topology};
 use ide_base::{Shelf, Sink};
-use ide_runs::{check_topology, generate, judge, migrate_topology, run_files};
+use ide_runs::{check_topology, generate, judge, migrate_topology, run_files, why};
 use ide_words::{Request, WordsError, read_words};
 use line_runs::{End, Fault, finish};
 use std::alloc::Global;
@@ -64,18 +65,23 @@ fn perform<S: Shelf, O: Sink>(
         (asked (map string_bytes words.now))) }
     ensures other { IfOk result (λ e. e ≡ End.Differs → AsksToJudge (asked (map string_bytes words.now))
         × ((S.seen shelf.new).given ≤ (S.seen shelf.old).given + most_counted (asked (map string_bytes words.now)))) }
+    ensures absent { IfOk result (λ e. e ≡ End.NoEvent → AsksToTell (asked (map string_bytes words.now))
+        × ((S.seen shelf.new).given ≤ (S.seen shelf.old).given + most_counted (asked (map string_bytes words.now)))) }
 {
     match read_words(alloc, words) {
         Err(WordsError::Usage) => finish(
             out,
             End::Usage,
-            b"usage: run TOPOLOGY SCRIPT, judge TOPOLOGY SCRIPT VERDICTS, check TOPOLOGY [--migrate], show PACKETS, \
-              generate SEED COUNT [--script | --topology]\n",
+            b"usage: run TOPOLOGY SCRIPT, judge TOPOLOGY SCRIPT VERDICTS, why TOPOLOGY SCRIPT N, \
+              check TOPOLOGY [--migrate], show PACKETS, generate SEED COUNT [--script | --topology]\n",
         ),
         Err(WordsError::Memory) => Err(Fault::Memory),
         Ok(Request::Run(topology, script)) => run_files(alloc, topology, script, shelf, out),
         Ok(Request::Judge(topology, script, verdicts)) => {
             judge(alloc, topology, script, verdicts, shelf, out)
+        }
+        Ok(Request::Why(topology, script, number)) => {
+            why(alloc, topology, script, number, shelf, out)
         }
         Ok(Request::Check(topology)) => check_topology(alloc, topology, shelf, out),
         Ok(Request::Migrate(topology)) => migrate_topology(alloc, topology, shelf, out),
@@ -96,6 +102,7 @@ fn status_of(outcome: Result<End, Fault>) -> Status
         Ok(End::Topology) => Status::Topology,
         Ok(End::Script) => Status::Script,
         Ok(End::TooLong) => Status::TooLong,
+        Ok(End::NoEvent) => Status::NoEvent,
         Err(Fault::Read) => Status::ReadFault,
         Err(Fault::Write) => Status::WriteFault,
         Err(Fault::Memory) => Status::Memory,
@@ -104,13 +111,14 @@ fn status_of(outcome: Result<End, Fault>) -> Status
 
 /// Does what the words of the command line ask for, over the files of a shelf, and writes its text to a sink (this
 /// profile). The first word is the program's name; then come `run TOPOLOGY SCRIPT`, `judge TOPOLOGY SCRIPT VERDICTS`,
-/// `check TOPOLOGY`, `check TOPOLOGY --migrate`, `show PACKETS` or `generate SEED COUNT`, this with `--script` or
-/// `--topology` after it or without. Answers the status that the program ends with.
+/// `why TOPOLOGY SCRIPT N`, `check TOPOLOGY`, `check TOPOLOGY --migrate`, `show PACKETS` or `generate SEED COUNT`, this
+/// with `--script` or `--topology` after it or without. Answers the status that the program ends with.
 ///
 /// If the shelf tells its contents, the text of a run is the verdict lines of the script's events, each verdict the one
 /// that is due after the events before it, and the laws hold of the history that is written: of links, of both segments
 /// of their hops, and of streams between devices. A text that is judged is compared with the text of such a run, and
-/// the laws hold of that history too, up to any event. A migration writes a text that reads to the topology's table
+/// the laws hold of that history too, up to any event. An event that is told is one of such a run, and the laws hold of
+/// the history up to it. A migration writes a text that reads to the topology's table
 /// with version 2. Generated events are given to the same world one after another, and one line tells the totals of
 /// their history; the laws hold of it too, and of that of the first of these events, up to any of them.
 pub fn run<S: Shelf, O: Sink>(
@@ -159,6 +167,15 @@ pub fn run<S: Shelf, O: Sink>(
     // line that is due there, if any is.
     ensures judged { Judged (run_seen S.seen O.seen words.now shelf.old shelf.new out.old out.new result) }
 
+    // A script is said to lack an event only if the words ask why an event got its verdict; it was read to its end
+    // then.
+    ensures absent { result ≡ Status.NoEvent → AsksToTell (asked (said_words words.now))
+        × ((S.seen shelf.new).given ≤ (S.seen shelf.old).given + most_counted (asked (said_words words.now))) }
+    // If the words ask why event N of a script got its verdict, the text is the line of the verdict that is due, the
+    // rule that answers, and the facts that its machine's state is due to have after the events before N, one a line;
+    // of a script that is read to its end with fewer events it is the line that says so.
+    ensures explained { Explained (run_seen S.seen O.seen words.now shelf.old shelf.new out.old out.new result) }
+
     // If the words ask for generated events, the line with the totals of their history is due, or their script, or
     // their topology, whatever the shelf tells.
     ensures generated { RanGenerated (run_seen S.seen O.seen words.now shelf.old shelf.new out.old out.new result) }
@@ -168,11 +185,12 @@ pub fn run<S: Shelf, O: Sink>(
         (run_seen S.seen O.seen words.now shelf.old shelf.new out.old out.new result) }
 
     // If the run ends by itself, the history of all events of the script was written; if the words ask for generated
-    // events, one line with the totals of their history; and if they ask to judge a text, the call went over the
-    // history of all events of the script.
+    // events, one line with the totals of their history; if they ask to judge a text, the call went over the history
+    // of all events of the script; and if they ask why an event got its verdict, over that of the events up to it.
     ensures all_written { AllWritten (run_seen S.seen O.seen words.now shelf.old shelf.new out.old out.new result) }
     ensures all_counted { AllCounted (run_seen S.seen O.seen words.now shelf.old shelf.new out.old out.new result) }
     ensures all_judged { AllJudged (run_seen S.seen O.seen words.now shelf.old shelf.new out.old out.new result) }
+    ensures all_told { AllTold (run_seen S.seen O.seen words.now shelf.old shelf.new out.old out.new result) }
 
     // In every history that was written or gone over, each verdict is the one that is due. On every line, which is a
     // link, a segment of a hop or a stream between devices, the draws of accepted units never fall. A packet that

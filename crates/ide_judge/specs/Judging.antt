@@ -131,6 +131,7 @@ Tells due claimed end.Differs told = TellsOther due claimed told
 Tells due claimed end.Usage told = ⊥
 Tells due claimed end.Topology told = ⊥
 Tells due claimed end.Script told = ⊥
+Tells due claimed end.NoEvent told = ⊥
 Tells due claimed end.TooLong told = (verdicts_limit < length claimed) × (told ≡ [])
 
 -- ---- the last line

@@ -17,6 +17,7 @@ const VERDICTS_LIMIT: usize = 1_073_741_824;
 // Judges the first bytes of a file; one byte more than those that count was read.
 fn judge_front<O: Sink>(alloc: Global, due: &[u8], front: &[u8], out: &mut O) -> Result<End, Fault>
     ensures end { IfOk result (λ e. e ≢ End.Usage) }
+    ensures present { IfOk result (λ e. e ≢ End.NoEvent) }
     ensures long { IfOk result (λ e. e ≡ End.TooLong → verdicts_limit < length front.now) }
     ensures few { IfOk result (λ e. e ≢ End.TooLong → length front.now ≤ verdicts_limit) }
     ensures ran { Ran (judged due.now front.now) (O.seen out.old) (O.seen out.new) result }
@@ -42,6 +43,7 @@ pub fn judge_file<S: Shelf, O: Sink>(
     out: &mut O,
 ) -> Result<End, Fault>
     ensures end { IfOk result (λ e. e ≢ End.Usage) }
+    ensures present { IfOk result (λ e. e ≢ End.NoEvent) }
     ensures answers { RanOn (λ contents. option_map (judged due.now) (contents name.now)) (S.seen shelf.old)
         (S.seen shelf.new) (O.seen out.old) (O.seen out.new) result }
     ensures so_far { IfErr result (λ e. GainedAt e (O.seen out.old).held (O.seen out.new).held []) }

@@ -9,7 +9,7 @@ use Rattle.link_events.specs.declared.event.Event.{Event}
 use Rattle.link_events.specs.Spells.{IsAllowed}
 use Rattle.text_laws.specs.Runs.{history_on, history_with}
 use Rattle.ide_plan.specs.declared.plan.Plan.{Plan}
-use Rattle.world.specs.{WorldView, IsNewWorld}
+use Rattle.ide_why.specs.{WorldView, IsNewWorld}
 use Rattle.ide_runs.specs.Works.{Follows, RunningView, ScriptPast}
 use Rattle.ide_runs.proofs.Scripts.{follows_nothing}
 

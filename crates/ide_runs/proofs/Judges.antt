@@ -124,6 +124,7 @@ left_due verdicts end.Done text other = absurd (other refl)
 left_due verdicts end.Differs text other = refl
 left_due verdicts end.Usage text other = refl
 left_due verdicts end.Topology text other = refl
+left_due verdicts end.NoEvent text other = refl
 left_due verdicts end.Script text other = refl
 left_due verdicts end.TooLong text other = refl
 
@@ -228,6 +229,7 @@ further_other topology script verdicts end.Differs given ahead other far = far
 further_other topology script verdicts end.Usage given ahead other far = far
 further_other topology script verdicts end.Topology given ahead other far = far
 further_other topology script verdicts end.Script given ahead other far = far
+further_other topology script verdicts end.NoEvent given ahead other far = far
 further_other topology script verdicts end.TooLong given ahead other far = far
 
 further_by : (topology script verdicts : Option Text) (due : Option Due) (e : End) (text : Text) (given ahead : ℕ)

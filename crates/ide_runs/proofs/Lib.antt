@@ -6,6 +6,7 @@ pub mod Loads
 mod Furthers
 mod Migrating
 pub mod Judges
+pub mod Whys
 -- what proofs above cite
 pub use Rattle.ide_judge.proofs.Findings.{judged_tells}
 pub use Rattle.ide_runs.proofs.Migrating.{failed_migration}

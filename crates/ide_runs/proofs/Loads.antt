@@ -21,12 +21,12 @@ use Rattle.line_runs.specs.declared.ends.Fault.{Fault}
 use Rattle.line_runs.proofs.WholeFiles.{IsDue, SameDue, stopped}
 use Rattle.line_runs.proofs.Joins.{gained_none, joined, some_gained}
 use Rattle.ide_runs.specs.declared.topologies.Loaded.{Loaded}
-use Rattle.ide_runs.specs.SoFar.{WroteBy, WroteByIn, WroteByOf, loaded_so_far, run_so_far, script_given, script_so_far}
+use Rattle.ide_runs.specs.SoFar.{WroteBy, WroteByIn, WroteByOf, files_so_far, loaded_so_far, script_given}
 use Rattle.ide_runs.specs.declared.topologies.Loaded.TheVariants.{Sound, Faulty, Long}
 use Rattle.ide_runs.specs.Loading.{GaveAllOf, Loads, LoadedIn, LoadedOf, LoadCut, topology_limit, loaded_within}
 use Rattle.ide_runs.specs.Topologies.{loaded}
 use Rattle.ide_runs.specs.Reads.{RanPast}
-use Rattle.ide_runs.specs.Script.{run_due, script_due}
+use Rattle.ide_runs.specs.Script.{due_of_files}
 
 -- one byte more than those that count tells what the whole file gives
 same_loaded : {L : Type 0} (long : L) (by : Text → L) (whole : Text) (b : Bool) → nat_lt topology_limit (length whole)
@@ -91,11 +91,11 @@ checked_whole long l (Ok e) before now few short = λ is. most_given before 1048
 checked_whole long l (Err f) before now few short = short
 
 -- nor has a script that is run to its end, after such a topology
-pub ran_whole : (r : Result End Fault) (a b c : ℕ) → GaveAtMost a 1048576 b → IfOk r (λ e. e ≡ Done → c ≤ b + 16777216)
-    → IfOk r (λ e. e ≡ Done → c ≤ a + 17825792)
-ran_whole (Ok e) a b c few more = λ is. let behind : c ≤ b + 16777216 = more is in omega
+pub ran_whole : (r : Result End Fault) (to : End) (a b c : ℕ) → GaveAtMost a 1048576 b
+    → IfOk r (λ e. e ≡ to → c ≤ b + 16777216) → IfOk r (λ e. e ≡ to → c ≤ a + 17825792)
+ran_whole (Ok e) to a b c few more = λ is. let behind : c ≤ b + 16777216 = more is in omega
     (arith, behind, most_given a 1048576 b few)
-ran_whole (Err f) a b c few more = more
+ran_whole (Err f) to a b c few more = more
 
 -- and so many bytes were given
 pub ran_gave : (r : Result End Fault) (a b c : ℕ) → GaveAtMost a 1048576 b
@@ -128,18 +128,19 @@ cut_by_load told due name s0 s1 write quiet h fault.Memory lacks c = stopped tol
 
 -- ---- what is due, two ways
 
-run_in : (topology script : Option Text) (plan : Plan) → LoadedIn loaded topology (Sound plan)
-    → option_map (script_due plan) script ≡ run_due topology script
-run_in None script plan is = absurd is
-run_in (Some bytes) script plan is = rw (← is) refl
+due_there : (due : Plan → Text → Due) (topology script : Option Text) (plan : Plan)
+    → LoadedIn loaded topology (Sound plan) → option_map (due plan) script ≡ due_of_files due topology script
+due_there due None script plan is = absurd is
+due_there due (Some bytes) script plan is = rw (← is) refl
 
 -- once a topology is loaded, what is due is the script's
-pub run_after : (told : Option Contents) (topology script : Text) (plan : Plan)
+pub due_behind_load : (due : Plan → Text → Due) (told : Option Contents) (topology script : Text) (plan : Plan)
     → LoadedOf loaded told topology (Sound plan)
-    → SameDue told (λ contents. option_map (script_due plan) (contents script))
-    (λ contents. run_due (contents topology) (contents script))
-run_after None topology script plan is = tt
-run_after (Some contents) topology script plan is = run_in (contents topology) (contents script) plan is
+    → SameDue told (λ contents. option_map (due plan) (contents script))
+    (λ contents. due_of_files due (contents topology) (contents script))
+due_behind_load due None topology script plan is = tt
+due_behind_load due (Some contents) topology script plan is =
+    due_there due (contents topology) (contents script) plan is
 
 -- ---- if a read fails
 
@@ -224,27 +225,33 @@ no_line_wrote text lines last s0 s1 o0 o1 (Err fault.Write) none ran = no_line_w
 no_line_wrote text lines last s0 s1 o0 o1 (Err fault.Memory) none ran = no_line_wrote_of fault.Memory text lines s0 s1
     o0 o1 none (some_gained o0.held o1.held last.1 ran)
 
-no_line : (loaded : Loaded) → loaded_so_far loaded [] ≡ []
-no_line (Sound plan) = refl
-no_line (Faulty fault) = refl
-no_line Long = refl
+-- of no bytes of a script no text is due
+abbrev pub IsNoneAtFirst : (Plan → Text → Text) → Type 0
+IsNoneAtFirst text = (plan : Plan) → text plan [] ≡ []
+
+no_line : (text : Plan → Text → Text) → IsNoneAtFirst text → (loaded : Loaded) → loaded_so_far text loaded [] ≡ []
+no_line text none (Sound plan) = none plan
+no_line text none (Faulty fault) = refl
+no_line text none Long = refl
 
 -- while the topology is read
-pub none_so_far : (topology script : Option Text) (n : ℕ) → n ≤ length (bytes_of topology)
-    → (run_so_far topology script n ≡ []) × (script_given topology script n ≡ [])
-none_so_far None script n le = (refl, refl)
-none_so_far (Some file) script n le =
+pub none_so_far : (text : Plan → Text → Text) → IsNoneAtFirst text → (topology script : Option Text) (n : ℕ)
+    → n ≤ length (bytes_of topology)
+    → (files_so_far text topology script n ≡ []) × (script_given topology script n ≡ [])
+none_so_far text none None script n le = (refl, refl)
+none_so_far text none (Some file) script n le =
     let zero : n - length file ≡ 0 = omega arith in
-    let none : script_given (Some file) script n ≡ [] = ap (λ (k : ℕ). take k (bytes_of script)) zero in
-    (ap (loaded_so_far (loaded file)) none ∙ no_line (loaded file), none)
+    let first : script_given (Some file) script n ≡ [] = ap (λ (k : ℕ). take k (bytes_of script)) zero in
+    (ap (loaded_so_far text (loaded file)) first ∙ no_line text none (loaded file), first)
 
-pub in_topology : (told : Option Contents) (topology script : Text) (before now : ℕ) → GaveOf told topology before now
-    → NoLineOf (λ contents n. run_so_far (contents topology) (contents script) n)
+pub in_topology : (text : Plan → Text → Text) → IsNoneAtFirst text → (told : Option Contents) (topology script : Text)
+    (before now : ℕ) → GaveOf told topology before now
+    → NoLineOf (λ contents n. files_so_far text (contents topology) (contents script) n)
     (λ contents n. script_given (contents topology) (contents script) n) told before now
-in_topology told topology script before now gave =
-    no_line_in_file (λ contents n. run_so_far (contents topology) (contents script) n)
+in_topology text none told topology script before now gave =
+    no_line_in_file (λ contents n. files_so_far text (contents topology) (contents script) n)
     (λ contents n. script_given (contents topology) (contents script) n) told topology before now
-    (λ contents n le. none_so_far (contents topology) (contents script) n le) gave
+    (λ contents n le. none_so_far text none (contents topology) (contents script) n le) gave
 
 -- of the one file that is read
 pub ended_by : (text : Text → Text) (name : Text) (s0 s1 : ShelfSeen) (o0 o1 : SinkSeen) (r : Result End Fault)
@@ -270,18 +277,20 @@ ended_by text name s0 s1 o0 o1 (Err e) wrote = by_told s0.contents wrote
     }
 
 -- of the script after a topology that was wholly read
-run_ended_in : (e : Fault) (topology script : Option Text) (plan : Plan) (s0 s1 s2 : ShelfSeen) (o0 o1 : SinkSeen)
+run_ended_in : (due : Plan → Text → Text) (e : Fault) (topology script : Option Text) (plan : Plan)
+    (s0 s1 s2 : ShelfSeen) (o0 o1 : SinkSeen)
     → LoadedIn loaded topology (Sound plan) → Gave s0.given (length (bytes_of topology)) s1.given
-    → WroteEndedIn e (script_so_far plan) (bytes_of script) s1 s2 o0 o1
-    → WroteByIn e (λ n. run_so_far topology script n) (λ n. script_given topology script n) s0 s2 o0 o1
-run_ended_in e None script plan s0 s1 s2 o0 o1 is all wrote = absurd is
-run_ended_in e (Some file) script plan s0 s1 s2 o0 o1 is all wrote =
+    → WroteEndedIn e (due plan) (bytes_of script) s1 s2 o0 o1
+    → WroteByIn e (λ n. files_so_far due topology script n) (λ n. script_given topology script n) s0 s2 o0 o1
+run_ended_in due e None script plan s0 s1 s2 o0 o1 is all wrote = absurd is
+run_ended_in due e (Some file) script plan s0 s1 s2 o0 o1 is all wrote =
     let ran = wrote.ran in
     let rest : ran ≡ (length file + ran) - length file = omega arith in
     let bytes : take ran (bytes_of script) ≡ script_given (Some file) script (length file + ran) = ap
     (λ (k : ℕ). take k (bytes_of script)) rest in
-    let text : script_so_far plan (take ran (bytes_of script)) ≡ run_so_far (Some file) script (length file + ran) =
-    ap (λ (l : Loaded). loaded_so_far l (take ran (bytes_of script))) is ∙ ap (loaded_so_far (loaded file)) bytes in
+    let text : due plan (take ran (bytes_of script)) ≡ files_so_far due (Some file) script (length file + ran) =
+    ap (λ (l : Loaded). loaded_so_far due l (take ran (bytes_of script))) is
+    ∙ ap (loaded_so_far due (loaded file)) bytes in
     record {
       given = length file + wrote.given;
       ran = length file + ran;
@@ -292,20 +301,22 @@ run_ended_in e (Some file) script plan s0 s1 s2 o0 o1 is all wrote =
       gained = subst (λ (t : Text). GainedAt e o0.held o1.held t) text wrote.gained;
     }
 
-pub run_ended : (topology script : Text) (plan : Plan) (s0 s1 s2 : ShelfSeen) (o0 o1 : SinkSeen) (r : Result End Fault)
+pub run_ended : (due : Plan → Text → Text) (topology script : Text) (plan : Plan) (s0 s1 s2 : ShelfSeen)
+    (o0 o1 : SinkSeen) (r : Result End Fault)
     → s1.contents ≡ s0.contents → LoadedOf loaded s0.contents topology (Sound plan) → GaveAllOf s0.contents topology
     s0.given s1.given
-    → IfErr r (λ e. WroteEnded e (script_so_far plan) script s1 s2 o0 o1)
-    → IfErr r (λ e. WroteBy e (λ contents n. run_so_far (contents topology) (contents script) n)
+    → IfErr r (λ e. WroteEnded e (due plan) script s1 s2 o0 o1)
+    → IfErr r (λ e. WroteBy e (λ contents n. files_so_far due (contents topology) (contents script) n)
     (λ contents n. script_given (contents topology) (contents script) n) s0 s2 o0 o1)
-run_ended topology script plan s0 s1 s2 o0 o1 (Ok e) same is all wrote = tt
-run_ended topology script plan s0 s1 s2 o0 o1 (Err e) same is all wrote = by_told s0.contents is all
-    (subst (λ (told : Option Contents). WroteEndedOf e (script_so_far plan) told script s1 s2 o0 o1) same wrote)
+run_ended due topology script plan s0 s1 s2 o0 o1 (Ok e) same is all wrote = tt
+run_ended due topology script plan s0 s1 s2 o0 o1 (Err e) same is all wrote = by_told s0.contents is all
+    (subst (λ (told : Option Contents). WroteEndedOf e (due plan) told script s1 s2 o0 o1) same wrote)
   where
     by_told : (told : Option Contents) → LoadedOf loaded told topology (Sound plan)
-        → GaveAllOf told topology s0.given s1.given → WroteEndedOf e (script_so_far plan) told script s1 s2 o0 o1
-        → WroteByOf e (λ contents n. run_so_far (contents topology) (contents script) n)
+        → GaveAllOf told topology s0.given s1.given → WroteEndedOf e (due plan) told script s1 s2 o0 o1
+        → WroteByOf e (λ contents n. files_so_far due (contents topology) (contents script) n)
         (λ contents n. script_given (contents topology) (contents script) n) told s0 s2 o0 o1
     by_told None is all wrote = tt
-    by_told (Some contents) is all wrote = run_ended_in e (contents topology) (contents script) plan s0 s1 s2 o0 o1 is
+    by_told (Some contents) is all wrote = run_ended_in due e (contents topology) (contents script) plan s0 s1 s2 o0 o1
+        is
         all wrote

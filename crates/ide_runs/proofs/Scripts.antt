@@ -19,7 +19,7 @@ use Rattle.link_history.specs.Due.{due}
 use Rattle.script_events.specs.{event_of}
 use Rattle.text_laws.specs.Runs.{history_with, history_on, text_on, totals_of, sealed_count, accepted_in, failed_in}
 use Rattle.text_laws.specs.Runs.{blocked_in}
-use Rattle.world.specs.{WorldView, Stands, IsNewWorld, IsStep}
+use Rattle.ide_why.specs.{WorldView, Stands, IsNewWorld, IsStep}
 use Rattle.line_runs.specs.Gain.{Text}
 use Rattle.line_runs.specs.Outcome.{Due}
 use Rattle.line_runs.specs.Pieces.{pieces}
@@ -31,7 +31,7 @@ use Rattle.line_runs.specs.Gathering.{GoesOn, ended_text}
 use Rattle.ide_runs.specs.Reads.{ScriptGoesOn}
 use Rattle.ide_runs.specs.SoFar.{script_so_far}
 use Rattle.ide_runs.specs.Works.{RunningView, ScriptPast, Follows, EventCame, VerdictCame, totals_with, ran_event}
-use Rattle.ide_runs.specs.Works.{by_meaning, closing_line, ran_line}
+use Rattle.ide_runs.specs.Works.{by_meaning, closing_due, ran_line}
 
 -- ---- the world follows the past
 
@@ -137,37 +137,37 @@ unended_is plan n piece h false is = rw is refl
 
 last_piece : (plan : Plan) (over : Bool) (n : ℕ) (h : History) (piece : Text) (b : Bool)
     → (length piece == 0) ≡ b
-    → process ran_line closing_line over n (past_of plan h) (piece ∷ [])
+    → process ran_line closing_due over n (past_of plan h) (piece ∷ [])
     ≡ due_after plan h (script_in over n (piece ∷ []))
 unfolding past_of
 last_piece plan true n h piece b is = unended_is plan n piece h (nat_lt 20000 (length piece)) refl
 last_piece plan false n h piece true is = rw is refl
 last_piece plan false n h piece false is =
-    rw is (one_line plan n h (line_meaning piece) (λ t. (end_of_stop AtEnd, closing_line t)) (stops AtEnd) (λ g. refl))
+    rw is (one_line plan n h (line_meaning piece) closing_due (stops AtEnd) (λ g. refl))
 
 script_runs : (plan : Plan) (over : Bool) (n : ℕ) (h : History) (pieces : List Text)
-    → process ran_line closing_line over n (past_of plan h) pieces ≡ due_after plan h (script_in over n pieces)
+    → process ran_line closing_due over n (past_of plan h) pieces ≡ due_after plan h (script_in over n pieces)
 unfolding past_of
 script_runs plan over n h [] = refl
 script_runs plan over n h (piece ∷ []) = last_piece plan over n h piece (length piece == 0) refl
 script_runs plan over n h (piece ∷ next ∷ rest) =
-    one_line plan n h (line_meaning piece) (λ t. process ran_line closing_line over (n + 1) t (next ∷ rest))
+    one_line plan n h (line_meaning piece) (λ t. process ran_line closing_due over (n + 1) t (next ∷ rest))
     (script_in over (n + 1) (next ∷ rest)) (λ g. script_runs plan over (n + 1) g (next ∷ rest))
 
 -- a script's file run on the world of a plan
 pub file_runs : (plan : Plan) (file : Text)
-    → file_due ran_line closing_line (record { plan = plan; history = [] }) file ≡ script_due plan file
+    → file_due ran_line closing_due (record { plan = plan; history = [] }) file ≡ script_due plan file
 unfolding past_of
 file_runs plan file = script_runs plan (is_over file) 1 [] (pieces (cut_text file))
 
 -- the lines of it that ended in some bytes
 pub ended_runs : (plan : Plan) (bytes : Text)
-    → ended_text ran_line closing_line (record { plan = plan; history = [] }) bytes ≡ script_so_far plan bytes
+    → ended_text ran_line closing_due (record { plan = plan; history = [] }) bytes ≡ script_so_far plan bytes
 unfolding past_of
 ended_runs plan bytes = ap (λ (d : Due). d.1) (script_runs plan true 1 [] (pieces bytes))
 
 -- if no line ends the run of those bytes, none ends the script
 pub script_goes_on : (plan : Plan) (bytes : Text)
-    → GoesOn ran_line closing_line (record { plan = plan; history = [] }) bytes → ScriptGoesOn plan bytes
+    → GoesOn ran_line closing_due (record { plan = plan; history = [] }) bytes → ScriptGoesOn plan bytes
 unfolding past_of
 script_goes_on plan bytes goes_on = sym (ap (λ (d : Due). d.0) (script_runs plan true 1 [] (pieces bytes))) ∙ goes_on

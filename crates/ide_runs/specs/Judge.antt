@@ -18,6 +18,7 @@ left_of end.Differs text = []
 left_of end.Usage text = []
 left_of end.Topology text = text
 left_of end.Script text = last_line_of text
+left_of end.NoEvent text = []
 left_of end.TooLong text = []
 
 -- it did not, and this is left to write
@@ -31,6 +32,7 @@ judged_by verdicts end.Differs text = Some (end.Differs, [])
 judged_by verdicts end.Usage text = Some (end.Usage, [])
 judged_by verdicts end.Topology text = Some (end.Topology, text)
 judged_by verdicts end.Script text = Some (end.Script, last_line_of text)
+judged_by verdicts end.NoEvent text = Some (end.NoEvent, [])
 judged_by verdicts end.TooLong text = Some (end.TooLong, [])
 
 abbrev pub judged_run : Option Text → Option Due → Option Due
@@ -61,6 +63,7 @@ FurtherAt end.Differs topology script verdicts given ahead = RunNoFurther topolo
 FurtherAt end.Usage topology script verdicts given ahead = RunNoFurther topology script given ahead
 FurtherAt end.Topology topology script verdicts given ahead = RunNoFurther topology script given ahead
 FurtherAt end.Script topology script verdicts given ahead = RunNoFurther topology script given ahead
+FurtherAt end.NoEvent topology script verdicts given ahead = RunNoFurther topology script given ahead
 FurtherAt end.TooLong topology script verdicts given ahead = RunNoFurther topology script given ahead
 
 abbrev pub FurtherBy : Option Due → (topology script verdicts : Option Text) → (given ahead : ℕ) → Type 0

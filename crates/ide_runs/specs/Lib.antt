@@ -3,6 +3,7 @@ pub mod Topologies
 pub mod Migrating
 pub mod Script
 pub mod Works
+pub mod Why
 pub mod LineLaws
 pub mod Generated
 pub mod SoFar

@@ -1,15 +1,35 @@
--- A line of a script that is too long gives nothing, and what is written for a line is whole lines.
+-- A line of a script that is too long gives nothing, and what is written for a line is whole lines: if all events are
+-- run,
+-- and if one is told.
 use Rattle.std.specs.Prelude.{ℕ, ◌≡◌, nat_lt, true, List, [], ◌∷◌, ◌++◌, length, Option, Some, None, Result, Ok, Err}
-use Rattle.std.specs.Prelude.{IfOk, refl}
-use Rattle.std.proofs.Common.{inl, inr, ap, ◌∙◌, sym, append_assoc}
+use Rattle.std.specs.Prelude.{◌+◌, Bool, IfOk, codes, false, if◌then◌else◌, refl}
+use Rattle.std.proofs.Common.{inl, inr, ap, ◌∙◌, sym, subst, append_assoc}
+use Rattle.std.proofs.lemmas.List.{append-nil}
 use Rattle.ide_types.specs.Names.{joined}
+use Rattle.ide_types.specs.declared.port.PortName.{PortName}
+use Rattle.ide_types.specs.declared.sub.SubKind.{SubKind}
+use Rattle.ide_plan.specs.declared.plan.Plan.{Plan}
+use Rattle.why_lines.specs.declared.fact.Fact.{Fact}
+use Rattle.why_lines.specs.{effect_rule_of, fact_line, fact_word, rule_of, why_text_of}
+use Rattle.why_lines.specs.Lines.{effect_lines, facts_text, rule_line, rules_text}
+use Rattle.ide_why.specs.{facts_due}
+use Rattle.key_laws.specs.History.{History}
+use Rattle.link_history.specs.Due.{due}
+use Rattle.link_verdicts.specs.Lines.{line_of}
+use Rattle.link_verdicts.specs.Shown.{shown}
+use Rattle.script_events.specs.{event_of}
+use Rattle.link_events.specs.declared.event.Event.{Event}
 use Rattle.link_events.specs.declared.script.ScriptEvent.{ScriptEvent}
+use Rattle.link_verdicts.specs.declared.verdict.Effect.{Effect}
+use Rattle.link_verdicts.specs.declared.verdict.Verdict.{Verdict}
+use Rattle.link_verdicts.specs.declared.verdict.Verdict.TheVariants as v
 use Rattle.link_events.specs.declared.fault.LineFault.{LineFault}
 use Rattle.link_events.specs.declared.fault.LineFault.TheVariants.{TooLong}
 use Rattle.link_events.specs.Words.{line_limit}
 use Rattle.link_events.specs.Parse.{line_meaning}
 use Rattle.line_runs.specs.Gain.{Text}
 use Rattle.line_runs.specs.Outcome.{IsWholeLines}
+use Rattle.ide_runs.specs.Why.{WhyPast, event_told, why_by_meaning, why_line, why_past_with}
 use Rattle.ide_runs.specs.Works.{ScriptPast, by_meaning, ran_line}
 
 -- words that are joined end with a line feed
@@ -39,3 +59,69 @@ event_lines r (Ok (Some e)) = whole_line _ _
 
 pub whole_event : (r : ScriptPast) (n : ℕ) (line : Text) → IfOk (ran_line r n line) (λ came. IsWholeLines came.1)
 whole_event r n line = event_lines r (line_meaning line)
+
+-- ---- an event that is told
+
+-- whole lines before whole lines
+both_whole : (a b : Text) → IsWholeLines a → IsWholeLines b → IsWholeLines (a ++ b)
+both_whole a b first (inl none) = subst (λ (t : Text). IsWholeLines (a ++ t)) (sym none)
+    (subst IsWholeLines (sym (append-nil a)) first)
+both_whole a b first (inr (lines, is)) =
+    inr (a ++ lines, ap (λ (t : Text). a ++ t) is ∙ sym (append_assoc a lines (10 ∷ [])))
+
+facts_whole : (xs : List Fact) → IsWholeLines (facts_text xs)
+facts_whole [] = inl refl
+facts_whole (x ∷ xs) =
+    both_whole (fact_line x) (facts_text xs) (whole_line [] (fact_word x ∷ [])) (facts_whole xs)
+
+rule_whole : (rule : Text) → IsWholeLines (rule_line rule)
+rule_whole rule = whole_line [] (codes "rule" ∷ rule ∷ [])
+
+effects_whole : (port : PortName) (sub : SubKind) (es : List Effect) → IsWholeLines (effect_lines port sub es)
+effects_whole port sub [] = inl refl
+effects_whole port sub (e ∷ es) =
+    both_whole (rule_line (effect_rule_of port sub e)) (effect_lines port sub es)
+    (rule_whole (effect_rule_of port sub e)) (effects_whole port sub es)
+
+rules_whole : (w : Verdict) → IsWholeLines (rules_text w)
+rules_whole (v.Accepted port unit effects) = effects_whole port unit.sub effects
+rules_whole w = inl refl
+
+event_whole : (front : Text) (e : Event) (w : Verdict) (xs : List Fact) → IsWholeLines front
+    → IsWholeLines (front ++ why_text_of e w xs)
+event_whole front e w xs first =
+    both_whole front (why_text_of e w xs) first
+    (both_whole (rule_line (rule_of e w xs) ++ rules_text w) (facts_text xs)
+    (both_whole (rule_line (rule_of e w xs)) (rules_text w) (rule_whole (rule_of e w xs)) (rules_whole w))
+    (facts_whole xs))
+
+told_whole : (plan : Plan) (h : History) (e : Event) → IsWholeLines (event_told plan h e)
+told_whole plan h e =
+    event_whole (line_of (length h + 1) (shown plan.peers (due plan h e))) e (due plan h e) (facts_due plan h e)
+    (whole_line _ _)
+
+abbrev pick : {A : Type 0} → (before behind : Bool) → (x y z : A) → Text → A × Text
+pick before behind x y z text = if before then (x, []) else if behind then (y, []) else (z, text)
+
+one_whole : {A : Type 0} (before behind : Bool) (x y z : A) (text : Text) → IsWholeLines text
+    → IsWholeLines (pick before behind x y z text).1
+one_whole true behind x y z text whole = inl refl
+one_whole false true x y z text whole = inl refl
+one_whole false false x y z text whole = whole
+
+pub long_told : (p : WhyPast) (n : ℕ) (line : Text) → nat_lt line_limit (length line) ≡ true
+    → why_line p n line ≡ Err TooLong
+long_told p n line long = rw long refl
+
+meaning_whole : (p : WhyPast) (m : Result (Option ScriptEvent) LineFault)
+    → IfOk (why_by_meaning p m) (λ came. IsWholeLines came.1)
+meaning_whole p (Err fault) = tt
+meaning_whole p (Ok None) = inl refl
+meaning_whole p (Ok (Some e)) =
+    let x = event_of p.script.plan e in
+    let h = p.script.history in
+    one_whole (nat_lt (length h + 1) p.number) (nat_lt p.number (length h + 1)) (why_past_with p x) p
+    (why_past_with p x) (event_told p.script.plan h x) (told_whole p.script.plan h x)
+
+pub whole_told : (p : WhyPast) (n : ℕ) (line : Text) → IfOk (why_line p n line) (λ came. IsWholeLines came.1)
+whole_told p n line = meaning_whole p (line_meaning line)

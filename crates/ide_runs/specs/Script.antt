@@ -89,12 +89,18 @@ script_due plan file = due_after plan [] (script_of file)
 
 -- ---- on a topology that is a file
 
--- the end and the text of a script that is run on what a topology gives, or nothing if the script is not there
-abbrev pub run_loaded : Option Text → Loaded → Option Due
-run_loaded script Long = Some (end.TooLong, [])
-run_loaded script (Faulty fault) = Some (end.Topology, plan_refusal fault)
-run_loaded script (Sound plan) = option_map (script_due plan) script
+-- the end and the text of a script's file on what a topology gives, by what is due of it on a plan, or nothing if the
+-- script is not there
+abbrev pub due_by_topology : (Plan → Text → Due) → Option Text → Loaded → Option Due
+due_by_topology due script Long = Some (end.TooLong, [])
+due_by_topology due script (Faulty fault) = Some (end.Topology, plan_refusal fault)
+due_by_topology due script (Sound plan) = option_map (due plan) script
 
-abbrev pub run_due : Option Text → Option Text → Option Due
-run_due None script = None
-run_due (Some topology) script = run_loaded script (loaded topology)
+-- the same of two files
+abbrev pub due_of_files : (Plan → Text → Due) → (topology script : Option Text) → Option Due
+due_of_files due None script = None
+due_of_files due (Some topology) script = due_by_topology due script (loaded topology)
+
+-- of a script that is run
+abbrev pub run_due : (topology script : Option Text) → Option Due
+run_due topology script = due_of_files script_due topology script

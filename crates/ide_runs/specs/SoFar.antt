@@ -18,19 +18,26 @@ use Rattle.ide_runs.specs.Topologies.{loaded}
 abbrev pub script_so_far : Plan → Text → Text
 script_so_far plan bytes = (due_after plan [] (script_in true 1 (pieces bytes))).1
 
-abbrev pub loaded_so_far : Loaded → Text → Text
-loaded_so_far (Sound plan) bytes = script_so_far plan bytes
-loaded_so_far (Faulty fault) bytes = []
-loaded_so_far Long bytes = []
+-- by what is due of them on a plan
+abbrev pub loaded_so_far : (Plan → Text → Text) → Loaded → Text → Text
+loaded_so_far text (Sound plan) bytes = text plan bytes
+loaded_so_far text (Faulty fault) bytes = []
+loaded_so_far text Long bytes = []
 
 -- of n bytes that were given, those after the topology are the script's
 abbrev pub script_given : Option Text → Option Text → ℕ → Text
 script_given None script n = []
 script_given (Some topology) script n = take (n - length topology) (bytes_of script)
 
-abbrev pub run_so_far : Option Text → Option Text → ℕ → Text
-run_so_far None script n = []
-run_so_far (Some topology) script n = loaded_so_far (loaded topology) (script_given (Some topology) script n)
+-- the text that is due of n bytes of two files, by what is due of a script's on a plan
+abbrev pub files_so_far : (Plan → Text → Text) → (topology script : Option Text) → ℕ → Text
+files_so_far text None script n = []
+files_so_far text (Some topology) script n =
+    loaded_so_far text (loaded topology) (script_given (Some topology) script n)
+
+-- of a script that is run
+abbrev pub run_so_far : (topology script : Option Text) → ℕ → Text
+run_so_far topology script n = files_so_far script_so_far topology script n
 
 -- Some number of bytes were given, and all but those that may wait were run: the line that has begun in those of them
 -- that are cut into lines is within its limit, and the sink gained the text that is due by then.

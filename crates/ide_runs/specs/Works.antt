@@ -15,8 +15,10 @@ use Rattle.key_laws.specs.History.{History}
 use Rattle.link_history.specs.Due.{due}
 use Rattle.script_events.specs.{event_of}
 use Rattle.text_laws.specs.Runs.{history_with, totals_of, sealed_count, accepted_in, failed_in, blocked_in}
-use Rattle.world.specs.{WorldView, Stands}
+use Rattle.ide_why.specs.{WorldView, Stands}
+use Rattle.line_runs.specs.declared.ends.End.TheVariants as end
 use Rattle.line_runs.specs.Gain.{Text}
+use Rattle.line_runs.specs.Outcome.{Due}
 
 -- the world and the totals so far
 pub record RunningView : Type 0 where
@@ -71,6 +73,10 @@ ran_line past n line = by_meaning past (line_meaning line)
 -- the text after the last line
 abbrev pub closing_line : ScriptPast → Text
 closing_line past = totals_line_of (totals_of past.history)
+
+-- the run ends with it
+abbrev pub closing_due : ScriptPast → Due
+closing_due past = (end.Done, closing_line past)
 
 -- the verdict of an event is the one that is due, and what is kept follows the past with it
 pub record VerdictCame (past : ScriptPast) (e : Event) (r : RunningView) (v : Verdict) : Type 0 where

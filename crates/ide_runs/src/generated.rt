@@ -16,10 +16,10 @@ use crate::script::Running;
 use generated_events::{Generator, events_are_allowed, topology};
 use ide_base::Sink;
 use ide_types::Memory;
+use ide_why::World;
 use line_runs::{End, Fault, finish};
 use link_verdicts::totals_line;
 use std::alloc::Global;
-use world::World;
 
 // The world of the generated topology, before the first event.
 fn first_world(alloc: Global) -> Result<Running, Memory>

@@ -41,6 +41,7 @@ pub fn judge<S: Shelf, O: Sink>(
     out: &mut O,
 ) -> Result<End, Fault>
     ensures end { IfOk result (λ e. e ≢ End.Usage) }
+    ensures present { IfOk result (λ e. e ≢ End.NoEvent) }
     ensures answers { RanOn (λ contents. judge_due (contents topology.now) (contents script.now)
         (contents verdicts.now)) (S.seen shelf.old) (S.seen shelf.new) (O.seen out.old) (O.seen out.new) result }
     ensures so_far { IfErr result (λ e. WroteBy e (λ contents n. []) (λ contents n. [])

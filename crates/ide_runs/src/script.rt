@@ -16,7 +16,7 @@ ghost use Rattle.ide_runs.specs.Loading.{topology_limit};
 ghost use Rattle.ide_runs.specs.Reads.{RanPast, RunNoFurther, ScriptGoesOn};
 ghost use Rattle.ide_runs.specs.Script.{run_due, script_due};
 ghost use Rattle.ide_runs.specs.SoFar.{WroteBy, run_so_far, script_given, script_so_far};
-ghost use Rattle.ide_runs.specs.Works.{EventCame, Follows, IsEarly, MayAsk, ScriptPast, closing_line, ran_event};
+ghost use Rattle.ide_runs.specs.Works.{EventCame, Follows, IsEarly, MayAsk, ScriptPast, closing_due, ran_event};
 ghost use Rattle.ide_runs.specs.Works.{ran_line, ran_script_event, VerdictCame, totals_with};
 ghost use Rattle.text_laws.specs.Runs.{is_blocked, sealed_count, accepted_in, failed_in, blocked_in};
 
@@ -24,6 +24,7 @@ use crate::topologies::{Loaded, load, refuse};
 use ide_base::{Shelf, Sink};
 use ide_plan::Plan;
 use ide_types::{Bytes, Memory};
+use ide_why::World;
 use line_runs::{End, Fault, LineWork, run_file};
 use link_events::{Event, LineError, ScriptEvent, lines_spell, parse_line};
 use link_verdicts::{Effect, Totals, Verdict, line, shown, totals_line};
@@ -31,7 +32,6 @@ use script_events::{event_of, events_are_allowed};
 use std::alloc::Global;
 use std::marker::Model;
 use valid_plan::ValidPlan;
-use world::World;
 
 /// The world, and the totals of its verdicts so far.
 #[derive(Drop)]
@@ -119,6 +119,13 @@ impl Running {
         self.world.plan()
     }
 
+    /// The world.
+    pub(crate) fn world(&self) -> &World
+        ensures { result.now ≡ self.now.world }
+    {
+        &self.world
+    }
+
     /// How many events got a verdict.
     pub(crate) fn events(&self) -> u64
         ensures { result ≡ self.now.world.steps }
@@ -145,6 +152,15 @@ impl Running {
         let verdict = self.world.step(event)?;
         self.totals = with_verdict(self.totals, &verdict);
         Ok(verdict)
+    }
+
+    /// The line of the last event's verdict as it is shown: ports stand in place of ends.
+    pub(crate) fn verdict_line(&self, alloc: Global, verdict: Verdict) -> Result<Vec<u8>, Memory>
+        ensures { IfOk result (λ text. text.items ≡ line_of self.now.world.steps
+            (shown_of self.now.world.plan.peers verdict)) }
+    {
+        let verdict = shown(self.plan().plan().peers.as_slice(), verdict);
+        line(alloc, self.events(), &verdict)
     }
 }
 
@@ -191,13 +207,12 @@ impl ScriptWork {
         }
     }
 
-    // The line of a verdict as it is shown: ports stand in place of ends.
+    // The line of the last event's verdict.
     fn verdict_line(&self, verdict: Verdict) -> Result<Vec<u8>, Memory>
         ensures { IfOk result (λ text. text.items ≡ line_of self.now.world.steps
             (shown_of self.now.world.plan.peers verdict)) }
     {
-        let verdict = shown(self.running.plan().plan().peers.as_slice(), verdict);
-        line(self.alloc, self.running.events(), &verdict)
+        self.running.verdict_line(self.alloc, verdict)
     }
 
     // The line of the verdict of an event of a history.
@@ -244,7 +259,9 @@ impl LineWork for ScriptWork {
 
     ghost advance = { λ past n line. ran_line past n line };
 
-    ghost closing = { λ past. closing_line past };
+    ghost closing = { λ past. closing_due past };
+
+    ghost may_lack = { ⊥ };
 
     ghost long_lines = { λ past n line long. long_event past n line long };
 
@@ -256,6 +273,10 @@ impl LineWork for ScriptWork {
             Ok(None) => Ok(Bytes::new(Vec::new(self.alloc))),
             Ok(Some(event)) => self.run_script_event(event, number),
         }
+    }
+
+    fn end(&self) -> End {
+        End::Done
     }
 
     fn closing(&self) -> Result<Bytes, Memory> {
@@ -275,6 +296,7 @@ fn run_script<S: Shelf, O: Sink>(
     requires { FitsPlan plan }
     ensures end { IfOk result (λ e. e ≢ End.Usage) }
     ensures unjudged { IfOk result (λ e. e ≢ End.Differs) }
+    ensures present { IfOk result (λ e. e ≢ End.NoEvent) }
     ensures same { (S.seen shelf.new).contents ≡ (S.seen shelf.old).contents }
     ensures answers { RanOn (λ contents. option_map (script_due plan) (contents script.now)) (S.seen shelf.old)
         (S.seen shelf.new) (O.seen out.old) (O.seen out.new) result }
@@ -311,6 +333,7 @@ pub fn run_files<S: Shelf, O: Sink>(
 ) -> Result<End, Fault>
     ensures end { IfOk result (λ e. e ≢ End.Usage) }
     ensures unjudged { IfOk result (λ e. e ≢ End.Differs) }
+    ensures present { IfOk result (λ e. e ≢ End.NoEvent) }
     ensures same { (S.seen shelf.new).contents ≡ (S.seen shelf.old).contents }
     ensures answers { RanOn (λ contents. run_due (contents topology.now) (contents script.now)) (S.seen shelf.old)
         (S.seen shelf.new) (O.seen out.old) (O.seen out.new) result }

@@ -104,6 +104,7 @@ pub(crate) fn refuse<O: Sink>(alloc: Global, fault: &PlanFault, out: &mut O) -> 
 fn report<O: Sink>(alloc: Global, loaded: &Loaded, out: &mut O) -> Result<End, Fault>
     ensures end { IfOk result (λ e. e ≢ End.Usage) }
     ensures unjudged { IfOk result (λ e. e ≢ End.Differs) }
+    ensures present { IfOk result (λ e. e ≢ End.NoEvent) }
     ensures long { IfOk result (λ e. e ≡ End.TooLong → loaded.now ≡ Loaded.Long) }
     ensures few { IfOk result (λ e. e ≢ End.TooLong → loaded.now ≢ Loaded.Long) }
     ensures ran { Ran (report_of loaded.now) (O.seen out.old) (O.seen out.new) result }
@@ -125,6 +126,7 @@ pub fn check_topology<S: Shelf, O: Sink>(
 ) -> Result<End, Fault>
     ensures end { IfOk result (λ e. e ≢ End.Usage) }
     ensures unjudged { IfOk result (λ e. e ≢ End.Differs) }
+    ensures present { IfOk result (λ e. e ≢ End.NoEvent) }
     ensures answers { RanOn (λ contents. option_map check_due (contents topology.now)) (S.seen shelf.old)
         (S.seen shelf.new) (O.seen out.old) (O.seen out.new) result }
     ensures so_far { IfErr result (λ e. WroteBy e (λ contents n. []) (λ contents n. [])
@@ -149,6 +151,7 @@ pub fn check_topology<S: Shelf, O: Sink>(
 fn write_migrated<O: Sink>(alloc: Global, front: &[u8], out: &mut O) -> Result<End, Fault>
     ensures end { IfOk result (λ e. e ≢ End.Usage) }
     ensures unjudged { IfOk result (λ e. e ≢ End.Differs) }
+    ensures present { IfOk result (λ e. e ≢ End.NoEvent) }
     ensures long { IfOk result (λ e. e ≡ End.TooLong → topology_limit < length front.now) }
     ensures few { IfOk result (λ e. e ≢ End.TooLong → length front.now ≤ topology_limit) }
     ensures writes { WritesMigrated front.now (O.seen out.old) (O.seen out.new) result }
@@ -173,6 +176,7 @@ pub fn migrate_topology<S: Shelf, O: Sink>(
 ) -> Result<End, Fault>
     ensures end { IfOk result (λ e. e ≢ End.Usage) }
     ensures unjudged { IfOk result (λ e. e ≢ End.Differs) }
+    ensures present { IfOk result (λ e. e ≢ End.NoEvent) }
     ensures answers { MigratedFor topology.now (S.seen shelf.old) (S.seen shelf.new)
         (O.seen out.old) (O.seen out.new) result }
     ensures so_far { IfErr result (λ e. WroteBy e (λ contents n. []) (λ contents n. [])

@@ -1,5 +1,6 @@
 -- The program's forms.
-use Rattle.std.proofs.Common.{◌≡◌, ◌==◌, ℕ, List, [], ◌∷◌, Bool, false, Some, None, refl, codes, ap}
+use Rattle.std.proofs.Common.{◌≡◌, ◌==◌, ℕ, List, [], ◌∷◌, Bool, true, false, Some, None, refl, codes, ap}
+use Rattle.std.proofs.Common.{if◌then◌else◌}
 use Rattle.clap.specs.Words.{Text, fault_of, subcommand_of}
 use Rattle.clap.proofs.OnLiterals.{clap_on_literals}
 use Rattle.ide_words.specs.Ide.{ide_app}
@@ -15,6 +16,12 @@ taken words a passes reads =
     let one : asks_both (subcommand_of ide_app words) ≡ false = ap (λ r. r.1) reads in
     let asks : asked_of (subcommand_of ide_app words) ≡ a = ap (λ r. r.0) reads in
     rw (passes, one, asks) refl
+
+-- words that ask for two texts ask for nothing
+pub refused_anyway : (words : List Text) (taken both : Bool) → both ≡ true
+    → (if if taken then both else true then None else Some (asked_of (subcommand_of ide_app words))) ≡ None
+refused_anyway words true both two = rw two refl
+refused_anyway words false both two = refl
 
 run_passes : (p : Text) (x y : ℕ) (xs ys : Text) → (x == 45) ≡ false → (y == 45) ≡ false
     → fault_of ide_app (p ∷ codes "run" ∷ (x ∷ xs) ∷ (y ∷ ys) ∷ []) ≡ []

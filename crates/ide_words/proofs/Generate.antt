@@ -14,41 +14,41 @@ use Rattle.clap.specs.ValueTests.{is_unsigned_in}
 use Rattle.ide_words.specs.Words.{Asked, IsName, asked, asked_of, asks_both, number_of, generate, generate_script}
 use Rattle.ide_words.specs.Words.{generate_topology}
 use Rattle.ide_words.proofs.Numbers.{decimal_is_name, decimal_passes, decimal_is_read}
-use Rattle.ide_words.proofs.Forms.{reading, taken}
+use Rattle.ide_words.proofs.Forms.{reading, refused_anyway, taken}
 use Rattle.clap.specs.declared.builder.value_parser.Reading.TheVariants as how
 use Rattle.clap.specs.declared.parser.matches.ValueSource.TheVariants.{CommandLine}
 
 -- ---- any walk, one word on
 
 -- a word that is taken leads the walk on
-one_word : (s : Shape) (names : Names) (w next : Walk) (word : Text) (rest : List Text)
+pub one_word : (s : Shape) (names : Names) (w next : Walk) (word : Text) (rest : List Text)
     → turn_fault s names w word ≡ [] → walked s.rules names w word ≡ next
     → walk_fault s names w (word ∷ rest) ≡ walk_fault s names next rest
 unfolding walk_fault
 one_word s names w next word rest taken moved = rw (taken, moved) refl
 
 -- the walk as it goes on from here
-abbrev walk_on : List Rule → Names → Walk → List Text → Walk
+abbrev pub walk_on : List Rule → Names → Walk → List Text → Walk
 walk_on rules names w words = fold (walked rules names) w words
 
-one_step : (s : Shape) (names : Names) (w next : Walk) (word : Text) (rest : List Text)
+pub one_step : (s : Shape) (names : Names) (w next : Walk) (word : Text) (rest : List Text)
     → walked s.rules names w word ≡ next → walk_on s.rules names w (word ∷ rest) ≡ walk_on s.rules names next rest
 one_step s names w next word rest moved = ap (λ n. walk_on s.rules names n rest) moved
 
 -- what is refused from here on, of a level with no subcommand
-abbrev rest_fault : Shape → Names → Walk → List Text → Kinds
+abbrev pub rest_fault : Shape → Names → Walk → List Text → Kinds
 rest_fault s names w words =
     let end = (walk_on s.rules names w words).held in
     or_else (walk_fault s names w words) (or_else (settle_fault s.rules s.args_override_self end)
     (or_else (defaults_fault (settled s.rules end).rows s.rules) (check_fault s (finished s.rules end) false)))
 
-level_rests : (s : Shape) (words rest : List Text) (w : Walk)
+pub level_rests : (s : Shape) (words rest : List Text) (w : Walk)
     → walk_fault s [] (walk_from nothing_held) words ≡ walk_fault s [] w rest
     → walk s.rules [] nothing_held words ≡ walk_on s.rules [] w rest
     → level_fault s [] nothing_held words false [] ≡ rest_fault s [] w rest
 level_rests s words rest w faults moved = rw (faults, moved) refl
 
-no_more : (faults : Kinds) → or_else faults [] ≡ faults
+pub no_more : (faults : Kinds) → or_else faults [] ≡ faults
 no_more [] = refl
 no_more (k ∷ ks) = refl
 
@@ -58,9 +58,9 @@ abbrev generate_level : Shape
 generate_level =
     built_leaf (inherited (on_top with_leaf_noted (on_top marked_built ide_app)).top generate_app.top)
 
--- a number that was given
-abbrev number_row : (id text : Text) → Row
-number_row id text =
+-- an argument that was given
+abbrev pub given_row : (id text : Text) → Row
+given_row id text =
     record { id = id; values = text ∷ []; count = None; source = Some CommandLine; reading = how.AsWritten }
 
 -- after the seed, and after both numbers
@@ -76,7 +76,7 @@ after_seed a = record {
 abbrev after_numbers : (a b : Text) → Walk
 after_numbers a b = record {
   held = record {
-    rows = number_row (codes "SEED") a ∷ [];
+    rows = given_row (codes "SEED") a ∷ [];
     pending = Some (codes "COUNT", b ∷ []);
     skip = 0;
   };
@@ -314,11 +314,6 @@ pub topology_form : (p : Text) (seed count : ℕ) → seed < 2 ^ 32 → 1 ≤ co
 topology_form p = read_as generate_topology p (codes "--topology" ∷ []) (topology_text p)
 
 -- ---- both flags
-
-refused_anyway : (words : List Text) (taken both : Bool) → both ≡ true
-    → (if if taken then both else true then None else Some (asked_of (subcommand_of ide_app words))) ≡ None
-refused_anyway words true both two = rw two refl
-refused_anyway words false both two = refl
 
 pub both_flags : (p a b : Text) → IsName a → IsName b
     → asked (p ∷ codes "generate" ∷ a ∷ b ∷ codes "--script" ∷ codes "--topology" ∷ []) ≡ None

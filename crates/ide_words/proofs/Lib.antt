@@ -1,5 +1,7 @@
 pub mod App
+pub mod Asking
 pub mod Forms
 pub mod Generate
 pub mod Numbers
 pub mod Rounds
+pub mod Why

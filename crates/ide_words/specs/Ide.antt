@@ -17,6 +17,15 @@ abbrev pub judge_app : App
 judge_app = with_rule (with_rule (with_rule (new_app (codes "judge")) (name_rule (codes "TOPOLOGY")))
     (name_rule (codes "SCRIPT"))) (name_rule (codes "VERDICTS"))
 
+-- a required number between these, in decimal digits
+abbrev pub number_rule : Text → (least most : ℕ) → Rule
+number_rule id least most = record (new_rule id) { required = true; parser = Some (Unsigned least most) }
+
+-- the topology, the script, and the number of an event
+abbrev pub why_app : App
+why_app = with_rule (with_rule (with_rule (new_app (codes "why")) (name_rule (codes "TOPOLOGY")))
+    (name_rule (codes "SCRIPT"))) (number_rule (codes "N") 1 67108864)
+
 -- a flag by its long name, which is `true` if it is given
 abbrev pub flag_rule : Text → Rule
 flag_rule id = record (new_rule id) { long = Some id; action = Some SetTrue }
@@ -26,10 +35,6 @@ check_app = with_rule (with_rule (new_app (codes "check")) (name_rule (codes "TO
 
 abbrev pub show_app : App
 show_app = with_rule (new_app (codes "show")) (name_rule (codes "PACKETS"))
-
--- a required number between these, in decimal digits
-abbrev pub number_rule : Text → (least most : ℕ) → Rule
-number_rule id least most = record (new_rule id) { required = true; parser = Some (Unsigned least most) }
 
 -- the seed is of 32 bits, and the rounds are 1 to 100,000
 abbrev pub numbers_app : App
@@ -48,9 +53,13 @@ top_app = on_top (λ s. record s {
   subcommand_required = true;
 }) (new_app (codes "ide"))
 
+-- the program with the subcommands that read a script
+abbrev pub scripts_app : App
+scripts_app = with_subcommand (with_subcommand (with_subcommand top_app run_app.top) judge_app.top) why_app.top
+
 -- the program with the subcommands that read a topology
 abbrev pub topologies_app : App
-topologies_app = with_subcommand (with_subcommand (with_subcommand top_app run_app.top) judge_app.top) check_app.top
+topologies_app = with_subcommand scripts_app check_app.top
 
 abbrev pub ide_app : App
 ide_app = with_subcommand (with_subcommand topologies_app show_app.top) generate_app.top

@@ -25,7 +25,7 @@ use Rattle.clap.specs.ValueTests.{is_unsigned_in}
 use Rattle.clap.specs.Walk.{is_empty}
 use Rattle.ide_words.specs.Ide.{ide_app}
 use Rattle.ide_words.specs.declared.Request.{Request}
-use Rattle.ide_words.specs.declared.Request.TheVariants.{Run, Judge, Check, Migrate, Show, Generate}
+use Rattle.ide_words.specs.declared.Request.TheVariants.{Run, Judge, Why, Check, Migrate, Show, Generate}
 use Rattle.ide_words.specs.declared.Request.TheVariants.{GenerateScript, GenerateTopology}
 use Rattle.ide_words.specs.declared.WordsError.{WordsError}
 use Rattle.ide_words.specs.declared.WordsError.TheVariants.{Usage, Memory}
@@ -34,6 +34,7 @@ use Rattle.ide_words.specs.declared.WordsError.TheVariants.{Usage, Memory}
 pub data Asked : Type 0 where
   run : (topology script : Text) → Asked
   judge : (topology script verdicts : Text) → Asked
+  why : (topology script : Text) (n : ℕ) → Asked
   check : (topology : Text) → Asked
   migrate : (topology : Text) → Asked
   show : (packets : Text) → Asked
@@ -74,11 +75,17 @@ generation_asked rows =
     else if is_flag_given (codes "topology") rows then generate_topology (seed_of rows) (count_of rows)
     else generate (seed_of rows) (count_of rows)
 
+-- the event of this number is explained
+abbrev pub why_asked : List Row → Asked
+why_asked rows = why (text_of (codes "TOPOLOGY") rows) (text_of (codes "SCRIPT") rows)
+    (number_of 1 67108864 (text_of (codes "N") rows))
+
 abbrev pub asked_by : Text → List Row → Asked
 asked_by name rows =
     if bytes_eq name (codes "run") then run (text_of (codes "TOPOLOGY") rows) (text_of (codes "SCRIPT") rows)
     else if bytes_eq name (codes "judge") then
     judge (text_of (codes "TOPOLOGY") rows) (text_of (codes "SCRIPT") rows) (text_of (codes "VERDICTS") rows)
+    else if bytes_eq name (codes "why") then why_asked rows
     else if bytes_eq name (codes "check") then check_asked rows
     else if bytes_eq name (codes "generate") then generation_asked rows
     else show (text_of (codes "PACKETS") rows)
@@ -104,6 +111,7 @@ asked words = if is_refused words then None else Some (asked_of (subcommand_of i
 abbrev pub view : Request → Asked
 view (Run topology script) = run topology.now script.now
 view (Judge topology script verdicts) = judge topology.now script.now verdicts.now
+view (Why topology script n) = why topology.now script.now n
 view (Check topology) = check topology.now
 view (Migrate topology) = migrate topology.now
 view (Show packets) = show packets.now
@@ -117,6 +125,11 @@ HasFewRounds (Generate seed count) = (1 ≤ count) × (count ≤ 100000)
 HasFewRounds (GenerateScript seed count) = (1 ≤ count) × (count ≤ 100000)
 HasFewRounds (GenerateTopology seed count) = (1 ≤ count) × (count ≤ 100000)
 HasFewRounds _ = Unit {0}
+
+-- the number of an event is 1 to 67,108,864
+abbrev pub NamesEvent : Request → Type 0
+NamesEvent (Why topology script n) = (1 ≤ n) × (n ≤ 67108864)
+NamesEvent _ = Unit {0}
 
 -- `Usage` comes only if the words ask for nothing, and want of memory is free
 abbrev pub Refuses : Option Asked → WordsError → Type 0

@@ -8,10 +8,11 @@ ghost use Rattle.clap.specs.Words.{app_of, found_of, new_app, rows_of, rule_of, 
 ghost use Rattle.clap.specs.Words.{with_subcommand};
 ghost use Rattle.clap.specs.declared.builder.command.Command.TheViews.{out-Command};
 ghost use Rattle.ide_words.specs.Ide.{check_app, flag_rule, generate_app, ide_app, judge_app, name_rule, number_rule};
-ghost use Rattle.ide_words.specs.Ide.{numbers_app, run_app, show_app, top_app, topologies_app};
-ghost use Rattle.ide_words.specs.Words.{HasFewRounds, IsName, Refuses, asked, asked_by, asked_of, asks_both, check};
-ghost use Rattle.ide_words.specs.Words.{check_asked, generate, generate_script, generate_topology, generation_asked};
-ghost use Rattle.ide_words.specs.Words.{is_flag_given, judge, migrate, number_of, run, show, text_of, view};
+ghost use Rattle.ide_words.specs.Ide.{numbers_app, run_app, scripts_app, show_app, top_app, topologies_app, why_app};
+ghost use Rattle.ide_words.specs.Words.{HasFewRounds, IsName, NamesEvent, Refuses, asked, asked_by, asked_of};
+ghost use Rattle.ide_words.specs.Words.{asks_both, check, check_asked, generate, generate_script, generate_topology};
+ghost use Rattle.ide_words.specs.Words.{generation_asked, is_flag_given, judge, migrate, number_of, run, show, text_of};
+ghost use Rattle.ide_words.specs.Words.{view, why, why_asked};
 
 use clap::builder::ValueParser;
 use clap::error::ErrorKind;
@@ -25,6 +26,9 @@ pub enum Request<'a> {
     Run(&'a str, &'a str),
     /// To run a script on a topology, and compare the lines of a file with those that are due.
     Judge(&'a str, &'a str, &'a str),
+    /// To run a script on a topology up to the event of this number, 1 to 67,108,864, and tell what its verdict came
+    /// from.
+    Why(&'a str, &'a str, u32),
     /// To check a topology.
     Check(&'a str),
     /// To write a topology as one of version 2.
@@ -80,6 +84,31 @@ fn judge_command<'a>(alloc: Global) -> Result<Command<'a>, AllocError>
         .arg(verdicts)
 }
 
+// A required number within bounds.
+fn number_arg<'a>(alloc: Global, id: &'static str, least: u64, most: u64) -> Arg<'a>
+    ensures rule { rule_of result ≡ number_rule id.entry.now least most }
+    ensures local { result.global ≡ false }
+{
+    Arg::new(alloc, id)
+        .required(true)
+        .value_parser(ValueParser::unsigned(least, most))
+}
+
+// `why TOPOLOGY SCRIPT N`
+#[inline(never)]
+fn why_command<'a>(alloc: Global) -> Result<Command<'a>, AllocError>
+    ensures app { IfOk result (λ c. app_of c ≡ why_app) }
+    ensures local { IfOk result (λ c. (out-Command c).has_globals ≡ false) }
+{
+    let topology = name_arg(alloc, "TOPOLOGY");
+    let script = name_arg(alloc, "SCRIPT");
+    let number = number_arg(alloc, "N", 1, 67108864);
+    Command::new(alloc, "why")
+        .arg(topology)?
+        .arg(script)?
+        .arg(number)
+}
+
 // A flag by its long name.
 fn flag_arg<'a>(alloc: Global, id: &'static str) -> Arg<'a>
     ensures rule { rule_of result ≡ flag_rule id.entry.now }
@@ -106,16 +135,6 @@ fn show_command<'a>(alloc: Global) -> Result<Command<'a>, AllocError>
     ensures local { IfOk result (λ c. (out-Command c).has_globals ≡ false) }
 {
     Command::new(alloc, "show").arg(name_arg(alloc, "PACKETS"))
-}
-
-// A required number within bounds.
-fn number_arg<'a>(alloc: Global, id: &'static str, least: u64, most: u64) -> Arg<'a>
-    ensures rule { rule_of result ≡ number_rule id.entry.now least most }
-    ensures local { result.global ≡ false }
-{
-    Arg::new(alloc, id)
-        .required(true)
-        .value_parser(ValueParser::unsigned(least, most))
 }
 
 // `generate SEED COUNT`
@@ -157,14 +176,22 @@ fn with_command<'a>(command: Command<'a>, other: Command<'a>) -> Result<Command<
     command.subcommand(other)
 }
 
+// The program with the subcommands that read a script.
+#[inline(never)]
+fn of_scripts<'a>(alloc: Global) -> Result<Command<'a>, AllocError>
+    ensures { IfOk result (λ c. app_of c ≡ scripts_app) }
+{
+    let with_run = with_command(top(alloc), run_command(alloc)?)?;
+    let with_judge = with_command(with_run, judge_command(alloc)?)?;
+    with_command(with_judge, why_command(alloc)?)
+}
+
 // The program with the subcommands that read a topology.
 #[inline(never)]
 fn of_topologies<'a>(alloc: Global) -> Result<Command<'a>, AllocError>
     ensures { IfOk result (λ c. app_of c ≡ topologies_app) }
 {
-    let with_run = with_command(top(alloc), run_command(alloc)?)?;
-    let with_judge = with_command(with_run, judge_command(alloc)?)?;
-    with_command(with_judge, check_command(alloc)?)
+    with_command(of_scripts(alloc)?, check_command(alloc)?)
 }
 
 // The program with its subcommands.
@@ -251,14 +278,29 @@ fn judged<'a>(matches: &ArgMatches<'a>) -> Request<'a>
     )
 }
 
+// What `why` asks for.
+fn explained<'a>(matches: &ArgMatches<'a>) -> Request<'a>
+    ensures asks { view result ≡ why_asked (rows_of (found_of matches.now)) }
+    ensures number { NamesEvent result }
+{
+    let number = number_of(1, 67108864, text_in(matches, "N"));
+    Request::Why(
+        text_in(matches, "TOPOLOGY"),
+        text_in(matches, "SCRIPT"),
+        number,
+    )
+}
+
 // What the subcommand of this name asks for.
 fn request_by<'a>(name: &str, matches: &ArgMatches<'a>) -> Request<'a>
     ensures rounds { HasFewRounds result }
+    ensures number { NamesEvent result }
     ensures asks { view result ≡ asked_by name.now (rows_of (found_of matches.now)) }
 {
     match name {
         "run" => Request::Run(text_in(matches, "TOPOLOGY"), text_in(matches, "SCRIPT")),
         "judge" => judged(matches),
+        "why" => explained(matches),
         "check" => checked(matches),
         "generate" => generated(matches),
         _ => Request::Show(text_in(matches, "PACKETS")),
@@ -267,6 +309,7 @@ fn request_by<'a>(name: &str, matches: &ArgMatches<'a>) -> Request<'a>
 
 fn request_in<'a>(matches: &ArgMatches<'a>) -> Request<'a>
     ensures rounds { HasFewRounds result }
+    ensures number { NamesEvent result }
     ensures asks { view result ≡ asked_of (subcommand_rows_of matches.now) }
 {
     match matches.subcommand() {
@@ -286,7 +329,7 @@ fn asks_both(matches: &ArgMatches) -> bool
 }
 
 /// What the words ask for (this profile). The first word is the program's name; then come `run TOPOLOGY SCRIPT`,
-/// `judge TOPOLOGY SCRIPT VERDICTS`, `check TOPOLOGY [--migrate]`, `show PACKETS` or
+/// `judge TOPOLOGY SCRIPT VERDICTS`, `why TOPOLOGY SCRIPT N`, `check TOPOLOGY [--migrate]`, `show PACKETS` or
 /// `generate SEED COUNT [--script | --topology]`. Returns `Usage` exactly if `clap` refuses the words for another cause
 /// than memory, or both flags of `generate` are given.
 #[tactic(auto, using(crate::proofs::App::ide_is_simple))]
@@ -294,6 +337,7 @@ fn asks_both(matches: &ArgMatches) -> bool
 pub fn read_words<'a>(alloc: Global, words: &'a [String]) -> Result<Request<'a>, WordsError>
     ensures ok { IfOk result (λ r. asked (map string_bytes words.now) ≡ Some (view r)) }
     ensures rounds { IfOk result HasFewRounds }
+    ensures number { IfOk result NamesEvent }
     ensures err { IfErr result (Refuses (asked (map string_bytes words.now))) }
 {
     let command = match ide(alloc) {
@@ -356,6 +400,8 @@ pub fn forms_are_taken()
         → asked (program ∷ codes "run" ∷ a ∷ b ∷ []) ≡ Some (run a b) }
     ensures judge { (program a b c : List ℕ) → IsName a → IsName b → IsName c
         → asked (program ∷ codes "judge" ∷ a ∷ b ∷ c ∷ []) ≡ Some (judge a b c) }
+    ensures why { (program a b : List ℕ) (n : ℕ) → IsName a → IsName b → 1 ≤ n → n ≤ 67108864
+        → asked (program ∷ codes "why" ∷ a ∷ b ∷ decimal n ∷ []) ≡ Some (why a b n) }
     ensures check { (program a : List ℕ) → IsName a → asked (program ∷ codes "check" ∷ a ∷ []) ≡ Some (check a) }
     ensures migrate { (program a : List ℕ) → IsName a
         → asked (program ∷ codes "check" ∷ a ∷ codes "--migrate" ∷ []) ≡ Some (migrate a) }
@@ -378,6 +424,12 @@ pub fn few_rounds()
         → (1 ≤ count) × (count ≤ 100000) }
     ensures topology { (words : List (List ℕ)) (seed count : ℕ) → asked words ≡ Some (generate_topology seed count)
         → (1 ≤ count) × (count ≤ 100000) }
+{}
+
+/// Words that ask why an event got its verdict name an event from 1 to 67,108,864.
+pub fn events_are_named()
+    ensures { (words : List (List ℕ)) (topology script : List ℕ) (n : ℕ) → asked words ≡ Some (why topology script n)
+        → (1 ≤ n) × (n ≤ 67108864) }
 {}
 
 /// The script and the topology of generated events are not asked for at once.

@@ -1,5 +1,6 @@
 //! A file that is read and run line by line, over a shelf and a sink in memory.
 ghost use Rattle.std.specs.Prelude.{◌≡◌, ◌∷◌, [], ◌++◌, codes, IfOk};
+ghost use Rattle.line_runs.specs.declared.ends.End.TheVariants as end;
 ghost use Rattle.layer_tests.specs.Copies.{copied as copied_of, long_copy, whole_copy};
 
 use ide_base::{MemShelf, MemSink, NamedFile};
@@ -23,7 +24,9 @@ impl LineWork for Copies {
 
     ghost advance = { λ past n line. copied_of past n line };
 
-    ghost closing = { λ past. codes "end" };
+    ghost closing = { λ past. (end.Done, codes "end") };
+
+    ghost may_lack = { ⊥ };
 
     ghost long_lines = { λ s n line long. long_copy s n line long };
 
@@ -34,6 +37,10 @@ impl LineWork for Copies {
             return Err(LineError::Fault(LineFault::TooLong));
         }
         copied(self.0, line).map_err(|_| LineError::Memory)
+    }
+
+    fn end(&self) -> End {
+        End::Done
     }
 
     fn closing(&self) -> Result<Bytes, Memory> {

@@ -37,7 +37,7 @@ use Rattle.line_runs.proofs.Parts.{begins, behind_none, comes, ends}
 use Rattle.line_runs.proofs.WholeFiles.{ran_blind, ran_told}
 
 -- The first bytes of the file were read and run: from line n on, of which some bytes came, the rest of it is due.
-pub record FileSoFar {S : Type 0} (advance : S → ℕ → Text → Result (S × Text) LineFault) (closing : S → Text)
+pub record FileSoFar {S : Type 0} (advance : S → ℕ → Text → Result (S × Text) LineFault) (closing : S → Due)
     (first : S) (told : Option Contents) (name : Text) (at n : ℕ) (s : S) (before : Text) (o0 o1 : SinkSeen) : Type 0
   where
     pub front : Text
@@ -48,14 +48,14 @@ pub record FileSoFar {S : Type 0} (advance : S → ℕ → Text → Result (S ×
 
 -- from a past on, now by one that what is kept now follows
 pub record FileSoFarBy {S : Type 0} (follows : S → Type 0) (advance : S → ℕ → Text → Result (S × Text) LineFault)
-    (closing : S → Text) (first : S) (told : Option Contents) (name : Text) (at n : ℕ) (before : Text)
+    (closing : S → Due) (first : S) (told : Option Contents) (name : Text) (at n : ℕ) (before : Text)
     (o0 o1 : SinkSeen) : Type 0 where
   pub past : S
   pub followed : follows past
   pub so_far : FileSoFar advance closing first told name at n past before o0 o1
 
 -- before the first byte
-pub file_begins : {S : Type 0} (advance : S → ℕ → Text → Result (S × Text) LineFault) (closing : S → Text) (first : S)
+pub file_begins : {S : Type 0} (advance : S → ℕ → Text → Result (S × Text) LineFault) (closing : S → Due) (first : S)
     (told : Option Contents) (name : Text) (n : ℕ) (before : Text) (sink : SinkSeen) → n ≡ 1 → before ≡ []
     → FileSoFar advance closing first told name 0 n first before sink sink
 file_begins advance closing first told name n before sink one none =
@@ -71,7 +71,7 @@ file_begins advance closing first told name n before sink one none =
     }
 
 -- of a piece that comes next
-pub piece_ahead : {S : Type 0} (advance : S → ℕ → Text → Result (S × Text) LineFault) (closing : S → Text) (first : S)
+pub piece_ahead : {S : Type 0} (advance : S → ℕ → Text → Result (S × Text) LineFault) (closing : S → Due) (first : S)
     (told : Option Contents) (name : Text) (at n : ℕ) (s : S) (before piece : Text) (o0 o1 : SinkSeen)
     → (f : FileSoFar advance closing first told name at n s before o0 o1)
     → SoFar (λ over left. process advance closing over 1 first (pieces ((f.front ++ piece) ++ left)))
@@ -85,7 +85,7 @@ piece_ahead advance closing first told name at n s before piece o0 o1 f = record
 }
 
 -- one more piece
-pub file_goes_on : {S : Type 0} (advance : S → ℕ → Text → Result (S × Text) LineFault) (closing : S → Text) (first : S)
+pub file_goes_on : {S : Type 0} (advance : S → ℕ → Text → Result (S × Text) LineFault) (closing : S → Due) (first : S)
     (told : Option Contents) (name : Text) (at n m k : ℕ) (s t : S) (before now piece : Text) (o0 o1 o2 : SinkSeen)
     → (f : FileSoFar advance closing first told name at n s before o0 o1) → IsReadOf told name (f.front ++ piece)
     → length piece ≡ k
@@ -127,7 +127,7 @@ front_of_cut limit front file (rest, e) le = by_feed (slice_index_or file limit 
     )
 
 -- the run of a file ends at some end of the run after a prefix of it
-in_file : {S : Type 0} (advance : S → ℕ → Text → Result (S × Text) LineFault) (closing : S → Text) (first : S)
+in_file : {S : Type 0} (advance : S → ℕ → Text → Result (S × Text) LineFault) (closing : S → Due) (first : S)
     (file : Option Text) (front : Text) (s0 s1 : ℕ) (o0 o1 : SinkSeen) (r : Result End Fault) → IsReadIn file front
     → 0 < length
     front
@@ -142,7 +142,7 @@ in_file advance closing first (Some file) front s0 s1 o0 o1 r read some le same 
     ran_told (Some (file_due advance closing first file)) (file_due advance closing first file) s0 s1 o0.faults
     o1.faults (Gained o0.held o1.held) r refl same (subst P cut.1 (ran (is_over file) cut.0))
 
-pub in_told : {S : Type 0} (advance : S → ℕ → Text → Result (S × Text) LineFault) (closing : S → Text) (first : S)
+pub in_told : {S : Type 0} (advance : S → ℕ → Text → Result (S × Text) LineFault) (closing : S → Due) (first : S)
     (name front : Text) (s0 s1 : ShelfSeen) (o0 o1 : SinkSeen) (r : Result End Fault) → IsReadOf s0.contents name front
     → 0 < length front → length front ≤ file_limit → s1.faults ≡ s0.faults
     → ((over : Bool) (left : Text) → Ran (process advance closing over 1 first (pieces (front ++ left))) o0 o1 r)
@@ -160,7 +160,7 @@ in_told advance closing first name front s0 s1 o0 o1 r read some le same ran = b
 
 -- ---- an end at a piece
 
-pub end_in_piece : {S : Type 0} (advance : S → ℕ → Text → Result (S × Text) LineFault) (closing : S → Text) (first : S)
+pub end_in_piece : {S : Type 0} (advance : S → ℕ → Text → Result (S × Text) LineFault) (closing : S → Due) (first : S)
     (name : Text) (at n : ℕ) (s : S) (before piece : Text) (s0 s1 : ShelfSeen) (o0 o1 o2 : SinkSeen)
     (r : Result End Fault)
     → (f : FileSoFar advance closing first s0.contents name at n s before o0 o1)
@@ -179,7 +179,7 @@ end_in_piece advance closing first name at n s before piece s0 s1 o0 o1 o2 r f r
 
 -- ---- the end of the file
 
-whole_in : {S : Type 0} (advance : S → ℕ → Text → Result (S × Text) LineFault) (closing : S → Text) (first : S)
+whole_in : {S : Type 0} (advance : S → ℕ → Text → Result (S × Text) LineFault) (closing : S → Due) (first : S)
     (file : Option Text) (front : Text) (s0 s1 : ℕ) (o0 o1 : SinkSeen) (r : Result End Fault) → IsWholeIn file front
     → length front ≤ file_limit → s1 ≡ s0 → Ran (process advance closing false 1 first (pieces (front ++ []))) o0 o1 r
     → EndsDue (option_map (file_due advance closing first) file) (Rose s0 s1) (Rose o0.faults o1.faults)
@@ -193,7 +193,7 @@ whole_in advance closing first (Some file) front s0 s1 o0 o1 r whole le same ran
     ran_told (Some (file_due advance closing first file)) (file_due advance closing first file) s0 s1 o0.faults
     o1.faults (Gained o0.held o1.held) r refl same (subst (λ (d : Due). Ran d o0 o1 r) due ran)
 
-pub end_of_file : {S : Type 0} (advance : S → ℕ → Text → Result (S × Text) LineFault) (closing : S → Text) (first : S)
+pub end_of_file : {S : Type 0} (advance : S → ℕ → Text → Result (S × Text) LineFault) (closing : S → Due) (first : S)
     (name : Text) (at n : ℕ) (s : S) (before : Text) (s0 s1 : ShelfSeen) (o0 o1 o2 : SinkSeen) (r : Result End Fault)
     → (f : FileSoFar advance closing first s0.contents name at n s before o0 o1)
     → IsWholeOf s0.contents name (f.front ++ []) → at ≤ file_limit → s1.faults ≡ s0.faults
@@ -236,18 +236,18 @@ cut_seam limit front rest byte size =
         ≡ front ++ byte ∷ [] → bytes_for_lines limit file ≡ (if byte == 10 then front else front ++ byte ∷ [])
     by_feed file there short long = rw (there, short, long) refl
 
-unended_at : {S : Type 0} (advance : S → ℕ → Text → Result (S × Text) LineFault) (closing : S → Text) (n : ℕ) (s : S)
+unended_at : {S : Type 0} (advance : S → ℕ → Text → Result (S × Text) LineFault) (closing : S → Due) (n : ℕ) (s : S)
     (before : Text) → due_behind advance closing true n s before [] ≡ unended n before
 unended_at advance closing n s before = ap (unended n) (append-nil before)
 
-unended_by : {S : Type 0} (advance : S → ℕ → Text → Result (S × Text) LineFault) (closing : S → Text) (n : ℕ) (s : S)
+unended_by : {S : Type 0} (advance : S → ℕ → Text → Result (S × Text) LineFault) (closing : S → Due) (n : ℕ) (s : S)
     (before : Text) (byte : ℕ) → (byte == 10) ≡ false
     → due_behind advance closing true n s before (byte ∷ []) ≡ unended n (before ++ byte ∷ [])
 unended_by advance closing n s before byte is =
     let one : pieces (byte ∷ []) ≡ (byte ∷ []) ∷ [] = rw is refl in
     ap (λ (ps : List Text). process advance closing true n s (pieces_after before ps)) one
 
-limit_ran : {S : Type 0} (advance : S → ℕ → Text → Result (S × Text) LineFault) (closing : S → Text) (first : S)
+limit_ran : {S : Type 0} (advance : S → ℕ → Text → Result (S × Text) LineFault) (closing : S → Due) (first : S)
     (told : Option Contents) (name : Text) (at n : ℕ) (s : S) (before : Text) (byte : ℕ) (o0 o1 o2 : SinkSeen)
     (r : Result End Fault)
     → (f : FileSoFar advance closing first told name at n s before o0 o1) → (b : Bool) → (byte == 10) ≡ b
@@ -265,7 +265,7 @@ limit_ran advance closing first told name at n s before byte o0 o1 o2 r f false 
     true (byte ∷ []) f.so_far
     (unended_by advance closing n s before byte is) ran
 
-limit_in : {S : Type 0} (advance : S → ℕ → Text → Result (S × Text) LineFault) (closing : S → Text) (first : S)
+limit_in : {S : Type 0} (advance : S → ℕ → Text → Result (S × Text) LineFault) (closing : S → Due) (first : S)
     (file : Option Text) (front : Text) (byte s0 s1 : ℕ) (o0 o1 : SinkSeen) (r : Result End Fault) → IsReadIn file
     (front ++ byte ∷ [])
     → length front ≡ file_limit → s1 ≡ s0 → Ran
@@ -284,7 +284,7 @@ limit_in advance closing first (Some file) front byte s0 s1 o0 o1 r (rest, e) si
     ran_told (Some (file_due advance closing first file)) (file_due advance closing first file) s0 s1 o0.faults
     o1.faults (Gained o0.held o1.held) r refl same (subst (λ (d : Due). Ran d o0 o1 r) (ap₂ f over text) ran)
 
-pub end_at_limit : {S : Type 0} (advance : S → ℕ → Text → Result (S × Text) LineFault) (closing : S → Text) (first : S)
+pub end_at_limit : {S : Type 0} (advance : S → ℕ → Text → Result (S × Text) LineFault) (closing : S → Due) (first : S)
     (name : Text) (at n : ℕ) (s : S) (before : Text) (byte : ℕ) (s0 s1 : ShelfSeen) (o0 o1 o2 : SinkSeen)
     (r : Result End Fault)
     → (f : FileSoFar advance closing first s0.contents name at n s before o0 o1) → at ≡ file_limit
@@ -315,7 +315,7 @@ abbrev unended_short : Due
 unended_short = (end.TooLong, [])
 
 -- the lines that ended in the prefix have their text, and the one that has begun is not too long
-ended_there : {S : Type 0} (advance : S → ℕ → Text → Result (S × Text) LineFault) (closing : S → Text) (first : S)
+ended_there : {S : Type 0} (advance : S → ℕ → Text → Result (S × Text) LineFault) (closing : S → Due) (first : S)
     (told : Option Contents) (name : Text) (at n : ℕ) (s : S) (before : Text) (o0 o1 : SinkSeen)
     → (f : FileSoFar advance closing first told name at n s before o0 o1) → length before ≤ 20000
     → process advance closing true 1 first (pieces f.front) ≡ after f.so_far.text unended_short
@@ -325,7 +325,7 @@ ended_there advance closing first told name at n s before o0 o1 f short =
     true [] ∙ ap (after f.so_far.text) (unended_at advance closing n s before ∙ none)
 
 -- what was written is the text of the lines that ended
-text_is : {S : Type 0} (advance : S → ℕ → Text → Result (S × Text) LineFault) (closing : S → Text) (first : S)
+text_is : {S : Type 0} (advance : S → ℕ → Text → Result (S × Text) LineFault) (closing : S → Due) (first : S)
     (told : Option Contents) (name : Text) (at n : ℕ) (s : S) (before : Text) (o0 o1 : SinkSeen)
     → (f : FileSoFar advance closing first told name at n s before o0 o1) → length before ≤ 20000 → f.so_far.text
     ≡ ended_text advance closing first f.front
@@ -334,7 +334,7 @@ text_is advance closing first told name at n s before o0 o1 f short =
     f.so_far.text)
 
 -- pieces whose last one is refused for no length end in one of 20,000 bytes at most
-last_short : {S : Type 0} (advance : S → ℕ → Text → Result (S × Text) LineFault) (closing : S → Text) (n : ℕ) (s : S)
+last_short : {S : Type 0} (advance : S → ℕ → Text → Result (S × Text) LineFault) (closing : S → Due) (n : ℕ) (s : S)
     (ps : List Text) → (process advance closing true n s ps).0 ≡ end.TooLong → length (last_piece ps) ≤ 20000
 last_short advance closing n s [] ends = omega arith
 last_short advance closing n s (piece ∷ []) ends = by_test (nat_lt 20000 (length piece)) refl ends
@@ -354,7 +354,7 @@ last_short {S} advance closing n s (piece ∷ next ∷ rest) ends = by_line (adv
     by_line (Ok came) later ends = later came.0 ends
     by_line (Err fault) later ends = absurd cc
 
-open_line_short : {S : Type 0} (advance : S → ℕ → Text → Result (S × Text) LineFault) (closing : S → Text) (first : S)
+open_line_short : {S : Type 0} (advance : S → ℕ → Text → Result (S × Text) LineFault) (closing : S → Due) (first : S)
     (told : Option Contents) (name : Text) (at n : ℕ) (s : S) (before : Text) (o0 o1 : SinkSeen)
     → (f : FileSoFar advance closing first told name at n s before o0 o1) → length before ≤ 20000
     → length (open_line f.front) ≤ 20000
@@ -366,7 +366,7 @@ all_gained : (o0 o1 : SinkSeen) (text : Text) → IsPartGathered text [] o0 o1 �
 all_gained o0 o1 text g = let P : Text → Type 0 = λ t. Gained o0.held o1.held t in subst P (sym (append-nil g.0) ∙ g.1)
     g.2
 
-pub gained_ended : {S : Type 0} (advance : S → ℕ → Text → Result (S × Text) LineFault) (closing : S → Text) (first : S)
+pub gained_ended : {S : Type 0} (advance : S → ℕ → Text → Result (S × Text) LineFault) (closing : S → Due) (first : S)
     (told : Option Contents) (name : Text) (at n : ℕ) (s : S) (before : Text) (o0 o1 : SinkSeen)
     → (f : FileSoFar advance closing first told name at n s before o0 o1) → length before ≤ 20000
     → Gained o0.held o1.held (ended_text advance closing first f.front)
@@ -404,7 +404,7 @@ wrote_in e text (Some file) front piece s0 s1 o0 o1 read gave few short gained =
 
 -- ---- an end
 
-all_read_in : {S : Type 0} (advance : S → ℕ → Text → Result (S × Text) LineFault) (closing : S → Text) (first : S)
+all_read_in : {S : Type 0} (advance : S → ℕ → Text → Result (S × Text) LineFault) (closing : S → Due) (first : S)
     (file front piece : Text) (given latest : ℕ) → IsFront (front ++ piece) file → given ≡ length front + length piece
     → length piece ≡ latest
     → GoesOn advance closing first front → NoFurther (GoesOn advance closing first) file given (given - latest)
@@ -417,7 +417,7 @@ all_read_in advance closing first file front piece given latest (rest, is) all l
           (λ (t : Text). GoesOn advance closing first t) same goes_on,
     )
 
-all_read : {S : Type 0} (advance : S → ℕ → Text → Result (S × Text) LineFault) (closing : S → Text) (first : S)
+all_read : {S : Type 0} (advance : S → ℕ → Text → Result (S × Text) LineFault) (closing : S → Due) (first : S)
     (file : Option Text) (front piece : Text) (given latest : ℕ) → IsReadIn file (front ++ piece) → given
     ≡ length front + length piece
     → length piece ≡ latest → GoesOn advance closing first front
@@ -428,7 +428,7 @@ all_read advance closing first (Some file) front piece given latest read all las
     first file front piece given latest read all last goes_on
 
 -- the last piece that was read is the one in which the run ended
-pub no_further : {S : Type 0} (advance : S → ℕ → Text → Result (S × Text) LineFault) (closing : S → Text) (first : S)
+pub no_further : {S : Type 0} (advance : S → ℕ → Text → Result (S × Text) LineFault) (closing : S → Due) (first : S)
     (name : Text) (at n : ℕ) (s : S) (before piece : Text) (s0 s1 : ShelfSeen) (o0 o1 : SinkSeen) (r : Result End Fault)
     → (f : FileSoFar advance closing first s0.contents name at n s before o0 o1)
     → IsReadOf s0.contents name (f.front ++ piece) → length before ≤ 20000 → length piece ≡ s1.latest
@@ -452,7 +452,7 @@ no_further advance closing first name at n s before piece s0 s1 o0 o1 (Ok e) f r
 -- ---- a fault, by what was written
 
 -- what a fault leaves that comes once a piece was read: what was gained by then, and what more
-pub fault_wrote : {S : Type 0} (advance : S → ℕ → Text → Result (S × Text) LineFault) (closing : S → Text) (first : S)
+pub fault_wrote : {S : Type 0} (advance : S → ℕ → Text → Result (S × Text) LineFault) (closing : S → Due) (first : S)
     (e : Fault) (name : Text) (at n : ℕ) (s : S) (before piece : Text) (s0 s1 : ShelfSeen) (o0 o1 o2 : SinkSeen)
     → (f : FileSoFar advance closing first s0.contents name at n s before o0 o1)
     → IsReadOf s0.contents name (f.front ++ piece) → length before ≤ 20000 → length piece ≤ waiting_at e s1
@@ -483,7 +483,7 @@ more_gained : (h0 h1 h2 : Option Text) (text later : Text) → Gained h0 h1 text
 more_gained h0 h1 h2 text later was (front, is, gained) = (front, gained_more h0 h1 h2 text front was gained)
 
 -- what runs after the lines that ended is cut off
-pub cut_wrote : {S : Type 0} (advance : S → ℕ → Text → Result (S × Text) LineFault) (closing : S → Text) (first : S)
+pub cut_wrote : {S : Type 0} (advance : S → ℕ → Text → Result (S × Text) LineFault) (closing : S → Due) (first : S)
     (name : Text) (at n : ℕ) (s : S) (before piece : Text) (s0 s1 : ShelfSeen) (o0 o1 o2 : SinkSeen) (last : Due)
     (r : Result End Fault)
     → (f : FileSoFar advance closing first s0.contents name at n s before o0 o1)
@@ -503,7 +503,7 @@ cut_wrote advance closing first name at n s before piece s0 s1 o0 o1 o2 last (Er
     (λ text was. more_gained o0.held o1.held o2.held text last.1 was ran)
 
 -- memory is wanting before the first read
-pub nothing_wrote : {S : Type 0} (advance : S → ℕ → Text → Result (S × Text) LineFault) (closing : S → Text) (first : S)
+pub nothing_wrote : {S : Type 0} (advance : S → ℕ → Text → Result (S × Text) LineFault) (closing : S → Due) (first : S)
     (name : Text) (shelf : ShelfSeen) (sink : SinkSeen)
     → WroteEnded fault.Memory (ended_text advance closing first) name shelf shelf sink sink
 unfolding file_begins
@@ -514,7 +514,7 @@ nothing_wrote advance closing first name shelf sink =
     (omega arith, omega arith) (λ text was. ([], rw append-nil was))
 
 -- the cause of a fault, and the whole lines that were written
-fault_in : {S : Type 0} (advance : S → ℕ → Text → Result (S × Text) LineFault) (closing : S → Text) (first : S)
+fault_in : {S : Type 0} (advance : S → ℕ → Text → Result (S × Text) LineFault) (closing : S → Due) (first : S)
     (contents : Contents) (file : Option Text) (name front text : Text) (later : Bool → Text → Due) (s0 s1 : ℕ)
     (o0 o1 : SinkSeen)
     → contents name ≡ file → IsReadIn file front → length front ≤ file_limit → text
@@ -536,7 +536,7 @@ fault_in advance closing first contents (Some file) name front text later s0 s1 
     let rose : Rose s0 s1 = elim cause [ inl rose ↦ rose | inr none ↦ absurd cc ] in
     (rose, (text, ((later (is_over file) cut.0).1, ap (λ (d : Due). d.1) (sym due)), whole, gained))
 
-pub fault_answers : {S : Type 0} (advance : S → ℕ → Text → Result (S × Text) LineFault) (closing : S → Text) (first : S)
+pub fault_answers : {S : Type 0} (advance : S → ℕ → Text → Result (S × Text) LineFault) (closing : S → Due) (first : S)
     (name : Text) (at n : ℕ) (s : S) (before : Text) (s0 s1 : ShelfSeen) (o0 o1 : SinkSeen) (e : ShelfFault)
     → FileSoFar advance closing first s0.contents name at n s before o0 o1 → at ≤ file_limit → length before ≤ 20000
     → ShelfCause s0.faults s1.faults s0.contents name (Err e)

@@ -1,7 +1,7 @@
 -- A file that is read from its beginning.
 use Rattle.std.proofs.Common.{◌≡◌, ◌<◌, ◌≤◌, ◌+◌, ℕ, [], ◌∷◌, ◌++◌, Option, Some, None, Result, Ok, Err, subst, refl}
 use Rattle.std.proofs.Common.{sym, ap, ◌∙◌, append_assoc, take, drop, length, arith, length-append}
-use Rattle.std.proofs.Math.Seq.{drop-append_seam, take-append_seam}
+use Rattle.std.proofs.Math.Seq.{drop-append_seam}
 use Rattle.std.specs.Prelude.{IfOk}
 use Rattle.std.proofs.lemmas.List.{take-append-drop, take-append-le, append-nil, take_all}
 use Rattle.ide_base.specs.declared.shelf.ShelfFault.{ShelfFault}
@@ -70,17 +70,6 @@ pub whole : (told : Option Contents) (name read : Text) (most : ℕ) → IsWhole
     → FrontOf told name most read
 whole None name read most h le = tt
 whole (Some contents) name read most h le = whole_in (contents name) read most h le
-
--- if the file is not there, nothing was read: but then there was no read
-full_in : (file : Option Text) (read : Text) (most : ℕ) → IsReadIn file read → 0 < length read → length read ≡ most
-    → FrontIn most file read
-full_in None read most e some long = absurd (omega (arith, ap length e))
-full_in (Some file) read most (rest, e) some long = sym (take-append_seam read rest) ∙ rw (long, e) refl
-
-pub full : (told : Option Contents) (name read : Text) (most : ℕ) → IsReadOf told name read → 0 < length read
-    → length read ≡ most → FrontOf told name most read
-full None name read most h some long = tt
-full (Some contents) name read most h some long = full_in (contents name) read most h some long
 
 -- ---- counts
 

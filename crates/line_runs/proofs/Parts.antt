@@ -86,7 +86,7 @@ rest_behind before rest left e =
 -- ---- what is due
 
 -- a line gave a text
-pub line_came : {S : Type 0} (advance : S → ℕ → Text → Result (S × Text) LineFault) (closing : S → Text) (over : Bool)
+pub line_came : {S : Type 0} (advance : S → ℕ → Text → Result (S × Text) LineFault) (closing : S → Due) (over : Bool)
     (n : ℕ) (s t : S) (before rest line later left w : Text) → pieces rest ≡ line ∷ pieces later
     → advance s n (before ++ line) ≡ Ok (t, w) → due_behind advance closing over n s before (rest ++ left)
     ≡ after w (due_behind advance closing over (n + 1) t [] (later ++ left))
@@ -97,7 +97,7 @@ line_came advance closing over n s t before rest line later left w e came =
     (later ++ left) ∙ rw came refl ∙ ap next (sym (behind_none (later ++ left)))
 
 -- the same, of what is kept now
-pub line_came_to : {S : Type 0} (advance : S → ℕ → Text → Result (S × Text) LineFault) (closing : S → Text)
+pub line_came_to : {S : Type 0} (advance : S → ℕ → Text → Result (S × Text) LineFault) (closing : S → Due)
     (over : Bool) (n m : ℕ) (s t : S) (before now rest line later left w : Text) → pieces rest ≡ line ∷ pieces later
     → advance s n (before ++ line) ≡ Ok (t, w) → m ≡ n + 1 → now ≡ []
     → due_behind advance closing over n s before (rest ++ left)
@@ -106,7 +106,7 @@ line_came_to advance closing over n m s t before now rest line later left w e ca
     (line_came advance closing over n s t before rest line later left w e came)
 
 -- a line is not spelled
-pub line_refused : {S : Type 0} (advance : S → ℕ → Text → Result (S × Text) LineFault) (closing : S → Text)
+pub line_refused : {S : Type 0} (advance : S → ℕ → Text → Result (S × Text) LineFault) (closing : S → Due)
     (over : Bool) (n : ℕ) (s : S) (before rest line later left : Text) (f : LineFault) → pieces rest ≡ line
     ∷ pieces later
     → advance s n (before ++ line) ≡ Err f → due_behind advance closing over n s before (rest ++ left) ≡ refusal n f
@@ -116,14 +116,14 @@ line_refused advance closing over n s before rest line later left f e came =
     (later ++ left) ∙ rw came refl
 
 -- the rest of a piece is kept
-pub rest_kept : {S : Type 0} (advance : S → ℕ → Text → Result (S × Text) LineFault) (closing : S → Text) (over : Bool)
+pub rest_kept : {S : Type 0} (advance : S → ℕ → Text → Result (S × Text) LineFault) (closing : S → Due) (over : Bool)
     (n : ℕ) (s : S) (before rest left : Text) → pieces rest ≡ rest ∷ []
     → due_behind advance closing over n s before (rest ++ left)
     ≡ due_behind advance closing over n s (before ++ rest) left
 rest_kept advance closing over n s before rest left e = ap (λ (ps : List Text). process advance closing over n s ps)
     (rest_behind before rest left e)
 
-pub rest_kept_in : {S : Type 0} (advance : S → ℕ → Text → Result (S × Text) LineFault) (closing : S → Text)
+pub rest_kept_in : {S : Type 0} (advance : S → ℕ → Text → Result (S × Text) LineFault) (closing : S → Due)
     (over : Bool) (n m : ℕ) (s : S) (before now rest left : Text) → pieces rest ≡ rest ∷ []
     → m ≡ n → now ≡ before ++ rest → due_behind advance closing over n s before (rest ++ left)
     ≡ after [] (due_behind advance closing over m s now left)
@@ -134,14 +134,14 @@ some_length : (n : ℕ) → nat_lt 20000 n ≡ true → (n == 0) ≡ false
 some_length n long = grind (arith, nat_tests)
 
 -- a piece that is too long ends the run, whatever is left
-long_first : {S : Type 0} (advance : S → ℕ → Text → Result (S × Text) LineFault) (closing : S → Text) (over : Bool)
+long_first : {S : Type 0} (advance : S → ℕ → Text → Result (S × Text) LineFault) (closing : S → Due) (over : Bool)
     (n : ℕ) (s : S) (piece : Text) (rest : List Text) → nat_lt 20000 (length piece) ≡ true
     → advance s n piece ≡ Err TooLong → process advance closing over n s (piece ∷ rest) ≡ refusal n TooLong
 long_first advance closing true n s piece [] long is = rw long refl
 long_first advance closing false n s piece [] long is = rw (some_length (length piece) long, is) refl
 long_first advance closing over n s piece (next ∷ rest) long is = rw is refl
 
-pub long_rest : {S : Type 0} (advance : S → ℕ → Text → Result (S × Text) LineFault) (closing : S → Text) (over : Bool)
+pub long_rest : {S : Type 0} (advance : S → ℕ → Text → Result (S × Text) LineFault) (closing : S → Due) (over : Bool)
     (n : ℕ) (s : S) (before rest left : Text)
     → ((s : S) (n : ℕ) (line : Text) → nat_lt 20000 (length line) ≡ true → advance s n line ≡ Err TooLong)
     → nat_lt 20000 (length before + length rest) ≡ true → pieces rest ≡ rest ∷ []

@@ -1,48 +1,25 @@
 -- What was written so far, and what a part that comes later promises.
-use Rattle.std.proofs.Common.{◌≡◌, ◌==◌, ℕ, ◌+◌, List, [], ◌∷◌, ◌++◌, length, Bool, false, Option, Result, Ok, Err}
-use Rattle.std.proofs.Common.{refl, sym, ap, ◌∙◌, append_assoc}
+use Rattle.std.proofs.Common.{◌≡◌, ◌==◌, ℕ, ◌+◌, [], ◌∷◌, ◌++◌, length, Bool, false, Option, Result, Ok, Err}
+use Rattle.std.proofs.Common.{refl, ap, ◌∙◌, append_assoc}
 use Rattle.std.proofs.lemmas.List.{append-nil}
 use Rattle.ide_base.specs.Outside.{Rose}
 use Rattle.line_runs.specs.Pieces.{pieces}
 use Rattle.line_runs.proofs.Cuts.{some}
 use Rattle.link_events.specs.declared.fault.LineFault.{LineFault}
 use Rattle.line_runs.specs.declared.ends.End.{End}
-use Rattle.line_runs.specs.declared.ends.End.TheVariants.{Done}
 use Rattle.line_runs.specs.declared.ends.Fault.{Fault}
 use Rattle.line_runs.specs.declared.ends.Fault.TheVariants as fault
 use Rattle.line_runs.specs.Gain.{Text, Gained}
 use Rattle.line_runs.specs.Outcome.{Due, CutOff, EndsBy, SomeFront}
-use Rattle.line_runs.specs.Lines.{after, go_on, process, refusal}
+use Rattle.line_runs.specs.Lines.{after, go_on, process}
 use Rattle.line_runs.proofs.Gains.{gained_more}
 
 -- a line, and the pieces after it
-pub process_line : {S : Type 0} (advance : S → ℕ → Text → Result (S × Text) LineFault) (closing : S → Text)
+pub process_line : {S : Type 0} (advance : S → ℕ → Text → Result (S × Text) LineFault) (closing : S → Due)
     (over : Bool) (n : ℕ) (s : S) (line rest : Text)
     → process advance closing over n s (line ∷ pieces rest) ≡ go_on n (advance s n line)
     (λ t. process advance closing over (n + 1) t (pieces rest))
 process_line advance closing over n s line rest = let p = some rest in rw p.is refl
-
--- one more line was written
-pub stepped : {S : Type 0} (advance : S → ℕ → Text → Result (S × Text) LineFault) (closing : S → Text) (over : Bool)
-    (n : ℕ) (s t : S) (parts : List Text) (line rest text w : Text) (due : Due)
-    → due ≡ after w (process advance closing over n s parts) → parts ≡ line ∷ pieces rest → advance s n line
-    ≡ Ok (t, text)
-    → due ≡ after (w ++ text) (process advance closing over (n + 1) t (pieces rest))
-stepped advance closing over n s t parts line rest text w due so_far e a =
-    let p = process advance closing over (n + 1) t (pieces rest) in
-    let now : process advance closing over n s parts ≡ after text p = rw e
-    (process_line advance closing over n s line rest ∙ rw a refl) in
-    so_far ∙ ap (after w) now ∙ ap (λ (u : Text). (p.0, u)) (sym (append_assoc w text p.1))
-
--- the line is not spelled
-pub refused : {S : Type 0} (advance : S → ℕ → Text → Result (S × Text) LineFault) (closing : S → Text) (over : Bool)
-    (n : ℕ) (s : S) (parts : List Text) (line rest w : Text) (f : LineFault) (due : Due)
-    → due ≡ after w (process advance closing over n s parts) → parts ≡ line ∷ pieces rest → advance s n line ≡ Err f
-    → due ≡ after w (refusal n f)
-refused advance closing over n s parts line rest w f due so_far e a =
-    let now : process advance closing over n s parts ≡ refusal n f = rw e
-    (process_line advance closing over n s line rest ∙ rw a refl) in
-    so_far ∙ ap (after w) now
 
 front_later : (h0 h1 h2 : Option Text) (w part rest whole : Text) → whole ≡ w ++ (part ++ rest) → Gained h0 h1 w
     → SomeFront (Gained h1 h2) part → SomeFront (Gained h0 h2) whole
@@ -75,10 +52,10 @@ ran_later (Err f) due last h0 h1 h2 f0 f1 f2 w e gain same h =
     cut_later f due.1 h0 h1 h2 f0 f1 f2 w last.1 [] (ap (λ (d : Due). d.1) e ∙ simp append-nil) gain same h
 
 -- a last line without a line feed
-pub one_line : {S : Type 0} (advance : S → ℕ → Text → Result (S × Text) LineFault) (closing : S → Text) (over : Bool)
+pub one_line : {S : Type 0} (advance : S → ℕ → Text → Result (S × Text) LineFault) (closing : S → Due) (over : Bool)
     (n : ℕ) (s t : S) (piece text : Text)
     → over ≡ false → (length piece == 0) ≡ false → advance s n piece ≡ Ok (t, text)
-    → process advance closing over n s (piece ∷ []) ≡ after text (Done, closing t)
+    → process advance closing over n s (piece ∷ []) ≡ after text (closing t)
 one_line advance closing over n s t piece text o some a = rw (o, some, a) refl
 
 -- the text of a line was cut off

@@ -1,6 +1,5 @@
 -- A file that was read, or could not be read, and a part that runs after it.
-use Rattle.std.proofs.Common.{◌≡◌, ℕ, [], Option, Some, None, Result, Ok, Err, refl, sym, ap, inl, inr, option_map}
-use Rattle.std.proofs.Common.{take}
+use Rattle.std.proofs.Common.{◌≡◌, ℕ, [], Option, Some, None, Result, Ok, Err, refl, sym, ap, inl, inr}
 use Rattle.std.proofs.lemmas.List.{append-nil}
 use Rattle.ide_base.specs.Outside.{Contents, Rose}
 use Rattle.line_runs.specs.declared.ends.End.{End}
@@ -8,7 +7,7 @@ use Rattle.line_runs.specs.declared.ends.Fault.{Fault}
 use Rattle.line_runs.specs.declared.ends.Fault.TheVariants as fault
 use Rattle.line_runs.specs.declared.front.Stop.{Stop}
 use Rattle.line_runs.specs.declared.front.Stop.TheVariants as stop
-use Rattle.line_runs.specs.Front.{FrontIn, StopCause}
+use Rattle.line_runs.specs.Front.{StopCause}
 use Rattle.line_runs.specs.Gain.{Text, Gained}
 use Rattle.line_runs.specs.Outcome.{Due, Quiet, EndsBy, EndsBlind, EndsDue, EndsOn}
 
@@ -93,10 +92,3 @@ pub out_of_memory : (told : Option Contents) (due : Contents → Option Due) (re
     → EndsOn told due read write quiet (Gained h h) (Err fault.Memory)
 out_of_memory None due read write quiet h = tt
 out_of_memory (Some contents) due read write quiet h = memory_told (due contents) read write quiet h
-
--- ---- the first bytes of a file
-
-due_in : (file : Option Text) (read : Text) (most : ℕ) (due : Text → Due) → FrontIn most file read
-    → ((whole : Text) → read ≡ take most whole → due read ≡ due whole) → option_map due file ≡ Some (due read)
-due_in None read most due h same = absurd h
-due_in (Some whole) read most due e same = ap (λ (d : Due). Some d) (sym (same whole e))

@@ -38,7 +38,7 @@ pieces_after before [] = before ∷ []
 pieces_after before (piece ∷ rest) = (before ++ piece) ∷ rest
 
 -- what is due of the bytes that are left, from line n on, of which some bytes came before
-abbrev pub due_behind : {S : Type 0} → (S → ℕ → Text → Result (S × Text) LineFault) → (S → Text) → Bool → ℕ → S
+abbrev pub due_behind : {S : Type 0} → (S → ℕ → Text → Result (S × Text) LineFault) → (S → Due) → Bool → ℕ → S
     → Text → Text → Due
 due_behind advance closing over n s before left = process advance closing over n s (pieces_after before (pieces left))
 
@@ -78,7 +78,7 @@ limit_due n before byte = unended n (if byte == 10 then before else before ++ by
 -- ---- if a fault ends the run
 
 -- the text that is due of some bytes of a file that goes on after them: that of the lines that ended in them
-abbrev pub ended_text : {S : Type 0} → (S → ℕ → Text → Result (S × Text) LineFault) → (S → Text) → S → Text → Text
+abbrev pub ended_text : {S : Type 0} → (S → ℕ → Text → Result (S × Text) LineFault) → (S → Due) → S → Text → Text
 ended_text advance closing s bytes = (process advance closing true 1 s (pieces bytes)).1
 
 -- the last of some pieces
@@ -131,7 +131,7 @@ WroteEnded e text name shelf shelf_now sink sink_now = WroteEndedOf e text shelf
 -- ---- how the run ends
 
 -- no line ends the run in these bytes of a file that goes on after them
-abbrev pub GoesOn : {S : Type 0} → (S → ℕ → Text → Result (S × Text) LineFault) → (S → Text) → S → Text → Type 0
+abbrev pub GoesOn : {S : Type 0} → (S → ℕ → Text → Result (S × Text) LineFault) → (S → Due) → S → Text → Type 0
 GoesOn advance closing s bytes = (process advance closing true 1 s (pieces bytes)).0 ≡ end.TooLong
 
 -- no more bytes of the file were given than it has, and in those that were given before the last read no line ends the

@@ -8,7 +8,7 @@ use Rattle.link_events.specs.declared.fault.LineFault.TheVariants as line
 use Rattle.link_events.specs.declared.fault.LineError.{LineError}
 use Rattle.link_events.specs.declared.fault.LineError.TheVariants as error
 use Rattle.link_events.specs.Words.{fault_line_of, line_limit}
-use Rattle.line_runs.specs.declared.ends.End.TheVariants.{Done, Script, TooLong}
+use Rattle.line_runs.specs.declared.ends.End.TheVariants.{Script, TooLong}
 use Rattle.line_runs.specs.Gain.{Text}
 use Rattle.line_runs.specs.Outcome.{Due}
 
@@ -45,19 +45,19 @@ abbrev pub unended : ℕ → Text → Due
 unended n piece = if nat_lt line_limit (length piece) then refusal n line.TooLong else (TooLong, [])
 
 -- The end and the text of the pieces between line feeds, by what a line of each number gives (a state and a text, or a
--- fault) and by the text after the last one. The last piece is a line if it has bytes.
-abbrev pub process : {S : Type 0} → (S → ℕ → Text → Result (S × Text) LineFault) → (S → Text) → Bool → ℕ → S
+-- fault) and by the end and the text after the last one. The last piece is a line if it has bytes.
+abbrev pub process : {S : Type 0} → (S → ℕ → Text → Result (S × Text) LineFault) → (S → Due) → Bool → ℕ → S
     → List Text → Due
-process advance closing over n s [] = (Done, closing s)
+process advance closing over n s [] = closing s
 process advance closing over n s (piece ∷ []) =
     if over then unended n piece
-    else if length piece == 0 then (Done, closing s)
-    else go_on n (advance s n piece) (λ t. (Done, closing t))
+    else if length piece == 0 then closing s
+    else go_on n (advance s n piece) closing
 process advance closing over n s (piece ∷ next ∷ rest) = go_on n (advance s n piece) (λ t. process advance closing over
     (n + 1) t (next ∷ rest))
 
 -- the end and the text of a file
-abbrev pub file_due : {S : Type 0} → (S → ℕ → Text → Result (S × Text) LineFault) → (S → Text) → S → Text → Due
+abbrev pub file_due : {S : Type 0} → (S → ℕ → Text → Result (S × Text) LineFault) → (S → Due) → S → Text → Due
 file_due advance closing s file = process advance closing (is_over file) 1 s (pieces (cut_text file))
 
 -- what a line gave: its text and a past that what is kept now follows, or its fault, or want of memory

@@ -13,6 +13,8 @@ pub enum End {
     Topology,
     /// A line is not spelled.
     Script,
+    /// The script has no event of the number that is asked for.
+    NoEvent,
     /// A file is longer than its limit.
     TooLong,
 }

@@ -55,6 +55,7 @@ fn run_limit<O: Sink>(alloc: Global, lines: &Lines, byte: u8, out: &mut O) -> Re
     ensures end { IfOk result (λ e. e ≢ End.Usage) }
     ensures unjudged { IfOk result (λ e. e ≢ End.Differs) }
     ensures cut { IfOk result (λ e. e ≢ End.Done) }
+    ensures lacks { IfOk result (λ e. e ≢ End.NoEvent) }
     ensures ran { Ran (limit_due lines.now.number lines.now.unended.items byte) (O.seen out.old) (O.seen out.new)
         result }
 {
@@ -95,6 +96,9 @@ pub fn run_file<S: Shelf, O: Sink, W: LineWork>(
     ensures whole { IfOk result (λ e. e ≡ End.Done → (S.seen shelf.new).given ≤ (S.seen shelf.old).given + file_limit) }
     ensures gave { IfOk result (λ e. e ≡ End.Done → GaveAtMost (S.seen shelf.old).given file_limit
         (S.seen shelf.new).given) }
+    ensures lacks { IfOk result (λ e. e ≡ End.NoEvent → W.may_lack) }
+    ensures all { IfOk result (λ e. e ≡ End.NoEvent → (S.seen shelf.new).given ≤ (S.seen shelf.old).given
+        + file_limit) }
 {
     let Ok(mut lines) = Lines::make(alloc) else {
         return Err(Fault::Memory);

@@ -4,7 +4,7 @@ ghost use Rattle.std.specs.Prelude.{nat_lt, true, false};
 ghost use Rattle.link_events.specs.declared.fault.LineFault.{LineFault};
 ghost use Rattle.link_events.specs.declared.fault.LineFault.TheVariants.{TooLong};
 ghost use Rattle.link_events.specs.Words.{line_limit};
-ghost use Rattle.line_runs.specs.Outcome.{IsWholeLines, Ran};
+ghost use Rattle.line_runs.specs.Outcome.{Due, IsWholeLines, Ran};
 ghost use Rattle.line_runs.specs.Gathering.{EndsIn};
 ghost use Rattle.line_runs.specs.Lines.{Came, after, process, refusal};
 
@@ -33,8 +33,11 @@ pub trait LineWork {
     /// fault.
     ghost advance: { Self.Past → ℕ → List ℕ → Result (Self.Past × List ℕ) LineFault };
 
-    /// The text that is written after the last line.
-    ghost closing: { Self.Past → List ℕ };
+    /// How the run ends after the last line, and the text that is written then.
+    ghost closing: { Self.Past → Due };
+
+    /// It may end with an event wanting.
+    ghost may_lack: { Type 0 };
 
     /// The text of a line without its line feed; lines are numbered from 1.
     fn line(&mut self, number: u64, line: &[u8]) -> Result<Bytes, LineError>
@@ -44,9 +47,17 @@ pub trait LineWork {
             (follows self.new) result }
         ensures fits { OnOk result (fits self.new (number + 1)) };
 
+    /// How the run ends after the last line.
+    fn end(&self) -> End
+        ensures end { (past : Self.Past) → follows self.now past → result ≡ (closing past).0 }
+        ensures asked { result ≢ End.Usage }
+        ensures unjudged { result ≢ End.Differs }
+        ensures short { result ≢ End.TooLong }
+        ensures lacks { result ≡ End.NoEvent → may_lack };
+
     /// The text that is written after the last line.
     fn closing(&self) -> Result<Bytes, Memory>
-        ensures { (past : Self.Past) → follows self.now past → IfOk result (λ text. text ≡ closing past) };
+        ensures { (past : Self.Past) → follows self.now past → IfOk result (λ text. text ≡ (closing past).1) };
 
     /// A line of more than 20,000 bytes is too long, whatever they are.
     ghost long_lines: { (s : Self.Past) (n : ℕ) (line : List ℕ) → nat_lt line_limit (length line) ≡ true
@@ -77,12 +88,15 @@ pub(crate) fn refuse<O: Sink>(
 
 // Ends after the last line.
 fn close<O: Sink, W: LineWork>(work: &W, out: &mut O) -> Result<End, Fault>
-    ensures end { IfOk result (λ e. e ≡ End.Done) }
-    ensures ran { (past : W.Past) → W.follows work.now past → Ran (End.Done, W.closing past) (O.seen out.old)
-        (O.seen out.new) result }
+    ensures end { IfOk result (λ e. e ≢ End.Usage) }
+    ensures unjudged { IfOk result (λ e. e ≢ End.Differs) }
+    ensures short { IfOk result (λ e. e ≢ End.TooLong) }
+    ensures lacks { IfOk result (λ e. e ≡ End.NoEvent → W.may_lack) }
+    ensures ran { (past : W.Past) → W.follows work.now past → Ran (W.closing past) (O.seen out.old) (O.seen out.new)
+        result }
 {
     match work.closing() {
-        Ok(text) => finish(out, End::Done, text.as_slice()),
+        Ok(text) => finish(out, work.end(), text.as_slice()),
         Err(_) => Err(Fault::Memory),
     }
 }
@@ -117,6 +131,7 @@ pub(crate) fn run_last<O: Sink, W: LineWork>(
     ensures end { IfOk result (λ e. e ≢ End.Usage) }
     ensures unjudged { IfOk result (λ e. e ≢ End.Differs) }
     ensures short { IfOk result (λ e. e ≢ End.TooLong) }
+    ensures lacks { IfOk result (λ e. e ≡ End.NoEvent → W.may_lack) }
     ensures ran { (past : W.Past) → W.follows work.old past → Ran (process W.advance W.closing false number past
         (piece.now ∷ [])) (O.seen out.old) (O.seen out.new) result }
 {

@@ -1,5 +1,5 @@
 use Rattle.line_runs.specs.Gathering.{ended_text}
-use Rattle.ide_cli.specs.Packets.{no_text, shown_line}
+use Rattle.ide_cli.specs.Packets.{nothing_due, shown_line}
 use Rattle.ide_runs.proofs.Loads.{ended_by}
 use Rattle.ide_cli.proofs.packets.show_packets.Goals as goal
 
@@ -11,7 +11,7 @@ returns-clause-no_further g c = c.run_file.ensures.no_further tt tt
 
 pub returns-clause-so_far : goal.returns-clause-so_far
 returns-clause-so_far g c =
-    ended_by (ended_text shown_line no_text tt) c.args.packets.now (g.S.Shelf.seen c.args.shelf.now)
+    ended_by (ended_text shown_line nothing_due tt) c.args.packets.now (g.S.Shelf.seen c.args.shelf.now)
     (g.S.Shelf.seen c.run_file.new.shelf) (g.O.Sink.seen c.args.out.now) (g.O.Sink.seen c.run_file.new.out)
     c.run_file.result
     (c.run_file.ensures.so_far tt tt)

@@ -7,11 +7,11 @@ use Rattle.ide_runs.specs.Generated.{generated_due}
 use Rattle.ide_cli.specs.Meaning.{script_text_due, topology_text_due}
 use Rattle.ide_cli.specs.Seen.{CallSeen, call_seen}
 use Rattle.ide_cli.proofs.Requests.{alone_without_memory, answered_alone, answered_check, answered_judge}
-use Rattle.ide_cli.proofs.Requests.{answered_migrate, answered_run, answered_show, answered_without_memory}
-use Rattle.ide_cli.proofs.Requests.{asks_alone, asks_for, asks_nothing, asks_to_judge, ends_as, judges_nothing}
-use Rattle.ide_cli.proofs.Requests.{ran_without_memory, said}
+use Rattle.ide_cli.proofs.Requests.{answered_migrate, answered_run, answered_show, answered_why}
+use Rattle.ide_cli.proofs.Requests.{answered_without_memory, asks_alone, asks_for, asks_nothing, ends_as, ends_asked}
+use Rattle.ide_cli.proofs.Requests.{never_ends, ran_without_memory, said}
 use Rattle.line_runs.proofs.Names.{asks_none}
-use Rattle.ide_cli.specs.Reads.{Names}
+use Rattle.ide_cli.specs.Reads.{AsksToJudge, AsksToTell, Names}
 use Rattle.ide_words.specs.Words.{asked}
 use Rattle.ide_cli.proofs.Furthers.{asked_far, asked_names, nothing_read}
 use Rattle.ide_cli.proofs.Stops.{asked_wrote, wrote_no_line}
@@ -34,6 +34,10 @@ seen_run g c = call_seen g.S.Shelf.seen g.O.Sink.seen c.args.words.now c.args.sh
 abbrev seen_judge : (g : Over) → goal.After-judge g → CallSeen
 seen_judge g c = call_seen g.S.Shelf.seen g.O.Sink.seen c.args.words.now c.args.shelf.now c.judge.new.shelf
     c.args.out.now c.judge.new.out c.judge.result
+
+abbrev seen_why : (g : Over) → goal.After-why g → CallSeen
+seen_why g c = call_seen g.S.Shelf.seen g.O.Sink.seen c.args.words.now c.args.shelf.now c.why.new.shelf
+    c.args.out.now c.why.new.out c.why.result
 
 abbrev seen_check : (g : Over) → goal.After-check_topology g → CallSeen
 seen_check g c = call_seen g.S.Shelf.seen g.O.Sink.seen c.args.words.now c.args.shelf.now c.check_topology.new.shelf
@@ -75,6 +79,11 @@ pub returns-in-Ok-Judge-clause-answers : goal.returns-in-Ok-Judge-clause-answers
 returns-in-Ok-Judge-clause-answers g c =
     asks_for (rw c.in-Ok-Judge.field-0-is at c.in-Ok-Judge.ensures.ok)
     (answered_judge _ _ _ _ _ _ _ _ c.judge.ensures.answers)
+
+pub returns-in-Ok-Why-clause-answers : goal.returns-in-Ok-Why-clause-answers
+returns-in-Ok-Why-clause-answers g c =
+    asks_for (rw c.in-Ok-Why.field-0-is at c.in-Ok-Why.ensures.ok)
+    (answered_why _ _ _ _ _ _ _ _ c.why.ensures.answers)
 
 pub returns-in-Ok-Check-clause-answers : goal.returns-in-Ok-Check-clause-answers
 returns-in-Ok-Check-clause-answers g c =
@@ -124,6 +133,10 @@ pub returns-in-Ok-Judge-clause-so_far : goal.returns-in-Ok-Judge-clause-so_far
 returns-in-Ok-Judge-clause-so_far g c =
     asked_wrote (seen_judge g c) _ (rw c.in-Ok-Judge.field-0-is at c.in-Ok-Judge.ensures.ok) c.judge.ensures.so_far
 
+pub returns-in-Ok-Why-clause-so_far : goal.returns-in-Ok-Why-clause-so_far
+returns-in-Ok-Why-clause-so_far g c =
+    asked_wrote (seen_why g c) _ (rw c.in-Ok-Why.field-0-is at c.in-Ok-Why.ensures.ok) c.why.ensures.so_far
+
 pub returns-in-Ok-Check-clause-so_far : goal.returns-in-Ok-Check-clause-so_far
 returns-in-Ok-Check-clause-so_far g c =
     asked_wrote (seen_check g c) _ (rw c.in-Ok-Check.field-0-is at c.in-Ok-Check.ensures.ok)
@@ -161,6 +174,10 @@ returns-in-Ok-Run-clause-no_further g c =
 pub returns-in-Ok-Judge-clause-no_further : goal.returns-in-Ok-Judge-clause-no_further
 returns-in-Ok-Judge-clause-no_further g c =
     asked_far (seen_judge g c) _ (rw c.in-Ok-Judge.field-0-is at c.in-Ok-Judge.ensures.ok) c.judge.ensures.no_further
+
+pub returns-in-Ok-Why-clause-no_further : goal.returns-in-Ok-Why-clause-no_further
+returns-in-Ok-Why-clause-no_further g c =
+    asked_far (seen_why g c) _ (rw c.in-Ok-Why.field-0-is at c.in-Ok-Why.ensures.ok) c.why.ensures.no_further
 
 pub returns-in-Ok-Check-clause-no_further : goal.returns-in-Ok-Check-clause-no_further
 returns-in-Ok-Check-clause-no_further g c =
@@ -210,6 +227,10 @@ pub returns-in-Ok-Judge-clause-generated : goal.returns-in-Ok-Judge-clause-gener
 returns-in-Ok-Judge-clause-generated g c =
     asks_alone (seen_judge g c) _ (rw c.in-Ok-Judge.field-0-is at c.in-Ok-Judge.ensures.ok) tt
 
+pub returns-in-Ok-Why-clause-generated : goal.returns-in-Ok-Why-clause-generated
+returns-in-Ok-Why-clause-generated g c =
+    asks_alone (seen_why g c) _ (rw c.in-Ok-Why.field-0-is at c.in-Ok-Why.ensures.ok) tt
+
 pub returns-in-Ok-Check-clause-generated : goal.returns-in-Ok-Check-clause-generated
 returns-in-Ok-Check-clause-generated g c =
     asks_alone (seen_check g c) _ (rw c.in-Ok-Check.field-0-is at c.in-Ok-Check.ensures.ok) tt
@@ -238,48 +259,106 @@ returns-in-Ok-GenerateTopology-clause-generated g c =
     c.generate_topology.ensures.ran
 
 pub returns-in-Err-Usage-clause-other : goal.returns-in-Err-Usage-clause-other
-returns-in-Err-Usage-clause-other g c = judges_nothing (asked (map string_bytes c.args.words.now)) c.finish.result _ _
-    (ends_as c.finish.result end.Usage c.finish.ensures.end (λ is. cc))
+returns-in-Err-Usage-clause-other g c =
+    never_ends AsksToJudge end.Differs (asked (map string_bytes c.args.words.now)) c.finish.result _ _
+    (ends_as end.Differs c.finish.result end.Usage c.finish.ensures.end (λ is. cc))
 
 pub returns-in-Ok-Run-clause-other : goal.returns-in-Ok-Run-clause-other
-returns-in-Ok-Run-clause-other g c = judges_nothing (asked (map string_bytes c.args.words.now)) c.run_files.result _ _
+returns-in-Ok-Run-clause-other g c =
+    never_ends AsksToJudge end.Differs (asked (map string_bytes c.args.words.now)) c.run_files.result _ _
     c.run_files.ensures.unjudged
 
 pub returns-in-Ok-Judge-clause-other : goal.returns-in-Ok-Judge-clause-other
 returns-in-Ok-Judge-clause-other g c =
-    asks_to_judge (asked (map string_bytes c.args.words.now)) _ c.judge.result _ _
+    ends_asked AsksToJudge end.Differs (asked (map string_bytes c.args.words.now)) _ c.judge.result _ _
     (rw c.in-Ok-Judge.field-0-is at c.in-Ok-Judge.ensures.ok)
-    (said c.judge.result _ c.judge.ensures.other)
+    (said end.Differs c.judge.result _ c.judge.ensures.other)
+
+pub returns-in-Ok-Why-clause-other : goal.returns-in-Ok-Why-clause-other
+returns-in-Ok-Why-clause-other g c =
+    never_ends AsksToJudge end.Differs (asked (map string_bytes c.args.words.now)) c.why.result _ _
+    c.why.ensures.unjudged
 
 pub returns-in-Ok-Check-clause-other : goal.returns-in-Ok-Check-clause-other
-returns-in-Ok-Check-clause-other g c = judges_nothing (asked (map string_bytes c.args.words.now))
-    c.check_topology.result _ _
+returns-in-Ok-Check-clause-other g c =
+    never_ends AsksToJudge end.Differs (asked (map string_bytes c.args.words.now)) c.check_topology.result _ _
     c.check_topology.ensures.unjudged
 
 pub returns-in-Ok-Migrate-clause-other : goal.returns-in-Ok-Migrate-clause-other
-returns-in-Ok-Migrate-clause-other g c = judges_nothing (asked (map string_bytes c.args.words.now))
-    c.migrate_topology.result _ _
+returns-in-Ok-Migrate-clause-other g c =
+    never_ends AsksToJudge end.Differs (asked (map string_bytes c.args.words.now)) c.migrate_topology.result _ _
     c.migrate_topology.ensures.unjudged
 
 pub returns-in-Ok-Show-clause-other : goal.returns-in-Ok-Show-clause-other
-returns-in-Ok-Show-clause-other g c = judges_nothing (asked (map string_bytes c.args.words.now)) c.show_packets.result _
-    _
+returns-in-Ok-Show-clause-other g c =
+    never_ends AsksToJudge end.Differs (asked (map string_bytes c.args.words.now)) c.show_packets.result _ _
     c.show_packets.ensures.unjudged
 
 pub returns-in-Ok-Generate-clause-other : goal.returns-in-Ok-Generate-clause-other
-returns-in-Ok-Generate-clause-other g c = judges_nothing (asked (map string_bytes c.args.words.now)) c.generate.result _
-    _
-    (ends_as c.generate.result end.Done c.generate.ensures.end (λ is. cc))
+returns-in-Ok-Generate-clause-other g c =
+    never_ends AsksToJudge end.Differs (asked (map string_bytes c.args.words.now)) c.generate.result _ _
+    (ends_as end.Differs c.generate.result end.Done c.generate.ensures.end (λ is. cc))
 
 pub returns-in-Ok-GenerateScript-clause-other : goal.returns-in-Ok-GenerateScript-clause-other
-returns-in-Ok-GenerateScript-clause-other g c = judges_nothing (asked (map string_bytes c.args.words.now))
-    c.generate_script.result _ _
-    (ends_as c.generate_script.result end.Done c.generate_script.ensures.end (λ is. cc))
+returns-in-Ok-GenerateScript-clause-other g c =
+    never_ends AsksToJudge end.Differs (asked (map string_bytes c.args.words.now)) c.generate_script.result _ _
+    (ends_as end.Differs c.generate_script.result end.Done c.generate_script.ensures.end (λ is. cc))
 
 pub returns-in-Ok-GenerateTopology-clause-other : goal.returns-in-Ok-GenerateTopology-clause-other
-returns-in-Ok-GenerateTopology-clause-other g c = judges_nothing (asked (map string_bytes c.args.words.now))
-    c.generate_topology.result _ _
-    (ends_as c.generate_topology.result end.Done c.generate_topology.ensures.end (λ is. cc))
+returns-in-Ok-GenerateTopology-clause-other g c =
+    never_ends AsksToJudge end.Differs (asked (map string_bytes c.args.words.now)) c.generate_topology.result _ _
+    (ends_as end.Differs c.generate_topology.result end.Done c.generate_topology.ensures.end (λ is. cc))
+
+pub returns-in-Err-Usage-clause-absent : goal.returns-in-Err-Usage-clause-absent
+returns-in-Err-Usage-clause-absent g c =
+    never_ends AsksToTell end.NoEvent (asked (map string_bytes c.args.words.now)) c.finish.result _ _
+    (ends_as end.NoEvent c.finish.result end.Usage c.finish.ensures.end (λ is. cc))
+
+pub returns-in-Ok-Run-clause-absent : goal.returns-in-Ok-Run-clause-absent
+returns-in-Ok-Run-clause-absent g c =
+    never_ends AsksToTell end.NoEvent (asked (map string_bytes c.args.words.now)) c.run_files.result _ _
+    c.run_files.ensures.present
+
+pub returns-in-Ok-Judge-clause-absent : goal.returns-in-Ok-Judge-clause-absent
+returns-in-Ok-Judge-clause-absent g c =
+    never_ends AsksToTell end.NoEvent (asked (map string_bytes c.args.words.now)) c.judge.result _ _
+    c.judge.ensures.present
+
+pub returns-in-Ok-Why-clause-absent : goal.returns-in-Ok-Why-clause-absent
+returns-in-Ok-Why-clause-absent g c =
+    ends_asked AsksToTell end.NoEvent (asked (map string_bytes c.args.words.now)) _ c.why.result _ _
+    (rw c.in-Ok-Why.field-0-is at c.in-Ok-Why.ensures.ok)
+    (said end.NoEvent c.why.result _ c.why.ensures.all)
+
+pub returns-in-Ok-Check-clause-absent : goal.returns-in-Ok-Check-clause-absent
+returns-in-Ok-Check-clause-absent g c =
+    never_ends AsksToTell end.NoEvent (asked (map string_bytes c.args.words.now)) c.check_topology.result _ _
+    c.check_topology.ensures.present
+
+pub returns-in-Ok-Migrate-clause-absent : goal.returns-in-Ok-Migrate-clause-absent
+returns-in-Ok-Migrate-clause-absent g c =
+    never_ends AsksToTell end.NoEvent (asked (map string_bytes c.args.words.now)) c.migrate_topology.result _ _
+    c.migrate_topology.ensures.present
+
+pub returns-in-Ok-Show-clause-absent : goal.returns-in-Ok-Show-clause-absent
+returns-in-Ok-Show-clause-absent g c =
+    never_ends AsksToTell end.NoEvent (asked (map string_bytes c.args.words.now)) c.show_packets.result _ _
+    c.show_packets.ensures.present
+
+pub returns-in-Ok-Generate-clause-absent : goal.returns-in-Ok-Generate-clause-absent
+returns-in-Ok-Generate-clause-absent g c =
+    never_ends AsksToTell end.NoEvent (asked (map string_bytes c.args.words.now)) c.generate.result _ _
+    (ends_as end.NoEvent c.generate.result end.Done c.generate.ensures.end (λ is. cc))
+
+pub returns-in-Ok-GenerateScript-clause-absent : goal.returns-in-Ok-GenerateScript-clause-absent
+returns-in-Ok-GenerateScript-clause-absent g c =
+    never_ends AsksToTell end.NoEvent (asked (map string_bytes c.args.words.now)) c.generate_script.result _ _
+    (ends_as end.NoEvent c.generate_script.result end.Done c.generate_script.ensures.end (λ is. cc))
+
+pub returns-in-Ok-GenerateTopology-clause-absent : goal.returns-in-Ok-GenerateTopology-clause-absent
+returns-in-Ok-GenerateTopology-clause-absent g c =
+    never_ends AsksToTell end.NoEvent (asked (map string_bytes c.args.words.now)) c.generate_topology.result _ _
+    (ends_as end.NoEvent c.generate_topology.result end.Done c.generate_topology.ensures.end (λ is. cc))
 
 pub returns-in-Err-Usage-clause-names : goal.returns-in-Err-Usage-clause-names
 returns-in-Err-Usage-clause-names g c =
@@ -310,6 +389,11 @@ pub returns-in-Ok-Run-clause-names : goal.returns-in-Ok-Run-clause-names
 returns-in-Ok-Run-clause-names g c =
     asked_names (asked (map string_bytes c.args.words.now)) _ _ _
     (rw c.in-Ok-Run.field-0-is at c.in-Ok-Run.ensures.ok) c.run_files.ensures.names
+
+pub returns-in-Ok-Why-clause-names : goal.returns-in-Ok-Why-clause-names
+returns-in-Ok-Why-clause-names g c =
+    asked_names (asked (map string_bytes c.args.words.now)) _ _ _
+    (rw c.in-Ok-Why.field-0-is at c.in-Ok-Why.ensures.ok) c.why.ensures.names
 
 pub returns-in-Ok-Check-clause-names : goal.returns-in-Ok-Check-clause-names
 returns-in-Ok-Check-clause-names g c =

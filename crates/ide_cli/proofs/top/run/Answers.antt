@@ -6,6 +6,7 @@ use Rattle.ide_cli.specs.Laws.{IsDue, Laws}
 use Rattle.ide_cli.specs.Seen.{CallSeen, run_seen}
 use Rattle.ide_cli.proofs.GeneratedRuns.{runs_generated}
 use Rattle.ide_cli.proofs.Judging.{all_judged, is_judged}
+use Rattle.ide_cli.proofs.Telling.{all_told, is_explained}
 use Rattle.ide_cli.proofs.Requests.{ended}
 use Rattle.ide_cli.proofs.Written.{all_counted, all_written, history_is_due}
 use Rattle.ide_cli.proofs.top.run.Given.{Over}
@@ -52,6 +53,16 @@ returns-clause-all_counted g c = all_counted (call g c) (returns-clause-generate
 pub returns-clause-other : goal.returns-clause-other
 returns-clause-other g c = λ same. ended end.Differs _ status.Differs c.perform.result _ refl c.status_of.ensures
     (rw c.as_slice-words.ensures.value at c.perform.ensures.other) same
+
+pub returns-clause-absent : goal.returns-clause-absent
+returns-clause-absent g c = λ same. ended end.NoEvent _ status.NoEvent c.perform.result _ refl c.status_of.ensures
+    (rw c.as_slice-words.ensures.value at c.perform.ensures.absent) same
+
+pub returns-clause-explained : goal.returns-clause-explained
+returns-clause-explained g c = is_explained (call g c) (returns-clause-answers g c)
+
+pub returns-clause-all_told : goal.returns-clause-all_told
+returns-clause-all_told g c = all_told (call g c)
 
 pub returns-clause-judged : goal.returns-clause-judged
 returns-clause-judged g c = is_judged (call g c) (returns-clause-answers g c)

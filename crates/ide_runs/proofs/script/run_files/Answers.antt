@@ -1,14 +1,14 @@
 use Rattle.std.proofs.Common.{Ok, option_map, refl}
-use Rattle.line_runs.specs.declared.ends.End.TheVariants.{TooLong}
+use Rattle.line_runs.specs.declared.ends.End.TheVariants.{Done, TooLong}
 use Rattle.line_runs.proofs.Names.{asks_both, asks_first}
 use Rattle.line_runs.proofs.WholeFiles.{redue}
 use Rattle.line_runs.proofs.Joins.{later}
 use Rattle.ide_runs.specs.declared.topologies.Loaded.TheVariants.{Faulty, Long}
 use Rattle.ide_runs.specs.Script.{run_due, script_due}
-use Rattle.ide_runs.specs.SoFar.{run_so_far, script_given}
+use Rattle.ide_runs.specs.SoFar.{run_so_far, script_given, script_so_far}
 use Rattle.ide_runs.proofs.Furthers.{far_behind, topology_alone}
-use Rattle.ide_runs.proofs.Loads.{cut_by_load, gave_more, in_topology, no_line_wrote, nothing_yet, ran_gave, ran_whole}
-use Rattle.ide_runs.proofs.Loads.{run_after, run_ended, sound_is_short}
+use Rattle.ide_runs.proofs.Loads.{cut_by_load, due_behind_load, gave_more, in_topology, no_line_wrote, nothing_yet}
+use Rattle.ide_runs.proofs.Loads.{ran_gave, ran_whole, run_ended, sound_is_short}
 use Rattle.ide_runs.proofs.script.run_files.Goals as goal
 
 pub returns-in-Err-clause-answers : goal.returns-in-Err-clause-answers
@@ -23,7 +23,7 @@ returns-in-Ok-Sound-clause-answers g c =
     let told = (g.S.Shelf.seen c.args.shelf.now).contents in
     redue told (λ contents. option_map (script_due c.in-Ok-Sound.plan) (contents c.args.script.now))
     (λ contents. run_due (contents c.args.topology.now) (contents c.args.script.now)) _ _ _ _ c.run_script.result
-    (run_after told c.args.topology.now c.args.script.now c.in-Ok-Sound.plan
+    (due_behind_load script_due told c.args.topology.now c.args.script.now c.in-Ok-Sound.plan
     (rw c.in-Ok-Sound.field-0-is at c.in-Ok-Sound.ensures.loads))
     (later told (g.S.Shelf.seen c.load.new.shelf).contents
     (λ contents. option_map (script_due c.in-Ok-Sound.plan) (contents c.args.script.now)) _ _ _ _ _ _
@@ -38,7 +38,7 @@ returns-in-Ok-Sound-clause-too_long g c =
 pub returns-in-Ok-Sound-clause-whole : goal.returns-in-Ok-Sound-clause-whole
 returns-in-Ok-Sound-clause-whole g c =
     let few = rw c.in-Ok-Sound.field-0-is at c.in-Ok-Sound.ensures.few in
-    ran_whole c.run_script.result _ _ _ (few (sound_is_short c.in-Ok-Sound.plan)) c.run_script.ensures.whole
+    ran_whole c.run_script.result Done _ _ _ (few (sound_is_short c.in-Ok-Sound.plan)) c.run_script.ensures.whole
 
 pub returns-in-Ok-Sound-clause-gave : goal.returns-in-Ok-Sound-clause-gave
 returns-in-Ok-Sound-clause-gave g c =
@@ -50,13 +50,14 @@ returns-in-Err-clause-so_far g c =
     nothing_yet c.in-Err.e (λ contents n. run_so_far (contents c.args.topology.now) (contents c.args.script.now) n)
     (λ contents n. script_given (contents c.args.topology.now) (contents c.args.script.now) n)
     (g.S.Shelf.seen c.args.shelf.now) (g.S.Shelf.seen c.load.new.shelf) (g.O.Sink.seen c.args.out.now)
-    (in_topology (g.S.Shelf.seen c.args.shelf.now).contents c.args.topology.now c.args.script.now _ _
+    (in_topology script_so_far (λ plan. refl) (g.S.Shelf.seen c.args.shelf.now).contents c.args.topology.now
+    c.args.script.now _ _
     c.in-Err.ensures.within)
 
 pub returns-in-Ok-Sound-clause-so_far : goal.returns-in-Ok-Sound-clause-so_far
 returns-in-Ok-Sound-clause-so_far g c =
     let all = rw c.in-Ok-Sound.field-0-is at c.in-Ok-Sound.ensures.all in
-    run_ended c.args.topology.now c.args.script.now c.in-Ok-Sound.plan (g.S.Shelf.seen c.args.shelf.now)
+    run_ended script_so_far c.args.topology.now c.args.script.now c.in-Ok-Sound.plan (g.S.Shelf.seen c.args.shelf.now)
     (g.S.Shelf.seen c.load.new.shelf) (g.S.Shelf.seen c.run_script.new.shelf) (g.O.Sink.seen c.args.out.now)
     (g.O.Sink.seen c.run_script.new.out) c.run_script.result c.in-Ok-Sound.ensures.same
     (rw c.in-Ok-Sound.field-0-is at c.in-Ok-Sound.ensures.loads) (all (sound_is_short c.in-Ok-Sound.plan))
@@ -68,7 +69,8 @@ returns-in-Ok-Faulty-clause-so_far g c =
     (λ contents n. script_given (contents c.args.topology.now) (contents c.args.script.now) n) _
     (g.S.Shelf.seen c.args.shelf.now) (g.S.Shelf.seen c.load.new.shelf) (g.O.Sink.seen c.args.out.now)
     (g.O.Sink.seen c.refuse.new.out) c.refuse.result
-    (in_topology (g.S.Shelf.seen c.args.shelf.now).contents c.args.topology.now c.args.script.now _ _
+    (in_topology script_so_far (λ plan. refl) (g.S.Shelf.seen c.args.shelf.now).contents c.args.topology.now
+    c.args.script.now _ _
     c.in-Ok-Faulty.ensures.within) c.refuse.ensures.ran
 
 pub returns-in-Ok-Sound-clause-no_further : goal.returns-in-Ok-Sound-clause-no_further

@@ -9,7 +9,7 @@ use Rattle.line_runs.proofs.Joins.{ended_same, far_same, same_due, same_ended}
 use Rattle.ide_runs.specs.Script.{script_due}
 use Rattle.ide_runs.specs.Reads.{ScriptGoesOn}
 use Rattle.ide_runs.specs.SoFar.{script_so_far}
-use Rattle.ide_runs.specs.Works.{ScriptPast, Follows, closing_line, ran_line}
+use Rattle.ide_runs.specs.Works.{ScriptPast, Follows, closing_due, ran_line}
 use Rattle.ide_runs.proofs.Scripts.{ended_runs, file_runs, follows_nothing, script_goes_on}
 use Rattle.ide_runs.proofs.script.run_script.Goals as goal
 
@@ -23,9 +23,9 @@ returns-in-Ok-clause-answers g c =
     let past : ScriptPast = record { plan = c.args.plan; history = [] } in
     let follows : Follows c.new-work.result past = rw c.new-work.ensures
     (follows_nothing c.args.plan c.in-Ok.world c.in-Ok.ensures) in
-    redue told (λ contents. option_map (file_due ran_line closing_line past) (contents c.args.script.now))
+    redue told (λ contents. option_map (file_due ran_line closing_due past) (contents c.args.script.now))
     (λ contents. option_map (script_due c.args.plan) (contents c.args.script.now)) _ _ _ _ c.run_file.result
-    (same_due told c.args.script.now (file_due ran_line closing_line past) (script_due c.args.plan)
+    (same_due told c.args.script.now (file_due ran_line closing_due past) (script_due c.args.plan)
     (λ t. file_runs c.args.plan t))
     (c.run_file.ensures.answers past follows)
 
@@ -34,7 +34,7 @@ returns-in-Ok-clause-so_far g c =
     let past : ScriptPast = record { plan = c.args.plan; history = [] } in
     let follows : Follows c.new-work.result past = rw c.new-work.ensures
     (follows_nothing c.args.plan c.in-Ok.world c.in-Ok.ensures) in
-    ended_same (ended_text ran_line closing_line past) (script_so_far c.args.plan) c.args.script.now
+    ended_same (ended_text ran_line closing_due past) (script_so_far c.args.plan) c.args.script.now
     (g.S.Shelf.seen c.args.shelf.now) (g.S.Shelf.seen c.run_file.new.shelf) (g.O.Sink.seen c.args.out.now)
     (g.O.Sink.seen c.run_file.new.out) c.run_file.result (λ t. ended_runs c.args.plan t)
     (c.run_file.ensures.so_far past follows)
@@ -42,11 +42,11 @@ returns-in-Ok-clause-so_far g c =
 pub returns-in-Err-clause-so_far : goal.returns-in-Err-clause-so_far
 returns-in-Err-clause-so_far g c =
     let past : ScriptPast = record { plan = c.args.plan; history = [] } in
-    same_ended fault.Memory (ended_text ran_line closing_line past) (script_so_far c.args.plan) c.args.script.now
+    same_ended fault.Memory (ended_text ran_line closing_due past) (script_so_far c.args.plan) c.args.script.now
     (g.S.Shelf.seen c.args.shelf.now) (g.S.Shelf.seen c.args.shelf.now) (g.O.Sink.seen c.args.out.now)
     (g.O.Sink.seen c.args.out.now)
     (λ t. ended_runs c.args.plan t)
-    (nothing_wrote ran_line closing_line past c.args.script.now (g.S.Shelf.seen c.args.shelf.now)
+    (nothing_wrote ran_line closing_due past c.args.script.now (g.S.Shelf.seen c.args.shelf.now)
     (g.O.Sink.seen c.args.out.now))
 
 pub returns-in-Ok-clause-no_further : goal.returns-in-Ok-clause-no_further
@@ -54,7 +54,7 @@ returns-in-Ok-clause-no_further g c =
     let past : ScriptPast = record { plan = c.args.plan; history = [] } in
     let follows : Follows c.new-work.result past = rw c.new-work.ensures
     (follows_nothing c.args.plan c.in-Ok.world c.in-Ok.ensures) in
-    far_same (GoesOn ran_line closing_line past) (ScriptGoesOn c.args.plan) c.args.script.now
+    far_same (GoesOn ran_line closing_due past) (ScriptGoesOn c.args.plan) c.args.script.now
     (g.S.Shelf.seen c.args.shelf.now) (g.S.Shelf.seen c.run_file.new.shelf) c.run_file.result
     (λ t goes_on. script_goes_on c.args.plan t goes_on)
     (c.run_file.ensures.no_further past follows)

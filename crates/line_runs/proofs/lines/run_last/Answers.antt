@@ -1,6 +1,5 @@
 use Rattle.std.proofs.Common.{◌∙◌, false, refl, sym}
 use Rattle.std.proofs.lemmas.Result.{err_from_is_err_and}
-use Rattle.line_runs.specs.declared.ends.End.TheVariants.{Done}
 use Rattle.line_runs.proofs.Runs.{cut_line, one_line, ran_later}
 use Rattle.line_runs.proofs.lines.run_last.Goals as goal
 
@@ -11,7 +10,7 @@ returns-in_err-write-in-Ok-clause-ran g c =
     let came = c.in-Ok.ensures.came past was in
     let due = one_line g.W.LineWork.advance g.W.LineWork.closing false c.args.number _ _ _ c.in-Ok.text refl
     (sym c.is_empty.ensures ∙ c.if-is_empty.false) came.1 in
-    cut_line c.in_err-write-in-Ok.field-0.0 _ (Done, g.W.LineWork.closing came.0) c.in-Ok.text _ _ _ _ due
+    cut_line c.in_err-write-in-Ok.field-0.0 _ (g.W.LineWork.closing came.0) c.in-Ok.text _ _ _ _ due
     (rw c.as_slice.ensures at c.in_err-write-in-Ok.ensures))
 
 pub returns-in_ok-write-in-Ok-clause-ran : goal.returns-in_ok-write-in-Ok-clause-ran

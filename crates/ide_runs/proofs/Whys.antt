@@ -1,0 +1,312 @@
+-- One event of a script is told: line by line the text and the end are those that are due.
+use Rattle.std.proofs.Common.{◌≡◌, ◌∙◌, ℕ, ◌+◌, ◌<◌, ◌≤◌, ◌==◌, Bool, true, false, List, [], ◌∷◌, length, Option, Some}
+use Rattle.std.proofs.Common.{◌++◌, None, Result, Ok, Err, refl, sym, ap, arith, length-append}
+use Rattle.std.specs.Prelude.{nat_lt, if◌then◌else◌}
+use Rattle.std.proofs.lemmas.Bool.{lt-ltb, le-ltb}
+use Rattle.std.proofs.lemmas.List.{length-map}
+use Rattle.std.proofs.lemmas.Bool.Decides.{nat_tests}
+use Rattle.ide_plan.specs.declared.plan.Plan.{Plan}
+use Rattle.link_events.specs.declared.event.Event.{Event}
+use Rattle.link_events.specs.declared.script.ScriptEvent.{ScriptEvent}
+use Rattle.link_events.specs.declared.fault.LineFault.{LineFault}
+use Rattle.link_events.specs.Parse.{line_meaning}
+use Rattle.link_verdicts.specs.declared.verdict.Verdict.{Verdict}
+use Rattle.link_verdicts.specs.Lines.{line_of}
+use Rattle.link_verdicts.specs.Shown.{shown}
+use Rattle.key_laws.specs.History.{History}
+use Rattle.link_history.specs.Due.{due}
+use Rattle.script_events.specs.{event_of}
+use Rattle.text_laws.specs.Runs.{history_on, history_with}
+use Rattle.ide_why.specs.{IsNewWorld, Stands, WorldView, facts_due}
+use Rattle.why_lines.specs.declared.fact.Fact.{Fact}
+use Rattle.why_lines.specs.{why_text_of}
+use Rattle.line_runs.specs.declared.ends.End.TheVariants as end
+use Rattle.line_runs.specs.Gain.{Text}
+use Rattle.line_runs.specs.Gathering.{GoesOn, ended_text}
+use Rattle.line_runs.specs.Lines.{after, cut_text, file_due, go_on, is_over, process, unended}
+use Rattle.line_runs.specs.Outcome.{Due}
+use Rattle.line_runs.specs.Pieces.{pieces}
+use Rattle.ide_runs.specs.Reads.{ScriptGoesOn}
+use Rattle.ide_runs.specs.Script.{AtEnd, AtLimit, Refused, Script, Stop, end_of_stop, events_on, script_in, stops}
+use Rattle.ide_runs.specs.Script.{unended_line, with_line}
+use Rattle.ide_runs.specs.Why.{FollowsWhy, WhyCame, WhyPast, WhyView, event_told, ran_why, told_after, told_due}
+use Rattle.ide_runs.specs.Why.{
+  EventIsTold,
+  no_event_line,
+  left_line,
+  told_last,
+  told_on,
+  told_so_far,
+  why_by_meaning,
+  why_closing,
+}
+use Rattle.ide_runs.specs.Why.{why_line, why_past_with}
+use Rattle.ide_runs.specs.Works.{Follows, RunningView, ScriptPast, VerdictCame}
+use Rattle.ide_runs.proofs.Scripts.{event_comes, follows_nothing}
+
+-- ---- what is kept follows the past
+
+-- an event before the one that is told
+pub comes_before : (past : WhyPast) (e : Event) (w now : WhyView) (v : Verdict) → FollowsWhy w past
+    → now.number ≡ w.number → w.running.world.steps + 1 < w.number → VerdictCame past.script e now.running v
+    → WhyCame (ran_why past e) now []
+comes_before past e w now v was same less came =
+    let before : nat_lt (length past.script.history + 1) past.number ≡ true =
+    lt-ltb (length past.script.history + 1) past.number
+    (omega (arith, was.follows.steps_are, was.number_is, less)) in
+    rw before (record { text_is = refl; follows = record { number_is = same ∙ was.number_is; follows = came.follows } })
+
+not_before : (past : WhyPast) (w : WhyView) → FollowsWhy w past → w.number ≤ w.running.world.steps + 1
+    → nat_lt (length past.script.history + 1) past.number ≡ false
+not_before past w was le =
+    le-ltb (length past.script.history + 1) past.number
+    (omega (arith, was.follows.steps_are, was.number_is, le))
+
+-- one after it
+pub comes_after : (past : WhyPast) (e : Event) (w : WhyView) → FollowsWhy w past
+    → w.number < w.running.world.steps + 1 → WhyCame (ran_why past e) w []
+comes_after past e w was less =
+    let before = not_before past w was (omega (arith, less)) in
+    let behind : nat_lt past.number (length past.script.history + 1) ≡ true =
+    lt-ltb past.number (length past.script.history + 1)
+    (omega (arith, was.follows.steps_are, was.number_is, less)) in
+    rw (before, behind) (record { text_is = refl; follows = was })
+
+-- and it itself
+pub comes_told : (past : WhyPast) (e : Event) (w now : WhyView) (text : Text) → FollowsWhy w past
+    → now.number ≡ w.number → w.number ≤ w.running.world.steps + 1 → w.running.world.steps + 1 ≤ w.number
+    → EventIsTold past.script e now.running text → WhyCame (ran_why past e) now text
+comes_told past e w now text was same least most told =
+    let before = not_before past w was least in
+    let behind : nat_lt past.number (length past.script.history + 1) ≡ false =
+    le-ltb past.number (length past.script.history + 1)
+    (omega (arith, was.follows.steps_are, was.number_is, most)) in
+    rw (before, behind) (record {
+      text_is = told.text_is;
+      follows = record { number_is = same ∙ was.number_is; follows = told.follows };
+    })
+
+-- the text of the event that is told: what it came from is what the history gives before it
+pub event_tells : (past : ScriptPast) (e : Event) (old r : RunningView) (v : Verdict) (xs : List Fact) (text : Text)
+    → Follows old past → ((h : History) → Stands old.world h → xs ≡ facts_due old.world.plan h e)
+    → VerdictCame past e r v
+    → text ≡ line_of r.world.steps (shown r.world.plan.peers v) ++ why_text_of e v xs → EventIsTold past e r text
+event_tells past e old r v xs text was facts came is =
+    let h = past.history in
+    let line : Text = line_of (length h + 1) (shown past.plan.peers (due past.plan h e)) in
+    let shown_is = (event_comes past e r v (line_of r.world.steps (shown r.world.plan.peers v)) came refl).text_is in
+    let told : xs ≡ facts_due past.plan h e = facts h was.stands
+    ∙ ap (λ (p : Plan). facts_due p h e) was.plan_is in
+    record {
+      text_is = is ∙ ap (λ (t : Text). t ++ why_text_of e v xs) shown_is
+          ∙ ap (λ (w : Verdict). line ++ why_text_of e w xs) came.verdict_is
+          ∙ ap (λ (ys : List Fact). line ++ why_text_of e (due past.plan h e) ys) told;
+      follows = came.follows;
+    }
+
+-- the first world follows no events
+pub tells_nothing : (n : ℕ) (plan : Plan) (world : WorldView) → IsNewWorld plan world
+    → FollowsWhy (record {
+      number = n;
+      running = record { world = world; totals = record { sealed = 0; accepted = 0; failed = 0; blocked = 0 } };
+    }) (record { number = n; script = record { plan = plan; history = [] } })
+tells_nothing n plan world new = record { number_is = refl; follows = follows_nothing plan world new }
+
+-- the end after the last line
+pub lacks_event : (past : WhyPast) (w : WhyView) → FollowsWhy w past → w.running.world.steps < w.number
+    → why_closing past ≡ (end.NoEvent, no_event_line w.number w.running.world.steps)
+lacks_event past w was less =
+    let test : nat_lt (length past.script.history) past.number ≡ true =
+    lt-ltb (length past.script.history) past.number
+    (omega (arith, was.follows.steps_are, was.number_is, less)) in
+    rw (test, was.number_is, was.follows.steps_are) refl
+
+pub has_event : (past : WhyPast) (w : WhyView) → FollowsWhy w past → w.number ≤ w.running.world.steps
+    → why_closing past ≡ (end.Done, [])
+has_event past w was le =
+    let test : nat_lt (length past.script.history) past.number ≡ false =
+    le-ltb (length past.script.history) past.number
+    (omega (arith, was.follows.steps_are, was.number_is, le)) in
+    rw test refl
+
+-- ---- the lines
+
+past_of : ℕ → Plan → History → WhyPast
+past_of n plan h = record { number = n; script = record { plan = plan; history = h } }
+
+-- no event after the one that is told gives a text
+none_behind : (n : ℕ) (plan : Plan) (h : History) (events : List Event) → n ≤ length h → told_on n plan h events ≡ []
+none_behind n plan h [] le = refl
+none_behind n plan h (e ∷ events) le =
+    let before : nat_lt (length h + 1) n ≡ false = le-ltb (length h + 1) n (omega (arith, le)) in
+    let behind : nat_lt n (length h + 1) ≡ true = lt-ltb n (length h + 1) (omega (arith, le)) in
+    rw (before, behind) refl
+
+-- then the end is the same, however many there are
+same_last : (n : ℕ) (stop : Stop) (a b : ℕ) → n ≤ a → n ≤ b → told_last n stop a ≡ told_last n stop b
+same_last n AtEnd a b first second =
+    let one : nat_lt a n ≡ false = le-ltb a n first in
+    let two : nat_lt b n ≡ false = le-ltb b n second in
+    rw (one, two) refl
+same_last n (Refused line fault) a b first second = refl
+same_last n AtLimit a b first second = refl
+
+-- an event before what comes later
+one_event : (n m : ℕ) (plan : Plan) (h : History) (e : ScriptEvent) (later : WhyPast → Due) (script : Script)
+    → ((g : History) → later (past_of n plan g) ≡ told_after n plan g script) → (before behind : Bool)
+    → nat_lt (length h + 1) n ≡ before → nat_lt n (length h + 1) ≡ behind
+    → go_on m (why_by_meaning (past_of n plan h) (Ok (Some e))) later
+    ≡ told_after n plan h (with_line m (Ok (Some e)) script)
+unfolding past_of
+one_event n m plan h e later script rest true behind is other =
+    let x = event_of plan e in
+    let g = history_with plan h x in
+    let count : length g + length script.events ≡ length h + length (e ∷ script.events) = omega arith in
+    rw (is, rest g) (ap (λ (k : ℕ). after (told_on n plan g (events_on plan script)) (told_last n script.stop k)) count)
+one_event n m plan h e later script rest false true is other =
+    let le : n ≤ length h = grind (arith, nat_tests) in
+    let none = none_behind n plan h (events_on plan script) le in
+    let last = same_last n script.stop (length h + length script.events) (length h + length (e ∷ script.events))
+    (omega (arith, le)) (omega (arith, le)) in
+    rw (is, other, rest h, none) last
+one_event n m plan h e later script rest false false is other =
+    let x = event_of plan e in
+    let g = history_with plan h x in
+    let le : n ≤ length h + 1 = grind (arith, nat_tests) in
+    let there : n ≤ length g = omega (arith, le) in
+    let none = none_behind n plan g (events_on plan script) there in
+    let last = same_last n script.stop (length g + length script.events) (length h + length (e ∷ script.events))
+    (omega (arith, le)) (omega (arith, le)) in
+    rw (is, other, rest g, none) (ap (after (event_told plan h x)) last)
+
+-- a line before what comes later
+one_line : (n m : ℕ) (plan : Plan) (h : History) (meaning : Result (Option ScriptEvent) LineFault)
+    (later : WhyPast → Due) (script : Script)
+    → ((g : History) → later (past_of n plan g) ≡ told_after n plan g script)
+    → go_on m (why_by_meaning (past_of n plan h) meaning) later ≡ told_after n plan h (with_line m meaning script)
+unfolding past_of
+one_line n m plan h (Err fault) later script rest = refl
+one_line n m plan h (Ok None) later script rest = rest h
+one_line n m plan h (Ok (Some e)) later script rest =
+    one_event n m plan h e later script rest (nat_lt (length h + 1) n) (nat_lt n (length h + 1)) refl refl
+
+unended_is : (n m : ℕ) (plan : Plan) (piece : Text) (h : History) (b : Bool) → nat_lt 20000 (length piece) ≡ b
+    → unended m piece ≡ told_after n plan h (unended_line m piece)
+unended_is n m plan piece h true is = rw is refl
+unended_is n m plan piece h false is = rw is refl
+
+at_end : (n : ℕ) (plan : Plan) (h : History) → why_closing (past_of n plan h) ≡ told_after n plan h (stops AtEnd)
+unfolding past_of
+at_end n plan h =
+    let count : length h ≡ length h + 0 = omega arith in
+    ap (λ (k : ℕ). told_last n AtEnd k) count
+
+last_piece : (n : ℕ) (plan : Plan) (over : Bool) (m : ℕ) (h : History) (piece : Text) (b : Bool)
+    → (length piece == 0) ≡ b
+    → process why_line why_closing over m (past_of n plan h) (piece ∷ [])
+    ≡ told_after n plan h (script_in over m (piece ∷ []))
+unfolding past_of
+last_piece n plan true m h piece b is = unended_is n m plan piece h (nat_lt 20000 (length piece)) refl
+last_piece n plan false m h piece true is = rw is (at_end n plan h)
+last_piece n plan false m h piece false is =
+    rw is (one_line n m plan h (line_meaning piece) why_closing (stops AtEnd) (λ g. at_end n plan g))
+
+lines_told : (n : ℕ) (plan : Plan) (over : Bool) (m : ℕ) (h : History) (pieces : List Text)
+    → process why_line why_closing over m (past_of n plan h) pieces ≡ told_after n plan h (script_in over m pieces)
+unfolding past_of
+lines_told n plan over m h [] = at_end n plan h
+lines_told n plan over m h (piece ∷ []) = last_piece n plan over m h piece (length piece == 0) refl
+lines_told n plan over m h (piece ∷ next ∷ rest) =
+    one_line n m plan h (line_meaning piece) (λ t. process why_line why_closing over (m + 1) t (next ∷ rest))
+    (script_in over (m + 1) (next ∷ rest)) (λ g. lines_told n plan over (m + 1) g (next ∷ rest))
+
+-- a script's file on the world of a plan
+pub file_told : (n : ℕ) (plan : Plan) (file : Text)
+    → file_due why_line why_closing (record { number = n; script = record { plan = plan; history = [] } }) file
+    ≡ told_due n plan file
+unfolding past_of
+file_told n plan file = lines_told n plan (is_over file) 1 [] (pieces (cut_text file))
+
+-- the lines of it that ended in some bytes
+pub ended_told : (n : ℕ) (plan : Plan) (bytes : Text)
+    → ended_text why_line why_closing (record { number = n; script = record { plan = plan; history = [] } }) bytes
+    ≡ told_so_far n plan bytes
+unfolding past_of
+ended_told n plan bytes = ap (λ (d : Due). d.1) (lines_told n plan true 1 [] (pieces bytes))
+
+abbrev none_or_done : Bool → Text → Due
+none_or_done b line = if b then (end.NoEvent, line) else (end.Done, [])
+
+by_event : (b : Bool) (line : Text) → (none_or_done b line).0 ≡ end.TooLong → ⊥
+by_event true line is = absurd cc
+by_event false line is = absurd cc
+
+ends_as_script : (n : ℕ) (stop : Stop) (events : ℕ) → (told_last n stop events).0 ≡ end.TooLong
+    → end_of_stop stop ≡ end.TooLong
+ends_as_script n AtEnd events is = absurd (by_event (nat_lt events n) (no_event_line n events) is)
+ends_as_script n (Refused line fault) events is = is
+ends_as_script n AtLimit events is = is
+
+-- if no line ends the run of those bytes, none ends the script
+pub told_goes_on : (n : ℕ) (plan : Plan) (bytes : Text)
+    → GoesOn why_line why_closing (record { number = n; script = record { plan = plan; history = [] } }) bytes
+    → ScriptGoesOn plan bytes
+unfolding past_of
+told_goes_on n plan bytes goes_on =
+    let script = script_in true 1 (pieces bytes) in
+    ends_as_script n script.stop (0 + length script.events)
+    (sym (ap (λ (d : Due). d.0) (lines_told n plan true 1 [] (pieces bytes))) ∙ goes_on)
+
+-- ---- the event that is told
+
+-- of the events after a history it is the one at its number
+told_at : (n : ℕ) (plan : Plan) (h : History) (before later : List Event) (e : Event)
+    → n ≡ length h + length before + 1
+    → told_on n plan h (before ++ e ∷ later) ≡ event_told plan (history_on plan h before) e
+told_at n plan h [] later e is =
+    let before : nat_lt (length h + 1) n ≡ false = le-ltb (length h + 1) n (omega (arith, is)) in
+    let behind : nat_lt n (length h + 1) ≡ false = le-ltb n (length h + 1) (omega (arith, is)) in
+    rw (before, behind) refl
+told_at n plan h (x ∷ before) later e is =
+    let less : nat_lt (length h + 1) n ≡ true = lt-ltb (length h + 1) n (omega (arith, is)) in
+    rw less (told_at n plan (history_with plan h x) before later e (omega (arith, is)))
+
+-- of fewer events it is none
+told_nowhere : (n : ℕ) (plan : Plan) (h : History) (events : List Event) → length h + length events < n
+    → told_on n plan h events ≡ []
+told_nowhere n plan h [] few = refl
+told_nowhere n plan h (e ∷ events) few =
+    let less : nat_lt (length h + 1) n ≡ true = lt-ltb (length h + 1) n (omega (arith, few)) in
+    rw less (told_nowhere n plan (history_with plan h e) events (omega (arith, few)))
+
+last_there : (n : ℕ) (stop : Stop) (events : ℕ) → n ≤ events
+    → told_last n stop events ≡ (end_of_stop stop, left_line stop)
+last_there n AtEnd events le = let test : nat_lt events n ≡ false = le-ltb events n le in rw test refl
+last_there n (Refused line fault) events le = refl
+last_there n AtLimit events le = refl
+
+so_many : (plan : Plan) (script : Script) → length (events_on plan script) ≡ length script.events
+so_many plan script = length-map script.events (event_of plan)
+
+-- the end and the text of a script that has the event
+pub told_event : (n : ℕ) (plan : Plan) (script : Script) (h : History) (e : Event) (before later : List Event)
+    → before ++ e ∷ later ≡ events_on plan script → n ≡ length before + 1 → h ≡ history_on plan [] before
+    → told_after n plan [] script ≡ (end_of_stop script.stop, event_told plan h e ++ left_line script.stop)
+told_event n plan script h e before later events_are number_is history_is =
+    let many : n ≤ 0 + length script.events = omega
+    (arith, number_is, so_many plan script, ap length events_are, length-append before (e ∷ later)) in
+    let text : told_on n plan [] (events_on plan script) ≡ event_told plan h e =
+    ap (told_on n plan []) (sym events_are)
+    ∙ told_at n plan [] before later e (omega (arith, number_is))
+    ∙ ap (λ (g : History). event_told plan g e) (sym history_is) in
+    ap (after (told_on n plan [] (events_on plan script))) (last_there n script.stop (0 + length script.events) many)
+    ∙ ap (λ (t : Text). (end_of_stop script.stop, t ++ left_line script.stop)) text
+
+-- and of one that was read to its end and has not
+pub told_none : (n : ℕ) (plan : Plan) (script : Script) → length (events_on plan script) < n → script.stop ≡ AtEnd
+    → told_after n plan [] script ≡ (end.NoEvent, no_event_line n (length (events_on plan script)))
+told_none n plan script few stop =
+    let none = told_nowhere n plan [] (events_on plan script) (omega (arith, few)) in
+    let count : 0 + length script.events ≡ length (events_on plan script) = omega (arith, so_many plan script) in
+    let less : nat_lt (length (events_on plan script)) n ≡ true = lt-ltb (length (events_on plan script)) n few in
+    rw (none, stop, count, less) refl

@@ -1,0 +1,9 @@
+mod SeenStreams
+mod Brought
+mod Packets
+mod SeenOperations
+mod SeenFaces
+mod SeenInterfaces
+mod Read
+mod Reading
+mod Taken

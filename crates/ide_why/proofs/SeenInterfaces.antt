@@ -1,0 +1,147 @@
+-- What is read of events on interfaces, of answers and of forwards is what the machine keeps.
+use Rattle.std.proofs.Common.{◌≡◌, ℕ, ◌==◌, ◌<◌, Bool, true, false, List, [], ◌∷◌, ◌++◌, length, refl, ap, ◌∙◌}
+use Rattle.std.proofs.Common.{Option, Some, None, arith}
+use Rattle.std.specs.Prelude.{if◌then◌else◌}
+use Rattle.std.specs.Option.{option_map}
+use Rattle.ide_types.specs.declared.direction.Direction.{Direction}
+use Rattle.ide_types.specs.declared.port.PortName.{PortName}
+use Rattle.ide_types.specs.declared.port.Side.TheVariants.{Host}
+use Rattle.ide_types.specs.declared.sub.SubKind.TheVariants.{Cpl}
+use Rattle.ide_types.specs.Ports.{host_port}
+use Rattle.ide_plan.specs.declared.plan.Plan.{Plan}
+use Rattle.interface_machine.specs.Machine.{Face, face_standing, find_face, with_requester}
+use Rattle.interface_states.specs.Sites.{Site, sites}
+use Rattle.interface_states.specs.Views.{number_in}
+use Rattle.link_events.specs.declared.event.InterfaceEvent.{InterfaceEvent}
+use Rattle.link_events.specs.declared.event.InterfaceEvent.TheVariants as ie
+use Rattle.link_history.specs.{HopTlp, has_hop, leaving_end}
+use Rattle.link_history.specs.Plan.{has_link, is_closed}
+use Rattle.link_history.specs.Ports.{outgoing_at}
+use Rattle.port_operations.specs.{LinkState, find, status_at}
+use Rattle.stream_rules.specs.Slots.{stream_status}
+use Rattle.stream_rules.specs.Stream.{StreamState}
+use Rattle.sub_stream.specs.Facts.{stream_facts}
+use Rattle.waiting_reads.specs.declared.queue.WaitingRead.{WaitingRead}
+use Rattle.whole_machine.specs.Machine.{whole_streams}
+use Rattle.why_lines.specs.declared.fact.Fact.{Fact}
+use Rattle.why_lines.specs.declared.fact.InterfaceFact.TheVariants as face
+use Rattle.why_lines.specs.declared.fact.Fact.TheVariants as fact
+use Rattle.why_facts.specs.Forms.{asked_besides, draw_fact, draws_fact, face_facts, pool_of, read_fact, state_fact}
+use Rattle.why_facts.specs.Forms.{waiting_fact}
+use Rattle.why_facts.specs.Kept.{answer_facts_in, asked_face, asked_facts_in, completion_by, first_in}
+use Rattle.why_facts.specs.Kept.{forward_facts_in, oldest_in, reader_in}
+use Rattle.world.specs.{AreLinks, Stands, WholeLinks, carried_at, world_of}
+use Rattle.key_laws.specs.History.{History}
+use Rattle.ide_why.specs.declared.faces.FaceSeen.{FaceSeen}
+use Rattle.ide_why.specs.Facts.{answer_read, asked_by_face, asked_by_number, besides_read, completion_read, first_read}
+use Rattle.ide_why.specs.Facts.{forward_read, oldest_read, reader_read, state_of}
+use Rattle.ide_why.specs.Faces.{AreFacesSeen, IsFaceSeen}
+use Rattle.ide_why.specs.Reading.{face_read, requester_read, stream_read}
+use Rattle.ide_why.proofs.SeenFaces.{face_is, face_read_is, known, requester_read_is}
+use Rattle.ide_why.proofs.Packets.{sending_is, state_is}
+use Rattle.ide_why.proofs.SeenStreams.{sender_is}
+
+module _ (plan : Plan) (s : WholeLinks) (links : AreLinks plan s.links.ends s.links.keeper.keys)
+    (h : History) (stood : Stands (world_of plan s) h) where
+  st_is : state_of plan s ≡ stood.whole.links
+  st_is = state_is plan s h stood (known plan s links h stood)
+
+  -- ---- events on interfaces
+
+  besides_are : (e : InterfaceEvent) (y : Site × Face) (f : FaceSeen) → IsFaceSeen stood.whole.draw y f
+      → besides_read plan s f e
+      ≡ asked_besides plan y.0 (face_standing plan (whole_streams plan stood.whole) stood.whole.faces.used y.0 y.1) e
+  besides_are (ie.Lock i loss) y f seen =
+      (λ j. state_fact (status_at plan (st_is j) Host (seen.link j) (seen.stream j)) ∷ [])
+  besides_are (ie.Start i loss) y f seen =
+      (λ j. state_fact (status_at plan (st_is j) Host (seen.link j) (seen.stream j)) ∷ draw_fact (seen.draw_is j) ∷ [])
+  besides_are (ie.Halt i loss) y f seen =
+      (λ j. fact.Interface (face.Started (seen.started j)) ∷ draws_fact (st_is j).draws (pool_of plan) ∷ [])
+  besides_are (ie.Report i loss) y f seen = refl
+  besides_are (ie.State i loss) y f seen = refl
+  besides_are (ie.Bind i line stream loss) y f seen = refl
+  besides_are (ie.Unbind i line stream loss) y f seen = refl
+  besides_are (ie.View i) y f seen = refl
+  besides_are (ie.Write i register value) y f seen = refl
+  besides_are (ie.Flr i) y f seen = refl
+  besides_are (ie.Firmware i) y f seen = refl
+  besides_are (ie.Memory at len) y f seen = refl
+
+  face_asked : (e : InterfaceEvent) (o : Option (Site × Face)) (f : Option FaceSeen) → AreFacesSeen stood.whole.draw o f
+      → asked_by_face plan s e f ≡ asked_face plan stood.whole e o
+  face_asked e None None are = refl
+  face_asked e None (Some f) are = absurd are
+  face_asked e (Some y) None are = absurd are
+  face_asked e (Some y) (Some f) are =
+      (λ j. face_is stood.whole.draw y f are j ++ are.reported j ++ besides_are e y f are j)
+
+  number_asked : (e : InterfaceEvent) (n : Option ℕ) → asked_by_number plan s e n ≡ asked_facts_in plan stood.whole e n
+  number_asked e None = refl
+  number_asked e (Some i) =
+      face_asked e (find_face (λ x. x.number == i) (sites plan) stood.whole.faces.list) (face_read s i)
+      (face_read_is plan s links h stood i)
+
+  pub asked_is : (e : InterfaceEvent) → asked_by_number plan s e (number_in e)
+      ≡ asked_facts_in plan stood.whole e (number_in e)
+  asked_is e = number_asked e (number_in e)
+
+  -- ---- answers to reads
+
+  completion_is : (link stream : ℕ) (o : Option StreamState)
+      → completion_read (option_map (stream_facts (is_closed plan link stream)) o)
+      ≡ completion_by plan (host_port link) stream o
+  completion_is link stream None = refl
+  completion_is link stream (Some x) =
+      ap (λ (fs : List Fact). state_fact (stream_status x) ∷ fs) (sender_is (is_closed plan link stream) x Cpl)
+
+  reader_is : (o : Option (Site × Face)) (f : Option FaceSeen) → AreFacesSeen stood.whole.draw o f
+      → reader_read plan s f ≡ reader_in plan stood.whole o
+  reader_is None None are = refl
+  reader_is None (Some f) are = absurd are
+  reader_is (Some y) None are = absurd are
+  reader_is (Some y) (Some f) are =
+      (λ j. face_is stood.whole.draw y f are j
+      ++ completion_read (stream_read plan s (host_port (are.link j)) (are.stream j)))
+      ∙ ap (λ (fs : List Fact). face_facts y.0 y.1.tdi y.1.managed ++ fs)
+      (completion_is y.0.link y.0.plan.stream
+      (find plan (state_of plan s) (host_port y.0.link) y.0.plan.stream)
+      ∙ ap (λ (st : LinkState). completion_by plan (host_port y.0.link) y.0.plan.stream
+      (find plan st (host_port y.0.link) y.0.plan.stream)) st_is)
+
+  oldest_is : (link : ℕ) (rs : List WaitingRead) → oldest_read plan s link rs ≡ oldest_in plan stood.whole link rs
+  oldest_is link [] = refl
+  oldest_is link (r ∷ rs) =
+      ap (λ (fs : List Fact). read_fact r.draw ∷ fs)
+      (reader_is (with_requester plan stood.whole.faces link r.read.requester) (requester_read s link r.read.requester)
+      (requester_read_is plan s links h stood link r.read.requester))
+
+  pub answer_is : (link : ℕ) → answer_read plan s link ≡ answer_facts_in plan stood.whole link
+  answer_is link =
+      (λ j. if has_link plan link then waiting_fact (length (stood.is.accesses.reads link j))
+      ∷ oldest_read plan s link (stood.is.accesses.reads link j) else [])
+      ∙ ap (λ (fs : List Fact). if has_link plan link then waiting_fact (length (stood.whole.accesses.waiting link))
+      ∷ fs else [])
+      (oldest_is link (stood.whole.accesses.waiting link))
+
+  -- ---- forwards
+
+  first_is : (end : PortName) (xs : List HopTlp) → first_read plan s end xs ≡ first_in plan stood.whole end xs
+  first_is end [] = refl
+  first_is end (x ∷ xs) = sending_is plan s h stood (known plan s links h stood) end (outgoing_at plan end x.bytes)
+
+  abbrev waits : ℕ → Direction → List HopTlp → List Fact
+  waits link d xs = waiting_fact (length xs) ∷ first_in plan stood.whole (leaving_end link d) xs
+
+  forward_by : (link : ℕ) (d : Direction) (b : Bool) → has_hop plan link ≡ b
+      → forward_read plan s link d ≡ forward_facts_in plan stood.whole link d
+  forward_by link d false lacks = rw lacks refl
+  forward_by link d true has = rw has
+      (ap (λ (fs : List Fact). waiting_fact (length (carried_at s.accesses link d)) ∷ fs)
+      (first_is (leaving_end link d) (carried_at s.accesses link d))
+      ∙ ap (waits link d) (stood.is.accesses.carried link d (hop_low plan link has)))
+    where
+      hop_low : (plan : Plan) (link : ℕ) → has_hop plan link ≡ true → link < 8
+      hop_low plan link has = grind arith
+
+  pub forward_is : (link : ℕ) (d : Direction) → forward_read plan s link d ≡ forward_facts_in plan stood.whole link d
+  forward_is link d = forward_by link d (has_hop plan link) refl

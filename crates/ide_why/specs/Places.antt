@@ -1,0 +1,83 @@
+-- Where keys are, and which of these places refuses a KEY_PROG.
+use Rattle.std.specs.Prelude.{ℕ, ◌&&◌, nat_le, nat_lt, not, Bool, true, false, if◌then◌else◌, Option, Some, None}
+use Rattle.std.specs.Option.{option_map, option_map_or}
+use Rattle.ide_types.specs.{is_hosted}
+use Rattle.ide_types.specs.declared.port.Side.{Side}
+use Rattle.ide_types.specs.declared.port.Side.TheVariants.{Host, Device}
+use Rattle.ide_types.specs.declared.sub.SubKind.{SubKind}
+use Rattle.ide_types.specs.declared.sub.SubKind.TheVariants.{Pr, Npr, Cpl}
+use Rattle.ide_plan.specs.declared.plan.Plan.{Plan}
+use Rattle.key_laws.specs.History.{program_at}
+use Rattle.key_laws.specs.Places.{KeyPlace, is_host}
+use Rattle.link_verdicts.specs.declared.verdict.Operation.{Operation}
+use Rattle.sub_stream.specs.declared.facts.SetFacts.{SetFacts}
+use Rattle.sub_stream.specs.declared.facts.SlotFacts.{SlotFacts}
+use Rattle.sub_stream.specs.declared.facts.SlotFacts.TheVariants as slot
+use Rattle.sub_stream.specs.declared.facts.StreamFacts.{StreamFacts}
+use Rattle.sub_stream.specs.Facts.{lane_seen}
+use Rattle.world.specs.{WholeLinks}
+use Rattle.ide_why.specs.declared.places.Place.{Place}
+use Rattle.ide_why.specs.Reading.{stream_read}
+
+abbrev pub key_place : Place → KeyPlace
+key_place p = record { side = p.side; link = p.line; stream = p.stream; sends = p.sends; sub = p.sub }
+
+abbrev pub seen_place_at : Side → ℕ → ℕ → Bool → SubKind → Place
+seen_place_at side line stream upward u = record {
+  side = side;
+  line = line;
+  stream = stream;
+  sends = if is_host side then not upward else upward;
+  sub = u;
+}
+
+abbrev pub sets_in : Place → StreamFacts → SetFacts
+sets_in p f = if p.sends then (lane_seen f p.sub).sender.sets else (lane_seen f p.sub).receiver.sets
+
+abbrev pub sets_at : Plan → WholeLinks → Place → Option SetFacts
+sets_at plan s p = option_map (sets_in p) (stream_read plan s (record { side = p.side; link = p.line }) p.stream)
+
+-- a slot is Live, and the other is not Live under a newer draw
+abbrev pub is_last_beside : ℕ → SlotFacts → Bool
+is_last_beside draw (slot.Live newer units packets) = not (nat_lt draw newer)
+is_last_beside draw other = true
+
+abbrev pub is_last_seen : SlotFacts → SlotFacts → Bool
+is_last_seen (slot.Live draw units packets) other = is_last_beside draw other
+is_last_seen s other = false
+
+abbrev pub refuses_seen : Bool → SetFacts → Bool
+refuses_seen set sets = if set then is_last_seen sets.one sets.zero else is_last_seen sets.zero sets.one
+
+-- it has a KEY_PROG of this set from an exchange on, which it refuses
+abbrev pub is_refusing : Plan → WholeLinks → Operation → Bool → ℕ → Place → Bool
+is_refusing plan s o set first p =
+    option_map_or (λ sets. nat_le first (program_at o (key_place p)) && refuses_seen set sets) (sets_at plan s p) false
+
+abbrev pub if_refusing : Bool → Place → Option Place → Option Place
+if_refusing b p next = if b then Some p else next
+
+-- it, if it does so, else the next one
+abbrev pub refusing_or : Plan → WholeLinks → Operation → Bool → ℕ → Place → Option Place → Option Place
+refusing_or plan s o set first p next = if_refusing (is_refusing plan s o set first p) p next
+
+-- the first of the six places of a stream at an end
+abbrev pub first_refusing : Plan → WholeLinks → Operation → Bool → ℕ → Side → ℕ → ℕ → Option Place
+first_refusing plan s o set first side line stream =
+    refusing_or plan s o set first (seen_place_at side line stream false Pr)
+    (refusing_or plan s o set first (seen_place_at side line stream false Npr)
+    (refusing_or plan s o set first (seen_place_at side line stream false Cpl)
+    (refusing_or plan s o set first (seen_place_at side line stream true Pr)
+    (refusing_or plan s o set first (seen_place_at side line stream true Npr)
+    (refusing_or plan s o set first (seen_place_at side line stream true Cpl) None)))))
+
+abbrev pub place_or : Option Place → Option Place → Option Place
+place_or None next = next
+place_or (Some p) next = Some p
+
+-- of those of a stream whose keys are given by messages
+abbrev pub refusing_on : Plan → WholeLinks → Operation → Bool → ℕ → ℕ → ℕ → Option Place
+refusing_on plan s o set first line stream =
+    if is_hosted line then first_refusing plan s o set first Device line stream
+    else place_or (first_refusing plan s o set first Host line stream)
+    (first_refusing plan s o set first Device line stream)

@@ -1,0 +1,46 @@
+-- What is read of a world.
+use Rattle.std.specs.Prelude.{ℕ, Option, Some, None, slice_get}
+use Rattle.std.specs.Option.{option_and_then, option_map}
+use Rattle.ide_types.specs.declared.port.PortName.{PortName}
+use Rattle.ide_plan.specs.declared.plan.Plan.{Plan}
+use Rattle.tlp_layout.specs.declared.head.HeadView.{HeadView}
+use Rattle.interface_states.specs.Cause.{owner_of}
+use Rattle.link_history.specs.Plan.{is_closed}
+use Rattle.port_operations.specs.{find}
+use Rattle.sub_stream.specs.declared.facts.StreamFacts.{StreamFacts}
+use Rattle.sub_stream.specs.Facts.{stream_facts}
+use Rattle.tdi_host.specs.Facts.{interface_facts}
+use Rattle.tdi_host.specs.Managers.{interface_of_requester}
+use Rattle.tdi_host.specs.Views.{HostTdi}
+use Rattle.tdi_state.specs.{Tdi, state_code}
+use Rattle.world.specs.{WholeLinks, interface_named, links_state, tdi_of_ends}
+use Rattle.ide_why.specs.declared.faces.FaceSeen.{FaceSeen}
+
+-- a stream at an end
+abbrev pub stream_read : Plan → WholeLinks → PortName → ℕ → Option StreamFacts
+stream_read plan s end stream =
+    option_map (stream_facts (is_closed plan end.link stream)) (find plan (links_state plan s.links) end stream)
+
+-- an interface, by its number, at this device and at the manager
+abbrev pub face_of : ℕ → Option Tdi → Option HostTdi → Option FaceSeen
+face_of number (Some t) (Some i) =
+    Some (record { number = number; state = state_code t.state; manager = interface_facts i })
+face_of number _ _ = None
+
+abbrev pub face_located : WholeLinks → ℕ → Option (ℕ × ℕ) → Option FaceSeen
+face_located s number None = None
+face_located s number (Some at) = face_of number (tdi_of_ends s.links.ends.links at)
+    (slice_get s.links.keeper.interfaces.interfaces number)
+
+abbrev pub face_read : WholeLinks → ℕ → Option FaceSeen
+face_read s number =
+    face_located s number (interface_named s.links.keeper.interfaces s.links.ends.links number)
+
+-- by its requester ID on a link
+abbrev pub requester_read : WholeLinks → ℕ → ℕ → Option FaceSeen
+requester_read s link requester =
+    option_and_then (face_read s) (interface_of_requester s.links.keeper.interfaces link requester)
+
+-- the interface at a link that owns a TLP
+abbrev pub owner_read : WholeLinks → ℕ → HeadView → Option FaceSeen
+owner_read s link head = option_and_then (requester_read s link) (owner_of head)

@@ -1,0 +1,95 @@
+//! What the verdict of an event comes from.
+
+ghost use Rattle.std.specs.Prelude.{◌≡◌, ◌++◌, IfOk};
+ghost use Rattle.key_laws.specs.History.{History};
+ghost use Rattle.why_facts.specs.Due.{facts_due};
+ghost use Rattle.world.specs.{IsWorld, Stands};
+ghost use Rattle.ide_why.specs.Facts.{arrived_facts, facts_read, sent_facts};
+
+use crate::reader::Reader;
+use ide_types::{Memory, PortName};
+use line_routes::{has_port, may_send, sealing_end};
+use link_events::{AccessEvent, Event};
+use std::alloc::Global;
+use why_facts::facts_stand;
+use why_lines::Fact;
+use world::World;
+
+impl Reader<'_> {
+    // Appends the facts of bytes that are sent at a port.
+    fn push_sent(&self, facts: &mut Vec<Fact>, port: PortName, bytes: &[u8]) -> Result<(), Memory>
+        requires { IsWorld self.now.plan.now self.now.links.now }
+        ensures { IfOk result (λ _. facts.new.items ≡ facts.old.items ++ sent_facts self.now.plan.now
+            self.now.links.now port bytes.now) }
+    {
+        if !may_send(self.plan, port) {
+            return Ok(());
+        }
+        let end = sealing_end(self.plan, port, bytes);
+        self.push_sending(facts, end, bytes)
+    }
+
+    // Appends the facts of bytes that arrive at a port.
+    fn push_arrived(
+        &self,
+        facts: &mut Vec<Fact>,
+        port: PortName,
+        bytes: &[u8],
+    ) -> Result<(), Memory>
+        requires { IsWorld self.now.plan.now self.now.links.now }
+        ensures { IfOk result (λ _. facts.new.items ≡ facts.old.items ++ arrived_facts self.now.plan.now
+            self.now.links.now port bytes.now) }
+    {
+        if has_port(self.plan, port) {
+            self.push_arrival(facts, port, bytes)
+        } else {
+            Ok(())
+        }
+    }
+
+    // Appends the facts of an event.
+    fn push_event(&self, alloc: Global, facts: &mut Vec<Fact>, event: &Event) -> Result<(), Memory>
+        requires { IsWorld self.now.plan.now self.now.links.now }
+        ensures { IfOk result (λ _. facts.new.items ≡ facts.old.items ++ facts_read self.now.plan.now
+            self.now.links.now event.now) }
+    {
+        match event {
+            Event::Send { port, bytes, .. } => self.push_sent(facts, *port, bytes.as_slice()),
+            Event::Pass { packet } => self.push_passed(facts, *packet),
+            Event::Alter { packet, at, mask } => {
+                self.push_altered(alloc, facts, *packet, *at, *mask)
+            }
+            Event::Cut { packet, length } => self.push_cut(facts, *packet, *length),
+            Event::Arrive { port, bytes } => self.push_arrived(facts, *port, bytes.as_slice()),
+            Event::Dump { .. } => self.push_sealed(facts),
+            Event::Establish { link, stream, .. } => self.push_establish(facts, *link, *stream),
+            Event::Refresh { link, stream, .. } if *link < 8 => {
+                self.push_refresh(facts, *link, *stream)
+            }
+            Event::Stop { link, stream, .. } => self.push_stop(facts, *link, *stream),
+            Event::Status { link, stream } => self.push_stage(facts, *link, *stream),
+            Event::Interface { event } => self.push_asked(facts, event),
+            Event::Access {
+                event: AccessEvent::Answer { link },
+            } => self.push_answer(facts, *link),
+            Event::Forward { link, direction } => self.push_forward(facts, *link, *direction),
+            _ => Ok(()),
+        }
+    }
+}
+
+/// The facts of the state before an event that its verdict comes from: those that the history's definitions give, for
+/// each history that the world stands for. Returns `Memory` for want of memory.
+pub fn facts(alloc: Global, world: &World, event: &Event) -> Result<Vec<Fact>, Memory>
+    ensures { (h : History) → Stands world.now h
+        → IfOk result (λ xs. xs.items ≡ facts_due world.now.plan h event.now) }
+{
+    facts_stand();
+    let reader = Reader {
+        plan: world.plan(),
+        links: world.links(),
+    };
+    let mut facts = Vec::new(alloc);
+    reader.push_event(alloc, &mut facts, event)?;
+    Ok(facts)
+}

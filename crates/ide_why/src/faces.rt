@@ -1,0 +1,84 @@
+//! Facts of a device interface.
+
+ghost use Rattle.std.specs.Prelude.{◌≡◌, ◌∷◌, ◌++◌, [], IfOk};
+ghost use Rattle.interface_joins.specs.Verdicts.{view_shown};
+ghost use Rattle.ide_why.specs.Faces.{face_seen, grant_seen, reported_seen};
+ghost use Rattle.why_facts.specs.Forms.{bound_facts};
+
+use crate::streams::push;
+use ide_types::Memory;
+use interface_words::View;
+use tdi_host::InterfaceFacts;
+use why_lines::{Fact, InterfaceFact};
+
+/// An interface: its number, its state at its device, and what the manager keeps of it.
+#[derive(Clone, Copy)]
+pub struct FaceSeen {
+    pub number: u8,
+    pub state: u8,
+    pub manager: InterfaceFacts,
+}
+
+/// Appends a fact of interfaces.
+pub fn push_of_interface(facts: &mut Vec<Fact>, fact: InterfaceFact) -> Result<(), Memory>
+    ensures { IfOk result (λ _. facts.new.items ≡ facts.old.items ++ Fact.Interface fact ∷ []) }
+{
+    push(facts, Fact::Interface { fact })
+}
+
+// The manager's view.
+fn view_shown(view: tdi_host::View) -> View
+    ensures { result ≡ view_shown view }
+{
+    match view {
+        tdi_host::View::Unlocked => View::Unlocked,
+        tdi_host::View::Locked => View::Locked,
+        tdi_host::View::Running => View::Running,
+        tdi_host::View::Doubt => View::Doubt,
+        tdi_host::View::Broken => View::Broken,
+    }
+}
+
+// Appends the bound stream and the floor of a run.
+fn push_bound(facts: &mut Vec<Fact>, seen: &FaceSeen) -> Result<(), Memory>
+    ensures { IfOk result (λ _. facts.new.items ≡ facts.old.items ++ bound_facts (grant_seen seen.now)) }
+{
+    match seen.manager.floor {
+        None => Ok(()),
+        Some(floor) => push_of_interface(
+            facts,
+            InterfaceFact::Bound {
+                stream: seen.manager.stream,
+                floor,
+            },
+        ),
+    }
+}
+
+/// Appends an interface with the manager's view of it.
+pub fn push_face(facts: &mut Vec<Fact>, seen: &FaceSeen) -> Result<(), Memory>
+    ensures { IfOk result (λ _. facts.new.items ≡ facts.old.items ++ face_seen seen.now) }
+{
+    push_of_interface(
+        facts,
+        InterfaceFact::Interface {
+            interface: seen.number,
+            state: seen.state,
+        },
+    )?;
+    let view = view_shown(seen.manager.view);
+    push_of_interface(facts, InterfaceFact::View { view })?;
+    let needs = seen.manager.needs;
+    push_of_interface(facts, InterfaceFact::Needs { needs })?;
+    push_bound(facts, seen)
+}
+
+/// Appends whether the report of a lock was read.
+pub fn push_reported(facts: &mut Vec<Fact>, reported: Option<bool>) -> Result<(), Memory>
+    ensures { IfOk result (λ _. facts.new.items ≡ facts.old.items ++ reported_seen reported) }
+{
+    match reported {
+        None => Ok(()),
+        Some(reported) => push_of_interface(facts, InterfaceFact::Reported { reported }),
+    }
+}

@@ -1,0 +1,17 @@
+//! What the verdict of an event comes from: facts of the state of a world before it (PCI Express Base 6.0 section 6.33
+//! and chapter 11, in this profile).
+#![tactic(auto)]
+
+mod arrivals;
+mod events;
+mod faces;
+mod interfaces;
+mod operations;
+mod places;
+mod reader;
+mod sends;
+mod streams;
+
+pub use events::facts;
+pub use why_lines::{Fact, why_text};
+pub use world::World;

@@ -1,0 +1,225 @@
+//! Facts of operations on streams.
+
+ghost use Rattle.std.specs.Prelude.{◌≡◌, ◌∷◌, ◌++◌, ◌<◌, [], IfOk};
+ghost use Rattle.ide_types.specs.{is_hosted};
+ghost use Rattle.key_laws.specs.Operations.{last_exchange_of, work_of};
+ghost use Rattle.port_operations.specs.{status_at};
+ghost use Rattle.tsm_host.specs.Facts.{op_seen};
+ghost use Rattle.why_facts.specs.Forms.{draws_fact, manager_fact, manager_state, may_go, pool_of};
+ghost use Rattle.world.specs.{IsWorld};
+ghost use Rattle.ide_why.specs.Facts.{establish_read, exchanges_read, refresh_read, state_of, status_read, stop_read};
+
+use crate::reader::{Reader, StageSeen};
+use crate::streams::{push, push_status};
+use ide_types::{Memory, PortName, Side, StreamStatus};
+use link_verdicts::Operation;
+use tsm_host::StageFacts;
+use why_lines::{Fact, ManagerState, OperationFact};
+
+/// What the manager knows of a stream.
+pub fn manager_state(stage: StageFacts) -> ManagerState
+    ensures { result ≡ manager_state (op_seen stage) }
+{
+    match stage {
+        StageFacts::Idle => ManagerState::Idle,
+        StageFacts::Establishing { draw, next } => ManagerState::Establishing {
+            draw,
+            next: u64::from(next),
+        },
+        StageFacts::Up { set, draw } => ManagerState::Up {
+            set: set.is_one(),
+            draw,
+        },
+        StageFacts::Refreshing { set, draw, next } => ManagerState::Refreshing {
+            set: set.is_one(),
+            draw,
+            next: u64::from(next),
+        },
+        StageFacts::Stopping { next } => ManagerState::Stopping {
+            next: u64::from(next),
+        },
+    }
+}
+
+/// Appends a fact of operations.
+pub fn push_of_operation(facts: &mut Vec<Fact>, fact: OperationFact) -> Result<(), Memory>
+    ensures { IfOk result (λ _. facts.new.items ≡ facts.old.items ++ Fact.Operation fact ∷ []) }
+{
+    push(facts, Fact::Operation { fact })
+}
+
+/// Appends what the manager knows of a stream.
+pub fn push_manager(facts: &mut Vec<Fact>, stage: StageFacts) -> Result<(), Memory>
+    ensures { IfOk result (λ _. facts.new.items ≡ facts.old.items ++ manager_fact (op_seen stage) ∷ []) }
+{
+    push_of_operation(
+        facts,
+        OperationFact::Manager {
+            state: manager_state(stage),
+        },
+    )
+}
+
+// Whether the manager's state lets an operation begin or go on.
+fn may_go(operation: Operation, stage: StageFacts) -> bool
+    ensures { result ≡ may_go operation (op_seen stage) }
+{
+    match (operation, stage) {
+        (Operation::Establish, StageFacts::Idle | StageFacts::Establishing { .. }) => true,
+        (Operation::Refresh, StageFacts::Up { .. } | StageFacts::Refreshing { .. }) => true,
+        (Operation::Stop, _) => true,
+        _ => false,
+    }
+}
+
+/// The first exchange that is left to an operation.
+pub fn first_exchange(operation: Operation, stage: StageFacts) -> u8
+    ensures { result ≡ (work_of operation (op_seen stage) 0).first }
+{
+    match (operation, stage) {
+        (Operation::Establish, StageFacts::Establishing { next, .. }) => next,
+        (Operation::Refresh, StageFacts::Refreshing { next, .. }) => next,
+        (Operation::Stop, StageFacts::Stopping { next }) => next,
+        _ => 1,
+    }
+}
+
+/// The key set that an operation gives keys in.
+pub fn key_set(operation: Operation, stage: StageFacts) -> bool
+    ensures { result ≡ (work_of operation (op_seen stage) 0).set }
+{
+    match (operation, stage) {
+        (Operation::Refresh, StageFacts::Refreshing { set, .. }) => set.is_one(),
+        (Operation::Refresh, StageFacts::Up { set, .. }) => !set.is_one(),
+        (Operation::Refresh, _) => true,
+        (Operation::Establish | Operation::Stop, _) => false,
+    }
+}
+
+// The last exchange of an operation on a line.
+fn last_exchange(operation: Operation, line: u8) -> u64
+    ensures { result ≡ last_exchange_of (is_hosted line) operation }
+{
+    match operation {
+        _ if line >= 16 => 24,
+        Operation::Establish => 13,
+        Operation::Refresh | Operation::Stop => 12,
+    }
+}
+
+impl Reader<'_> {
+    /// Appends how many of the pool's draws were made.
+    pub fn push_draws(&self, facts: &mut Vec<Fact>) -> Result<(), Memory>
+        ensures { IfOk result (λ _. facts.new.items ≡ facts.old.items ++ draws_fact
+            (state_of self.now.plan.now self.now.links.now).draws (pool_of self.now.plan.now) ∷ []) }
+    {
+        let pool = self.plan.plan().pool.as_slice().len() as u64 / 6;
+        push_of_operation(
+            facts,
+            OperationFact::Draws {
+                made: u64::from(self.draws()),
+                pool,
+            },
+        )
+    }
+
+    // Appends the exchanges that are left to an operation, and the first that an end refuses.
+    fn push_exchanges(
+        &self,
+        facts: &mut Vec<Fact>,
+        operation: Operation,
+        seen: StageSeen,
+    ) -> Result<(), Memory>
+        requires { IsWorld self.now.plan.now self.now.links.now }
+        ensures { IfOk result (λ _. facts.new.items ≡ facts.old.items ++ exchanges_read self.now.plan.now
+            self.now.links.now
+            operation seen.line seen.stream (op_seen seen.stage)) }
+    {
+        if !may_go(operation, seen.stage) {
+            return Ok(());
+        }
+        let first = u64::from(first_exchange(operation, seen.stage));
+        let last = last_exchange(operation, seen.line);
+        push_of_operation(facts, OperationFact::Exchanges { first, last })?;
+        self.push_refusing(facts, operation, seen)
+    }
+
+    // The status of a stream at the host's port, Idle if there is none.
+    pub fn host_status(&self, line: u8, stream: u8) -> StreamStatus
+        requires { IsWorld self.now.plan.now self.now.links.now }
+        ensures { result ≡ status_at self.now.plan.now (state_of self.now.plan.now self.now.links.now) Side.Host line
+            stream }
+    {
+        let side = Side::Host;
+        match self.stream(PortName { side, link: line }, stream) {
+            None => StreamStatus::Idle,
+            Some(seen) => seen.status,
+        }
+    }
+
+    /// Appends the facts of an establish.
+    pub fn push_establish(
+        &self,
+        facts: &mut Vec<Fact>,
+        line: u64,
+        stream: u64,
+    ) -> Result<(), Memory>
+        requires { IsWorld self.now.plan.now self.now.links.now }
+        ensures { IfOk result (λ _. facts.new.items ≡ facts.old.items ++ establish_read self.now.plan.now
+            self.now.links.now line stream) }
+    {
+        match self.stage(line, stream) {
+            None => Ok(()),
+            Some(seen) => {
+                push_manager(facts, seen.stage)?;
+                self.push_draws(facts)?;
+                self.push_exchanges(facts, Operation::Establish, seen)
+            }
+        }
+    }
+
+    /// Appends the facts of a refresh of a link's stream.
+    pub fn push_refresh(&self, facts: &mut Vec<Fact>, line: u64, stream: u64) -> Result<(), Memory>
+        requires world { IsWorld self.now.plan.now self.now.links.now }
+        requires low { line < 8 }
+        ensures { IfOk result (λ _. facts.new.items ≡ facts.old.items ++ refresh_read self.now.plan.now
+            self.now.links.now line stream) }
+    {
+        match self.stage(line, stream) {
+            None => Ok(()),
+            Some(seen) => {
+                push_manager(facts, seen.stage)?;
+                push_status(facts, self.host_status(seen.line, seen.stream))?;
+                self.push_draws(facts)?;
+                self.push_exchanges(facts, Operation::Refresh, seen)
+            }
+        }
+    }
+
+    /// Appends the facts of a stop.
+    pub fn push_stop(&self, facts: &mut Vec<Fact>, line: u64, stream: u64) -> Result<(), Memory>
+        requires { IsWorld self.now.plan.now self.now.links.now }
+        ensures { IfOk result (λ _. facts.new.items ≡ facts.old.items ++ stop_read self.now.plan.now
+            self.now.links.now line stream) }
+    {
+        match self.stage(line, stream) {
+            None => Ok(()),
+            Some(seen) => {
+                push_manager(facts, seen.stage)?;
+                self.push_exchanges(facts, Operation::Stop, seen)
+            }
+        }
+    }
+
+    /// Appends the facts of a status.
+    pub fn push_stage(&self, facts: &mut Vec<Fact>, line: u64, stream: u64) -> Result<(), Memory>
+        requires { IsWorld self.now.plan.now self.now.links.now }
+        ensures { IfOk result (λ _. facts.new.items ≡ facts.old.items ++ status_read self.now.plan.now
+            self.now.links.now line stream) }
+    {
+        match self.stage(line, stream) {
+            None => Ok(()),
+            Some(seen) => push_manager(facts, seen.stage),
+        }
+    }
+}

@@ -1,0 +1,210 @@
+//! Where keys are: at an end of a line, and there in a sub-stream that it sends or receives.
+
+ghost use Rattle.std.specs.Prelude.{◌≡◌, ◌++◌, IfOk};
+ghost use Rattle.key_laws.specs.History.{program_at};
+ghost use Rattle.key_laws.specs.Operations.{work_of};
+ghost use Rattle.tsm_host.specs.Facts.{op_seen};
+ghost use Rattle.world.specs.{IsWorld};
+ghost use Rattle.ide_why.specs.Facts.{refusing_read};
+ghost use Rattle.ide_why.specs.Places.{first_refusing, is_last_seen, is_refusing, key_place, refusing_on};
+ghost use Rattle.ide_why.specs.Places.{seen_place_at, sets_at};
+
+use crate::operations::{first_exchange, key_set, push_of_operation};
+use crate::reader::{Reader, StageSeen};
+use ide_types::{Memory, PortName, Side, SubKind};
+use line_routes::port_of;
+use link_verdicts::Operation;
+use sub_stream::{SetFacts, SlotFacts};
+use why_lines::{Fact, OperationFact};
+
+/// A place of a stream's keys (this profile).
+#[derive(Clone, Copy)]
+pub struct Place {
+    pub side: Side,
+    pub line: u8,
+    pub stream: u8,
+    pub sends: bool,
+    pub sub: SubKind,
+}
+
+// The place of a sub-stream in the direction towards the host, or in the other.
+fn place_at(side: Side, line: u8, stream: u8, upward: bool, sub: SubKind) -> Place
+    ensures { result ≡ seen_place_at side line stream upward sub }
+{
+    Place {
+        side,
+        line,
+        stream,
+        sends: match side {
+            Side::Host => !upward,
+            Side::Device => upward,
+        },
+        sub,
+    }
+}
+
+// The number of its KEY_PROG.
+fn program_at(operation: Operation, place: Place) -> u64
+    ensures { result ≡ program_at operation (key_place place) }
+{
+    let lane = u64::from(place.sub.number()) + if place.sends { 3 } else { 0 };
+    match (place.line < 16, place.side) {
+        (true, Side::Host) => 0,
+        (true, Side::Device) => match operation {
+            Operation::Establish => 2 + lane,
+            Operation::Refresh | Operation::Stop => 1 + lane,
+        },
+        (false, Side::Host) => 1 + lane,
+        (false, Side::Device) => 7 + lane,
+    }
+}
+
+// Whether a slot is Live, and the other is not Live under a newer draw.
+fn is_last(slot: SlotFacts, other: SlotFacts) -> bool
+    ensures { result ≡ is_last_seen slot other }
+{
+    match (slot, other) {
+        (SlotFacts::Live { draw, .. }, SlotFacts::Live { draw: newer, .. }) => newer <= draw,
+        (SlotFacts::Live { .. }, _) => true,
+        _ => false,
+    }
+}
+
+impl Reader<'_> {
+    // What both key sets hold at a place; `None` if there is no such stream.
+    fn sets(&self, place: Place) -> Option<SetFacts>
+        requires { IsWorld self.now.plan.now self.now.links.now }
+        ensures { result ≡ sets_at self.now.plan.now self.now.links.now place }
+    {
+        let end = PortName {
+            side: place.side,
+            link: place.line,
+        };
+        match self.stream(end, place.stream) {
+            None => None,
+            Some(seen) => {
+                let lane = seen.at(place.sub);
+                if place.sends {
+                    Some(lane.sender.sets)
+                } else {
+                    Some(lane.receiver.sets)
+                }
+            }
+        }
+    }
+
+    // Whether it has a KEY_PROG of this set from an exchange on, which it refuses.
+    fn is_refusing(&self, operation: Operation, set: bool, first: u8, place: Place) -> bool
+        requires { IsWorld self.now.plan.now self.now.links.now }
+        ensures { result ≡ is_refusing self.now.plan.now self.now.links.now operation set first place }
+    {
+        match self.sets(place) {
+            None => false,
+            Some(sets) => {
+                let (slot, other) = if set {
+                    (sets.one, sets.zero)
+                } else {
+                    (sets.zero, sets.one)
+                };
+                u64::from(first) <= program_at(operation, place) && is_last(slot, other)
+            }
+        }
+    }
+
+    // The first of the six places of a stream at an end that refuses.
+    fn first_refusing(
+        &self,
+        operation: Operation,
+        set: bool,
+        first: u8,
+        side: Side,
+        line: u8,
+        stream: u8,
+    ) -> Option<Place>
+        requires { IsWorld self.now.plan.now self.now.links.now }
+        ensures { result ≡ first_refusing self.now.plan.now self.now.links.now operation set first side line stream }
+    {
+        let place = place_at(side, line, stream, false, SubKind::Pr);
+        if self.is_refusing(operation, set, first, place) {
+            return Some(place);
+        }
+        let place = place_at(side, line, stream, false, SubKind::Npr);
+        if self.is_refusing(operation, set, first, place) {
+            return Some(place);
+        }
+        let place = place_at(side, line, stream, false, SubKind::Cpl);
+        if self.is_refusing(operation, set, first, place) {
+            return Some(place);
+        }
+        let place = place_at(side, line, stream, true, SubKind::Pr);
+        if self.is_refusing(operation, set, first, place) {
+            return Some(place);
+        }
+        let place = place_at(side, line, stream, true, SubKind::Npr);
+        if self.is_refusing(operation, set, first, place) {
+            return Some(place);
+        }
+        let place = place_at(side, line, stream, true, SubKind::Cpl);
+        if self.is_refusing(operation, set, first, place) {
+            return Some(place);
+        }
+        None
+    }
+
+    // The first of those of a stream whose keys are given by messages.
+    fn refusing_on(
+        &self,
+        operation: Operation,
+        set: bool,
+        first: u8,
+        line: u8,
+        stream: u8,
+    ) -> Option<Place>
+        requires { IsWorld self.now.plan.now self.now.links.now }
+        ensures { result ≡ refusing_on self.now.plan.now self.now.links.now operation set first line stream }
+    {
+        if line < 16 {
+            return self.first_refusing(operation, set, first, Side::Device, line, stream);
+        }
+        match self.first_refusing(operation, set, first, Side::Host, line, stream) {
+            Some(place) => Some(place),
+            None => self.first_refusing(operation, set, first, Side::Device, line, stream),
+        }
+    }
+
+    /// Appends the first place that refuses a KEY_PROG of an operation.
+    pub fn push_refusing(
+        &self,
+        facts: &mut Vec<Fact>,
+        operation: Operation,
+        seen: StageSeen,
+    ) -> Result<(), Memory>
+        requires { IsWorld self.now.plan.now self.now.links.now }
+        ensures { let w = work_of operation (op_seen seen.stage) 0 in
+            IfOk result (λ _. facts.new.items ≡ facts.old.items ++ refusing_read self.now.plan.now self.now.links.now
+            operation
+            w.set w.first seen.line seen.stream) }
+    {
+        if operation == Operation::Stop {
+            return Ok(());
+        }
+        let set = key_set(operation, seen.stage);
+        let first = first_exchange(operation, seen.stage);
+        match self.refusing_on(operation, set, first, seen.line, seen.stream) {
+            None => Ok(()),
+            Some(place) => {
+                let end = PortName {
+                    side: place.side,
+                    link: place.line,
+                };
+                let refuses = OperationFact::Refuses {
+                    exchange: program_at(operation, place),
+                    port: port_of(self.plan, end),
+                    sends: place.sends,
+                    sub: place.sub,
+                };
+                push_of_operation(facts, refuses)
+            }
+        }
+    }
+}

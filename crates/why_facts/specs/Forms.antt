@@ -1,0 +1,224 @@
+-- Facts of values, wherever these come from.
+use Rattle.std.specs.Prelude.{ℕ, ◌/◌, ◌==◌, ◌&&◌, ◌||◌, nat_le, Bool, true, false, not, is_some, List, [], ◌∷◌, ◌++◌}
+use Rattle.std.specs.Prelude.{length, Option, Some, None, Result, Ok, Err, if◌then◌else◌}
+use Rattle.ide_types.specs.{is_hosted, sub_bits}
+use Rattle.ide_types.specs.declared.port.PortName.{PortName}
+use Rattle.ide_types.specs.declared.status.StreamStatus.{StreamStatus}
+use Rattle.ide_types.specs.declared.sub.SubKind.{SubKind}
+use Rattle.ide_types.specs.declared.sub.SubKind.TheVariants.{Pr, Npr, Cpl}
+use Rattle.ide_plan.specs.declared.plan.Plan.{Plan}
+use Rattle.tlp_layout.specs.declared.head.HeadView.{HeadView}
+use Rattle.tlp_layout.specs.declared.fault.TlpFault.{TlpFault}
+use Rattle.tlp_layout.specs.Reading.{read_head_of}
+use Rattle.ide_prefix.specs.Packet.{Packet, is_sync_packet}
+use Rattle.link_events.specs.declared.event.InterfaceEvent.{InterfaceEvent}
+use Rattle.link_events.specs.declared.event.InterfaceEvent.TheVariants as ie
+use Rattle.link_verdicts.specs.declared.verdict.Operation.{Operation}
+use Rattle.link_verdicts.specs.declared.verdict.Operation.TheVariants as op
+use Rattle.key_laws.specs.Places.{KeyPlace, told_places}
+use Rattle.key_laws.specs.Operations.{Op, Idle, Establishing, Up, Refreshing, Stopping, Work, work_of, last_exchange_of}
+use Rattle.key_laws.specs.History.{program_at}
+use Rattle.key_laws.specs.Due.{PortView}
+use Rattle.tdi_state.specs.{Tdi, state_code}
+use Rattle.trusted_memory.specs.{write_span}
+use Rattle.waiting_reads.specs.Requests.{memory_read}
+use Rattle.interface_states.specs.Sites.{Site}
+use Rattle.interface_states.specs.Terms.{View, Locked}
+use Rattle.interface_states.specs.Views.{Managed, bound_if}
+use Rattle.interface_states.specs.Due.{Standing as Asked}
+use Rattle.link_history.specs.Ports.{port_of, is_host_port}
+use Rattle.why_lines.specs.declared.fact.Fact.{Fact}
+use Rattle.why_lines.specs.declared.fact.SetState.{SetState}
+use Rattle.why_lines.specs.declared.fact.ManagerState.{ManagerState}
+use Rattle.why_lines.specs.declared.fact.ManagerState.TheVariants as manager
+use Rattle.why_lines.specs.declared.fact.StreamFact.TheVariants as sf
+use Rattle.why_lines.specs.declared.fact.OperationFact.TheVariants as of
+use Rattle.why_lines.specs.declared.fact.InterfaceFact.TheVariants as face
+use Rattle.why_lines.specs.declared.fact.Fact.TheVariants as fact
+
+-- ---- packets and streams
+
+abbrev pub at_port : Plan → PortName → Fact
+at_port plan end = fact.Stream (sf.At (port_of plan end))
+
+-- so many packets were sealed
+abbrev pub packets_fact : ℕ → List Fact
+packets_fact n = fact.Stream (sf.Packets n) ∷ []
+
+abbrev pub arrives_fact : Plan → PortName → Packet → Fact
+arrives_fact plan end p =
+    fact.Stream (sf.Arrives (port_of plan end) p.prefix.stream p.prefix.sub p.prefix.k)
+
+abbrev pub sends_fact : Plan → PortName → ℕ → SubKind → Fact
+sends_fact plan end stream class = fact.Stream (sf.Sends (port_of plan end) stream class)
+
+abbrev pub state_fact : StreamStatus → Fact
+state_fact status = fact.Stream (sf.State status)
+
+abbrev pub posted_fact : SubKind → ℕ → Fact
+posted_fact u posted = fact.Stream (sf.Posted u posted)
+
+-- what both key sets hold
+abbrev pub set_facts : SetState → SetState → List Fact
+set_facts first second = fact.Stream (sf.Set false first) ∷ fact.Stream (sf.Set true second) ∷ []
+
+-- no rule of order speaks of posted packets
+abbrev pub counts_facts : SubKind → ℕ → ℕ → List Fact
+counts_facts u sum posted = if sub_bits u == 0 then [] else fact.Stream (sf.Counts sum posted) ∷ []
+
+-- only on a closed stream
+abbrev pub total_facts : Bool → ℕ → List Fact
+total_facts closed units = if closed then fact.Stream (sf.Total units) ∷ [] else []
+
+-- of the sub-streams that the rules of sealing a TLP of this one look at: its own; PR, or both that may need a sync
+-- packet
+abbrev pub each_looked_at : (SubKind → List Fact) → SubKind → List Fact
+each_looked_at facts Pr = facts Pr ++ facts Npr ++ facts Cpl
+each_looked_at facts u = facts u ++ facts Pr
+
+-- ---- operations on streams
+
+abbrev pub manager_state : Op → ManagerState
+manager_state Idle = manager.Idle
+manager_state (Establishing draw next) = manager.Establishing draw next
+manager_state (Up set draw) = manager.Up set draw
+manager_state (Refreshing set draw next) = manager.Refreshing set draw next
+manager_state (Stopping next) = manager.Stopping next
+
+abbrev pub manager_fact : Op → Fact
+manager_fact q = fact.Operation (of.Manager (manager_state q))
+
+-- how many draws the pool has
+abbrev pub pool_of : Plan → ℕ
+pool_of plan = length plan.pool / 6
+
+abbrev pub draws_fact : ℕ → ℕ → Fact
+draws_fact made pool = fact.Operation (of.Draws made pool)
+
+-- the manager's state lets the operation begin or go on
+abbrev pub may_go : Operation → Op → Bool
+may_go op.Establish Idle = true
+may_go op.Establish (Establishing draw next) = true
+may_go op.Refresh (Up set draw) = true
+may_go op.Refresh (Refreshing set draw next) = true
+may_go op.Stop q = true
+may_go o q = false
+
+abbrev pub refuses_fact : Plan → ℕ → KeyPlace → Fact
+refuses_fact plan exchange p =
+    fact.Operation (of.Refuses exchange (port_of plan (record { side = p.side; link = p.link })) p.sends p.sub)
+
+-- the first of these places that refuses the KEY_PROG of a set, from this exchange on
+abbrev pub refusing_facts : Plan → PortView → Operation → Bool → ℕ → List KeyPlace → List Fact
+refusing_facts plan ports o set first [] = []
+refusing_facts plan ports o set first (p ∷ ps) =
+    if nat_le first (program_at o p) && is_some (ports.refusal p set) then refuses_fact plan (program_at o p) p ∷ []
+    else refusing_facts plan ports o set first ps
+
+abbrev pub programming_facts : Plan → PortView → ℕ → ℕ → Work → List Fact
+programming_facts plan ports line stream w = by_operation w.operation
+  where
+    by_operation : Operation → List Fact
+    by_operation op.Stop = []
+    by_operation o = refusing_facts plan ports o w.set w.first (told_places (is_hosted line) line stream)
+
+-- the exchanges that are left, and the first that is refused
+abbrev pub work_facts : Plan → PortView → ℕ → ℕ → Work → List Fact
+work_facts plan ports line stream w =
+    fact.Operation (of.Exchanges w.first (last_exchange_of (is_hosted line) w.operation))
+    ∷ programming_facts plan ports line stream w
+
+abbrev pub exchange_facts : Plan → PortView → Operation → ℕ → ℕ → Op → ℕ → List Fact
+exchange_facts plan ports o line stream q next =
+    if may_go o q then work_facts plan ports line stream (work_of o q next) else []
+
+-- the draws made are `next`
+abbrev pub establish_facts : Plan → PortView → ℕ → ℕ → Op → ℕ → List Fact
+establish_facts plan ports line stream q next =
+    manager_fact q ∷ draws_fact next (pool_of plan) ∷ exchange_facts plan ports op.Establish line stream q next
+
+abbrev pub refresh_facts : Plan → PortView → ℕ → ℕ → Op → ℕ → StreamStatus → List Fact
+refresh_facts plan ports line stream q next host =
+    manager_fact q ∷ state_fact host ∷ draws_fact next (pool_of plan)
+    ∷ exchange_facts plan ports op.Refresh line stream q next
+
+abbrev pub stop_facts : Plan → PortView → ℕ → ℕ → Op → ℕ → List Fact
+stop_facts plan ports line stream q next = manager_fact q ∷ exchange_facts plan ports op.Stop line stream q next
+
+-- ---- interfaces
+
+abbrev pub interface_fact : ℕ → ℕ → Fact
+interface_fact number state = fact.Interface (face.Interface number state)
+
+abbrev pub draw_fact : ℕ → Fact
+draw_fact draw = fact.Interface (face.Draw draw)
+
+abbrev pub waiting_fact : ℕ → Fact
+waiting_fact n = fact.Interface (face.Waiting n)
+
+-- the draw under which the oldest read came that waits
+abbrev pub read_fact : ℕ → Fact
+read_fact draw = fact.Interface (face.Read draw)
+
+-- while its view is Running
+abbrev pub bound_facts : Option (ℕ × ℕ) → List Fact
+bound_facts None = []
+bound_facts (Some bound) = fact.Interface (face.Bound bound.0 bound.1) ∷ []
+
+-- at its device and at the manager
+abbrev pub face_facts : Site → Tdi → Managed → List Fact
+face_facts x tdi m =
+    interface_fact x.number (state_code tdi.state)
+    ∷ fact.Interface (face.View m.view)
+    ∷ fact.Interface (face.Needs m.needs)
+    ∷ bound_facts (bound_if m.view x.plan.stream m.floor)
+
+-- while its view is Locked
+abbrev pub reported_facts : View → Bool → List Fact
+reported_facts Locked reported = fact.Interface (face.Reported reported) ∷ []
+reported_facts view reported = []
+
+-- what an event on it looks at besides
+abbrev pub asked_besides : Plan → Site → Asked → InterfaceEvent → List Fact
+asked_besides plan x s (ie.Lock i loss) = state_fact s.host ∷ []
+asked_besides plan x s (ie.Start i loss) = state_fact s.host ∷ draw_fact s.draw ∷ []
+asked_besides plan x s (ie.Halt i loss) =
+    fact.Interface (face.Started s.managed.started) ∷ draws_fact s.drawn (pool_of plan) ∷ []
+asked_besides plan x s e = []
+
+abbrev pub asked_facts : Plan → Site → Asked → InterfaceEvent → List Fact
+asked_facts plan x s e =
+    face_facts x s.tdi s.managed ++ reported_facts s.managed.view s.managed.reported ++ asked_besides plan x s e
+
+-- ---- what a packet asks of memory
+
+-- what is read of what stands beside the ports: what is known of the owner of a TLP at a link, and how many reads wait
+-- there
+pub record Readings : Type 0 where
+  pub owner : ℕ → HeadView → List Fact
+  pub waiting : ℕ → ℕ
+
+abbrev pub packet_fact : ℕ → Packet → Fact
+packet_fact place p = fact.Interface (face.Packet place p.prefix.t)
+
+-- a write, or a read with T
+abbrev pub is_request : Bool → HeadView → Bool
+is_request t head = is_some (write_span head) || (t && is_some (memory_read head))
+
+-- a read looks at how many wait
+abbrev pub waiting_facts : Bool → ℕ → List Fact
+waiting_facts true n = waiting_fact n ∷ []
+waiting_facts false n = []
+
+abbrev pub host_facts : Readings → ℕ → ℕ → Packet → Result HeadView TlpFault → List Fact
+host_facts r link place p (Err f) = []
+host_facts r link place p (Ok head) =
+    if is_request p.prefix.t head
+    then packet_fact place p ∷ (r.owner link head ++ waiting_facts (is_some (memory_read head)) (r.waiting link))
+    else []
+
+-- of the packet at a place of its unit, from 1, that arrives at a port; only a host's port has trusted memory
+abbrev pub request_facts : Plan → Readings → PortName → ℕ → Packet → List Fact
+request_facts plan r port place p =
+    if is_sync_packet p || not (is_host_port plan port) then []
+    else host_facts r port.link place p (read_head_of p.head)

@@ -1,0 +1,227 @@
+-- What a verdict came from, by the state of the whole machine.
+use Rattle.std.specs.Prelude.{ℕ, ◌+◌, ◌==◌, Bool, if◌then◌else◌}
+use Rattle.std.specs.Prelude.{List, [], ◌∷◌, ◌++◌, length, Option, Some, None, Result, Ok, Err}
+use Rattle.std.specs.Option.{option_and_then}
+use Rattle.ide_types.specs.{is_link_line}
+use Rattle.ide_types.specs.declared.port.PortName.{PortName}
+use Rattle.ide_types.specs.declared.port.Side.TheVariants.{Host}
+use Rattle.ide_types.specs.declared.sub.SubKind.{SubKind}
+use Rattle.ide_types.specs.declared.sub.SubKind.TheVariants.{Cpl}
+use Rattle.ide_types.specs.Ports.{host_port}
+use Rattle.ide_types.specs.declared.direction.Direction.{Direction}
+use Rattle.ide_plan.specs.declared.plan.Plan.{Plan}
+use Rattle.tlp_layout.specs.declared.head.HeadView.{HeadView}
+use Rattle.tlp_layout.specs.Class.{class_of}
+use Rattle.tlp_layout.specs.Tlp.{header}
+use Rattle.association.specs.Outgoing.{Outgoing, NoTlp, OnNone, OnStream}
+use Rattle.ide_prefix.specs.Packet.{Packet}
+use Rattle.ide_prefix.specs.Reading.{CutValue, PlainTlp, IdePacket, cut_of}
+use Rattle.ide_prefix.specs.declared.fault.PacketFault.{PacketFault}
+use Rattle.link_events.specs.declared.event.Event.{Event}
+use Rattle.link_events.specs.declared.event.Event.TheVariants as event
+use Rattle.link_events.specs.declared.event.InterfaceEvent.{InterfaceEvent}
+use Rattle.link_events.specs.declared.event.AccessEvent.TheVariants as ae
+use Rattle.key_laws.specs.Operations.{Op}
+use Rattle.stream_rules.specs.Stream.{LaneSlot, Empty, Programmed, Armed, Live, LiveKey, StreamState}
+use Rattle.stream_rules.specs.Stream.{at_sub, live_in, slot_in_set}
+use Rattle.stream_rules.specs.Slots.{stream_status}
+use Rattle.interface_states.specs.Sites.{Site, sites}
+use Rattle.interface_states.specs.Views.{number_in}
+use Rattle.interface_states.specs.Cause.{owner_of, owners_link}
+use Rattle.interface_machine.specs.Machine.{Face, Faces, face_standing, find_face, with_requester}
+use Rattle.link_history.specs.{WaitingRead, has_hop, leaving_end}
+use Rattle.link_history.specs.Hops.{HopTlp}
+use Rattle.link_history.specs.Plan.{has_link, is_closed}
+use Rattle.link_history.specs.Ports.{goes_through, may_send, outgoing_at, port_of, sealing_end}
+use Rattle.link_history.specs.History.{Arrival}
+use Rattle.port_operations.specs.{find, find_op, ports_of, status_at}
+use Rattle.whole_machine.specs.Machine.{Whole, arrival_of, whole_streams}
+use Rattle.why_lines.specs.declared.fact.Fact.{Fact}
+use Rattle.why_lines.specs.declared.fact.SetState.{SetState}
+use Rattle.why_lines.specs.declared.fact.SetState.TheVariants as set
+use Rattle.why_facts.specs.Forms.{Readings, arrives_fact, asked_facts, at_port, counts_facts, each_looked_at}
+use Rattle.why_facts.specs.Forms.{establish_facts, face_facts, manager_fact, packets_fact}
+use Rattle.why_facts.specs.Forms.{posted_fact, read_fact, refresh_facts, sends_fact, set_facts, state_fact, stop_facts}
+use Rattle.why_facts.specs.Forms.{total_facts, request_facts, waiting_fact}
+use Rattle.why_facts.specs.Due.{sets_own_t}
+
+-- ---- what is known of interfaces
+
+abbrev pub known_of : Option (Site × Face) → List Fact
+known_of None = []
+known_of (Some y) = face_facts y.0 y.1.tdi y.1.managed
+
+abbrev pub owner_found : Plan → Faces → ℕ → HeadView → Option (Site × Face)
+owner_found plan fs link head = option_and_then (with_requester plan fs link) (owner_of head)
+
+abbrev pub readings_in : Plan → Whole → Readings
+readings_in plan w = record {
+  owner = λ link head. known_of (owner_found plan w.faces link head);
+  waiting = λ link. length (w.accesses.waiting link);
+}
+
+-- ---- a stream at a port
+
+-- what a slot holds
+abbrev pub slot_state : LaneSlot → SetState
+slot_state Empty = set.Empty
+slot_state (Programmed j key) = set.Kept j
+slot_state (Armed j key) = set.Waits j
+slot_state (Live x) = set.On x.draw x.units (length x.packets)
+
+abbrev pub receiver_facts : Bool → StreamState → SubKind → List Fact
+receiver_facts closed x u =
+    let rx = at_sub x.rx u in
+    set_facts (slot_state rx.slots.first) (slot_state rx.slots.second)
+    ++ counts_facts u rx.sum x.rx.pr.got
+    ++ total_facts closed rx.total
+
+abbrev pub sender_facts_of : Bool → StreamState → SubKind → List Fact
+sender_facts_of closed x u =
+    let tx = at_sub x.tx u in
+    posted_fact u tx.posted
+    ∷ (set_facts (slot_state tx.slots.first) (slot_state tx.slots.second) ++ total_facts closed tx.total)
+
+-- ---- arrivals
+
+-- of a packet under the Live key of its set
+abbrev pub asks_live : Plan → Whole → PortName → Packet → Option LiveKey → List Fact
+asks_live plan w port p None = []
+asks_live plan w port p (Some x) =
+    request_facts plan (readings_in plan w) (port_of plan port) (length x.packets + 1) p
+
+abbrev pub asks_in : Plan → Whole → PortName → StreamState → Packet → List Fact
+asks_in plan w port x p =
+    if x.failed then []
+    else asks_live plan w port p (live_in (slot_in_set (at_sub x.rx p.prefix.sub).slots p.prefix.k))
+
+abbrev pub received_by : Plan → Whole → PortName → Packet → Option StreamState → List Fact
+received_by plan w port p None = []
+received_by plan w port p (Some x) =
+    state_fact (stream_status x)
+    ∷ (receiver_facts (is_closed plan port.link p.prefix.stream) x p.prefix.sub ++ asks_in plan w port x p)
+
+abbrev pub packet_in : Plan → Whole → PortName → Result CutValue PacketFault → List Fact
+packet_in plan w port (Err f) = at_port plan port ∷ []
+packet_in plan w port (Ok PlainTlp) = at_port plan port ∷ []
+packet_in plan w port (Ok (IdePacket p)) =
+    arrives_fact plan port p ∷ received_by plan w port p (find plan w.links port p.prefix.stream)
+
+abbrev pub arrival_facts_in : Plan → Whole → List Fact → Option Arrival → List Fact
+arrival_facts_in plan w unnamed None = unnamed
+arrival_facts_in plan w unnamed (Some a) =
+    if goes_through plan a.port a.bytes then at_port plan a.port ∷ [] else packet_in plan w a.port (cut_of a.bytes)
+
+abbrev pub sealed_in : Whole → List Fact
+sealed_in w = packets_fact (length w.links.packets)
+
+-- ---- sends
+
+abbrev pub owner_in : Plan → Whole → PortName → HeadView → List Fact
+owner_in plan w end head =
+    if sets_own_t plan end then known_of (owner_found plan w.faces (owners_link plan end) head) else []
+
+abbrev pub senders_in : Plan → PortName → ℕ → SubKind → StreamState → List Fact
+senders_in plan port stream class x =
+    state_fact (stream_status x) ∷ each_looked_at (sender_facts_of (is_closed plan port.link stream) x) class
+
+abbrev pub sent_by : Plan → Whole → PortName → ℕ → HeadView → Option StreamState → List Fact
+sent_by plan w end stream head None = []
+sent_by plan w end stream head (Some x) =
+    sends_fact plan end stream (class_of head)
+    ∷ (senders_in plan end stream (class_of head) x ++ owner_in plan w end head)
+
+abbrev pub send_facts_in : Plan → Whole → PortName → Outgoing → List Fact
+send_facts_in plan w end (NoTlp f) = at_port plan end ∷ []
+send_facts_in plan w end OnNone = at_port plan end ∷ []
+send_facts_in plan w end (OnStream t stream) =
+    sent_by plan w end stream (header t) (find plan w.links end stream)
+
+-- ---- answers to reads, and forwards
+
+abbrev pub completion_by : Plan → PortName → ℕ → Option StreamState → List Fact
+completion_by plan port stream None = []
+completion_by plan port stream (Some x) =
+    state_fact (stream_status x) ∷ sender_facts_of (is_closed plan port.link stream) x Cpl
+
+abbrev pub reader_in : Plan → Whole → Option (Site × Face) → List Fact
+reader_in plan w None = []
+reader_in plan w (Some y) =
+    face_facts y.0 y.1.tdi y.1.managed
+    ++ completion_by plan (host_port y.0.link) y.0.plan.stream (find plan w.links (host_port y.0.link) y.0.plan.stream)
+
+abbrev pub oldest_in : Plan → Whole → ℕ → List WaitingRead → List Fact
+oldest_in plan w link [] = []
+oldest_in plan w link (r ∷ rs) =
+    read_fact r.draw ∷ reader_in plan w (with_requester plan w.faces link r.read.requester)
+
+abbrev pub answer_facts_in : Plan → Whole → ℕ → List Fact
+answer_facts_in plan w link =
+    if has_link plan link
+    then waiting_fact (length (w.accesses.waiting link)) ∷ oldest_in plan w link (w.accesses.waiting link) else []
+
+abbrev pub first_in : Plan → Whole → PortName → List HopTlp → List Fact
+first_in plan w end [] = []
+first_in plan w end (x ∷ xs) = send_facts_in plan w end (outgoing_at plan end x.bytes)
+
+abbrev pub forward_facts_in : Plan → Whole → ℕ → Direction → List Fact
+forward_facts_in plan w link d =
+    if has_hop plan link
+    then waiting_fact (length (w.accesses.carried link d))
+    ∷ first_in plan w (leaving_end link d) (w.accesses.carried link d) else []
+
+-- ---- operations on streams
+
+-- of a stream of which the manager has this, if it has it
+abbrev pub if_found : Option Op → (Op → List Fact) → List Fact
+if_found None facts = []
+if_found (Some q) facts = facts q
+
+-- ---- events on interfaces
+
+abbrev pub asked_face : Plan → Whole → InterfaceEvent → Option (Site × Face) → List Fact
+asked_face plan w e None = []
+asked_face plan w e (Some y) =
+    asked_facts plan y.0 (face_standing plan (whole_streams plan w) w.faces.used y.0 y.1) e
+
+abbrev pub asked_facts_in : Plan → Whole → InterfaceEvent → Option ℕ → List Fact
+asked_facts_in plan w e None = []
+asked_facts_in plan w e (Some i) =
+    asked_face plan w e (find_face (λ x. x.number == i) (sites plan) w.faces.list)
+
+-- ---- all events
+
+unfoldable pub facts_in : Plan → Whole → Event → List Fact
+facts_in plan w (event.Send port bytes more trusted) =
+    if may_send plan port
+    then send_facts_in plan w (sealing_end plan port bytes) (outgoing_at plan (sealing_end plan port bytes) bytes)
+    else []
+facts_in plan w (event.Pass n) =
+    arrival_facts_in plan w (sealed_in w) (arrival_of plan w.links (event.Pass n))
+facts_in plan w (event.Alter n at mask) =
+    arrival_facts_in plan w (sealed_in w) (arrival_of plan w.links (event.Alter n at mask))
+facts_in plan w (event.Cut n len) =
+    arrival_facts_in plan w (sealed_in w) (arrival_of plan w.links (event.Cut n len))
+facts_in plan w (event.Arrive port bytes) =
+    arrival_facts_in plan w [] (arrival_of plan w.links (event.Arrive port bytes))
+facts_in plan w (event.Dump n) = sealed_in w
+facts_in plan w (event.Establish line stream loss) =
+    if_found (find_op plan w.links line stream)
+    (λ q. establish_facts plan (ports_of plan w.links) line stream q w.links.draws)
+facts_in plan w (event.Refresh line stream loss) =
+    if is_link_line line
+    then if_found (find_op plan w.links line stream)
+    (λ q. refresh_facts plan (ports_of plan w.links) line stream q w.links.draws
+    (status_at plan w.links Host line stream))
+    else []
+facts_in plan w (event.Stop line stream loss) =
+    if_found (find_op plan w.links line stream)
+    (λ q. stop_facts plan (ports_of plan w.links) line stream q w.links.draws)
+facts_in plan w (event.Status line stream) =
+    if_found (find_op plan w.links line stream) (λ q. manager_fact q ∷ [])
+facts_in plan w (event.Interface e) = asked_facts_in plan w e (number_in e)
+facts_in plan w (event.Access (ae.Answer link)) = answer_facts_in plan w link
+facts_in plan w (event.Access (ae.Mmio interface bar offset len)) = []
+facts_in plan w (event.Forward link d) = forward_facts_in plan w link d
+facts_in plan w (event.Reset link ends) = []
+facts_in plan w event.Absent = []

@@ -1,0 +1,13 @@
+-- The facts of a state are those of each history that it stands for.
+use Rattle.std.specs.Prelude.{◌≡◌}
+use Rattle.ide_plan.specs.declared.plan.Plan.{Plan}
+use Rattle.link_events.specs.declared.event.Event.{Event}
+use Rattle.key_laws.specs.History.{History}
+use Rattle.whole_machine.specs.Machine.{Whole}
+use Rattle.whole_machine.specs.Stands.{StandsFor}
+use Rattle.why_facts.specs.Due.{facts_due}
+use Rattle.why_facts.specs.Kept.{facts_in}
+
+abbrev pub FactsStand : Type 0
+FactsStand =
+    (plan : Plan) (w : Whole) (h : History) (e : Event) → StandsFor plan w h → facts_in plan w e ≡ facts_due plan h e
