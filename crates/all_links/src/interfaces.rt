@@ -8,7 +8,7 @@ ghost use Rattle.interface_words.specs.RegisterNames.{width_of};
 
 use crate::links::Links;
 use ide_types::{Bytes, Memory, SubKind};
-use interface_answers::{asked_verdict, view_shown};
+use interface_answers::asked_verdict;
 use interface_words::{InterfaceVerdict, Register};
 use link_events::{Event, InterfaceEvent, Loss};
 use link_verdicts::Verdict;
@@ -237,7 +237,7 @@ impl Links {
             None => self.only(Verdict::Nothing),
             Some(_) => {
                 let interface = number as u8;
-                let view = view_shown(self.keeper.interfaces.manager().view(number as usize));
+                let view = self.keeper.interfaces.manager().view(number as usize);
                 self.shows(InterfaceVerdict::View { interface, view })
             }
         }

@@ -6,7 +6,6 @@ use Rattle.std.proofs.lemmas.Option.{same_Some, slice_get_within}
 use Rattle.std.specs.Option.{option_and_then, option_map}
 use Rattle.std.specs.Prelude.{slice_get}
 use Rattle.ide_plan.specs.declared.plan.Plan.{Plan}
-use Rattle.interface_joins.specs.Verdicts.{view_shown}
 use Rattle.interface_joins.specs.Faces.{SeenAs}
 use Rattle.interface_machine.specs.Machine.{Face, find_face, with_requester}
 use Rattle.interface_states.specs.Sites.{Site, sites}
@@ -92,7 +91,7 @@ module _ (plan : Plan) (s : WholeLinks) (links : AreLinks plan s.links.ends s.li
         reported = reported_is p.interface.seen p.face.managed kept.seen;
       }
     where
-      view_is : (seen : Seen) (m : Managed) → SeenAs seen m → view_shown (view_of seen) ≡ m.view
+      view_is : (seen : Seen) (m : Managed) → SeenAs seen m → view_of seen ≡ m.view
       view_is IsUnlocked m as_seen = sym as_seen
       view_is (IsLocked nonce reported) m as_seen = sym as_seen.0
       view_is (IsRunning floor) m as_seen = sym as_seen.0

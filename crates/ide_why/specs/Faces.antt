@@ -1,7 +1,6 @@
 -- An interface, by what is seen of it at its device and at the manager.
 use Rattle.std.specs.Prelude.{ℕ, ◌≡◌, Bool, List, [], ◌∷◌, Option, Some, None}
 use Rattle.std.specs.Option.{option_map}
-use Rattle.interface_joins.specs.Verdicts.{view_shown}
 use Rattle.interface_machine.specs.Machine.{Face}
 use Rattle.interface_states.specs.Sites.{Site}
 use Rattle.interface_states.specs.Views.{bound_if}
@@ -18,7 +17,7 @@ grant_seen f = option_map (λ floor. (f.manager.stream, floor)) f.manager.floor
 abbrev pub face_seen : FaceSeen → List Fact
 face_seen f =
     interface_fact f.number f.state
-    ∷ fact.Interface (face.View (view_shown f.manager.view))
+    ∷ fact.Interface (face.View f.manager.view)
     ∷ fact.Interface (face.Needs f.manager.needs)
     ∷ bound_facts (grant_seen f)
 
@@ -32,7 +31,7 @@ pub record IsFaceSeen (draw : ℕ → ℕ → ℕ) (y : Site × Face) (f : FaceS
   pub state : f.state ≡ state_code y.1.tdi.state
   pub link : f.manager.link ≡ y.0.link
   pub stream : f.manager.stream ≡ y.0.plan.stream
-  pub view : view_shown f.manager.view ≡ y.1.managed.view
+  pub view : f.manager.view ≡ y.1.managed.view
   pub needs : f.manager.needs ≡ y.1.managed.needs
   pub started : f.manager.started ≡ y.1.managed.started
   pub draw_is : f.manager.draw ≡ draw y.0.link y.0.plan.stream

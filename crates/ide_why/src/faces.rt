@@ -1,13 +1,11 @@
 //! Facts of a device interface.
 
 ghost use Rattle.std.specs.Prelude.{◌≡◌, ◌∷◌, ◌++◌, [], IfOk};
-ghost use Rattle.interface_joins.specs.Verdicts.{view_shown};
 ghost use Rattle.ide_why.specs.Faces.{face_seen, grant_seen, reported_seen};
 ghost use Rattle.why_facts.specs.Forms.{bound_facts};
 
 use crate::streams::push;
 use ide_types::Memory;
-use interface_words::View;
 use tdi_host::InterfaceFacts;
 use why_lines::{Fact, InterfaceFact};
 
@@ -24,19 +22,6 @@ pub fn push_of_interface(facts: &mut Vec<Fact>, fact: InterfaceFact) -> Result<(
     ensures { IfOk result (λ _. facts.new.items ≡ facts.old.items ++ Fact.Interface fact ∷ []) }
 {
     push(facts, Fact::Interface { fact })
-}
-
-// The manager's view.
-fn view_shown(view: tdi_host::View) -> View
-    ensures { result ≡ view_shown view }
-{
-    match view {
-        tdi_host::View::Unlocked => View::Unlocked,
-        tdi_host::View::Locked => View::Locked,
-        tdi_host::View::Running => View::Running,
-        tdi_host::View::Doubt => View::Doubt,
-        tdi_host::View::Broken => View::Broken,
-    }
 }
 
 // Appends the bound stream and the floor of a run.
@@ -66,7 +51,7 @@ pub fn push_face(facts: &mut Vec<Fact>, seen: &FaceSeen) -> Result<(), Memory>
             state: seen.state,
         },
     )?;
-    let view = view_shown(seen.manager.view);
+    let view = seen.manager.view;
     push_of_interface(facts, InterfaceFact::View { view })?;
     let needs = seen.manager.needs;
     push_of_interface(facts, InterfaceFact::Needs { needs })?;

@@ -25,7 +25,7 @@ use Rattle.interface_states.specs.Views.{peer_of}
 use Rattle.tdi_host.specs.declared.operation.PeerStream.{PeerStream}
 use Rattle.all_ends.specs.Ends.{EndsView, live_on}
 use Rattle.all_ends.specs.Places.{located, code_behind}
-use Rattle.interface_joins.specs.Verdicts.{view_shown, ended_as}
+use Rattle.interface_joins.specs.Verdicts.{ended_as}
 
 -- ---- interfaces by number
 
@@ -109,7 +109,7 @@ firmware_as i (Some tdi) = verdict.Interface (iv.Firmware i (code_behind tdi Fir
 
 abbrev pub viewed_as : ℕ → Option HostTdi → Verdict
 viewed_as i None = verdict.Nothing
-viewed_as i (Some x) = verdict.Interface (iv.View i (view_shown (view_of x.seen)))
+viewed_as i (Some x) = verdict.Interface (iv.View i (view_of x.seen))
 
 abbrev pub tdi_seen_at : InterfaceManagerView → ℕ → Option (ℕ × ℕ) → Option HostTdi
 tdi_seen_at m i None = None

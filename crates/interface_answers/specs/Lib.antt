@@ -1,5 +1,5 @@
 pub mod Interfaces
-pub use Rattle.interface_joins.specs.Verdicts.{NoBadInterfaceReply, asked_as, op_event, report_of, view_shown}
+pub use Rattle.interface_joins.specs.Verdicts.{NoBadInterfaceReply, asked_as, op_event, report_of}
 pub use Rattle.all_ends.specs.{PairEnds, arrival_of, secure_with, unit_in, unit_tlps, waiting_reads_after, cut_packets}
 pub use Rattle.all_ends.specs.{new_ends, port_in, reset_ends, with_port, InterfacesView, keyed_if, live_for}
 pub use Rattle.all_ends.specs.{operated_on, status_for, stopped_if, told, IsAtBothEnds, IsOperated, IsWalked}

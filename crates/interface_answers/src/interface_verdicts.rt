@@ -1,27 +1,14 @@
 //! The verdicts of operations on interfaces.
 
 ghost use Rattle.std.specs.Prelude.{◌≡◌};
-ghost use Rattle.interface_joins.specs.Verdicts.{view_shown, shown_as, refused_as, asked_as};
+ghost use Rattle.interface_joins.specs.Verdicts.{shown_as, refused_as, asked_as};
 
 use crate::stream_verdicts::lost_verdict;
 use ide_types::Bytes;
-use interface_words::{InterfaceVerdict, View};
+use interface_words::InterfaceVerdict;
 use link_events::Loss;
 use link_verdicts::Verdict;
 use tdi_host::{Outcome, Refusal, Shown};
-
-/// The manager's view.
-pub fn view_shown(view: tdi_host::View) -> View
-    ensures { result ≡ view_shown view }
-{
-    match view {
-        tdi_host::View::Unlocked => View::Unlocked,
-        tdi_host::View::Locked => View::Locked,
-        tdi_host::View::Running => View::Running,
-        tdi_host::View::Doubt => View::Doubt,
-        tdi_host::View::Broken => View::Broken,
-    }
-}
 
 fn of_interface(verdict: InterfaceVerdict) -> Verdict
     ensures { result ≡ Verdict.Interface verdict }
@@ -48,9 +35,9 @@ fn refused(loss: Option<Loss>, refusal: Refusal) -> Option<Verdict>
     ensures { result ≡ refused_as loss refusal }
 {
     match refusal {
-        Refusal::WrongState(view) => Some(of_interface(InterfaceVerdict::RefusedWrongState {
-            view: view_shown(view),
-        })),
+        Refusal::WrongState(view) => {
+            Some(of_interface(InterfaceVerdict::RefusedWrongState { view }))
+        }
         Refusal::NotReported => Some(of_interface(InterfaceVerdict::RefusedNotReported)),
         Refusal::NotSecure(status) => Some(Verdict::RefusedNotSecure { status }),
         Refusal::RefreshFirst(draw, needed) => Some(of_interface(

@@ -6,5 +6,5 @@ mod interface_verdicts;
 mod stream_verdicts;
 
 pub use all_ends::{AllEnds, HostKeeper, Packets, send_verdict};
-pub use interface_verdicts::{asked_verdict, view_shown};
+pub use interface_verdicts::asked_verdict;
 pub use stream_verdicts::{named_op, operated_verdict};

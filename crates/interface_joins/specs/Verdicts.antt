@@ -1,8 +1,6 @@
 -- The verdicts of operations on interfaces.
 use Rattle.std.specs.Prelude.{ℕ, List, [], Option, Some, None, IsSome}
 use Rattle.std.specs.Option.{option_map}
-use Rattle.interface_words.specs.declared.view.View.{View}
-use Rattle.interface_words.specs.declared.view.View.TheVariants as word
 use Rattle.interface_words.specs.declared.verdict.InterfaceVerdict.TheVariants as iv
 use Rattle.link_events.specs.declared.event.Loss.{Loss}
 use Rattle.link_events.specs.declared.event.InterfaceEvent.{InterfaceEvent}
@@ -10,8 +8,6 @@ use Rattle.link_events.specs.declared.event.InterfaceEvent.TheVariants as ie
 use Rattle.link_verdicts.specs.declared.verdict.Verdict.{Verdict}
 use Rattle.link_verdicts.specs.declared.verdict.Verdict.TheVariants as v
 use Rattle.key_laws.specs.Due.{lost_in, lost_at}
-use Rattle.tdi_host.specs.declared.operation.View.{View as Seen}
-use Rattle.tdi_host.specs.declared.operation.View.TheVariants as seen
 use Rattle.tdi_host.specs.declared.operation.InterfaceOp.{InterfaceOp}
 use Rattle.tdi_host.specs.declared.operation.InterfaceOp.TheVariants as op
 use Rattle.tdi_host.specs.declared.operation.Outcome.{Outcome}
@@ -21,13 +17,6 @@ use Rattle.tdi_host.specs.declared.operation.Shown.TheVariants as shown
 use Rattle.tdi_host.specs.declared.operation.Refusal.{Refusal}
 use Rattle.tdi_host.specs.declared.operation.Refusal.TheVariants as refusal
 use Rattle.tdi_ends.specs.Keepers.{Ended}
-
-abbrev pub view_shown : Seen → View
-view_shown seen.Unlocked = word.Unlocked
-view_shown seen.Locked = word.Locked
-view_shown seen.Running = word.Running
-view_shown seen.Doubt = word.Doubt
-view_shown seen.Broken = word.Broken
 
 abbrev pub shown_as : ℕ → List ℕ → Shown → Verdict
 shown_as i report (shown.Nonce nonce) = v.Interface (iv.Locked i nonce)
@@ -41,7 +30,7 @@ shown_as i report (shown.Unbound line) = v.Interface (iv.Unbound i line)
 -- A lost exchange has the verdict of the message that was lost there. If none was, it has no verdict, nor has a bad
 -- reply.
 abbrev pub refused_as : Option Loss → Refusal → Option Verdict
-refused_as loss (refusal.WrongState view) = Some (v.Interface (iv.RefusedWrongState (view_shown view)))
+refused_as loss (refusal.WrongState view) = Some (v.Interface (iv.RefusedWrongState view))
 refused_as loss refusal.NotReported = Some (v.Interface iv.RefusedNotReported)
 refused_as loss (refusal.NotSecure status) = Some (v.RefusedNotSecure status)
 refused_as loss (refusal.RefreshFirst draw needed) = Some (v.Interface (iv.RefusedRefreshFirst draw needed))

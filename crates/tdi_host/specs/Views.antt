@@ -5,6 +5,8 @@ use Rattle.std.specs.Prelude.{Err, if◌then◌else◌}
 use Rattle.ide_types.specs.declared.status.StreamStatus.{StreamStatus}
 use Rattle.ide_types.specs.declared.status.StreamStatus.TheVariants as status
 use Rattle.ide_plan.specs.declared.interface.InterfacePlan.{InterfacePlan}
+use Rattle.interface_words.specs.declared.view.View.{View}
+use Rattle.interface_words.specs.declared.view.View.TheVariants as view
 use Rattle.tdisp_codec.specs.declared.request.RequestView.{RequestView}
 use Rattle.tdisp_codec.specs.declared.request.RequestView.TheVariants as request
 use Rattle.tdi_host.specs.declared.operation.InterfaceOp.{InterfaceOp}
@@ -15,8 +17,6 @@ use Rattle.tdi_host.specs.declared.operation.Refusal.{Refusal}
 use Rattle.tdi_host.specs.declared.operation.Refusal.TheVariants.{WrongState, NotReported, NotSecure, RefreshFirst}
 use Rattle.tdi_host.specs.declared.operation.Refusal.TheVariants.{SessionLost, DeviceRefused, BadReply}
 use Rattle.tdi_host.specs.declared.operation.Shown.TheVariants as shown
-use Rattle.tdi_host.specs.declared.operation.View.{View}
-use Rattle.tdi_host.specs.declared.operation.View.TheVariants as view
 use Rattle.tdi_host.specs.declared.standing.Standing.{Standing}
 use Rattle.tdi_host.specs.declared.standing.Standing.TheVariants as standing
 use Rattle.tdi_host.specs.declared.step.Step.{Step}

@@ -1,6 +1,6 @@
 //! What is seen of an interface for the manager.
 
-use crate::operation::View;
+use interface_words::View;
 
 /// What the manager keeps of an interface: the number of its link, the ID of its bound stream, the view, the draw of
 /// that stream, the least draw that a start wants, and whether a start was asked since a lock was; of a lock whether its

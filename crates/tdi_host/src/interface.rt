@@ -8,11 +8,12 @@ ghost use Rattle.tdi_host.specs.Views.{was_started_after, needs_after};
 
 use crate::facts::InterfaceFacts;
 use crate::judge::Answer;
-use crate::operation::{InterfaceOp, Outcome, Refusal, Shown, View};
+use crate::operation::{InterfaceOp, Outcome, Refusal, Shown};
 use crate::standing::Standing;
 use crate::step::Step;
 use ide_plan::InterfacePlan;
 use ide_types::StreamStatus;
+use interface_words::View;
 use std::marker::Model;
 use std::mem;
 use tdisp_codec::RequestView;

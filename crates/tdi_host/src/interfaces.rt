@@ -19,11 +19,12 @@ ghost use Rattle.tdi_host.specs.Managers.{new_interfaces, interface_asking_after
 use crate::facts::InterfaceFacts;
 use crate::interface::HostInterface;
 use crate::judge::judge;
-use crate::operation::{InterfaceOp, Outcome, Refusal, View};
+use crate::operation::{InterfaceOp, Outcome, Refusal};
 use crate::portions::Portions;
 use crate::step::{Step, first_step};
 use ide_plan::{InterfacePlan, LinkPlan};
 use ide_types::{Items, Memory, StreamStatus};
+use interface_words::View;
 use std::alloc::Global;
 use std::marker::Model;
 use tdisp_codec::request_write;

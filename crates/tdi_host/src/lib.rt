@@ -18,6 +18,6 @@ mod tdi;
 
 pub use facts::InterfaceFacts;
 pub use interfaces::Interfaces;
-pub use operation::{InterfaceOp, Outcome, PeerStream, Refusal, Shown, View};
+pub use operation::{InterfaceOp, Outcome, PeerStream, Refusal, Shown};
 pub use step::Step;
 pub use tdi::{Broken, Doubt, Locked, Running, Tdi, Unlocked};

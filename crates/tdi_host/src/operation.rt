@@ -1,6 +1,7 @@
 //! Operations of the manager on interfaces, and what becomes of them.
 
 use ide_types::StreamStatus;
+use interface_words::View;
 
 /// An operation on an interface. Each begins anew whenever it is asked for (TDISP section 11.3, and this profile).
 #[derive(Clone, Copy, PartialEq, Eq)]
@@ -30,22 +31,6 @@ pub struct PeerStream {
     pub id: u8,
     /// Its draw.
     pub draw: u32,
-}
-
-/// What the manager knows of an interface (this profile). The device may leave a lock by itself, so this is the
-/// manager's view alone.
-#[derive(Clone, Copy, PartialEq, Eq)]
-pub enum View {
-    /// It was not locked, or it was halted.
-    Unlocked,
-    /// It was locked.
-    Locked,
-    /// It was started.
-    Running,
-    /// A message was lost that may have changed it.
-    Doubt,
-    /// It left its lock, or its stream was stopped.
-    Broken,
 }
 
 /// The outcome of an exchange: the operation's next one is to be asked; the operation is at its end; it is over (this

@@ -6,9 +6,9 @@ ghost use Rattle.tdi_host.specs.Judging.{answer_shown};
 ghost use Rattle.tdi_host.specs.Views.{seen, IsUnlocked, locked_by, reported, started, compared, seen_after, broken};
 
 use crate::judge::Answer;
-use crate::operation::View;
 use crate::step::Step;
 use crate::tdi::{Broken, Doubt, Locked, Running, Tdi, Unlocked};
+use interface_words::View;
 
 /// The manager's view of an interface, whichever it is.
 #[derive(Drop)]

@@ -29,7 +29,6 @@ use Rattle.interface_states.specs.Sites.{Site, sites}
 use Rattle.interface_states.specs.Views.{Managed, bound_if}
 use Rattle.interface_machine.specs.Machine.{Face, find_face, face_standing, asked_due_of, grant_of}
 use Rattle.interface_joins.specs.Faces.{SeenAs}
-use Rattle.interface_joins.specs.Verdicts.{view_shown}
 use Rattle.link_history.specs.Memory.{shown_if}
 use Rattle.whole_links.specs.{code_behind, device_interfaces, firmware_as, flr_as, interface_named, InterfacesView}
 use Rattle.whole_links.specs.{LinkEnds, read_as, tdi_of_ends, viewed_as, written_as}
@@ -43,7 +42,7 @@ use Rattle.world_states.proofs.Sites.{interface_there, interface_absent}
 
 -- ---- one interface
 
-seen_view : (s : Seen) (m : Managed) → SeenAs s m → view_shown (view_of s) ≡ m.view
+seen_view : (s : Seen) (m : Managed) → SeenAs s m → view_of s ≡ m.view
 seen_view IsUnlocked m as_seen = sym as_seen
 seen_view (IsLocked nonce reported) m as_seen = sym as_seen.0
 seen_view (IsRunning floor) m as_seen = sym as_seen.0

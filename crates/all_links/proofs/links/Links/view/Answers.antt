@@ -1,13 +1,11 @@
 use Rattle.all_links.proofs.Terms.{ℕ, Option, Some, subst, slice_get, InterfacesView, ap, sym, ◌∙◌, ◌≡◌}
 use Rattle.std.specs.Prelude.{IfSome}
 use Rattle.interface_words.specs.declared.view.View.{View}
-use Rattle.tdi_host.specs.declared.operation.View.{View as Seen}
 use Rattle.tdi_host.specs.Views.{HostTdi, view_of}
 use Rattle.link_events.specs.declared.event.InterfaceEvent.TheVariants as ie
 use Rattle.link_verdicts.specs.declared.verdict.Verdict.TheVariants as v
 use Rattle.interface_words.specs.declared.verdict.InterfaceVerdict.TheVariants as iv
 use Rattle.all_links.specs.Interfaces.{viewed_as, tdi_seen_at, interface_named}
-use Rattle.interface_answers.specs.{view_shown}
 use Rattle.all_links.proofs.Finds.{only_says}
 use Rattle.all_links.proofs.Asked.{if_some, is_found}
 use Rattle.all_links.proofs.Sides.{keeps_all}
@@ -29,9 +27,9 @@ returns-in-Some-clause-ends c plan =
     if_some (λ (k : HostTdi). c.view.result ≡ view_of k.seen) (slice_get m.interfaces n) x.kept x.kept_there
     (subst (λ (y : InterfacesView). IfSome (slice_get y.interfaces n) (λ (k : HostTdi). c.view.result ≡ view_of k.seen))
     c.manager.ensures c.view.ensures) in
-    let due : v.Interface (iv.View n c.view_shown-view.result)
+    let due : v.Interface (iv.View n c.view.result)
     ≡ viewed_as n (tdi_seen_at m n (interface_named m c.args.self.now.ends.links n)) =
-    ap (λ (y : View). v.Interface (iv.View n y)) (c.view_shown-view.ensures ∙ ap (λ (y : Seen). view_shown y) seen)
+    ap (λ (y : View). v.Interface (iv.View n y)) seen
     ∙ sym (ap (λ (o : Option HostTdi). viewed_as n o)
     (ap (λ (o : Option (ℕ × ℕ)). tdi_seen_at m n o) (sym c.in-Some.ensures) ∙ x.kept_there)) in
     only_says plan (ie.View n) (ap Some due) c.shows.ensures.value c.shows.ensures.links c.requires.bounded
