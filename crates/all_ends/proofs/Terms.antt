@@ -44,7 +44,7 @@ pub use Rattle.std.specs.Prelude.{◌||◌}
 pub use Rattle.stream_rules.specs.Stream.{Failed, Held, Insecure, LiveKey, StreamState, Taken, Three, TxSub, at_sub}
 pub use Rattle.stream_rules.specs.Stream.{checked, holds_any, is_allowed, is_tagged, lanes_of, live_in, sealed_all}
 pub use Rattle.stream_rules.specs.Stream.{slot_in_set, taken_by, taken_under}
-pub use Rattle.sub_stream.specs.declared.answer.SealedPacket.{SealedPacket}
+pub use Rattle.sub_stream.specs.declared.answer.MeasuredPacket.{MeasuredPacket}
 pub use Rattle.tsm_host.specs.Managers.{ManagerView, Named, named, op_named, reset_manager}
 pub use Rattle.tsm_host.specs.Streams.{StreamView, reset_stream}
 pub use Rattle.all_ends.specs.Places.{stream_named}

@@ -2,7 +2,7 @@
 use Rattle.std.specs.Prelude.{zero, suc, not, Result, Ok, Err}
 use Rattle.all_links.proofs.Terms.{◌≡◌, ℕ, ◌+◌, Bool, true, false, List, [], ◌∷◌, ◌++◌, length, refl, ap, sym, ◌∙◌}
 use Rattle.all_links.proofs.Terms.{subst, arith, Option, Some, None, IsSome, slice_get, map, sum_by, if◌then◌else◌}
-use Rattle.all_links.proofs.Terms.{option_map, is_some, Side, Host, Device, PortName, Plan, Verdict, SealedPacket}
+use Rattle.all_links.proofs.Terms.{option_map, is_some, Side, Host, Device, PortName, Plan, Verdict, MeasuredPacket}
 use Rattle.all_links.proofs.Terms.{LinkPacket, Stepped, kept_at, step_of, joined_packets, Sent, PortEnd, SendStep}
 use Rattle.all_links.proofs.Terms.{send_step, sent_verdict, lengths_sent, IsSentAtPort, LinkEnds, Links, SendsAt}
 use Rattle.all_links.proofs.Terms.{state_of, IsBounded, AreLinks, links_state, EndsWith, EndsSending, Send, EndsView}
@@ -163,15 +163,15 @@ sent_keeps old new end bytes more trusted answer here sends keeper memory =
 
 -- ---- the answer
 
-pub not_sealed : (answer : Sent) → ((ps : List SealedPacket) → answer ≡ Sealed ps → ⊥) → lengths_sent answer ≡ []
+pub not_sealed : (answer : Sent) → ((ps : List MeasuredPacket) → answer ≡ Sealed ps → ⊥) → lengths_sent answer ≡ []
 not_sealed answer none = grind (arith, none)
 
 -- the lengths of what was sealed add up to the length of what the port lends
 pub sealed_length : (old new : EndsView) (end : PortName) (bytes : List ℕ) (more trusted : Bool)
-    (answer : Sent) (ps : List SealedPacket) (lent : List ℕ) → IsSome (port_on old end)
-    → SendsAt old end bytes more trusted answer new → map (λ (p : SealedPacket). p.length) ps ≡ lengths_sent answer
+    (answer : Sent) (ps : List MeasuredPacket) (lent : List ℕ) → IsSome (port_on old end)
+    → SendsAt old end bytes more trusted answer new → map (λ (p : MeasuredPacket). p.length) ps ≡ lengths_sent answer
     → ((e : PortEnd) → port_on new end ≡ Some e → lent ≡ e.sealed)
-    → sum_by (λ (p : SealedPacket). p.length) ps ≡ length lent
+    → sum_by (λ (p : MeasuredPacket). p.length) ps ≡ length lent
 sealed_length old new end bytes more trusted answer ps lent here sends said lends =
     let put = is_put old new end bytes more trusted answer here sends in
     let e : PortEnd = put.port in

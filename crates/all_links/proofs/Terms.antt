@@ -39,5 +39,5 @@ pub use Rattle.std.proofs.lemmas.Option.{none-some, same_Some, slice_get_within}
 pub use Rattle.std.specs.Option.{option_and_then}
 pub use Rattle.std.specs.Prelude.{IfSome, IsSome, None, Option, Result, Some, if◌then◌else◌, is_some, map, nat_le}
 pub use Rattle.std.specs.Prelude.{nat_lt, not, option_map, slice_get, slice_set, sum_by, vec_len}
-pub use Rattle.sub_stream.specs.declared.answer.SealedPacket.{SealedPacket}
+pub use Rattle.sub_stream.specs.declared.answer.MeasuredPacket.{MeasuredPacket}
 pub use Rattle.tsm_host.specs.Managers.{ManagerView, Named, named}

@@ -33,7 +33,7 @@ use trusted_memory::{Grant, Trusted};
 // ---- sends
 
 // A sealed packet with its number and the end that sealed it.
-fn described(end: PortName, number: u64, packet: &sub_stream::SealedPacket) -> SealedPacket
+fn described(end: PortName, number: u64, packet: &sub_stream::MeasuredPacket) -> SealedPacket
     ensures { result ≡ numbered end number packet.now }
 {
     SealedPacket {
@@ -52,7 +52,7 @@ fn described(end: PortName, number: u64, packet: &sub_stream::SealedPacket) -> S
 }
 
 // The packets of one send, numbered from `number` on.
-fn descriptions(end: PortName, number: u64, packets: &[sub_stream::SealedPacket]) -> SealedPackets
+fn descriptions(end: PortName, number: u64, packets: &[sub_stream::MeasuredPacket]) -> SealedPackets
     requires few { length packets.now ≤ 3 }
     requires fits { number ≤ 2 ^ 63 }
     ensures { result ≡ numbered_from end number packets.now }

@@ -6,7 +6,7 @@ use Rattle.all_ends.proofs.Terms.{◌≡◌, ℕ, suc, zero, ◌+◌, Bool, true
 use Rattle.all_ends.proofs.Terms.{sym, ◌∙◌, subst, arith, length-append, Option, Some, None}
 use Rattle.all_ends.proofs.Terms.{option_map, slice_get, map, sum_by, if◌then◌else◌, none-some, same_Some}
 use Rattle.all_ends.proofs.Terms.{append-nil, take-append_seam, drop-append_seam, sum_by-cons, PortName, Plan}
-use Rattle.all_ends.proofs.Terms.{Packet, packet_bytes, Verdict, SealedPacket, StreamState, TxSub, Three, lanes_of}
+use Rattle.all_ends.proofs.Terms.{Packet, packet_bytes, Verdict, MeasuredPacket, StreamState, TxSub, Three, lanes_of}
 use Rattle.all_ends.proofs.Terms.{sealed_all, mode_of, is_closed, has_stream, History, LinkPacket, LinkState, put}
 use Rattle.all_ends.proofs.Terms.{Stepped, kept_at, stepped_answer, find, streams_of, PortsStandFor, standing}
 use Rattle.all_ends.proofs.Terms.{sending}
@@ -47,15 +47,19 @@ cut_joined port (p ∷ ps) =
     ∷ (ap (λ (bs : List ℕ). cut_packets port (packet_lengths ps) bs)
     (drop-append_seam (packet_bytes p) (joined_packets ps)) ∙ cut_joined port ps) i)
 
-pub lengths_join : (ps : List SealedPacket) (qs : List Packet) → map (λ (p : SealedPacket). p.length) ps
-    ≡ packet_lengths qs → sum_by (λ (p : SealedPacket). p.length) ps ≡ length (joined_packets qs)
+pub lengths_join : (ps : List MeasuredPacket) (qs : List Packet) → map (λ (p : MeasuredPacket). p.length) ps
+    ≡ packet_lengths qs → sum_by (λ (p : MeasuredPacket). p.length) ps ≡ length (joined_packets qs)
 lengths_join [] [] is = refl
 lengths_join [] (q ∷ qs) is = absurd cc
 lengths_join (p ∷ ps) [] is = absurd cc
 lengths_join (p ∷ ps) (q ∷ qs) is =
     let first : p.length ≡ length (packet_bytes q) = cc in
-    let rest : sum_by (λ (p : SealedPacket). p.length) ps ≡ length (joined_packets qs) = lengths_join ps qs cc in
-    omega (arith, sum_by-cons (λ (p : SealedPacket). p.length) p ps, length-append (packet_bytes q) (joined_packets qs))
+    let rest : sum_by (λ (p : MeasuredPacket). p.length) ps ≡ length (joined_packets qs) = lengths_join ps qs cc in
+    omega (
+      arith,
+      sum_by-cons (λ (p : MeasuredPacket). p.length) p ps,
+      length-append (packet_bytes q) (joined_packets qs),
+    )
 
 -- ---- one step
 

@@ -8,7 +8,7 @@ use Rattle.ide_port.proofs.Terms.{end_taken, called_end, SendRefusal, Inside, Po
 use Rattle.ide_port.proofs.Terms.{AreStreamsOf, IsKept, packets_lent}
 use Rattle.ide_port.proofs.Terms.{delivered_at}
 use Rattle.std.proofs.lemmas.List.{length-set}
-use Rattle.sub_stream.specs.declared.answer.SealedPacket.{SealedPacket}
+use Rattle.sub_stream.specs.declared.answer.MeasuredPacket.{MeasuredPacket}
 use Rattle.ide_stream.specs.{IsSent}
 use Rattle.ide_port.specs.Kept.{plan_place}
 use Rattle.ide_port.proofs.Waiting.{none-unless, none-taken, none-called}
@@ -68,7 +68,7 @@ module _ (p : Inside) (kept : Keeps p) (id place : ℕ) (x : StreamEnd) (at : pl
   }
 
   pub kept-sent : (y : StreamEnd) (head payload : List ℕ) (s : Sending) (number : ℕ)
-      (answer : Result (List SealedPacket) SendRefusal) (before out : List ℕ)
+      (answer : Result (List MeasuredPacket) SendRefusal) (before out : List ℕ)
       (capacity : ℕ)
       → IsSent x head payload s number answer before out y → before ≡ [] → length head ≤ 16 → length payload ≤ 4096
       → 4184 ≤ capacity

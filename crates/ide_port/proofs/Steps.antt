@@ -19,7 +19,7 @@ use Rattle.key_slots.specs.declared.slots.OnlyLive.{OnlyLive}
 use Rattle.ide_km.specs.declared.port.ProgramFault.{ProgramFault}
 use Rattle.ide_km.specs.declared.port.ProgramFault.TheVariants as km
 use Rattle.stream_rules.specs.Stream.{Taken as Answer}
-use Rattle.sub_stream.specs.declared.answer.SealedPacket.{SealedPacket}
+use Rattle.sub_stream.specs.declared.answer.MeasuredPacket.{MeasuredPacket}
 use Rattle.sub_stream.specs.declared.answer.Taken.{Taken}
 use Rattle.ide_stream.specs.Sends.{IsSent}
 use Rattle.ide_port.specs.declared.answer.Sent.{Sent}
@@ -33,15 +33,15 @@ use Rattle.ide_port.proofs.Streams.{state_of, absent}
 use Rattle.ide_port.proofs.Keeping.{Keeps, seen, now, inside, there, lends-there, lends-still, none-found}
 use Rattle.ide_port.proofs.Shown.{slots-after}
 
-abbrev pub sent_as : Result (List SealedPacket) SendRefusal → Sent
+abbrev pub sent_as : Result (List MeasuredPacket) SendRefusal → Sent
 sent_as (Ok packets) = Sealed packets
 sent_as (Err refusal) = Refused refusal
 
-verdict_of : (name : PortName) (number : ℕ) (answer : Result (List SealedPacket) SendRefusal)
+verdict_of : (name : PortName) (number : ℕ) (answer : Result (List MeasuredPacket) SendRefusal)
     → sent_verdict name number (sent_as answer) ≡ as_verdict (answer_as name number answer)
 verdict_of name number answer = grind arith
 
-lengths_of : (answer : Result (List SealedPacket) SendRefusal) → lengths_sent (sent_as answer) ≡ lengths_said answer
+lengths_of : (answer : Result (List MeasuredPacket) SendRefusal) → lengths_sent (sent_as answer) ≡ lengths_said answer
 lengths_of answer = grind arith
 
 said_of : (p : Packet) (t : Answer) → arrival_said p.prefix.stream p.prefix.sub (answer_of t) ≡ port_arrival p t
@@ -74,7 +74,7 @@ module _ (p : Inside) (e : PortEnd) (view : now p ≡ e) (kept : Keeps p) (id pl
   reads read = rw (← view) (ap read (there p kept id place x at is).is_found)
 
   pub sent-step : (y : StreamEnd) (t : Tlp) (more trusted : Bool) (number : ℕ)
-      (answer : Result (List SealedPacket) SendRefusal) (r : Sent)
+      (answer : Result (List MeasuredPacket) SendRefusal) (r : Sent)
       (before out : List ℕ) → before ≡ []
       → IsSent x (head_bytes (header t)) (body t) (sending p.name x.id (class_of (header t)) more trusted) number answer
       before out y → r ≡ sent_as answer

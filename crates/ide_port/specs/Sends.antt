@@ -13,7 +13,7 @@ use Rattle.tlp_layout.specs.Tlp.{header, body}
 use Rattle.ide_prefix.specs.Packet.{Packet}
 use Rattle.fault_words.specs.FaultWords.{tlp_word}
 use Rattle.association.specs.Outgoing.{Outgoing, NoTlp, OnNone, OnStream, outgoing_of}
-use Rattle.sub_stream.specs.declared.answer.SealedPacket.{SealedPacket}
+use Rattle.sub_stream.specs.declared.answer.MeasuredPacket.{MeasuredPacket}
 use Rattle.ide_stream.specs.{refusal_verdict, numbered_from, sending, sent_descriptions, packets_sent, end_sent}
 use Rattle.ide_stream.specs.{joined_packets, packet_lengths}
 use Rattle.ide_port.specs.declared.answer.Sent.{Sent}
@@ -74,7 +74,7 @@ sent_verdict port number (Sealed packets) = v.Sealed (numbered_from port number 
 
 -- the lengths of the packets, in bytes
 abbrev pub lengths_sent : Sent → List ℕ
-lengths_sent (Sealed packets) = map (λ (p : SealedPacket). p.length) packets
+lengths_sent (Sealed packets) = map (λ (p : MeasuredPacket). p.length) packets
 lengths_sent answer = []
 
 -- an answer and the port after it, as a step says

@@ -1,7 +1,7 @@
 //! What a port answers.
 
 use ide_prefix::PacketFault;
-use ide_stream::{Sealed, SendRefusal};
+use ide_stream::{MeasuredPackets, SendRefusal};
 use ide_types::{FailCause, SubKind};
 use link_verdicts::UnitName;
 use tlp_layout::TlpFault;
@@ -16,7 +16,7 @@ pub enum Sent {
     /// It is not sealed, and nothing changes.
     Refused(SendRefusal),
     /// It is sealed, after the sync packets that went first.
-    Sealed(Sealed),
+    Sealed(MeasuredPackets),
 }
 
 /// What becomes of arriving bytes (this profile).

@@ -21,7 +21,7 @@ use Rattle.stream_rules.specs.Stream.{Taken}
 use Rattle.stream_rules.specs.Stream.{Insecure, NotKeyed, Failed, Held, Accepted, dropped_held, taken_under}
 use Rattle.stream_rules.specs.Stream.{state_after}
 use Rattle.sub_stream.specs.{answer_of}
-use Rattle.sub_stream.specs.declared.answer.SealedPacket.{SealedPacket}
+use Rattle.sub_stream.specs.declared.answer.MeasuredPacket.{MeasuredPacket}
 use Rattle.sub_stream.specs.declared.answer.Taken.{Taken as Answer}
 use Rattle.sub_stream.specs.declared.answer.Taken.TheVariants as answers
 use Rattle.key_slots.specs.{KeyCall}
@@ -86,7 +86,7 @@ send-kept d calls new inv same totals = record {
 }
 
 sent-so : (side : Side) (d : Directions) (calls : ℕ) (head payload : List ℕ) (s : Sending) (number : ℕ)
-    (sealed : List SealedPacket) (before after : List ℕ) (new : SendEnds)
+    (sealed : List MeasuredPacket) (before after : List ℕ) (new : SendEnds)
     → refused (end_of side d calls) s ≡ None → IsSealed d.tx head payload s number sealed before after new
     → IsSent (end_of side d calls) head payload s number (Ok sealed) before after
     (end_of side (record d { tx = new }) (calls + 1))
@@ -130,7 +130,7 @@ insecure-so side d calls head payload s number before failed =
 
 -- of a stream that has not failed, what its senders make of it
 pub sent-among : (side : Side) (d : Directions) (calls : ℕ) (head payload : List ℕ) (s : Sending) (number : ℕ)
-    (answer : Result (List SealedPacket) SendRefusal) (before after : List ℕ) (new : SendEnds)
+    (answer : Result (List MeasuredPacket) SendRefusal) (before after : List ℕ) (new : SendEnds)
     → d.failed ≡ false → IsSealedOrRefused d.tx head payload s number answer before after new
     → IsSent (end_of side d calls) head payload s number answer before after
     (end_of side (record d { tx = new }) (calls + 1))
@@ -147,7 +147,7 @@ sent-among side d calls head payload s number (Err refusal) before after new cle
 
 -- only the three senders change
 pub senders-alone : (old : SendEnds) (head payload : List ℕ) (s : Sending) (number : ℕ)
-    (answer : Result (List SealedPacket) SendRefusal) (before after : List ℕ) (new : SendEnds)
+    (answer : Result (List MeasuredPacket) SendRefusal) (before after : List ℕ) (new : SendEnds)
     → IsSealedOrRefused old head payload s number answer before after new → new ≡ record old { tx = new.tx }
 senders-alone old head payload s number (Ok sealed) before after new is =
     is.1.senders ∙ (λ i. record old { tx = (sym is.1.senders i).tx })

@@ -8,7 +8,7 @@ use Rattle.link_verdicts.specs.declared.verdict.SealedPacket.{SealedPacket as De
 use Rattle.ide_prefix.specs.Packet.{Packet}
 use Rattle.stream_rules.specs.Sending.{Sending, refusals, first_that_holds, sealed_by}
 use Rattle.stream_rules.specs.Stream.{sealed_all, Three, TxSub}
-use Rattle.sub_stream.specs.declared.answer.SealedPacket.{SealedPacket}
+use Rattle.sub_stream.specs.declared.answer.MeasuredPacket.{MeasuredPacket}
 use Rattle.stream_lanes.specs.declared.refusal.SendRefusal.{SendRefusal}
 use Rattle.stream_lanes.specs.{refusal_verdict, numbered_from, joined_packets, packet_lengths}
 use Rattle.ide_stream.specs.Ends.{StreamEnd, lanes_in}
@@ -16,7 +16,7 @@ use Rattle.ide_stream.specs.Ends.{StreamEnd, lanes_in}
 -- ---- the answer
 
 -- an answer as a port says it, whose next sealed packet has this number
-abbrev pub answer_as : PortName → ℕ → Result (List SealedPacket) SendRefusal → Result (List Described) Verdict
+abbrev pub answer_as : PortName → ℕ → Result (List MeasuredPacket) SendRefusal → Result (List Described) Verdict
 answer_as port number answer = result_map_both (numbered_from port number) refusal_verdict answer
 
 -- a TLP on its way out at this port, on this stream
@@ -56,14 +56,14 @@ end_sent e head payload s number =
     }
 
 -- the lengths that an answer says
-abbrev pub lengths_said : Result (List SealedPacket) SendRefusal → List ℕ
-lengths_said (Ok ps) = map (λ (p : SealedPacket). p.length) ps
+abbrev pub lengths_said : Result (List MeasuredPacket) SendRefusal → List ℕ
+lengths_said (Ok ps) = map (λ (p : MeasuredPacket). p.length) ps
 lengths_said (Err refusal) = []
 
 -- A send of a TLP with this header and payload, whose first packet has this number: the answer, the bytes that were
 -- appended, and the stream after it.
 pub record IsSent (old : StreamEnd) (head payload : List ℕ) (s : Sending) (number : ℕ)
-    (answer : Result (List SealedPacket) SendRefusal) (before after : List ℕ) (new : StreamEnd) : Type 0 where
+    (answer : Result (List MeasuredPacket) SendRefusal) (before after : List ℕ) (new : StreamEnd) : Type 0 where
   pub answered : answer_as s.port number answer ≡ sent_descriptions old s number
   pub lengths : lengths_said answer ≡ packet_lengths (packets_sent old head payload s number)
   pub bytes : after ≡ before ++ joined_packets (packets_sent old head payload s number)

@@ -7,4 +7,4 @@ mod directions;
 mod stream;
 
 pub use stream::{SEND_ROOM, Stream};
-pub use stream_lanes::{Sealed, SendRefusal};
+pub use stream_lanes::{MeasuredPackets, SendRefusal};

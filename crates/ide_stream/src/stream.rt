@@ -19,7 +19,7 @@ use ide_types::{Direction, KeySet, Memory, Side, StreamStatus, SubKind};
 use key_slots::{Key, OnlyLive, SlotEmpty};
 use std::alloc::Global;
 use std::marker::Model;
-use stream_lanes::{Fixed, ReceiveLanes, Sealed, SendLanes, SendRefusal, failed};
+use stream_lanes::{Fixed, MeasuredPackets, ReceiveLanes, SendLanes, SendRefusal, failed};
 use sub_stream::{Delivered, LaneFacts, PACKET_ROOM, SYNC_ROOM, StreamFacts, Taken};
 
 /// The most bytes that one send seals: a sync packet in each of two sub-streams, and the TLP's packet.
@@ -124,7 +124,7 @@ impl Stream {
         more: bool,
         t: bool,
         out: &mut Vec<u8>,
-    ) -> Result<Sealed, SendRefusal>
+    ) -> Result<MeasuredPackets, SendRefusal>
         requires head_short { length head.now ≤ 16 }
         requires payload_short { length payload.now ≤ 4096 }
         requires room { vec_len out.old + SEND_ROOM ≤ vec_capacity out.old }

@@ -29,14 +29,14 @@ use Rattle.std.proofs.lemmas.List.{drop-drop, drop-append-le, take-append-le}
 use Rattle.std.proofs.lemmas.List.Sums.{sum_by-cons}
 use Rattle.ide_types.specs.declared.port.PortName.{PortName}
 use Rattle.link_ports.specs.Machine.{LinkPacket}
-use Rattle.sub_stream.specs.declared.answer.SealedPacket.{SealedPacket}
+use Rattle.sub_stream.specs.declared.answer.MeasuredPacket.{MeasuredPacket}
 use Rattle.sealed_packets.specs.Cuts.{cut_packets}
 use Rattle.sealed_packets.specs.Packets.{packets_ending, EndThere, ends_from, port_for_each}
 
-abbrev pub lengths_of : List SealedPacket → List ℕ
-lengths_of ps = map (λ (p : SealedPacket). p.length) ps
+abbrev pub lengths_of : List MeasuredPacket → List ℕ
+lengths_of ps = map (λ (p : MeasuredPacket). p.length) ps
 
-abbrev pub ports_of : PortName → List SealedPacket → List PortName
+abbrev pub ports_of : PortName → List MeasuredPacket → List PortName
 ports_of port ps = port_for_each port (lengths_of ps)
 
 -- ---- they lie within the bytes
@@ -113,7 +113,7 @@ cut_at : (start n : ℕ) (all : List ℕ) → slice_range all start (start + n) 
 cut_at start n all = let e : start + n - start ≡ n = omega arith in rw e refl
 
 -- packets whose ends follow from their lengths are cut where they begin
-cuts_from : (port : PortName) (ps : List SealedPacket) (start : ℕ) (all : List ℕ)
+cuts_from : (port : PortName) (ps : List MeasuredPacket) (start : ℕ) (all : List ℕ)
     → packets_ending start (ports_of port ps) (ends_from start (lengths_of ps)) all
     ≡ cut_packets port (lengths_of ps) (drop start all)
 cuts_from port [] start all = refl
@@ -130,7 +130,7 @@ kept_part start e old more low high =
     ap (λ (b : List ℕ). take (e - start) b) front
     ∙ take-append-le (e - start) (drop start old) more (omega (arith, length-drop start old))
 
-pub kept_and_cut : (start : ℕ) (ports : List PortName) (ends : List ℕ) (port : PortName) (ps : List SealedPacket)
+pub kept_and_cut : (start : ℕ) (ports : List PortName) (ends : List ℕ) (port : PortName) (ps : List MeasuredPacket)
     (old more : List ℕ) → EndThere start ports ends (length old)
     → packets_ending start (ports ++ ports_of port ps) (ends ++ ends_from (length old) (lengths_of ps)) (old ++ more)
     ≡ packets_ending start ports ends old ++ cut_packets port (lengths_of ps) more
@@ -145,17 +145,17 @@ kept_and_cut start (q ∷ qs) (e ∷ es) port ps old more is =
     let rest = kept_and_cut e qs es port ps old more is.1 in
     (λ i. record { port = q; bytes = part i } ∷ rest i)
 
-ends_fit : (port : PortName) (ps : List SealedPacket) (start n : ℕ)
-    → start + sum_by (λ (p : SealedPacket). p.length) ps ≡ n
+ends_fit : (port : PortName) (ps : List MeasuredPacket) (start n : ℕ)
+    → start + sum_by (λ (p : MeasuredPacket). p.length) ps ≡ n
     → EndThere start (ports_of port ps) (ends_from start (lengths_of ps)) n
 ends_fit port [] start n is = omega (arith, is)
 ends_fit port (p ∷ ps) start n is =
-    let sums : sum_by (λ (p : SealedPacket). p.length) (p ∷ ps)
-    ≡ p.length + sum_by (λ (p : SealedPacket). p.length) ps = sum_by-cons (λ (p : SealedPacket). p.length) p ps in
+    let sums : sum_by (λ (p : MeasuredPacket). p.length) (p ∷ ps)
+    ≡ p.length + sum_by (λ (p : MeasuredPacket). p.length) ps = sum_by-cons (λ (p : MeasuredPacket). p.length) p ps in
     (omega arith, ends_fit port ps (start + p.length) n (omega arith))
 
-pub all_end_there : (start : ℕ) (ports : List PortName) (ends : List ℕ) (port : PortName) (ps : List SealedPacket)
-    (m n : ℕ) → EndThere start ports ends m → m + sum_by (λ (p : SealedPacket). p.length) ps ≡ n
+pub all_end_there : (start : ℕ) (ports : List PortName) (ends : List ℕ) (port : PortName) (ps : List MeasuredPacket)
+    (m n : ℕ) → EndThere start ports ends m → m + sum_by (λ (p : MeasuredPacket). p.length) ps ≡ n
     → EndThere start (ports ++ ports_of port ps) (ends ++ ends_from m (lengths_of ps)) n
 all_end_there start [] [] port ps m n is sum =
     rw is (ends_fit port ps m n sum)

@@ -3,14 +3,14 @@
 ghost use Rattle.std.specs.Prelude.{◌≡◌, ◌+◌, ◌<◌, ◌≤◌, ◌^◌, ◌++◌, ◌∷◌, [], OnOk, length, map, option_map, sum_by};
 ghost use Rattle.std.specs.Prelude.{Some, slice_get, slice_index, slice_range, vec_len, vec_capacity};
 ghost use Rattle.link_ports.specs.Machine.{LinkPacket, packet_numbered};
-ghost use Rattle.sub_stream.specs.declared.answer.SealedPacket.{SealedPacket};
+ghost use Rattle.sub_stream.specs.declared.answer.MeasuredPacket.{MeasuredPacket};
 ghost use Rattle.sealed_packets.specs.Cuts.{cut_packets};
 ghost use Rattle.sealed_packets.specs.Packets.{ends_from, port_for_each};
 
 use ide_types::{Memory, PortName};
 use std::alloc::Global;
 use std::marker::Model;
-use sub_stream::SealedPacket;
+use sub_stream::MeasuredPacket;
 
 /// The most packets that one send seals.
 const MOST_PACKETS: usize = 3;
@@ -76,11 +76,11 @@ impl Packets {
     }
 
     /// Keeps the packets that one send sealed at a port; `bytes` are theirs, joined. There is room for them.
-    pub fn keep(&mut self, port: PortName, packets: &[SealedPacket], bytes: &[u8])
+    pub fn keep(&mut self, port: PortName, packets: &[MeasuredPacket], bytes: &[u8])
         requires marks { length packets.now ≤ self.old.mark_room }
         requires bytes { length bytes.now ≤ self.old.byte_room }
-        requires lengths { sum_by (λ (p : SealedPacket). p.length) packets.now ≡ length bytes.now }
-        ensures { self.new.packets ≡ self.old.packets ++ cut_packets port (map (λ (p : SealedPacket). p.length)
+        requires lengths { sum_by (λ (p : MeasuredPacket). p.length) packets.now ≡ length bytes.now }
+        ensures { self.new.packets ≡ self.old.packets ++ cut_packets port (map (λ (p : MeasuredPacket). p.length)
             packets.now) bytes.now }
     {
         let start = self.bytes.len();
@@ -133,15 +133,15 @@ fn add_ends(
     ports: &mut Vec<PortName>,
     ends: &mut Vec<usize>,
     port: PortName,
-    packets: &[SealedPacket],
+    packets: &[MeasuredPacket],
     start: usize,
 )
     requires ports_room { vec_len ports.old + length packets.now ≤ vec_capacity ports.old }
     requires ends_room { vec_len ends.old + length packets.now ≤ vec_capacity ends.old }
-    requires fits { start + sum_by (λ (p : SealedPacket). p.length) packets.now < 2 ^ 63 }
-    ensures ports { ports.new.items ≡ ports.old.items ++ port_for_each port (map (λ (p : SealedPacket). p.length)
+    requires fits { start + sum_by (λ (p : MeasuredPacket). p.length) packets.now < 2 ^ 63 }
+    ensures ports { ports.new.items ≡ ports.old.items ++ port_for_each port (map (λ (p : MeasuredPacket). p.length)
         packets.now) }
-    ensures ends { ends.new.items ≡ ends.old.items ++ ends_from start (map (λ (p : SealedPacket). p.length)
+    ensures ends { ends.new.items ≡ ends.old.items ++ ends_from start (map (λ (p : MeasuredPacket). p.length)
         packets.now) }
 {
     let mut end = start;

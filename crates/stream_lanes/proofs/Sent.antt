@@ -17,7 +17,7 @@ use Rattle.stream_rules.specs.Stream.{LaneSlot, Empty, Programmed, Armed, Live, 
 use Rattle.stream_rules.specs.Stream.{at_sub, each_sub, live_sender, packet_under, sealed_sub}
 use Rattle.stream_rules.specs.Stream.{sealed_one, sealed_all}
 use Rattle.stream_rules.specs.Slots.{is_live_slot, any_live}
-use Rattle.sub_stream.specs.declared.answer.SealedPacket.{SealedPacket}
+use Rattle.sub_stream.specs.declared.answer.MeasuredPacket.{MeasuredPacket}
 use Rattle.stream_lanes.specs.Sends.{numbered_from, joined_packets, packet_lengths, IsSealed}
 use Rattle.stream_lanes.specs.declared.fixed.Fixed.{Fixed}
 use Rattle.stream_lanes.specs.Lanes.{SendEnd, SendEnds, end_at, sealing_lanes, tlp_said, sync_said, packet_said_at}
@@ -142,7 +142,7 @@ after_packet x d p q e = ap (λ (r : Packet). record x { tx = each_sub (λ u. se
 abbrev pub last_ends : SendEnds → Bool → Bool → SendEnds
 last_ends x b c = synced c Cpl (synced b Npr x)
 
-abbrev pub all_said : SendEnds → SubKind → Bool → Bool → List ℕ → List ℕ → Bool → Bool → List SealedPacket
+abbrev pub all_said : SendEnds → SubKind → Bool → Bool → List ℕ → List ℕ → Bool → Bool → List MeasuredPacket
 all_said x sub b c head payload more t =
     (([] ++ sync_packets b Npr x) ++ sync_packets c Cpl (synced b Npr x))
     ++ measured (tlp_said (end_at (last_ends x b c) sub) more t)
@@ -166,9 +166,9 @@ flagged b c x s number =
     (sets_trusted s.port s.trusted) false ∷ []
 
 pub record IsSealedAs (x : SendEnds) (head payload : List ℕ) (port : PortName) (number : ℕ) (ds : List Described)
-    (sealed : List SealedPacket) (before after : List ℕ) (new : SendEnds) : Type 0 where
+    (sealed : List MeasuredPacket) (before after : List ℕ) (new : SendEnds) : Type 0 where
   pub answered : numbered_from port number sealed ≡ ds
-  pub lengths : map (λ (p : SealedPacket). p.length) sealed ≡ packet_lengths
+  pub lengths : map (λ (p : MeasuredPacket). p.length) sealed ≡ packet_lengths
       (sealed_all x.fixed.closed head payload ds x.tx).0
   pub bytes : after ≡ before ++ joined_packets (sealed_all x.fixed.closed head payload ds x.tx).0
   pub senders : new ≡ record x { tx = (sealed_all x.fixed.closed head payload ds x.tx).1 }

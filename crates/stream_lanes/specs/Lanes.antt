@@ -12,7 +12,7 @@ use Rattle.stream_rules.specs.Stream.{packet_under, sealed_slots, sealed_one}
 use Rattle.stream_rules.specs.Slots.{is_live_slot, any_live}
 use Rattle.key_slots.specs.{KeyCall}
 use Rattle.sub_stream.specs.{Sender, no_slots, open_packets, packets_under, with_length}
-use Rattle.sub_stream.specs.declared.answer.SealedPacket.{SealedPacket}
+use Rattle.sub_stream.specs.declared.answer.MeasuredPacket.{MeasuredPacket}
 use Rattle.sub_stream.specs.Calls.{slots_called_out}
 use Rattle.stream_lanes.specs.declared.fixed.Fixed.{Fixed}
 
@@ -133,7 +133,7 @@ abbrev pub sealed_ends : SendEnds → List ℕ → List ℕ → Described → Se
 sealed_ends x head payload d = record x { tx = (sealed_one x.fixed.closed head payload d x.tx).1 }
 
 -- a packet with its length
-abbrev pub measured : Described → Packet → SealedPacket
+abbrev pub measured : Described → Packet → MeasuredPacket
 measured d p = with_length d (length (packet_bytes p))
 
 -- the packets of an open unit of these slots
@@ -183,7 +183,7 @@ called_ends x u call =
 abbrev pub synced : Bool → SubKind → SendEnds → SendEnds
 synced needed u x = if needed then sealed_ends x [] [] (sync_said (end_at x u)) else x
 
-abbrev pub sync_packets : Bool → SubKind → SendEnds → List SealedPacket
+abbrev pub sync_packets : Bool → SubKind → SendEnds → List MeasuredPacket
 sync_packets needed u x =
     if needed then measured (sync_said (end_at x u)) (packet_said_at x [] [] (sync_said (end_at x u))) ∷ [] else []
 

@@ -8,7 +8,7 @@ use Rattle.ide_prefix.specs.Packet.{Packet, packet_bytes}
 use Rattle.stream_rules.specs.Sending.{Sending, sealed_by, refusals, first_that_holds}
 use Rattle.stream_rules.specs.Stream.{sealed_all}
 use Rattle.sub_stream.specs.{numbered}
-use Rattle.sub_stream.specs.declared.answer.SealedPacket.{SealedPacket}
+use Rattle.sub_stream.specs.declared.answer.MeasuredPacket.{MeasuredPacket}
 use Rattle.stream_lanes.specs.declared.refusal.SendRefusal.{SendRefusal}
 use Rattle.stream_lanes.specs.declared.refusal.SendRefusal.TheVariants.{NoKey, Worn, Unfinished, Insecure}
 use Rattle.stream_lanes.specs.Lanes.{SendEnds, sealing_lanes}
@@ -21,7 +21,7 @@ refusal_verdict Unfinished = v.RefusedUnfinished
 refusal_verdict Insecure = v.RefusedInsecure
 
 -- sealed packets as a port describes them, numbered from this number on
-abbrev pub numbered_from : PortName → ℕ → List SealedPacket → List Described
+abbrev pub numbered_from : PortName → ℕ → List MeasuredPacket → List Described
 numbered_from port number [] = []
 numbered_from port number (p ∷ ps) = numbered port number p ∷ numbered_from port (number + 1) ps
 
@@ -33,10 +33,10 @@ abbrev pub packet_lengths : List Packet → List ℕ
 packet_lengths ps = map (λ p. length (packet_bytes p)) ps
 
 -- what the senders make of a TLP that is not refused
-pub record IsSealed (old : SendEnds) (head payload : List ℕ) (s : Sending) (number : ℕ) (sealed : List SealedPacket)
+pub record IsSealed (old : SendEnds) (head payload : List ℕ) (s : Sending) (number : ℕ) (sealed : List MeasuredPacket)
     (before after : List ℕ) (new : SendEnds) : Type 0 where
   pub answered : numbered_from s.port number sealed ≡ sealed_by (sealing_lanes old) s number
-  pub lengths : map (λ (p : SealedPacket). p.length) sealed ≡ packet_lengths (sealed_all old.fixed.closed head payload
+  pub lengths : map (λ (p : MeasuredPacket). p.length) sealed ≡ packet_lengths (sealed_all old.fixed.closed head payload
       (sealed_by (sealing_lanes old) s number) old.tx).0
   pub bytes : after ≡ before ++ joined_packets (sealed_all old.fixed.closed head payload
       (sealed_by (sealing_lanes old) s number) old.tx).0
@@ -44,7 +44,7 @@ pub record IsSealed (old : SendEnds) (head payload : List ℕ) (s : Sending) (nu
       { tx = (sealed_all old.fixed.closed head payload (sealed_by (sealing_lanes old) s number) old.tx).1 }
 
 -- what they make of any TLP: a refusal changes nothing
-abbrev pub IsSealedOrRefused : SendEnds → List ℕ → List ℕ → Sending → ℕ → Result (List SealedPacket) SendRefusal
+abbrev pub IsSealedOrRefused : SendEnds → List ℕ → List ℕ → Sending → ℕ → Result (List MeasuredPacket) SendRefusal
     → List ℕ → List ℕ → SendEnds → Type 0
 IsSealedOrRefused old head payload s number (Ok sealed) before after new =
     (first_that_holds (refusals (sealing_lanes old) s.class) ≡ None)

@@ -9,7 +9,7 @@ mod refusal;
 mod send_lanes;
 
 pub use fixed::Fixed;
-pub use list::Sealed;
+pub use list::MeasuredPackets;
 pub use receive_lanes::{ReceiveLanes, failed};
 pub use refusal::SendRefusal;
 pub use send_lanes::SendLanes;

@@ -4,36 +4,36 @@ ghost use Rattle.std.specs.Prelude.{◌≡◌, ◌<◌, ◌≤◌, [], ◌∷◌
 
 use arrayvec::ArrayVec;
 use std::marker::Model;
-use sub_stream::SealedPacket;
+use sub_stream::MeasuredPacket;
 
 /// The packets that one send sealed, in order (this profile): at most a sync packet in each of two sub-streams, and
 /// the packet of the TLP.
 #[derive(Drop)]
-pub struct Sealed {
-    packets: ArrayVec<SealedPacket, 3>,
+pub struct MeasuredPackets {
+    packets: ArrayVec<MeasuredPacket, 3>,
 }
 
-impl Model for Sealed {
+impl Model for MeasuredPackets {
     ghost use Rattle.std.specs.Prelude.{List};
-    ghost use Rattle.sub_stream.specs.declared.answer.SealedPacket.{SealedPacket};
+    ghost use Rattle.sub_stream.specs.declared.answer.MeasuredPacket.{MeasuredPacket};
 
-    ghost Value = { List SealedPacket };
+    ghost Value = { List MeasuredPacket };
 
     ghost view = { λ s. s.packets.items };
 }
 
-impl Sealed {
+impl MeasuredPackets {
     /// No packets.
-    pub fn new() -> Sealed
+    pub fn new() -> MeasuredPackets
         ensures { result ≡ [] }
     {
-        Sealed {
+        MeasuredPackets {
             packets: ArrayVec::new(),
         }
     }
 
     /// Appends a packet.
-    pub fn push(&mut self, packet: SealedPacket)
+    pub fn push(&mut self, packet: MeasuredPacket)
         requires { length self.old < 3 }
         ensures { self.new ≡ self.old ++ packet ∷ [] }
     {
@@ -41,7 +41,7 @@ impl Sealed {
     }
 
     /// The packets, lent; at most 3.
-    pub fn as_slice(&self) -> &[SealedPacket]
+    pub fn as_slice(&self) -> &[MeasuredPacket]
         ensures value { result.now ≡ self.now }
         ensures most { length result.now ≤ 3 }
     {

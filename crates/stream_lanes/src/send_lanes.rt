@@ -22,13 +22,13 @@ ghost use Rattle.stream_lanes.specs.Lanes.{sync_said, packet_said, sealed_end, p
 ghost use Rattle.stream_lanes.specs.Lanes.{called_send_end, KeepsUnit};
 
 use crate::fixed::{Fixed, lent_total};
-use crate::list::Sealed;
+use crate::list::MeasuredPackets;
 use crate::refusal::SendRefusal;
 use ide_types::{KeySet, Memory, SubKind};
 use key_slots::{Key, OnlyLive, SlotEmpty};
 use std::alloc::Global;
 use std::marker::Model;
-use sub_stream::{PACKET_ROOM, SYNC_ROOM, SealedPacket, SenderFacts, Tx, TxRefusal};
+use sub_stream::{MeasuredPacket, PACKET_ROOM, SYNC_ROOM, SenderFacts, Tx, TxRefusal};
 use unit_aggregation::UnitBuf;
 
 /// A sender of one sub-stream with its posted count and its total.
@@ -151,7 +151,7 @@ impl SendLane {
         more: bool,
         t: bool,
         out: &mut Vec<u8>,
-    ) -> SealedPacket
+    ) -> MeasuredPacket
         requires live { any_live self.old.kept.slots ≡ true }
         requires unworn { is_spent self.old ≡ false }
         requires few { self.old.kept.total < 2 ^ 40 }
@@ -176,7 +176,7 @@ impl SendLane {
     }
 
     /// Seals a sync packet under the Live key, which ends its unit, and appends it to `out`.
-    pub fn sync(&mut self, out: &mut Vec<u8>) -> SealedPacket
+    pub fn sync(&mut self, out: &mut Vec<u8>) -> MeasuredPacket
         requires live { any_live self.old.kept.slots ≡ true }
         requires unworn { is_spent self.old ≡ false }
         requires few { self.old.kept.total < 2 ^ 40 }
@@ -414,7 +414,7 @@ impl SendLanes {
     }
 
     // Seals a sync packet in the non-posted sub-stream, if one is needed.
-    fn sync_npr(&mut self, needed: bool, sealed: &mut Sealed, out: &mut Vec<u8>)
+    fn sync_npr(&mut self, needed: bool, sealed: &mut MeasuredPackets, out: &mut Vec<u8>)
         requires live { needed ≡ true → any_live self.old.tx.npr.slots ≡ true }
         requires unworn { needed ≡ true → is_spent (end_at self.old Npr) ≡ false }
         requires few { self.old.tx.npr.total < 2 ^ 40 }
@@ -434,7 +434,7 @@ impl SendLanes {
     }
 
     // Seals a sync packet in the completion sub-stream, if one is needed.
-    fn sync_cpl(&mut self, needed: bool, sealed: &mut Sealed, out: &mut Vec<u8>)
+    fn sync_cpl(&mut self, needed: bool, sealed: &mut MeasuredPackets, out: &mut Vec<u8>)
         requires live { needed ≡ true → any_live self.old.tx.cpl.slots ≡ true }
         requires unworn { needed ≡ true → is_spent (end_at self.old Cpl) ≡ false }
         requires few { self.old.tx.cpl.total < 2 ^ 40 }
@@ -461,7 +461,7 @@ impl SendLanes {
         more: bool,
         t: bool,
         out: &mut Vec<u8>,
-    ) -> SealedPacket
+    ) -> MeasuredPacket
         requires live { any_live self.old.tx.pr.slots ≡ true }
         requires unworn { is_spent (end_at self.old Pr) ≡ false }
         requires few { self.old.tx.pr.total < 2 ^ 40 }
@@ -492,7 +492,7 @@ impl SendLanes {
         more: bool,
         t: bool,
         out: &mut Vec<u8>,
-    ) -> SealedPacket
+    ) -> MeasuredPacket
         requires live { any_live (at_sub self.old.tx sub).slots ≡ true }
         requires unworn { is_spent (end_at self.old sub) ≡ false }
         requires few { (at_sub self.old.tx sub).total < 2 ^ 40 }
@@ -528,7 +528,7 @@ impl SendLanes {
         more: bool,
         t: bool,
         out: &mut Vec<u8>,
-    ) -> Sealed
+    ) -> MeasuredPackets
         requires npr { npr ≡ needs_sync (sealing_lanes self.old) sub Npr }
         requires cpl { cpl ≡ needs_sync (sealing_lanes self.old) sub Cpl }
         requires npr_room { is_posted sub ≡ true → (if npr then 0 else (at_sub self.old.tx Npr).posted)
@@ -546,7 +546,7 @@ impl SendLanes {
         ensures totals { (u : SubKind) → (at_sub self.new.tx u).total ≤ (at_sub self.old.tx u).total + 1 }
         ensures capacity { vec_capacity out.old ≤ vec_capacity out.new }
     {
-        let mut sealed = Sealed::new();
+        let mut sealed = MeasuredPackets::new();
         self.sync_npr(npr, &mut sealed, out);
         self.sync_cpl(cpl, &mut sealed, out);
         let packet = self.seal(sub, head, payload, more, t, out);
@@ -566,7 +566,7 @@ impl SendLanes {
         more: bool,
         t: bool,
         out: &mut Vec<u8>,
-    ) -> Result<Sealed, SendRefusal>
+    ) -> Result<MeasuredPackets, SendRefusal>
         requires few { (u : SubKind) → (at_sub self.old.tx u).total < 2 ^ 40 }
         requires head_short { length head.now ≤ 16 }
         requires payload_short { length payload.now ≤ 4096 }

@@ -4,12 +4,12 @@ use Rattle.ide_types.specs.declared.port.PortName.{PortName}
 use Rattle.link_verdicts.specs.declared.verdict.SealedPacket.{SealedPacket as Described}
 use Rattle.stream_rules.specs.Stream.{Taken as Answer, Insecure, NotKeyed as Keyless, Failed, Held as HeldBack}
 use Rattle.stream_rules.specs.Stream.{Accepted as Whole}
-use Rattle.sub_stream.specs.declared.answer.SealedPacket.{SealedPacket}
+use Rattle.sub_stream.specs.declared.answer.MeasuredPacket.{MeasuredPacket}
 use Rattle.sub_stream.specs.declared.answer.Taken.{Taken}
 use Rattle.sub_stream.specs.declared.answer.Taken.TheVariants.{NotKeyed, Held, Accepted, Fail}
 
 -- a sealed packet as a port describes it, with its number over the run
-abbrev pub numbered : PortName → ℕ → SealedPacket → Described
+abbrev pub numbered : PortName → ℕ → MeasuredPacket → Described
 numbered port number p = record {
   number = number;
   port = port;

@@ -7,7 +7,7 @@ pub mod Receivers
 pub mod Calls
 pub mod Facts
 -- what clauses and crates above cite
-pub use Rattle.sub_stream.specs.declared.answer.SealedPacket.{SealedPacket}
+pub use Rattle.sub_stream.specs.declared.answer.MeasuredPacket.{MeasuredPacket}
 pub use Rattle.sub_stream.specs.declared.answer.TxRefusal.{TxRefusal}
 pub use Rattle.sub_stream.specs.declared.answer.Taken.{Taken}
 pub use Rattle.sub_stream.specs.declared.answer.PacketMark.{PacketMark}

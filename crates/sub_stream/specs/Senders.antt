@@ -11,7 +11,7 @@ use Rattle.stream_rules.specs.Stream.{Empty, Programmed, LaneSlots, LiveKey, liv
 use Rattle.stream_rules.specs.Stream.{sealed_slots, slot_in_set, with_slot}
 use Rattle.stream_rules.specs.Slots.{both_slots, slot_gone, woken_slot, is_live_slot}
 use Rattle.key_slots.specs.{SlotPair, is_only_live}
-use Rattle.sub_stream.specs.declared.answer.SealedPacket.{SealedPacket}
+use Rattle.sub_stream.specs.declared.answer.MeasuredPacket.{MeasuredPacket}
 use Rattle.sub_stream.specs.declared.answer.TxRefusal.{TxRefusal}
 use Rattle.sub_stream.specs.declared.answer.TxRefusal.TheVariants.{NoKey, Worn}
 use Rattle.sub_stream.specs.declared.sender.Carried.{Carried}
@@ -100,7 +100,7 @@ noted tx x c m = record {
   sync = c.sync;
 }
 
-abbrev pub with_length : Described → ℕ → SealedPacket
+abbrev pub with_length : Described → ℕ → MeasuredPacket
 with_length d n = record {
   stream = d.stream;
   sub = d.sub;
@@ -137,7 +137,7 @@ ends tx x more = not more || (length x.packets + 1 == tx.mode)
 
 -- a packet that was sealed: what is said of it, the packet, and the sender after it
 pub record Sealing : Type 0 where
-  pub description : SealedPacket
+  pub description : MeasuredPacket
   pub packet : Packet
   pub sender : Sender
 
@@ -159,7 +159,7 @@ sealing_under tx total c more (Ok x) = Ok (sealing_as tx total x c (ends tx x.1 
 abbrev pub sealing_of : Sender → List ℕ → Content → Bool → Result Sealing TxRefusal
 sealing_of tx total c more = sealing_under tx total c more (ready_of tx)
 
-abbrev pub sealing_answer : Result Sealing TxRefusal → Result SealedPacket TxRefusal
+abbrev pub sealing_answer : Result Sealing TxRefusal → Result MeasuredPacket TxRefusal
 sealing_answer r = result_map_both (λ (s : Sealing). s.description) (λ (e : TxRefusal). e) r
 
 abbrev pub sealing_bytes : Result Sealing TxRefusal → List ℕ

@@ -4,7 +4,7 @@ use ide_types::{FailCause, SubKind};
 
 /// A sealed packet as its prefix says, with its draw, its unit's counter and its length in bytes (this profile).
 #[derive(Clone, Copy, Default, PartialEq, Eq)]
-pub struct SealedPacket {
+pub struct MeasuredPacket {
     pub stream: u8,
     pub sub: SubKind,
     pub draw: u32,

@@ -10,7 +10,7 @@ mod receiver;
 mod sender;
 mod unit_packets;
 
-pub use answer::{PacketMark, SealedPacket, Taken, TxRefusal};
+pub use answer::{MeasuredPacket, PacketMark, Taken, TxRefusal};
 pub use facts::{LaneFacts, ReceiverFacts, SenderFacts, SetFacts, SlotFacts, StreamFacts};
 pub use lent::Delivered;
 pub use receiver::Rx;

@@ -18,7 +18,7 @@ ghost use Rattle.sub_stream.specs.Seen.{shown_in_use, in_use, live_with, seen_ou
 ghost use Rattle.sub_stream.specs.Seen.{is_programmed, slot_pair, key_slot};
 ghost use Rattle.sub_stream.specs.Senders.{ready_under, begun_where_empty, carried_content, tlp_content, sync_content};
 
-use crate::answer::{SealedPacket, TxRefusal};
+use crate::answer::{MeasuredPacket, TxRefusal};
 use crate::facts::{SetFacts, slot_facts};
 use crate::unit_packets::UnitPackets;
 use gcm_seal::{Gcm, MAX_BYTES};
@@ -248,7 +248,7 @@ impl Tx {
         more: bool,
         total: Option<&[u8; 8]>,
         out: &mut Vec<u8>,
-    ) -> Result<SealedPacket, TxRefusal>
+    ) -> Result<MeasuredPacket, TxRefusal>
         requires head { (if carried.now.sync then sync_head else carried.now.head.now) ≡ carried.now.head.now }
         requires payload { (if carried.now.sync then [] else carried.now.payload.now) ≡ carried.now.payload.now }
         requires head_short { length carried.now.head.now ≤ TLP_HEAD_BYTES }
@@ -290,7 +290,7 @@ impl Tx {
             &mut self.unit,
         );
         end_unit(&mut self.slots, &mut self.units, &mut self.unit, m);
-        Ok(SealedPacket {
+        Ok(MeasuredPacket {
             stream: self.stream,
             sub: self.sub,
             draw,
@@ -317,7 +317,7 @@ impl Tx {
         t: bool,
         total: Option<&[u8; 8]>,
         out: &mut Vec<u8>,
-    ) -> Result<SealedPacket, TxRefusal>
+    ) -> Result<MeasuredPacket, TxRefusal>
         requires head_short { length head.now ≤ TLP_HEAD_BYTES }
         requires payload_short { length payload.now ≤ PAYLOAD_BYTES }
         requires room { vec_len out.old + PACKET_ROOM ≤ vec_capacity out.old }
@@ -346,7 +346,7 @@ impl Tx {
         posted: u8,
         total: Option<&[u8; 8]>,
         out: &mut Vec<u8>,
-    ) -> Result<SealedPacket, TxRefusal>
+    ) -> Result<MeasuredPacket, TxRefusal>
         requires { vec_len out.old + SYNC_ROOM ≤ vec_capacity out.old }
         ensures answer { result ≡ sealing_answer (sealing_of self.old (lent_ahead total.entry)
             (sync_content posted) false) }

@@ -1,5 +1,5 @@
 use Rattle.all_links.proofs.Terms.{ap, sym, ◌∙◌, ◌≡◌, ◌+◌, ℕ, length, subst, List, ◌++◌, map, Some, append-nil, Plan}
-use Rattle.all_links.proofs.Terms.{SealedPacket, Sent, lengths_sent, Links, SendsAt, EndsView, port_on}
+use Rattle.all_links.proofs.Terms.{MeasuredPacket, Sent, lengths_sent, Links, SendsAt, EndsView, port_on}
 use Rattle.ide_port.specs.{PortEnd}
 use Rattle.interface_answers.specs.{cut_packets, end_sent_verdict}
 use Rattle.ide_types.specs.declared.port.PortName.{PortName}
@@ -12,7 +12,7 @@ pub keep-requires-clause-lengths : goal.keep-requires-clause-lengths
 keep-requires-clause-lengths c =
     sealed_length c.args.self.now.ends c.send-sent.new.self c.args.end c.args.bytes.now c.args.more c.args.trusted
     c.send-sent.result c.as_slice.result.now c.packets.result.now c.requires.here c.send-sent.ensures
-    (ap (λ (ps : List SealedPacket). map (λ (p : SealedPacket). p.length) ps) c.as_slice.ensures.value ∙ ap
+    (ap (λ (ps : List MeasuredPacket). map (λ (p : MeasuredPacket). p.length) ps) c.as_slice.ensures.value ∙ ap
     (λ (a : Sent). lengths_sent a) (sym c.in-Sealed.is)) c.packets.ensures.value
 
 pub returns-clause-ends : goal.returns-clause-ends
@@ -42,8 +42,8 @@ returns-clause-ends c =
     elim c.match-sent.branch [
       | in-Sealed w ↦
           let ends_is : c.match-sent.self.ends ≡ c.send-sent.new.self = ap (λ (s : Links). s.ends) w.self-is in
-          let lengths : map (λ (p : SealedPacket). p.length) w.as_slice.result.now ≡ lengths_sent c.send-sent.result =
-          ap (λ (ps : List SealedPacket). map (λ (p : SealedPacket). p.length) ps) w.as_slice.ensures.value ∙ ap
+          let lengths : map (λ (p : MeasuredPacket). p.length) w.as_slice.result.now ≡ lengths_sent c.send-sent.result =
+          ap (λ (ps : List MeasuredPacket). map (λ (p : MeasuredPacket). p.length) ps) w.as_slice.ensures.value ∙ ap
           (λ (a : Sent). lengths_sent a) (sym w.in-Sealed.is) in
           finish ends_is (ap (λ (s : Links). s.keeper.keys) w.self-is) (ap (λ (s : Links). s.steps + 1) w.self-is)
           (λ e at. ap (λ (s : Links). s.packets.packets) w.self-is ∙ w.keep.ensures

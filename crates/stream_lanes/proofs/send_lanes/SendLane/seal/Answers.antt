@@ -4,7 +4,7 @@ use Rattle.stream_rules.specs.Slots.{any_live}
 use Rattle.sub_stream.specs.{Sender, Sealing, Content, tlp_content, sealing_of, sealing_answer, sealing_bytes}
 use Rattle.sub_stream.specs.{sender_after}
 use Rattle.sub_stream.specs.Gathered.{lent_ahead}
-use Rattle.sub_stream.specs.declared.answer.SealedPacket.{SealedPacket}
+use Rattle.sub_stream.specs.declared.answer.MeasuredPacket.{MeasuredPacket}
 use Rattle.sub_stream.specs.declared.answer.TxRefusal.{TxRefusal}
 use Rattle.stream_lanes.specs.Lanes.{SendEnd, IsSendLane, is_spent, tlp_said, packet_said, sealed_end, measured}
 use Rattle.stream_lanes.proofs.Sealing.{view, sealing_right, sealing-is, sealed-kept}
@@ -35,7 +35,7 @@ right c =
     c.to_be_bytes-total.ensures)
     refl
 
-ok_is : (a b : SealedPacket) (r : Result SealedPacket TxRefusal) → r ≡ Ok a → r ≡ Ok b → a ≡ b
+ok_is : (a b : MeasuredPacket) (r : Result MeasuredPacket TxRefusal) → r ≡ Ok a → r ≡ Ok b → a ≡ b
 ok_is a b r e f = cc
 
 packet_is : (c : goal.After-count) → c.in-Ok.packet ≡ measured (tlp_said (end c) c.args.more c.args.t)
@@ -67,7 +67,7 @@ total_is : (c : goal.After-count) → c.count.new.total ≡
 unfolding end
 total_is c =
     c.count.ensures.total
-    ∙ ap (λ (p : SealedPacket). if p.m then c.self.inside.total + 1 else c.self.inside.total) (packet_is c)
+    ∙ ap (λ (p : MeasuredPacket). if p.m then c.self.inside.total + 1 else c.self.inside.total) (packet_is c)
 
 pub returns-clause-lane : goal.returns-clause-lane
 unfolding sealed content end

@@ -7,7 +7,7 @@ use Rattle.stream_rules.specs.Slots.{any_live}
 use Rattle.sub_stream.specs.{Sender, Sealing, Content, sync_content, sealing_of, sealing_answer, sealing_bytes}
 use Rattle.sub_stream.specs.{sender_after}
 use Rattle.sub_stream.specs.Gathered.{lent_ahead}
-use Rattle.sub_stream.specs.declared.answer.SealedPacket.{SealedPacket}
+use Rattle.sub_stream.specs.declared.answer.MeasuredPacket.{MeasuredPacket}
 use Rattle.sub_stream.specs.declared.answer.TxRefusal.{TxRefusal}
 use Rattle.stream_lanes.specs.Lanes.{SendEnd, IsSendLane, is_spent, sync_said, packet_said, sealed_end, measured}
 use Rattle.stream_lanes.proofs.Sealing.{view, sealing-is, sealed-kept, sync-short, sync-same}
@@ -53,7 +53,7 @@ right c =
     (sync-same (ahead_with c.self.inside.closed (sync_said (end c)).unit c.self.inside.total)
     (live_sender c.self.inside.tx.slots) (sync_said (end c)) sync_head [] [] [] refl)
 
-ok_is : (a b : SealedPacket) (r : Result SealedPacket TxRefusal) → r ≡ Ok a → r ≡ Ok b → a ≡ b
+ok_is : (a b : MeasuredPacket) (r : Result MeasuredPacket TxRefusal) → r ≡ Ok a → r ≡ Ok b → a ≡ b
 ok_is a b r e f = cc
 
 packet_is : (c : goal.After-count) → c.in-Ok.packet ≡ measured (sync_said (end c))
@@ -83,7 +83,7 @@ total_is : (c : goal.After-count) → c.count.new.total ≡
 unfolding end
 total_is c =
     c.count.ensures.total
-    ∙ ap (λ (p : SealedPacket). if p.m then c.self.inside.total + 1 else c.self.inside.total) (packet_is c)
+    ∙ ap (λ (p : MeasuredPacket). if p.m then c.self.inside.total + 1 else c.self.inside.total) (packet_is c)
 
 pub returns-clause-lane : goal.returns-clause-lane
 unfolding sealed with_sealed end content

@@ -3,7 +3,7 @@ use Rattle.ide_types.specs.declared.sub.SubKind.TheVariants.{Npr, Cpl}
 use Rattle.ide_prefix.specs.Packet.{packet_bytes}
 use Rattle.stream_rules.specs.Slots.{any_live}
 use Rattle.stream_rules.specs.Stream.{TxSub, at_sub}
-use Rattle.sub_stream.specs.declared.answer.SealedPacket.{SealedPacket}
+use Rattle.sub_stream.specs.declared.answer.MeasuredPacket.{MeasuredPacket}
 use Rattle.stream_lanes.specs.Sends.{IsSealed}
 use Rattle.stream_lanes.specs.Lanes.{SendEnd, SendEnds, end_at, is_spent, tlp_said, packet_said_at, sealed_ends}
 use Rattle.stream_lanes.specs.Lanes.{measured, synced, sync_packets, sync_bytes}
@@ -93,7 +93,7 @@ returns-clause-sent c s number stream class goes trusted =
     c.seal-packet.ensures.lanes
     ∙ (λ i. sealed_ends (second i) c.args.head.now c.args.payload.now
     (tlp_said (end_at (second i) c.args.sub) c.args.more c.args.t)) in
-    subst (λ (y : List SealedPacket × List ℕ × SendEnds). IsSealed x c.args.head.now c.args.payload.now s number y.0
+    subst (λ (y : List MeasuredPacket × List ℕ × SendEnds). IsSealed x c.args.head.now c.args.payload.now s number y.0
     c.args.out.now.items y.1 y.2) (λ i. (sym said i, sym bytes i, sym ends i))
     (sent-right x c.args.head.now c.args.payload.now s number c.args.sub b d c.args.more c.args.t c.args.out.now.items
     c.requires.npr c.requires.cpl stream class goes trusted)
