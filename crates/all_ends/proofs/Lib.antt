@@ -10,4 +10,4 @@ pub mod Lent
 pub mod Comes
 pub use Rattle.arrival_verdicts.proofs.Waits.{own_tlps, waits_open}
 pub use Rattle.arrival_verdicts.proofs.Writes.{switch_admits_none, unit_agrees, writes_agree}
-pub use Rattle.link_ends.proofs.Lists.{set_read}
+pub use Rattle.ide_types.proofs.Places.{set_read}

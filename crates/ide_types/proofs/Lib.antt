@@ -1,1 +1,2 @@
 pub mod KeySets
+pub mod Places

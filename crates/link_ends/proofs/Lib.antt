@@ -1,5 +1,4 @@
 pub mod Terms
-pub mod Lists
 pub mod Names
 pub mod Streams
 pub mod Ports

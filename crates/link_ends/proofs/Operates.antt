@@ -21,7 +21,7 @@ use Rattle.link_walks.specs.Joined.{host_of}
 use Rattle.link_walks.proofs.Works.{begun_id, begun_link}
 use Rattle.ide_types.specs.Lines.{is_hosted}
 use Rattle.tsm_host.specs.Streams.{has_host}
-use Rattle.link_ends.proofs.Lists.{set_read}
+use Rattle.ide_types.proofs.Places.{set_read}
 use Rattle.link_ends.proofs.Ports.{AllAt, PortMoves, all_there, programs_at, halts_at, stream_stands}
 use Rattle.link_ends.proofs.Names.{IsNamed, named_stands}
 

@@ -27,7 +27,7 @@ use Rattle.line_ends.specs.declared.pair.PairEnds.{PairEnds}
 use Rattle.link_ends.specs.PairKeepers.{IsAtBoth, DiffersInPair, IsPairExchanged}
 use Rattle.link_ends.proofs.Terms.{Pool, KeeperView, current, current_asked}
 use Rattle.link_ends.proofs.Carried.{current_is}
-use Rattle.link_ends.proofs.Lists.{read_set, set_again}
+use Rattle.ide_types.proofs.Places.{read_set, set_again}
 use Rattle.link_ends.proofs.Ports.{IsAt, PortMoves, called_there, found_there, moved}
 use Rattle.link_ends.proofs.Exchanges.{CallAt, SameShown, same_done, program_at, lane_at}
 

@@ -24,7 +24,7 @@ use Rattle.line_ends.specs.declared.pair.PairEnds.{PairEnds}
 use Rattle.link_walks.specs.Joined.{host_of}
 use Rattle.link_walks.specs.Paired.{PairWalked, pair_walk, pair_walked_unless, begun_pair, pair_event}
 use Rattle.link_ends.specs.PairKeepers.{IsAtBoth, DiffersInPair, IsPairWalked, PairWalks, IsPairOperated, pair_found}
-use Rattle.link_ends.proofs.Lists.{set_read}
+use Rattle.ide_types.proofs.Places.{set_read}
 use Rattle.link_ends.proofs.Ports.{PortMoves, stream_stands}
 use Rattle.link_ends.proofs.Names.{IsNamed, named_stands}
 use Rattle.link_ends.proofs.Operates.{seen, host_seen, refused_by, not_refused}

@@ -1,6 +1,5 @@
 -- What an answer makes of the interfaces.
-use Rattle.std.proofs.Common.{◌≡◌, ℕ, suc, zero, ◌<◌, Bool, true, false, List, [], ◌∷◌, ◌++◌, length, get_or, Option}
-use Rattle.std.proofs.Common.{Some, None, refl, ap, sym, ◌∙◌, arith}
+use Rattle.std.proofs.Common.{◌≡◌, ℕ, Bool, true, false, List, ◌++◌, Option, Some, None, refl, sym, ◌∙◌, arith}
 use Rattle.std.specs.Prelude.{slice_set, slice_get, IsSome, IfSome, is_ok}
 use Rattle.tdisp_codec.specs.declared.request.RequestView.{RequestView}
 use Rattle.tdisp_codec.specs.declared.request.RequestView.TheVariants.{GetVersion, GetCapabilities, LockInterface}
@@ -32,12 +31,6 @@ taken_some tdi (StartInterface function nonce) said None e = absurd cc
 taken_some tdi (StopInterface function) said None e = absurd cc
 taken_some tdi (BindP2p function stream) said None e = absurd cc
 taken_some tdi (UnbindP2p function stream) said None e = absurd cc
-
--- an element that is read at its place
-pub at_place : {A : Type 0} (xs : List A) (p : ℕ) (x : A) → p < length xs → x ≡ get_or xs p x → slice_get xs p ≡ Some x
-at_place [] p x lt is = absurd (omega arith)
-at_place (y ∷ xs) zero x lt is = ap Some (sym is)
-at_place (y ∷ xs) (suc p) x lt is = at_place xs p x (omega arith) is
 
 pub reply_now : (d : DeviceTdis) (place : ℕ) (tdi : Tdi) (request : RequestView) (said : StreamSaid)
     (drawn : Option (List ℕ)) (before after : List ℕ)

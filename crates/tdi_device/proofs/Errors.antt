@@ -1,8 +1,9 @@
 -- An ERROR changes nothing.
-use Rattle.std.proofs.Common.{◌≡◌, ℕ, suc, zero, Bool, true, false, List, [], ◌∷◌, Option, Some, None, Result, Ok, Err}
+use Rattle.std.proofs.Common.{◌≡◌, ℕ, Bool, true, false, List, Option, Some, None, Result, Ok, Err}
 use Rattle.std.proofs.Common.{refl, ap, subst, ◌∙◌}
 use Rattle.std.specs.Prelude.{slice_get, slice_set, if◌then◌else◌, is_ok}
 use Rattle.std.specs.Str.{bytes_eq}
+use Rattle.ide_types.proofs.Places.{set_read}
 use Rattle.tdisp_codec.specs.declared.request.RequestView.{RequestView}
 use Rattle.tdisp_codec.specs.declared.request.RequestView.TheVariants.{GetVersion, GetCapabilities, LockInterface}
 use Rattle.tdisp_codec.specs.declared.request.RequestView.TheVariants.{GetDeviceInterfaceReport}
@@ -25,11 +26,6 @@ use Rattle.tdi_device.specs.Replies.{tdis_asked_by, reply_by, request_checked}
 use Rattle.tdi_device.specs.Laws.{ErrorsChangeNothing}
 
 -- ---- the interface that is meant
-
-pub set_same : {A : Type 0} (xs : List A) (p : ℕ) (x : A) → slice_get xs p ≡ Some x → slice_set xs p x ≡ xs
-set_same [] p x is = refl
-set_same (y ∷ xs) zero x is = ap (λ z. z ∷ xs) (let same : x ≡ y = cc in same)
-set_same (y ∷ xs) (suc p) x is = ap (λ zs. y ∷ zs) (set_same xs p x is)
 
 at_place : (xs : List Tdi) (p : ℕ) (t : Option Tdi) (n : NamedTdi) → slice_get xs p ≡ t → named_tdi_at p t ≡ Some n
     → slice_get xs n.place ≡ Some n.tdi
@@ -129,7 +125,7 @@ by_named d request said (Some n) f code value is e =
     { interfaces = slice_set d.interfaces n.place n.tdi; nonces = d.nonces; used = used_after b d.used } in k))
     u.kept
     ∙ ap (λ xs. (let k : DeviceTdis = record { interfaces = xs; nonces = d.nonces; used = d.used } in k))
-    (set_same d.interfaces n.place n.tdi there)
+    (set_read d.interfaces n.place n.tdi there)
 
 by_request : (d : DeviceTdis) (said : StreamSaid) (function : ℕ) (r : Result RequestView ErrorCode) (f code value : ℕ)
     → Rattle.tdi_device.specs.Replies.tdi_reply_from d said function r ≡ reply.Error f code value

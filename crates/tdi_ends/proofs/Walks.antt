@@ -1,7 +1,8 @@
 -- The exchanges that the manager carries are those of one interface.
-use Rattle.std.proofs.Common.{◌≡◌, ◌≢◌, ℕ, suc, zero, true, List, [], ◌∷◌, Option, Some, None, refl, ap, sym}
+use Rattle.std.proofs.Common.{◌≡◌, ◌≢◌, ℕ, suc, zero, true, List, Option, Some, None, refl, ap, sym}
 use Rattle.std.proofs.Common.{subst, ◌∙◌}
-use Rattle.std.specs.Prelude.{slice_set, slice_get, is_some, IfSome}
+use Rattle.std.specs.Prelude.{slice_get, is_some, IfSome}
+use Rattle.ide_types.proofs.Places.{set_there, set_again, set_read}
 use Rattle.link_events.specs.declared.event.Loss.{Loss}
 use Rattle.tdi_host.specs.declared.interfaces.Asking.{Asking}
 use Rattle.tdi_host.specs.declared.operation.Outcome.{Outcome}
@@ -15,7 +16,6 @@ use Rattle.tdi_device.specs.Replies.{DeviceTdis}
 use Rattle.tdi_walks.specs.Operations.{walked_once, walking_on, continued_walk, interface_walk}
 use Rattle.tdi_ends.specs.Keepers.{Ended, IsInterfaceExchanged, interface_exchanged, ended_if_over, by_current}
 use Rattle.tdi_ends.specs.Keepers.{manager_walk, walking_at}
-use Rattle.tdi_device.proofs.Errors.{set_same}
 use Rattle.tdi_ends.specs.Keepers.{IsInterfaceWalked, KeepersWalk}
 
 -- ---- the exchange that is asked
@@ -36,19 +36,6 @@ stands : (xs : List HostTdi) (asking : Option Asking) (c : CurrentInterface) →
 stands xs None c e = absurd cc
 stands xs (Some a) c e = stands_at xs a (slice_get xs a.place) c refl e
 
--- ---- an element that is set
-
-set_get : {A : Type 0} (xs : List A) (p : ℕ) (x y : A) → slice_get xs p ≡ Some x → slice_get (slice_set xs p y) p
-    ≡ Some y
-set_get [] p x y is = absurd cc
-set_get (z ∷ xs) zero x y is = refl
-set_get (z ∷ xs) (suc p) x y is = set_get xs p x y is
-
-set_twice : {A : Type 0} (xs : List A) (p : ℕ) (x y : A) → slice_set (slice_set xs p x) p y ≡ slice_set xs p y
-set_twice [] p x y = refl
-set_twice (z ∷ xs) zero x y = refl
-set_twice (z ∷ xs) (suc p) x y = ap (λ zs. z ∷ zs) (set_twice xs p x y)
-
 -- ---- the walk
 
 abbrev next_current : StreamSaid → Option Loss → InterfaceManagerView → DeviceTdis → CurrentInterface → CurrentInterface
@@ -64,7 +51,7 @@ moved said loss m d c s next =
     ap (λ o. current_interface_in (interface_exchanged said loss m d c).manager.interfaces
     (interface_asking_after c.asking o)) next
     ∙ ap (current_by (next_current said loss m d c).asking)
-    (set_get m.interfaces c.asking.place c.interface _ s.there)
+    (set_there m.interfaces c.asking.place c.interface _ s.there)
 
 goes_by : (more : ℕ) (said : StreamSaid) (loss : Option Loss) (m : InterfaceManagerView) (d : DeviceTdis)
     (c : CurrentInterface) (o : Outcome)
@@ -85,7 +72,7 @@ goes_by more said loss m d c outcome.Next s is rest =
     let w = rest (next_current said loss m d c) (moved said loss m d c s is) in
     record {
       outcome_is = w.outcome_is;
-      interfaces_are = w.interfaces_are ∙ set_twice m.interfaces c.asking.place _ _;
+      interfaces_are = w.interfaces_are ∙ set_again m.interfaces c.asking.place _ _;
       read_is = w.read_is;
       device_is = w.device_is;
     }
@@ -123,7 +110,7 @@ keeper_walks zero said loss m d c is =
     (walk_none said loss m d)
     (record {
       outcome_is = refl;
-      interfaces_are = sym (set_same m.interfaces c.asking.place c.interface s.there);
+      interfaces_are = sym (set_read m.interfaces c.asking.place c.interface s.there);
       read_is = refl;
       device_is = refl;
     })

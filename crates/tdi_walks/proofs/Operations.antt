@@ -2,6 +2,7 @@
 use Rattle.std.proofs.Common.{◌≡◌, ℕ, suc, ◌≤◌, length, Option, Some, None, refl, ap, sym}
 use Rattle.std.proofs.Common.{subst, ◌∙◌, arith}
 use Rattle.std.specs.Prelude.{slice_set}
+use Rattle.ide_types.proofs.Places.{set_read}
 use Rattle.link_events.specs.declared.event.Loss.{Loss}
 use Rattle.link_events.specs.declared.event.Lost.{Lost}
 use Rattle.link_events.specs.declared.event.Lost.TheVariants.{Request, Reply}
@@ -20,14 +21,14 @@ use Rattle.key_laws.specs.Due.{lost_in}
 use Rattle.tdi_walks.specs.Operations.{carried, reached, Walking, WalkedInterface, walked_by, walked_once, walking_on}
 use Rattle.tdi_walks.specs.Operations.{continued_walk, interface_walk, begun_at, walking_exchange, stated_once, at_step}
 use Rattle.tdi_walks.specs.Operations.{lost_early}
-use Rattle.tdi_device.proofs.Errors.{set_same, in_list}
+use Rattle.tdi_device.proofs.Errors.{in_list}
 use Rattle.tdi_walks.specs.Operations.{walked_unless_lost, stated_lock, OperationsAreStated}
 
 -- ---- a device that is asked what changes nothing
 
 pub same_set : (d : DeviceTdis) (f : ℕ) (n : NamedTdi) → named_tdi d f ≡ Some n → slice_set d.interfaces n.place n.tdi
     ≡ d.interfaces
-same_set d f n is = set_same d.interfaces n.place n.tdi (in_list d.interfaces (tdi_place d f) n is)
+same_set d f n is = set_read d.interfaces n.place n.tdi (in_list d.interfaces (tdi_place d f) n is)
 
 -- ---- an exchange
 

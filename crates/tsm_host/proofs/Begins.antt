@@ -12,7 +12,7 @@ use Rattle.tsm_host.specs.Streams.{StreamView, new_stream, HostView, is_named, u
 use Rattle.tsm_host.specs.Streams.{begun_stream, has_host}
 use Rattle.tsm_host.specs.Managers.{ManagerView, Named, named, named_at, named_in, stream_place, asking_begun}
 use Rattle.tsm_host.specs.Managers.{begun_manager}
-use Rattle.tsm_host.proofs.Lists.{get_at}
+use Rattle.ide_types.proofs.Places.{get_at}
 
 abbrev pub named_as : ℕ → StreamView → Named
 named_as place s = record { place = place; stream = s }

@@ -1,4 +1,3 @@
-pub mod Lists
 pub mod Begins
 pub mod Walks
 pub mod Dues

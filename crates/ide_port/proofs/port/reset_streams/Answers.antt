@@ -1,5 +1,5 @@
 use Rattle.ide_port.proofs.Terms.{arith, length, ◌<◌, reset_end}
-use Rattle.tsm_host.proofs.Lists.{one_more}
+use Rattle.ide_types.proofs.Places.{one_more}
 use Rattle.ide_port.proofs.port.reset_streams.Goals as goal
 
 pub loop-stream-preserved : goal.loop-stream-preserved

@@ -1,6 +1,6 @@
 use Rattle.std.proofs.Common.{arith, length, ◌<◌}
 use Rattle.tdi_device.specs.Replies.{settled_tdi}
-use Rattle.tdi_device.proofs.Lists.{one_more}
+use Rattle.ide_types.proofs.Places.{one_more}
 use Rattle.tdi_device.proofs.device_interfaces.settle_all.Goals as goal
 
 pub loop-interface-preserved : goal.loop-interface-preserved

@@ -1,6 +1,6 @@
 use Rattle.std.proofs.Common.{arith, length, ◌<◌}
 use Rattle.tdi_host.specs.Views.{keyed_by}
-use Rattle.tsm_host.proofs.Lists.{one_more}
+use Rattle.ide_types.proofs.Places.{one_more}
 use Rattle.tdi_host.proofs.interfaces.key_all.Goals as goal
 
 pub loop-interface-preserved : goal.loop-interface-preserved

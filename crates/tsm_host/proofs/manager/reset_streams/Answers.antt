@@ -1,6 +1,6 @@
 use Rattle.std.proofs.Common.{arith, length, ◌<◌}
 use Rattle.tsm_host.specs.Streams.{reset_stream}
-use Rattle.tsm_host.proofs.Lists.{one_more}
+use Rattle.ide_types.proofs.Places.{one_more}
 use Rattle.tsm_host.proofs.manager.reset_streams.Goals as goal
 
 pub loop-stream-preserved : goal.loop-stream-preserved

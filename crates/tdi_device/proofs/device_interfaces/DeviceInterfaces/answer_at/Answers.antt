@@ -1,6 +1,7 @@
 use Rattle.std.proofs.Common.{◌≡◌, ◌+◌, ◌<◌, Some, true, false, length, ap, sym, ◌∙◌, arith}
 use Rattle.std.specs.Prelude.{slice_get}
-use Rattle.tdi_device.proofs.Answers.{taken_some, at_place, reply_now, device_now}
+use Rattle.ide_types.proofs.Places.{get_at}
+use Rattle.tdi_device.proofs.Answers.{taken_some, reply_now, device_now}
 use Rattle.tdi_device.proofs.device_interfaces.DeviceInterfaces.answer_at.Goals as goal
 
 pub overflow_add-self : goal.overflow_add-self
@@ -14,7 +15,7 @@ overflow_add-self c =
 pub returns-then-answer_one-clause-reply : goal.returns-then-answer_one-clause-reply
 returns-then-answer_one-clause-reply c =
     let is : slice_get c.args.self.now.interfaces c.args.place
-    ≡ Some c.index_mut-interface.result.now = at_place c.args.self.now.interfaces c.args.place
+    ≡ Some c.index_mut-interface.result.now = get_at c.args.self.now.interfaces c.args.place
     c.index_mut-interface.result.now c.requires.exists (rw (← c.self.view_is) c.index_mut-interface.ensures.value)
     in
     reply_now c.args.self.now c.args.place _ c.args.request c.args.said c.next_nonce-nonce.result _ _ is
@@ -23,7 +24,7 @@ returns-then-answer_one-clause-reply c =
 pub returns-else-answer_one-clause-reply : goal.returns-else-answer_one-clause-reply
 returns-else-answer_one-clause-reply c =
     let is : slice_get c.args.self.now.interfaces c.args.place
-    ≡ Some c.index_mut-interface.result.now = at_place c.args.self.now.interfaces c.args.place
+    ≡ Some c.index_mut-interface.result.now = get_at c.args.self.now.interfaces c.args.place
     c.index_mut-interface.result.now c.requires.exists (rw (← c.self.view_is) c.index_mut-interface.ensures.value)
     in
     reply_now c.args.self.now c.args.place _ c.args.request c.args.said c.next_nonce-nonce.result _ _ is
@@ -32,7 +33,7 @@ returns-else-answer_one-clause-reply c =
 pub returns-then-answer_one-clause-device : goal.returns-then-answer_one-clause-device
 returns-then-answer_one-clause-device c =
     let is : slice_get c.args.self.now.interfaces c.args.place
-    ≡ Some c.index_mut-interface.result.now = at_place c.args.self.now.interfaces c.args.place
+    ≡ Some c.index_mut-interface.result.now = get_at c.args.self.now.interfaces c.args.place
     c.index_mut-interface.result.now c.requires.exists (rw (← c.self.view_is) c.index_mut-interface.ensures.value)
     in
     device_now c.args.self.now c.args.place _ _ c.args.request c.args.said true c.next_nonce-nonce.result _ _ _ is
@@ -43,7 +44,7 @@ returns-then-answer_one-clause-device c =
 pub returns-else-answer_one-clause-device : goal.returns-else-answer_one-clause-device
 returns-else-answer_one-clause-device c =
     let is : slice_get c.args.self.now.interfaces c.args.place
-    ≡ Some c.index_mut-interface.result.now = at_place c.args.self.now.interfaces c.args.place
+    ≡ Some c.index_mut-interface.result.now = get_at c.args.self.now.interfaces c.args.place
     c.index_mut-interface.result.now c.requires.exists (rw (← c.self.view_is) c.index_mut-interface.ensures.value)
     in
     device_now c.args.self.now c.args.place _ _ c.args.request c.args.said false c.next_nonce-nonce.result _ _ _ is
