@@ -48,9 +48,6 @@ abbrev Clears : List (Option Happened) → Bool → List Happened → ℕ → �
 Clears hs zero older place bar = writes_since (newest_happened hs older) place bar
     ≡ (if zero then [] else writes_since older place bar)
 
-record IsKnown (plan : Plan) (x : Site) : Type 0 where
-  known : site_at plan x.number ≡ Some x
-
 own : (plan : Plan) (x : Site) (i : ℕ) → site_at plan x.number ≡ Some x → (i == x.number) ≡ true
     → site_at plan i ≡ Some x
 own plan x i known is = ap (site_at plan) (eqb-true i x.number is) ∙ known
