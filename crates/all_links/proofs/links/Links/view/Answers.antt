@@ -23,11 +23,12 @@ returns-in-Some-clause-ends c plan =
     let m = c.args.self.now.keeper.interfaces in
     let n : ℕ = c.args.number in
     let x = is_found m c.args.self.now.ends n c.in-Some.field-0 c.in-Some.ensures in
-    let seen : c.view.result ≡ view_of x.kept.seen =
-    if_some (λ (k : HostTdi). c.view.result ≡ view_of k.seen) (slice_get m.interfaces n) x.kept x.kept_there
-    (subst (λ (y : InterfacesView). IfSome (slice_get y.interfaces n) (λ (k : HostTdi). c.view.result ≡ view_of k.seen))
-    c.manager.ensures c.view.ensures) in
-    let due : v.Interface (iv.View n c.view.result)
+    let seen : c.view-view.result ≡ view_of x.kept.seen =
+    if_some (λ (k : HostTdi). c.view-view.result ≡ view_of k.seen) (slice_get m.interfaces n) x.kept x.kept_there
+    (subst
+    (λ (y : InterfacesView). IfSome (slice_get y.interfaces n) (λ (k : HostTdi). c.view-view.result ≡ view_of k.seen))
+    c.manager.ensures c.view-view.ensures) in
+    let due : v.Interface (iv.View n c.view-view.result)
     ≡ viewed_as n (tdi_seen_at m n (interface_named m c.args.self.now.ends.links n)) =
     ap (λ (y : View). v.Interface (iv.View n y)) seen
     ∙ sym (ap (λ (o : Option HostTdi). viewed_as n o)
