@@ -10,7 +10,8 @@ use crate::step::Step;
 use crate::tdi::{Broken, Doubt, Locked, Running, Tdi, Unlocked};
 use interface_words::View;
 
-/// The manager's view of an interface, whichever it is.
+/// The manager's view of an interface, whichever it is. The device may leave a lock by itself, so this is the manager's
+/// view alone.
 #[derive(Drop)]
 pub(crate) enum Standing {
     Unlocked(Tdi<Unlocked>),
