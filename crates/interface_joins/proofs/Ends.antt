@@ -2,6 +2,7 @@
 -- of stays as it is.
 use Rattle.std.proofs.Common.{◌≡◌, ℕ, zero, suc, Option, Some, None, refl, ap, sym}
 use Rattle.std.specs.Prelude.{slice_get, slice_set}
+use Rattle.ide_types.proofs.Places.{set_read}
 use Rattle.link_events.specs.declared.event.Loss.{Loss}
 use Rattle.tdi_host.specs.declared.interfaces.Asking.{Asking}
 use Rattle.tdi_host.specs.declared.operation.InterfaceOp.{InterfaceOp}
@@ -17,7 +18,6 @@ use Rattle.tdi_walks.specs.Operations.{WalkedInterface, interface_walk, begun_at
 use Rattle.tdi_ends.specs.Keepers.{Ended, interface_exchanged, ended_if_over, by_current, unless_refused, KeepersWalk}
 unfoldable use Rattle.tdi_ends.specs.Keepers.{manager_walk}
 use Rattle.interface_joins.proofs.Comes.{begun_walk}
-use Rattle.tdi_device.proofs.Errors.{set_same}
 
 -- ---- portions
 
@@ -90,7 +90,7 @@ is_over keepers more number o draws said loss m d i None there =
     begun_is_over keepers more number o draws said loss m d i there
 is_over keepers more number o draws said loss m d i (Some r) there = record {
   outcome_is = refl;
-  interfaces_are = sym (set_same m.interfaces number i there);
+  interfaces_are = sym (set_read m.interfaces number i there);
   portion_is = refl;
   read_is = refl;
   device_is = refl;
