@@ -443,6 +443,13 @@ impl Port {
         }
     }
 
+    /// Its streams, as the topology has them.
+    pub fn plans(&self) -> &[StreamPlan]
+        ensures { result.now ≡ self.now.plans }
+    {
+        self.plans.as_slice()
+    }
+
     /// The packets of the next unit of a stream's sub-stream that its receiver holds in this key set, as they came;
     /// none if the port has no such stream.
     pub fn held(&self, stream: u8, sub: SubKind, k: bool) -> Delivered<'_>
