@@ -16,6 +16,9 @@ pub use Rattle.world_states.proofs.Kept.{unasked_beside, view_beside, written_is
 pub use Rattle.world_states.proofs.Owners.{requester_found, requester_nowhere, requester_true}
 pub use Rattle.world_states.proofs.Places.{IsSomeSite, get_there, position_at, position_none, site_or_none}
 pub use Rattle.world_states.proofs.Places.{site_planned}
+pub use Rattle.world_states.proofs.Statuses.{live_is}
+pub use Rattle.world_states.proofs.{peer_line_is}
+pub use Rattle.access_states.proofs.Accessed.{standings_are}
 pub use Rattle.world_states.proofs.Rests.{draw_of_packets, is_of_packets, is_of_peer, is_of_ports}
 pub use Rattle.world_states.proofs.Rests.{managed_of_packets, next_of_ports, none_of_ports, of_ports}
 pub use Rattle.world_states.proofs.Sites.{face_found, interface_absent, interface_there, located_apart, located_kept}

@@ -5,12 +5,12 @@ ghost use Rattle.tlp_layout.specs.Head.{FitsHead};
 ghost use Rattle.tlp_layout.specs.Tlp.{viewed_tlp};
 ghost use Rattle.trusted_memory.specs.{Leads, admitted_write, write_in, write_span};
 ghost use Rattle.waiting_reads.specs.{request_effect};
-ghost use Rattle.guarded_memory.specs.{mmio_effect, stored_by, AllReset, MmioLeads};
+ghost use Rattle.guarded_memory.specs.{claim_of, mmio_effect, stored_by, AllReset, MmioLeads};
 ghost use Rattle.hop_queues.specs.{all_roomy};
 ghost use Rattle.accesses.specs.Accesses.{new_link_accesses, reads_after, trusted_read, standings_by, without_tlps};
 
 use crate::floors::Floors;
-use guarded_memory::{Guarded, Standing, Standings};
+use guarded_memory::{Claim, Guarded, Standing, Standings, claim_of};
 use hop_queues::HopQueues;
 use ide_plan::InterfacePlan;
 use ide_types::Memory;
@@ -18,7 +18,7 @@ use link_verdicts::{Effect, UnitName};
 use std::alloc::Global;
 use tdi_device::DeviceInterfaces;
 use tlp_layout::{HeadView, TlpView};
-use trusted_memory::{Grant, Trusted};
+use trusted_memory::{Grant, Span, Trusted};
 use waiting_reads::{MemReadView, Reads};
 
 /// Pages that are spare before a unit arrives at a device's port: it has at most 8 packets, each of whose writes needs
@@ -157,6 +157,18 @@ impl LinkAccesses {
             floors: &self.floors,
         };
         self.guarded.deliver(&device, tlp, trusted, unit)
+    }
+
+    /// The claim of the device's interfaces, as they stand, on a memory write over these bytes; `None` if none claims
+    /// it.
+    pub fn claim(&self, interfaces: &DeviceInterfaces, span: Span) -> Option<Claim>
+        ensures { result ≡ claim_of (standings_by self.now.floors interfaces.now) span }
+    {
+        let device = Floored {
+            interfaces,
+            floors: &self.floors,
+        };
+        claim_of(&device, span)
     }
 
     /// Notes a reset of the link: no read waits, and the memory of the device's interfaces is 0.

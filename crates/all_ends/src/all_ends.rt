@@ -12,7 +12,7 @@ ghost use Rattle.key_laws.specs.Operations.{work_of};
 ghost use Rattle.interface_states.specs.Peers.{has_peer};
 ghost use Rattle.all_ends.specs.Places.{located};
 ghost use Rattle.all_ends.specs.Ends.{pair_port, with_pair_port, changed_at, cleared_ends, cleared_pair, settled_ends};
-ghost use Rattle.all_ends.specs.Ends.{unlocked_ends, line_place};
+ghost use Rattle.all_ends.specs.Ends.{unlocked_ends, line_place, live_on};
 ghost use Rattle.all_ends.specs.declared.places.LinePlace.TheVariants.{Pair};
 ghost use Rattle.interface_words.specs.RegisterNames.{has_register, width_of};
 ghost use Rattle.tdi_state.specs.Machine.{WriteRegister, LevelReset, FirmwareUpdate, state_code};
@@ -151,6 +151,19 @@ impl AllEnds {
         ensures { result ≡ is_some (port_on self.now end) }
     {
         self.port(end).is_some()
+    }
+
+    /// The draw that is Live where the link's device receives posted requests on the stream between devices that has
+    /// this ID, if that stream is Secure there; `None` also if there is none.
+    pub fn live(&self, link: u8, stream: u8) -> Option<u32>
+        ensures { result ≡ live_on self.now link stream }
+    {
+        let peers = DevicePeers {
+            pairs: &self.pairs,
+            peers: &self.peers,
+            link: link as usize,
+        };
+        peers.live(stream)
     }
 
     /// Whether the link's device has the stream between devices of this line and ID.

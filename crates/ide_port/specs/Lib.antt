@@ -10,4 +10,4 @@ pub use Rattle.ide_port.specs.Sends.{Trusting, SendStep, send_step, sent_verdict
 pub use Rattle.ide_port.specs.Arrivals.{TakeStep, take_step}
 pub use Rattle.ide_port.specs.Calls.{shown, unfinished_at, called_port, status_in, live_in_port}
 pub use Rattle.ide_port.specs.Calls.{sealing_draw_in, receiving_draw_in}
-pub use Rattle.ide_port.specs.Facts.{found_facts, stream_facts_in}
+pub use Rattle.ide_port.specs.Facts.{found_facts, held_in_port, stream_facts_in}

@@ -431,7 +431,7 @@ impl HostPort for Port {
 // ---- what is seen of it
 
 impl Port {
-    ghost use Rattle.ide_port.specs.Facts.{stream_facts_in};
+    ghost use Rattle.ide_port.specs.Facts.{held_in_port, stream_facts_in};
 
     /// What is seen of a stream; `None` if the port has no such stream.
     pub fn facts(&self, stream: u8) -> Option<StreamFacts>
@@ -440,6 +440,24 @@ impl Port {
         match place(self.plans.as_slice(), stream) {
             None => None,
             Some(place) => Some(self.streams[place].facts()),
+        }
+    }
+
+    /// Its streams, as the topology has them.
+    pub fn plans(&self) -> &[StreamPlan]
+        ensures { result.now ≡ self.now.plans }
+    {
+        self.plans.as_slice()
+    }
+
+    /// The packets of the next unit of a stream's sub-stream that its receiver holds in this key set, as they came;
+    /// none if the port has no such stream.
+    pub fn held(&self, stream: u8, sub: SubKind, k: bool) -> Delivered<'_>
+        ensures { result ≡ held_in_port self.now stream sub k }
+    {
+        match place(self.plans.as_slice(), stream) {
+            None => Delivered::none(),
+            Some(place) => self.streams[place].held(sub, k),
         }
     }
 }

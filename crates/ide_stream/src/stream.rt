@@ -8,10 +8,10 @@ ghost use Rattle.ide_prefix.specs.Cut.{packet_of_view, IsView};
 ghost use Rattle.key_slots.specs.{slot_in, is_one, is_empty, program_answer, live_set, Program, Go, Halt};
 ghost use Rattle.stream_rules.specs.Sending.{sets_trusted};
 ghost use Rattle.stream_rules.specs.Slots.{sealing_draw, receiving_draw};
-ghost use Rattle.stream_rules.specs.Stream.{at_sub};
+ghost use Rattle.stream_rules.specs.Stream.{at_sub, slot_in_set};
 ghost use Rattle.sub_stream.specs.Calls.{pair_at, sends_in, status_by, stream_status};
 ghost use Rattle.sub_stream.specs.{answer_of};
-ghost use Rattle.sub_stream.specs.Facts.{lane_facts, stream_facts};
+ghost use Rattle.sub_stream.specs.Facts.{held_packets, lane_facts, stream_facts};
 
 use crate::directions::Directions;
 use ide_prefix::PacketView;
@@ -274,5 +274,12 @@ impl Stream {
             npr: self.lane_facts(SubKind::Npr),
             cpl: self.lane_facts(SubKind::Cpl),
         }
+    }
+
+    /// The packets of a sub-stream's next unit that its receiver holds in this key set, as they came.
+    pub fn held(&self, sub: SubKind, k: bool) -> Delivered<'_>
+        ensures { result ≡ held_packets (slot_in_set (at_sub self.now.state.rx sub).slots k) }
+    {
+        self.directions.rx.held(sub, k)
     }
 }

@@ -6,7 +6,7 @@ ghost use Rattle.ide_types.specs.Sub.{is_same_sub, sub_bits};
 ghost use Rattle.ide_types.specs.declared.sub.SubKind.TheVariants.{Pr, Npr, Cpl};
 ghost use Rattle.ide_prefix.specs.Cut.{packet_of_view, IsView};
 ghost use Rattle.key_slots.specs.{is_one, is_empty, program_answer, slot_in as key_slot_in, Program, Go, Halt};
-ghost use Rattle.stream_rules.specs.Stream.{at_sub, dropped_held};
+ghost use Rattle.stream_rules.specs.Stream.{at_sub, dropped_held, slot_in_set};
 ghost use Rattle.stream_rules.specs.Slots.{receiving_draw, any_live};
 ghost use Rattle.sub_stream.specs.{answer_of, slot_pair};
 ghost use Rattle.stream_lanes.specs.Arrivals.{new_receive_ends, picked, taken_here, end_after, taken_among};
@@ -14,7 +14,7 @@ ghost use Rattle.stream_lanes.specs.Arrivals.{ends_after, is_fail, lent_after, a
 ghost use Rattle.stream_lanes.specs.Arrivals.{called_receivers, no_receivers, new_receive_end, no_rx, called_into};
 ghost use Rattle.stream_lanes.specs.Arrivals.{count_in};
 ghost use Rattle.stream_rules.specs.Sending.{is_posted};
-ghost use Rattle.sub_stream.specs.Facts.{receiver_facts};
+ghost use Rattle.sub_stream.specs.Facts.{held_packets, receiver_facts};
 ghost use Rattle.sub_stream.specs.Receivers.{is_accepted};
 
 use crate::fixed::{Fixed, lent_total};
@@ -499,6 +499,13 @@ impl ReceiveLane {
             total: self.total,
         }
     }
+
+    /// The packets of the next unit that are held in this key set, as they came.
+    pub fn held(&self, k: bool) -> Delivered<'_>
+        ensures { result ≡ held_packets (slot_in_set self.now.kept.slots k) }
+    {
+        self.rx.held(k)
+    }
 }
 
 impl ReceiveLanes {
@@ -507,5 +514,12 @@ impl ReceiveLanes {
         ensures { result ≡ receiver_facts (at_sub self.now.rx sub) }
     {
         pick(sub, &self.pr, &self.npr, &self.cpl).facts()
+    }
+
+    /// The packets of a sub-stream's next unit that are held in this key set, as they came.
+    pub fn held(&self, sub: SubKind, k: bool) -> Delivered<'_>
+        ensures { result ≡ held_packets (slot_in_set (at_sub self.now.rx sub).slots k) }
+    {
+        pick(sub, &self.pr, &self.npr, &self.cpl).held(k)
     }
 }

@@ -1,5 +1,6 @@
 -- What is seen of what a sender and a receiver keep: draws and counts, without keys and bytes.
-use Rattle.std.specs.Prelude.{Bool, length}
+use Rattle.std.specs.Prelude.{Bool, List, [], length}
+use Rattle.ide_prefix.specs.Packet.{Packet}
 use Rattle.ide_types.specs.declared.sub.SubKind.{SubKind}
 use Rattle.ide_types.specs.declared.sub.SubKind.TheVariants.{Pr, Npr, Cpl}
 use Rattle.stream_rules.specs.Stream.{LaneSlot, Empty, Programmed, Armed, Live, LaneSlots, TxSub, RxSub, StreamState}
@@ -18,6 +19,11 @@ slot_facts Empty = fact.Empty
 slot_facts (Programmed draw key) = fact.Programmed draw
 slot_facts (Armed draw key) = fact.Armed draw
 slot_facts (Live x) = fact.Live x.draw x.units (length x.packets)
+
+-- the packets of the next unit that are there under a Live key
+abbrev pub held_packets : LaneSlot → List Packet
+held_packets (Live x) = x.packets
+held_packets slot = []
 
 abbrev pub set_facts : LaneSlots → SetFacts
 set_facts slots = record { zero = slot_facts slots.first; one = slot_facts slots.second }

@@ -1,13 +1,14 @@
-//! The packets of an accepted unit, lent.
+//! The packets of a unit, lent.
 
 ghost use Rattle.std.specs.Prelude.{◌≡◌, ◌<◌, ◌≤◌, [], Some, length, slice_get, map};
+ghost use Rattle.stream_rules.specs.Stream.{posted_sum};
 
 use crate::answer::PacketMark;
 use crate::unit_packets::UnitPackets;
 use std::marker::Model;
 
-/// The packets of the unit that was accepted last, decrypted, or none. They are lent until the receiver changes.
-/// Contracts see the packets.
+/// The packets of the unit that was accepted last, decrypted, or those of the next that are held, as they came, or
+/// none. They are lent until the receiver changes. Contracts see the packets.
 #[derive(Drop)]
 pub struct Delivered<'a> {
     unit: Option<&'a UnitPackets>,
@@ -33,7 +34,7 @@ impl<'a> Delivered<'a> {
         Delivered { unit: None }
     }
 
-    /// The packets of this unit, which was accepted.
+    /// The packets of this unit.
     pub(crate) fn of(unit: &'a UnitPackets) -> Delivered<'a>
         ensures { result ≡ unit.now.packets }
     {
@@ -70,6 +71,17 @@ impl<'a> Delivered<'a> {
         match self.unit {
             Some(unit) => unit.mark(i),
             None => unreachable!(),
+        }
+    }
+
+    /// The sum of their posted counts.
+    pub fn posted(&self) -> u64
+        ensures value { result ≡ posted_sum self.now }
+        ensures few { result ≤ 2040 }
+    {
+        match self.unit {
+            Some(unit) => unit.posted(),
+            None => 0,
         }
     }
 }

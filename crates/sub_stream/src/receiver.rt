@@ -9,7 +9,7 @@ ghost use Rattle.key_slots.specs.{slot_in as key_slot_in, is_one, is_empty, is_l
 ghost use Rattle.stream_rules.specs.Slots.{receiving_draw};
 ghost use Rattle.stream_rules.specs.Stream.{slot_in_set, posted_sum};
 ghost use Rattle.sub_stream.specs.Answers.{answer_of};
-ghost use Rattle.sub_stream.specs.Facts.{set_facts};
+ghost use Rattle.sub_stream.specs.Facts.{held_packets, set_facts};
 ghost use Rattle.sub_stream.specs.Gathered.{lent_ahead, clear_of, no_packets};
 ghost use Rattle.sub_stream.specs.Seen.{slot_pair, key_slot, is_programmed, live_with};
 ghost use Rattle.sub_stream.specs.Senders.{begun_where_empty};
@@ -488,6 +488,17 @@ impl Rx {
         SetFacts {
             zero: slot_facts(&self.slots, KeySet::Zero, self.zero, zero),
             one: slot_facts(&self.slots, KeySet::One, self.one, one),
+        }
+    }
+
+    /// The packets of the next unit that are held in this key set, as they came.
+    pub fn held(&self, k: bool) -> Delivered<'_>
+        ensures { result ≡ held_packets (slot_in_set self.now.slots k) }
+    {
+        match self.holds {
+            Holds::Zero if !k => Delivered::of(&self.unit),
+            Holds::One if k => Delivered::of(&self.unit),
+            _ => Delivered::none(),
         }
     }
 }

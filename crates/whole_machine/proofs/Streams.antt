@@ -249,7 +249,7 @@ peer_known (p ∷ ps) n link line id is =
         let next : line - 24 - n ≡ suc (line - 24 - (n + 1)) = omega (arith, le) in
         (omega (arith, le), rw next rest.1)
 
-peer_planned : (plan : Plan) (link line stream : ℕ) → has_peer plan.peers link line stream ≡ true
+pub peer_planned : (plan : Plan) (link line stream : ℕ) → has_peer plan.peers link line stream ≡ true
     → is_some (stream_plan plan line stream) ≡ true
 peer_planned plan link line stream is =
     let known = peer_known plan.peers 0 link line stream is in

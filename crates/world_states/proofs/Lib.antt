@@ -10,5 +10,6 @@ pub mod Follows
 pub mod Kept
 pub use Rattle.bound_streams.proofs.Settled.{keeps_free}
 pub use Rattle.bound_streams.proofs.Calls.{StaysBound, asked_keeps}
+pub use Rattle.bound_streams.proofs.PeerEnds.{peer_line_is}
 pub use Rattle.whole_links.proofs.{closed_at, end_found, ends_there, leaving_there, none_found, op_is, port_is}
 pub use Rattle.whole_links.proofs.{sealing_there, set_read, unnamed}
