@@ -6,7 +6,7 @@ use Rattle.std.proofs.lemmas.Simd.{swz_l, Each1-from_get_or}
 use lib.Bits.{xor_assoc}
 use Rattle.std.specs.Int.{w32, to_be_bytes}
 use lib.Lanes.{zip2, Each1}
-use Rattle.aes_block.specs.Aes.{sbox, cell, mixed, mixed_column, word_byte, add_round_key, mix_columns, shift_rows}
+use Rattle.aes_block.specs.Aes.{sbox, cell, mixed_byte, mixed_column, word_byte, add_round_key, mix_columns, shift_rows}
 use Rattle.aes_block.specs.Aes.{sub_bytes}
 use Rattle.aes_block.specs.Field.{times}
 use Rattle.aes_block.specs.Inside.{after_round, spread}
@@ -15,7 +15,7 @@ use Rattle.aes_block.specs.Nibbles.{once_of, twice_of, last_of, first_part, seco
 use Rattle.aes_block.proofs.Blocks.{IsByte, at-byte, bytes-high_first, add_round_key-bytes, sbox-byte, state_of-bytes}
 use Rattle.std.specs.Prelude.{All}
 use Rattle.std.proofs.lemmas.List.Elements.{All-cons, All-nil, All-get_or, All-from_get_or}
-use Rattle.aes_block.proofs.Columns.{mixed-lt}
+use Rattle.aes_block.proofs.Columns.{mixed_byte-lt}
 use Rattle.aes_block.proofs.Entries.{SBOX, all_below, all_below_at, SBOX-sbox, sbox-lt, times-lt}
 use Rattle.aes_block.proofs.Places.{of_16, lane_fits, sbox_of_code}
 
@@ -120,8 +120,8 @@ cancel a b c d k =
 pub lane : (a b c d k : ℕ) → a < 256 → b < 256 → c < 256 → d < 256 → k < 256
     → bit_xor (bit_xor (twice_of (code a)) (bit_xor (once_of (code b)) (twice_of (code b))))
     (bit_xor (bit_xor (once_of (code c)) (once_of (code d))) (key_code k))
-    ≡ code (bit_xor (mixed (sbox a) (sbox b) (sbox c) (sbox d)) k)
-unfolding key_code mixed
+    ≡ code (bit_xor (mixed_byte (sbox a) (sbox b) (sbox c) (sbox d)) k)
+unfolding key_code mixed_byte
 lane a b c d k ha hb hc hd hk =
     let p : ℕ = bit_xor (times 2 (sbox a)) 0xc6 in
     let q : ℕ = bit_xor (times 3 (sbox b)) 0xa5 in
@@ -317,14 +317,14 @@ lanes-bytes v fits = All-from_get_or IsByte v 0 (λ i lt. lane_fits v i fits)
 column-bytes : (a b c d : ℕ) (rest : List ℕ) → IsByte a → IsByte b → IsByte c → IsByte d → All IsByte rest
     → All IsByte (mixed_column a b c d ++ rest)
 column-bytes a b c d rest ha hb hc hd t =
-    let p : ℕ = mixed a b c d in
-    let q : ℕ = mixed b c d a in
-    let r : ℕ = mixed c d a b in
-    let s : ℕ = mixed d a b c in
-    All-cons IsByte p (q ∷ r ∷ s ∷ rest) (mixed-lt a b c d ha hb hc hd)
-    (All-cons IsByte q (r ∷ s ∷ rest) (mixed-lt b c d a hb hc hd ha)
-    (All-cons IsByte r (s ∷ rest) (mixed-lt c d a b hc hd ha hb)
-    (All-cons IsByte s rest (mixed-lt d a b c hd ha hb hc) t)))
+    let p : ℕ = mixed_byte a b c d in
+    let q : ℕ = mixed_byte b c d a in
+    let r : ℕ = mixed_byte c d a b in
+    let s : ℕ = mixed_byte d a b c in
+    All-cons IsByte p (q ∷ r ∷ s ∷ rest) (mixed_byte-lt a b c d ha hb hc hd)
+    (All-cons IsByte q (r ∷ s ∷ rest) (mixed_byte-lt b c d a hb hc hd ha)
+    (All-cons IsByte r (s ∷ rest) (mixed_byte-lt c d a b hc hd ha hb)
+    (All-cons IsByte s rest (mixed_byte-lt d a b c hd ha hb hc) t)))
 
 mix-bytes : (s : List ℕ) → All IsByte s → All IsByte (mix_columns s)
 unfolding mix_columns

@@ -5,7 +5,7 @@ use Rattle.std.proofs.lemmas.Nat.{xor_lt}
 use Rattle.std.proofs.lemmas.List.{drop_all}
 use Rattle.std.specs.Int.{w32, to_be_bytes}
 use Rattle.aes_block.specs.Field.{times}
-use Rattle.aes_block.specs.Aes.{mixed}
+use Rattle.aes_block.specs.Aes.{mixed_byte}
 use Rattle.aes_block.specs.Inside.{word_of}
 use Rattle.aes_block.proofs.Blocks.{IsByte}
 use Rattle.aes_block.proofs.Entries.{times-lt}
@@ -13,9 +13,9 @@ use Rattle.aes_block.proofs.Entries.{times-lt}
 xor-byte : (a b : ℕ) → IsByte a → IsByte b → IsByte (bit_xor a b)
 xor-byte a b ha hb = xor_lt 8 a b ha hb
 
-pub mixed-lt : (a b c d : ℕ) → IsByte a → IsByte b → IsByte c → IsByte d → IsByte (mixed a b c d)
-unfolding mixed
-mixed-lt a b c d ha hb hc hd =
+pub mixed_byte-lt : (a b c d : ℕ) → IsByte a → IsByte b → IsByte c → IsByte d → IsByte (mixed_byte a b c d)
+unfolding mixed_byte
+mixed_byte-lt a b c d ha hb hc hd =
     xor-byte (bit_xor (bit_xor (times 2 a) (times 3 b)) c) d
     (xor-byte (bit_xor (times 2 a) (times 3 b)) c (xor-byte (times 2 a) (times 3 b) (times-lt a ha).0 (times-lt b hb).1)
     hc) hd

@@ -1,7 +1,7 @@
 -- The definitions on the standard's own examples (FIPS 197).
 use Rattle.std.proofs.Common.{◌≡◌, [], ◌∷◌, refl}
 use Rattle.aes_block.specs.Field.{times}
-use Rattle.aes_block.specs.Aes.{key_words, temp, mixed, sbox, sub_bytes, shift_rows, mix_columns, add_round_key}
+use Rattle.aes_block.specs.Aes.{key_words, temp, mixed_byte, sbox, sub_bytes, shift_rows, mix_columns, add_round_key}
 use Rattle.aes_block.specs.Aes.{sub_word, expansion, rounds, cipher, aes, round_words}
 
 -- section 4.2
@@ -37,5 +37,6 @@ pub aes-example : aes
     ∷ 0xff ∷ [])
     ≡ (0x8e ∷ 0xa2 ∷ 0xb7 ∷ 0xca ∷ 0x51 ∷ 0x67 ∷ 0x45 ∷ 0xbf ∷ 0xea ∷ 0xfc ∷ 0x49 ∷ 0x90 ∷ 0x4b ∷ 0x49 ∷ 0x60 ∷ 0x89
     ∷ [])
-unfolding key_words temp aes cipher rounds add_round_key mixed mix_columns shift_rows sub_bytes expansion sub_word sbox
+unfolding key_words temp aes cipher rounds add_round_key mixed_byte mix_columns shift_rows sub_bytes expansion sub_word
+    sbox
 aes-example = refl

@@ -1,16 +1,16 @@
 -- What an arrival comes to depends on the interfaces of the port's device, and on nothing else of its link.
 use Rattle.all_ends.proofs.Terms.{◌≡◌, ◌∙◌, ap, subst, List, ◌++◌, length, map, Option, PortName, PortEnd, LinkEnds}
 use Rattle.all_ends.proofs.Terms.{Verdict}
-use Rattle.ide_plan.specs.declared.plan.Region.{Region}
+use Rattle.ide_types.specs.declared.plan.Region.{Region}
 use Rattle.ide_port.specs.declared.answer.Arrival.{Arrival}
 use Rattle.arrival_verdicts.specs.{Grants, reads_by}
 use Rattle.trusted_memory.specs.{MemoryContents}
 use Rattle.guarded_memory.specs.{Happened, MmioLeads}
-use Rattle.accesses.specs.{standings_by}
-use Rattle.accesses.specs.declared.link.LinkAccesses.{LinkAccesses}
-use Rattle.tdi_device.specs.Replies.{DeviceTdis}
+use Rattle.link_stores.specs.{device_standings}
+use Rattle.link_stores.specs.declared.link.LinkAccesses.{LinkAccesses}
+use Rattle.interface_device.specs.Replies.{DeviceTdis}
 use Rattle.arrival_verdicts.specs.Verdicts.{arrival_verdict, effects_from, packet_stored, of_unit}
-use Rattle.all_ends.specs.AllEnds.{Comes, standings_in}
+use Rattle.all_ends.specs.AllEnds.{Comes, link_standings}
 
 pub comes_as : (regions : List Region) (grants : Grants) (end port : PortName) (answer : Arrival) (verdict : Verdict)
     (m n : MemoryContents) (a a' : LinkAccesses) (e : PortEnd) (l l' : LinkEnds)
@@ -18,8 +18,8 @@ pub comes_as : (regions : List Region) (grants : Grants) (end port : PortName) (
     → Comes regions grants end port answer verdict m n a a' e l
     → Comes regions grants end port answer verdict m n a a' e l'
 comes_as regions grants end port answer verdict m n a a' e l l' same came =
-    let stand : standings_in l a ≡ standings_in l' a =
-    ap (λ (d : DeviceTdis). standings_by a.floors d) same in
+    let stand : link_standings l a ≡ link_standings l' a =
+    ap (λ (d : DeviceTdis). device_standings a.floors d) same in
     record {
       verdict_is = came.verdict_is ∙ (λ j. arrival_verdict end port answer
           (λ unit. effects_from regions grants (stand j) (length a.reads) port unit e.delivered));

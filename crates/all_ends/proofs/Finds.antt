@@ -4,24 +4,16 @@ use Rattle.all_ends.proofs.Terms.{◌≡◌, ℕ, suc, zero, ◌+◌, ◌-◌, �
 use Rattle.all_ends.proofs.Terms.{sym, ◌∙◌, subst, arith, Option, Some, None, option_map, slice_get, slice_set}
 use Rattle.all_ends.proofs.Terms.{slice_index_or, option_map_or, same_Some, none-some, slice_get_within, set-get_or}
 use Rattle.all_ends.proofs.Terms.{length-append, replicate, Side, Host, Device, PortName, Plan, StreamPlan}
-use Rattle.all_ends.proofs.Terms.{sent_direction, StreamState, streams_of, stream_plan, with_id, mode_of}
-use Rattle.all_ends.proofs.Terms.{is_closed, LinkPacket, port_at, port_place, find, put, PortEnd, Found, found, changed}
+use Rattle.all_ends.proofs.Terms.{sent_direction, StreamState, streams_of, stream_plan, with_id, aggregation_of}
+use Rattle.all_ends.proofs.Terms.{is_closed, LinkPacket, port_at, port_place, find, put, PortEnd, Found, found_stream}
+use Rattle.all_ends.proofs.Terms.{changed_states}
 use Rattle.all_ends.proofs.Terms.{LinkEnds, PairEnds, EndsView, port_in, with_port, pair_port, with_pair_port}
-use Rattle.all_ends.proofs.Terms.{
-  KeeperView,
-  ports_in,
-  pair_ports,
-  in_sixteen,
-  rows_of,
-  state_of,
-  IsPort,
-  IsLink,
-  IsPair,
-}
+use Rattle.all_ends.proofs.Terms.{KeeperView, ports_in, pair_ports, in_sixteen, rows_of, state_of, IsPort, IsLink}
+use Rattle.all_ends.proofs.Terms.{IsPair}
 use Rattle.all_ends.proofs.Terms.{AreLinks, machine_found, machine_changed, found_plan, LinePlace, Link, Near, Pair}
 use Rattle.all_ends.proofs.Terms.{port_at_place, port_on, with_port_at, with_port_on, changed_at}
 use Rattle.all_ends.proofs.Terms.{false}
-use Rattle.sealed_packets.specs.{changed_by_id as id_changed, found_by_id as id_found}
+use Rattle.machine_ports.specs.Machine.{changed_by_id as id_changed, found_by_id as id_found}
 use Rattle.std.proofs.lemmas.List.{get_or_append_left, get_or-append_right, set-append_left, set-append_right}
 use Rattle.all_ends.proofs.ByPlace.{by_place, filled_get, filled_set, filled_length}
 
@@ -236,12 +228,12 @@ module _ (v : EndsView) (w : IsWired v) where
 
   pub row_at : (end : PortName) (e : PortEnd) → port_on v end ≡ Some e
       → slice_index_or (rows_of v) (port_place end) [] ≡ e.states
-  row_at end e is = by_place (ReadsAt end.side) (read_link end.side) (read_near end.side) (read_pair end.side) end.link
+  row_at end e is = by_place (ReadsAt end.side) (read_link end.side) (read_near end.side) (read_pair end.side) end.line
       e is
 
   pub rows_set : (end : PortName) (e e' : PortEnd) → port_on v end ≡ Some e
       → rows_of (with_port_on v end e') ≡ slice_set (rows_of v) (port_place end) e'.states
-  rows_set end e e' is = by_place (SetsAt end.side) (set_link end.side) (set_near end.side) (set_pair end.side) end.link
+  rows_set end e e' is = by_place (SetsAt end.side) (set_link end.side) (set_near end.side) (set_pair end.side) end.line
       e e' is
 
 -- ---- the port of a plan
@@ -278,7 +270,7 @@ module _ (plan : Plan) (v : EndsView) (k : KeeperView) (links : AreLinks plan v 
       (of_pair plan (16 + i) x.0 s (links.each_pair i x.0 x.1))
 
   pub port_is : (end : PortName) (e : PortEnd) → port_on v end ≡ Some e → IsPort plan end e
-  port_is end e is = by_place (PortAt end.side) (at_link end.side) (at_near end.side) (at_pair end.side) end.link e is
+  port_is end e is = by_place (PortAt end.side) (at_link end.side) (at_near end.side) (at_pair end.side) end.line e is
 
 -- ---- the machine's streams at an end
 
@@ -286,20 +278,21 @@ module _ (plan : Plan) (v : EndsView) (k : KeeperView) (packets : List LinkPacke
     (e : PortEnd) (is : port_on v end ≡ Some e) where
   pub find_at : (id : ℕ) → IsPort plan end e
       → find plan (state_of plan v k packets) end id
-      ≡ option_map (λ (f : Found). f.state) (found e.plans e.states id)
+      ≡ option_map (λ (f : Found). f.state) (found_stream e.plans e.states id)
   unfolding find
   find_at id at_port =
-      ap (λ (xs : List StreamState). id_found (streams_of plan end.link) xs id) (row_at v w end e is)
+      ap (λ (xs : List StreamState). id_found (streams_of plan end.line) xs id) (row_at v w end e is)
       ∙ (ap (λ (ss : List StreamPlan). id_found ss e.states id) (sym at_port.plans)
       ∙ machine_found e.plans e.states id)
 
-  pub put_at : (id : ℕ) (x : StreamState) (e' : PortEnd) → IsPort plan end e → e'.states ≡ changed e.plans e.states id x
+  pub put_at : (id : ℕ) (x : StreamState) (e' : PortEnd) → IsPort plan end e → e'.states
+      ≡ changed_states e.plans e.states id x
       → put plan (state_of plan v k packets) end id x ≡ state_of plan (with_port_on v end e') k packets
   unfolding put
   put_at id x e' at_port states =
-      let here : id_changed (streams_of plan end.link) (slice_index_or (rows_of v) (port_place end) []) id x
+      let here : id_changed (streams_of plan end.line) (slice_index_or (rows_of v) (port_place end) []) id x
       ≡ e'.states =
-      ap (λ (xs : List StreamState). id_changed (streams_of plan end.link) xs id x) (row_at v w end e is)
+      ap (λ (xs : List StreamState). id_changed (streams_of plan end.line) xs id x) (row_at v w end e is)
       ∙ (ap (λ (ss : List StreamPlan). id_changed ss e.states id x) (sym at_port.plans)
       ∙ (machine_changed e.plans e.states id x ∙ sym states)) in
       let all = ap (λ (xs : List StreamState). slice_set (rows_of v) (port_place end) xs) here
@@ -317,18 +310,19 @@ module _ (plan : Plan) (v : EndsView) (k : KeeperView) (packets : List LinkPacke
       ap (λ (ps : List (List StreamState)). record (state_of plan v k packets) { ports = ps }) (sym kept)
 
 plan_at : (plan : Plan) (end : PortName) (e : PortEnd) (id : ℕ) (f : Found) → IsPort plan end e
-    → found e.plans e.states id ≡ Some f → stream_plan plan end.link id ≡ Some f.plan
+    → found_stream e.plans e.states id ≡ Some f → stream_plan plan end.line id ≡ Some f.plan
 unfolding stream_plan
 plan_at plan end e id f is at =
     ap (λ (ss : List StreamPlan). with_id ss id) (sym is.plans) ∙ found_plan e.plans e.states id f at
 
-pub mode_at : (plan : Plan) (end : PortName) (e : PortEnd) (id : ℕ) (f : Found) → IsPort plan end e
-    → found e.plans e.states id ≡ Some f → mode_of plan end.link id ≡ f.plan.mode
-mode_at plan end e id f is at = ap (λ (o : Option StreamPlan). option_map_or (λ (s : StreamPlan). s.mode) o 1)
+pub aggregation_at : (plan : Plan) (end : PortName) (e : PortEnd) (id : ℕ) (f : Found) → IsPort plan end e
+    → found_stream e.plans e.states id ≡ Some f → aggregation_of plan end.line id ≡ f.plan.aggregation
+aggregation_at plan end e id f is at = ap
+    (λ (o : Option StreamPlan). option_map_or (λ (s : StreamPlan). s.aggregation) o 1)
     (plan_at plan end e id f is at)
 
 pub closed_at : (plan : Plan) (end : PortName) (e : PortEnd) (id : ℕ) (f : Found) → IsPort plan end e
-    → found e.plans e.states id ≡ Some f → is_closed plan end.link id ≡ f.plan.closed
+    → found_stream e.plans e.states id ≡ Some f → is_closed plan end.line id ≡ f.plan.closed
 closed_at plan end e id f is at =
     ap (λ (o : Option StreamPlan). option_map_or (λ (s : StreamPlan). s.closed) o false)
     (plan_at plan end e id f is at)

@@ -1,27 +1,16 @@
 -- What always holds of the ends of all lines, kept by a change of one of them: each end keeps its name, plans and
--- limit,
--- with one call more at the most.
+-- limit, with one call more at the most.
 use Rattle.all_ends.proofs.Terms.{◌≡◌, ℕ, suc, zero, ◌+◌, ◌≤◌, List, [], ◌∷◌, ◌++◌, length, refl, ap, sym, ◌∙◌}
 use Rattle.all_ends.proofs.Terms.{subst, arith, Option, Some, None, option_map, map, slice_get, same_Some}
 use Rattle.all_ends.proofs.Terms.{none-some, Side, Host, Device, PortName, Plan, StreamState, LinkPacket, port_at}
 use Rattle.all_ends.proofs.Terms.{PortEnd, LinkEnds, PairEnds, EndsView, port_in, with_port, pair_port, with_pair_port}
 use Rattle.all_ends.proofs.Terms.{KeeperView, ports_in, in_sixteen, pair_ports, rows_of, name_of, IsPort}
-use Rattle.all_ends.proofs.Terms.{
-  IsLink,
-  IsPair,
-  IsBounded,
-  AreLinks,
-  StreamKept,
-  StreamView,
-  LinePlace,
-  Link,
-  Near,
-  Pair,
-}
+use Rattle.all_ends.proofs.Terms.{IsLink, IsPair, IsBounded, AreLinks, StreamKept, StreamView, LinePlace, Link, Near}
+use Rattle.all_ends.proofs.Terms.{Pair}
 use Rattle.all_ends.proofs.Terms.{line_place, port_at_place, port_on, with_port_at, with_port_on, changed_at}
-use Rattle.all_ends.proofs.Terms.{settled_link, settled_ends, live_on, settled_below}
+use Rattle.all_ends.proofs.Terms.{settled_link, settled_ends, peer_live, settled_first_links}
 use Rattle.std.specs.Prelude.{IsSome, Bool, true, false, if◌then◌else◌, nat_lt, ◌-◌}
-use Rattle.ide_plan.specs.declared.plan.PeerPlan.{PeerPlan}
+use Rattle.ide_types.specs.declared.plan.PeerPlan.{PeerPlan}
 use Rattle.all_ends.specs.Ends.{settled_peer, settled_place}
 use Rattle.all_ends.proofs.ByPlace.{changed_length, each_changed}
 use Rattle.all_ends.proofs.Finds.{mapped}
@@ -179,17 +168,17 @@ module _ (plan : Plan) (v : EndsView) (k : KeeperView) (links : AreLinks plan v 
 
   pub end_kept : (end : PortName) (e e' : PortEnd) → port_on v end ≡ Some e → Keeps e e'
       → AreLinks plan (with_port_on v end e') k
-  end_kept end e e' is keeps = end_kept_at end.side (line_place end.link) e e' is keeps
+  end_kept end e e' is keeps = end_kept_at end.side (line_place end.line) e e' is keeps
 
   pub settled_kept : (i : ℕ) → AreLinks plan (settled_link v i) k
-  settled_kept i = links_kept i (settled_ends (live_on v i)) (λ l at. settled_keeps (live_on v i) l)
+  settled_kept i = links_kept i (settled_ends (peer_live v i)) (λ l at. settled_keeps (peer_live v i) l)
 
 -- ---- devices that settle
 
 pub below_kept : (plan : Plan) (n : ℕ) (v : EndsView) (k : KeeperView) → AreLinks plan v k
-    → AreLinks plan (settled_below n v) k
+    → AreLinks plan (settled_first_links n v) k
 below_kept plan zero v k links = links
-below_kept plan (suc n) v k links = settled_kept plan (settled_below n v) k (below_kept plan n v k links) n
+below_kept plan (suc n) v k links = settled_kept plan (settled_first_links n v) k (below_kept plan n v k links) n
 
 peer_kept : (plan : Plan) (o : Option PeerPlan) (v : EndsView) (k : KeeperView) → AreLinks plan v k
     → AreLinks plan (settled_peer o v) k
@@ -218,11 +207,11 @@ ports_seen (l ∷ ls) (suc i) f host device =
 pub settled_rows : (v : EndsView) (i : ℕ) → rows_of (settled_link v i) ≡ rows_of v
 settled_rows v i =
     ap (λ (rows : List (List StreamState)). in_sixteen rows ++ ports_in v.near ++ pair_ports v.pairs)
-    (ports_seen v.links i (settled_ends (live_on v i)) (λ l. refl) (λ l. refl))
+    (ports_seen v.links i (settled_ends (peer_live v i)) (λ l. refl) (λ l. refl))
 
-pub below_rows : (n : ℕ) (v : EndsView) → rows_of (settled_below n v) ≡ rows_of v
+pub below_rows : (n : ℕ) (v : EndsView) → rows_of (settled_first_links n v) ≡ rows_of v
 below_rows zero v = refl
-below_rows (suc n) v = settled_rows (settled_below n v) n ∙ below_rows n v
+below_rows (suc n) v = settled_rows (settled_first_links n v) n ∙ below_rows n v
 
 pub place_rows : (i : ℕ) (v : EndsView) → rows_of (settled_place (Pair i) v) ≡ rows_of v
 place_rows i v = by_test (nat_lt i 8)
@@ -279,8 +268,8 @@ module _ (n : ℕ) (v : EndsView) (i : ℕ) where
       → Grows n v (record v { links = changed_at v.links i f })
   links_grow f grow = record {
     many = changed_length v.links i f;
-    there = λ end is. there_at end.side (line_place end.link) is;
-    calls = λ end y is. calls_at end.side (line_place end.link) y is;
+    there = λ end is. there_at end.side (line_place end.line) is;
+    calls = λ end y is. calls_at end.side (line_place end.line) y is;
   }
     where
       v' : EndsView
@@ -302,8 +291,8 @@ module _ (n : ℕ) (v : EndsView) (i : ℕ) where
       → Grows n v (record v { near = changed_at v.near i f })
   near_grow f grow = record {
     many = refl;
-    there = λ end is. there_at end.side (line_place end.link) is;
-    calls = λ end y is. calls_at end.side (line_place end.link) y is;
+    there = λ end is. there_at end.side (line_place end.line) is;
+    calls = λ end y is. calls_at end.side (line_place end.line) y is;
   }
     where
       v' : EndsView
@@ -326,8 +315,8 @@ module _ (n : ℕ) (v : EndsView) (i : ℕ) where
       → Grows n v (record v { pairs = changed_at v.pairs i f })
   pairs_grow f grow = record {
     many = refl;
-    there = λ end is. there_at end.side (line_place end.link) is;
-    calls = λ end y is. calls_at end.side (line_place end.link) y is;
+    there = λ end is. there_at end.side (line_place end.line) is;
+    calls = λ end y is. calls_at end.side (line_place end.line) y is;
   }
     where
       v' : EndsView
@@ -375,7 +364,7 @@ end_grows_at v s (Pair i) e e' is calls =
 
 pub end_grows : (v : EndsView) (end : PortName) (e e' : PortEnd) → port_on v end ≡ Some e → e'.calls ≤ e.calls + 1
     → Grows 1 v (with_port_on v end e')
-end_grows v end e e' is calls = end_grows_at v end.side (line_place end.link) e e' is calls
+end_grows v end e e' is calls = end_grows_at v end.side (line_place end.line) e e' is calls
 
 settled_calls : (live : ℕ → Option ℕ) (s : Side) (l : LinkEnds)
     → (port_in s (settled_ends live l)).calls ≤ (port_in s l).calls + 0
@@ -383,15 +372,15 @@ settled_calls live Host l = omega arith
 settled_calls live Device l = omega arith
 
 pub settled_grows : (v : EndsView) (i : ℕ) → Grows 0 v (settled_link v i)
-settled_grows v i = links_grow 0 v i (settled_ends (live_on v i)) (λ s l at. settled_calls (live_on v i) s l)
+settled_grows v i = links_grow 0 v i (settled_ends (peer_live v i)) (λ s l at. settled_calls (peer_live v i) s l)
 
 pub stays_all : (v : EndsView) → Grows 0 v v
 stays_all v = record { many = refl; there = λ end is. is; calls = λ end y is. (y, is, omega arith) }
 
-pub below_grows : (n : ℕ) (v : EndsView) → Grows 0 v (settled_below n v)
+pub below_grows : (n : ℕ) (v : EndsView) → Grows 0 v (settled_first_links n v)
 below_grows zero v = stays_all v
-below_grows (suc n) v = grows_then 0 0 v (settled_below n v) (settled_below (suc n) v) (below_grows n v)
-    (settled_grows (settled_below n v) n)
+below_grows (suc n) v = grows_then 0 0 v (settled_first_links n v) (settled_first_links (suc n) v) (below_grows n v)
+    (settled_grows (settled_first_links n v) n)
 
 pub place_grows : (i : ℕ) (v : EndsView) → Grows 0 v (settled_place (Pair i) v)
 place_grows i v = by_test (nat_lt i 8)

@@ -4,26 +4,18 @@ use Rattle.all_ends.proofs.Terms.{sym, ◌∙◌, subst, Option, Some, None, opt
 use Rattle.all_ends.proofs.Terms.{slice_index_or, none-some, slice_get_within, slice_get_read, Side, Host, Device}
 use Rattle.all_ends.proofs.Terms.{PortName, PortEnd, take_step, EndsView, LinkEnds, PairEnds, port_in, with_port}
 use Rattle.all_ends.proofs.Terms.{pair_port, with_pair_port, line_place, LinePlace, Link, Near, Pair, port_at_place}
-use Rattle.all_ends.proofs.Terms.{
-  port_on,
-  with_port_at,
-  with_port_on,
-  changed_at,
-  live_on,
-  KeeperView,
-  HasCalls,
-  Operates,
-}
+use Rattle.all_ends.proofs.Terms.{port_on, with_port_at, with_port_on, changed_at, peer_live, KeeperView, HasCalls}
+use Rattle.all_ends.proofs.Terms.{Operates}
 use Rattle.all_ends.specs.Ends.{trust_at_place, link_trust, asked_trust, pair_trust, settled_place}
 use Rattle.all_ends.specs.AllEnds.{TakesAt, SendsAt, OperatesIn, OperatesAt, Settles, Calls, CallsAt}
 use Rattle.all_ends.specs.AllEnds.{Asks, AsksAt, IsEnded}
 use Rattle.all_ends.specs.Places.{code_behind}
 use Rattle.link_ends.specs.declared.host.HostKeeper.{HostKeeper}
 use Rattle.link_ends.specs.Hosts.{operated_on}
-use Rattle.tdi_ends.specs.Keepers.{Ended}
-use Rattle.tdi_host.specs.declared.operation.InterfaceOp.{InterfaceOp}
-use Rattle.tdi_host.specs.declared.operation.Outcome.{Outcome as InterfaceOutcome}
-use Rattle.tdi_host.specs.Views.{HostTdi}
+use Rattle.interface_ends.specs.Keepers.{Ended}
+use Rattle.interface_host.specs.declared.operation.InterfaceOperation.{InterfaceOperation}
+use Rattle.interface_host.specs.declared.operation.InterfaceOutcome.{InterfaceOutcome}
+use Rattle.interface_host.specs.Views.{HostTdi}
 use Rattle.ide_prefix.specs.Reading.{cut_of}
 use Rattle.ide_port.specs.{IsSentAtPort, Trusting}
 use Rattle.ide_port.specs.declared.answer.Arrival.{Arrival}
@@ -32,11 +24,11 @@ use Rattle.link_ends.specs.Ends.{trusting_at}
 use Rattle.link_ends.specs.Keepers.{SameCalls}
 use Rattle.link_ends.specs.PairKeepers.{PairOperates, HasPairCalls}
 use Rattle.link_events.specs.declared.event.Loss.{Loss}
-use Rattle.tsm_host.specs.declared.operation.Op.{Op}
-use Rattle.tsm_host.specs.declared.operation.Outcome.{Outcome}
-use Rattle.device_side.specs.declared.device.Device.{Device as DeviceEnd}
-use Rattle.tdi_device.specs.Replies.{called_at}
-use Rattle.tdi_state.specs.Machine.{Tdi, Call, state_code, tdi_after}
+use Rattle.tsm_host.specs.declared.operation.NamedOperation.{NamedOperation}
+use Rattle.tsm_host.specs.declared.operation.StreamOutcome.{StreamOutcome}
+use Rattle.link_ends.specs.declared.device.Device.{Device as DeviceEnd}
+use Rattle.interface_device.specs.Replies.{called_at}
+use Rattle.interface_state.specs.Machine.{Tdi, Call, state_code, tdi_after}
 use Rattle.std.specs.Prelude.{IfSome, IsSome}
 use Rattle.std.proofs.lemmas.Option.{get_or_from_slice_get, slice_get_past}
 use Rattle.all_ends.proofs.ByPlace.{changed_is, changed_none, seen_same, set_there}
@@ -96,7 +88,7 @@ put_at_place v s (Pair i) e e' is =
 
 pub port_put : (v : EndsView) (end : PortName) (e e' : PortEnd) → port_on v end ≡ Some e
     → port_on (with_port_on v end e') end ≡ Some e'
-port_put v end e e' is = put_at_place v end.side (line_place end.link) e e' is
+port_put v end e e' is = put_at_place v end.side (line_place end.line) e e' is
 
 -- the links are there with their interfaces
 kept_interfaces : (s : Side) (e : PortEnd) (l : LinkEnds)
@@ -119,12 +111,12 @@ after_at v s (Pair i) e j l is = (l, is, refl)
 pub link_after : (v : EndsView) (end : PortName) (e : PortEnd) (j : ℕ) (l : LinkEnds) → slice_get v.links j ≡ Some l
     → (l' : LinkEnds) × (slice_get (with_port_on v end e).links j ≡ Some l')
     × (l'.device.interfaces ≡ l.device.interfaces)
-link_after v end e j l is = after_at v end.side (line_place end.link) e j l is
+link_after v end e j l is = after_at v end.side (line_place end.line) e j l is
 
 -- ---- what is taken
 
 -- the ends of a line that is kept there
-module _ (v : EndsView) (end : PortName) (place : LinePlace) (at : place ≡ line_place end.link) where
+module _ (v : EndsView) (end : PortName) (place : LinePlace) (at : place ≡ line_place end.line) where
   seen : (e : PortEnd) → port_on v end ≡ Some e → port_at_place v end.side place ≡ Some e
   seen e is = ap (λ (p : LinePlace). port_at_place v end.side p) at ∙ is
 
@@ -174,7 +166,7 @@ module _ (v : EndsView) (end : PortName) (bytes : List ℕ) (i : ℕ) (answer : 
   abbrev by : PortEnd → PortEnd
   by e = (take_step e (cut_of bytes)).port
 
-  pub take_link : (x y : LinkEnds) → Link i ≡ line_place end.link → x ≡ slice_index_or v.links i x
+  pub take_link : (x y : LinkEnds) → Link i ≡ line_place end.line → x ≡ slice_index_or v.links i x
       → answer ≡ (take_step (port_in end.side x) (cut_of bytes)).answer
       → y ≡ with_port end.side (take_step (port_in end.side x) (cut_of bytes)).port x
       → TakesAt v end bytes answer (record v { links = slice_set v.links i y })
@@ -188,7 +180,7 @@ module _ (v : EndsView) (end : PortName) (bytes : List ℕ) (i : ℕ) (answer : 
             ∙ put v end (Link i) at (by e);
       }
 
-  pub take_near : (x y : LinkEnds) → Near i ≡ line_place end.link → x ≡ slice_index_or v.near i x
+  pub take_near : (x y : LinkEnds) → Near i ≡ line_place end.line → x ≡ slice_index_or v.near i x
       → answer ≡ (take_step (port_in end.side x) (cut_of bytes)).answer
       → y ≡ with_port end.side (take_step (port_in end.side x) (cut_of bytes)).port x
       → TakesAt v end bytes answer (record v { near = slice_set v.near i y })
@@ -202,7 +194,7 @@ module _ (v : EndsView) (end : PortName) (bytes : List ℕ) (i : ℕ) (answer : 
             ∙ put v end (Near i) at (by e);
       }
 
-  pub take_pair : (x y : PairEnds) → Pair i ≡ line_place end.link → x ≡ slice_index_or v.pairs i x
+  pub take_pair : (x y : PairEnds) → Pair i ≡ line_place end.line → x ≡ slice_index_or v.pairs i x
       → answer ≡ (take_step (pair_port end.side x) (cut_of bytes)).answer
       → y ≡ with_pair_port end.side (take_step (pair_port end.side x) (cut_of bytes)).port x
       → TakesAt v end bytes answer (record v { pairs = slice_set v.pairs i y })
@@ -227,11 +219,11 @@ module _ (v : EndsView) (end : PortName) (tlp : List ℕ) (more trusted : Bool) 
   abbrev Goes : PortEnd → Trusting → PortEnd → Type 0
   Goes e t e' = (number : ℕ) → IsSentAtPort e tlp more t number answer e'
 
-  trust_of : (place : LinePlace) → place ≡ line_place end.link
-      → trust_at_place v end.side place trusted ≡ trust_at_place v end.side (line_place end.link) trusted
+  trust_of : (place : LinePlace) → place ≡ line_place end.line
+      → trust_at_place v end.side place trusted ≡ trust_at_place v end.side (line_place end.line) trusted
   trust_of place at = ap (λ (p : LinePlace). trust_at_place v end.side p trusted) at
 
-  pub send_link : (x y : LinkEnds) → Link i ≡ line_place end.link → x ≡ slice_index_or v.links i x
+  pub send_link : (x y : LinkEnds) → Link i ≡ line_place end.line → x ≡ slice_index_or v.links i x
       → Goes (port_in end.side x) (trusting_at end.side x trusted) (port_in end.side y)
       → y ≡ with_port end.side (port_in end.side y) x
       → SendsAt v end tlp more trusted answer (record v { links = slice_set v.links i y })
@@ -249,7 +241,7 @@ module _ (v : EndsView) (end : PortName) (tlp : List ℕ) (more trusted : Bool) 
             (subst (λ (p : PortEnd). Goes p (trusting_at end.side x trusted) e') same goes);
       }
 
-  pub send_near : (x y : LinkEnds) → Near i ≡ line_place end.link → x ≡ slice_index_or v.near i x
+  pub send_near : (x y : LinkEnds) → Near i ≡ line_place end.line → x ≡ slice_index_or v.near i x
       → Goes (port_in end.side x) (asked_trust trusted) (port_in end.side y)
       → y ≡ with_port end.side (port_in end.side y) x
       → SendsAt v end tlp more trusted answer (record v { near = slice_set v.near i y })
@@ -264,7 +256,7 @@ module _ (v : EndsView) (end : PortName) (tlp : List ℕ) (more trusted : Bool) 
             (subst (λ (p : PortEnd). Goes p (asked_trust trusted) e') same goes);
       }
 
-  pub send_pair : (x y : PairEnds) (t : Trusting) → Pair i ≡ line_place end.link → x ≡ slice_index_or v.pairs i x
+  pub send_pair : (x y : PairEnds) (t : Trusting) → Pair i ≡ line_place end.line → x ≡ slice_index_or v.pairs i x
       → Goes (pair_port end.side x) t (pair_port end.side y) → t ≡ pair_trust v end.side i trusted
       → y ≡ with_pair_port end.side (pair_port end.side y) x
       → SendsAt v end tlp more trusted answer (record v { pairs = slice_set v.pairs i y })
@@ -281,9 +273,10 @@ module _ (v : EndsView) (end : PortName) (tlp : List ℕ) (more trusted : Bool) 
 
 -- ---- operations
 
-module _ (v : EndsView) (line i : ℕ) (k k' : KeeperView) (op : Op) (loss : Option Loss) (outcome : Outcome) where
+module _ (v : EndsView) (line i : ℕ) (k k' : KeeperView) (op : NamedOperation) (loss : Option Loss)
+    (outcome : StreamOutcome) where
   pub operate_link : (x y : LinkEnds) → Link i ≡ line_place line → x ≡ slice_index_or v.links i x
-      → Operates k x op loss outcome k' y → HasCalls x y → Settles (live_on v i) x y
+      → Operates k x op loss outcome k' y → HasCalls x y → Settles (peer_live v i) x y
       → OperatesAt v line k op loss outcome (record v { links = slice_set v.links i y }) k'
   operate_link x y at read operates calls settles =
       subst (λ (p : LinePlace). OperatesIn v p k op loss outcome (record v { links = slice_set v.links i y }) k') at
@@ -292,7 +285,7 @@ module _ (v : EndsView) (line i : ℕ) (k k' : KeeperView) (op : Op) (loss : Opt
         new_is = refl;
         operates = subst (λ (z : LinkEnds). Operates k z op loss outcome k' y) same operates;
         calls = subst (λ (z : LinkEnds). HasCalls z y) same calls;
-        settles = subst (λ (z : LinkEnds). Settles (live_on v i) z y) same settles;
+        settles = subst (λ (z : LinkEnds). Settles (peer_live v i) z y) same settles;
       }))
 
   pub operate_near : (x y : LinkEnds) → Near i ≡ line_place line → x ≡ slice_index_or v.near i x
@@ -353,11 +346,12 @@ call_there v link place call code x d read called coded l is =
 
 -- ---- operations on interfaces
 
-pub asks_there : (v : EndsView) (link : ℕ) (k k' : HostKeeper) (interface : ℕ) (o : InterfaceOp) (loss : Option Loss)
+pub asks_there : (v : EndsView) (link : ℕ) (k k' : HostKeeper) (interface : ℕ) (o : InterfaceOperation)
+    (loss : Option Loss)
     (outcome : InterfaceOutcome) (x y : LinkEnds) → x ≡ slice_index_or v.links link x
     → (let e : Ended = record { outcome = outcome; manager = k'.interfaces; device = y.device.interfaces } in
     IfSome (slice_get k.interfaces.interfaces interface)
-    (λ i. e ≡ operated_on interface o loss k.keys (live_on v link) k.interfaces x i))
+    (λ i. e ≡ operated_on interface o loss k.keys (peer_live v link) k.interfaces x i))
     → k'.keys ≡ k.keys → k'.peer_draws ≡ k.peer_draws
     → y ≡ record x { device = record x.device { interfaces = y.device.interfaces } }
     → AsksAt v link k interface o loss outcome (record v { links = slice_set v.links link y }) k'
@@ -365,12 +359,12 @@ asks_there v link k k' interface o loss outcome x y read operated keys draws end
     let same : x ≡ l = read_there v.links link x l read is in
     let e : Ended = record { outcome = outcome; manager = k'.interfaces; device = y.device.interfaces } in
     let made : (i : HostTdi) → slice_get k.interfaces.interfaces interface ≡ Some i
-    → e ≡ operated_on interface o loss k.keys (live_on v link) k.interfaces x i =
+    → e ≡ operated_on interface o loss k.keys (peer_live v link) k.interfaces x i =
     λ i at. subst (λ (p : Option HostTdi). IfSome p
-    (λ i. e ≡ operated_on interface o loss k.keys (live_on v link) k.interfaces x i)) at operated in
+    (λ i. e ≡ operated_on interface o loss k.keys (peer_live v link) k.interfaces x i)) at operated in
     subst (λ (z : LinkEnds). (l' : LinkEnds)
     × (record v { links = slice_set v.links link y } ≡ record v { links = slice_set v.links link l' })
-    × Asks k interface o loss (live_on v link) (IsEnded outcome k'.interfaces l'.device.interfaces) k' z l') same (
+    × Asks k interface o loss (peer_live v link) (IsEnded outcome k'.interfaces l'.device.interfaces) k' z l') same (
       y,
       refl,
       record {

@@ -1,24 +1,13 @@
 -- The streams of lines that are no links, row by row: each fits, and there are as many rows as lines.
 use Rattle.all_ends.proofs.Terms.{◌≡◌, ℕ, suc, zero, ◌+◌, ◌≤◌, List, [], ◌∷◌, ◌++◌, length, refl, ap, sym, ◌∙◌, arith}
-use Rattle.all_ends.proofs.Terms.{
-  Option,
-  Some,
-  None,
-  map,
-  take,
-  replicate,
-  All,
-  All-append,
-  All-cons,
-  All-head,
-  All-nil,
-}
+use Rattle.all_ends.proofs.Terms.{Option, Some, None, map, take, replicate, All, All-append, All-cons, All-head}
+use Rattle.all_ends.proofs.Terms.{All-nil}
 use Rattle.all_ends.proofs.Terms.{All-tail, FitsLink, FitsStream, LinkPlan, Plan, StreamPlan}
 use Rattle.all_ends.proofs.Terms.{take-append_seam}
 use Rattle.std.specs.Prelude.{true}
-use Rattle.ide_plan.specs.declared.plan.HopPlan.{HopPlan}
-use Rattle.ide_plan.specs.declared.plan.PeerPlan.{PeerPlan}
-use Rattle.ide_plan.specs.Fits.{FitsPlan, FitsAddresses, FitsHopIf, FitsPeer, is_mode}
+use Rattle.ide_types.specs.declared.plan.HopPlan.{HopPlan}
+use Rattle.ide_types.specs.declared.plan.PeerPlan.{PeerPlan}
+use Rattle.ide_types.specs.Fits.{FitsPlan, FitsAddresses, FitsHopIf, FitsPeer, is_aggregation}
 use Rattle.arrival_verdicts.specs.{hop_streams, lone_stream, in_eight}
 use Rattle.all_ends.specs.Ends.{hop_row, peer_row}
 
@@ -36,9 +25,10 @@ no_rows = All-nil (All FitsStream)
 row_more : (r : Row) (rows : List Row) → All FitsStream r → RowsFit rows → RowsFit (r ∷ rows)
 row_more r rows first rest = All-cons (All FitsStream) r rows first rest
 
-lone_fits : (id mode : ℕ) → id ≤ 255 → is_mode mode ≡ true → All FitsStream (lone_stream id mode ∷ [])
-lone_fits id mode most is = All-cons FitsStream (lone_stream id mode) []
-    (record { id = most; mode = is; selector = (tt, omega arith, All-nil FitsAddresses) }) (All-nil FitsStream)
+lone_fits : (id aggregation : ℕ) → id ≤ 255 → is_aggregation aggregation ≡ true
+    → All FitsStream (lone_stream id aggregation ∷ [])
+lone_fits id aggregation most is = All-cons FitsStream (lone_stream id aggregation) []
+    (record { id = most; aggregation = is; selector = (tt, omega arith, All-nil FitsAddresses) }) (All-nil FitsStream)
 
 hop_fits : (streams : List StreamPlan) (o : Option HopPlan) → FitsHopIf streams o → All FitsStream (hop_streams o)
 hop_fits streams None fits = All-nil FitsStream
@@ -53,7 +43,7 @@ peers_fit : (links : List LinkPlan) (ps : List PeerPlan) → All (FitsPeer links
 peers_fit links [] each = no_rows
 peers_fit links (p ∷ ps) each =
     let fits = All-head (FitsPeer links) p ps each in
-    row_more (peer_row p) (map peer_row ps) (lone_fits p.id p.mode fits.id fits.mode)
+    row_more (peer_row p) (map peer_row ps) (lone_fits p.id p.aggregation fits.id fits.aggregation)
     (peers_fit links ps (All-tail (FitsPeer links) p ps each))
 
 empties_fit : (k : ℕ) → RowsFit (replicate k [])

@@ -1,29 +1,31 @@
 -- What the proofs of this crate name from other modules.
-pub use Rattle.ide_plan.specs.Fits.{FitsLink, FitsStream}
-pub use Rattle.ide_plan.specs.declared.plan.LinkPlan.{LinkPlan}
-pub use Rattle.ide_plan.specs.declared.plan.Plan.{Plan}
-pub use Rattle.ide_plan.specs.declared.stream.StreamPlan.{StreamPlan}
-pub use Rattle.ide_port.specs.{Found, PortEnd, SendStep, changed, found, reset_port, status_in, take_step}
+pub use Rattle.ide_types.specs.Fits.{FitsLink, FitsStream}
+pub use Rattle.ide_types.specs.declared.plan.LinkPlan.{LinkPlan}
+pub use Rattle.ide_types.specs.declared.plan.Plan.{Plan}
+pub use Rattle.ide_types.specs.declared.stream.StreamPlan.{StreamPlan}
+pub use Rattle.ide_port.specs.{Found, PortEnd, SendStep, changed_states, found_stream, reset_port, port_stream_status}
+pub use Rattle.ide_port.specs.{take_step}
 pub use Rattle.ide_prefix.specs.Packet.{Packet, packet_bytes}
-pub use Rattle.arrival_verdicts.specs.{joined_packets, numbered_from, opened_after, packet_lengths, sending}
+pub use Rattle.arrival_verdicts.specs.{joined_packets, numbered_from, opened_if_accepted, packet_lengths, sending}
 pub use Rattle.ide_types.specs.declared.port.PortName.{PortName}
 pub use Rattle.ide_types.specs.declared.port.Side.{Side}
 pub use Rattle.ide_types.specs.declared.port.Side.TheVariants.{Device, Host}
 pub use Rattle.ide_types.specs.declared.status.StreamStatus.{StreamStatus}
-pub use Rattle.key_laws.proofs.Tests.{different-false}
-pub use Rattle.key_laws.specs.History.{History}
-pub use Rattle.key_laws.specs.Operations.{Idle, Op}
-pub use Rattle.key_laws.specs.Places.{sent_direction}
-pub use Rattle.sealed_packets.specs.Cuts.{cut_packets}
+pub use Rattle.spec_keys.proofs.Tests.{different-false}
+pub use Rattle.spec_keys.specs.History.{History}
+pub use Rattle.spec_keys.specs.Operations.{Idle, StreamStage}
+pub use Rattle.spec_keys.specs.Places.{sent_direction}
+pub use Rattle.all_ends.specs.Cuts.{cut_packets}
 pub use Rattle.link_ends.proofs.Names.{first_named, op_named_first}
 pub use Rattle.link_ends.proofs.Streams.{changed_same, found_id, found_plan, machine_changed, machine_found}
 pub use Rattle.link_verdicts.specs.declared.verdict.UnitName.{UnitName}
 unfoldable pub use Rattle.arrival_verdicts.specs.{stream_plan}
-pub use Rattle.sealed_packets.specs.{Beside, LinkPacket, LinkState, Stepped, stepped_answer, kept_at, port_at}
-pub use Rattle.sealed_packets.specs.{port_place, reset_state, status_at}
-pub use Rattle.stream_rules.specs.Stream.{unit_name}
-unfoldable pub use Rattle.sealed_packets.specs.{find, find_op, put}
-pub use Rattle.sealed_packets.specs.{PortsStandFor, op_at, standing}
+pub use Rattle.machine_ports.specs.Machine.{BesidePorts, LinkPacket, LinkState, Stepped, stepped_answer, kept_packet}
+pub use Rattle.machine_ports.specs.Machine.{port_at}
+pub use Rattle.machine_ports.specs.Machine.{port_place, reset_state, machine_status}
+pub use Rattle.spec_stream.specs.Stream.{unit_name}
+unfoldable pub use Rattle.machine_ports.specs.Machine.{find, find_op, put}
+pub use Rattle.machine_ports.specs.Stands.{PortsStandFor, op_at, standing}
 pub use Rattle.link_verdicts.specs.declared.verdict.Effect.{Effect}
 pub use Rattle.link_verdicts.specs.declared.verdict.Verdict.{Verdict}
 pub use Rattle.std.proofs.Common.{Bool, List, [], add-one, ap, arith, drop, false, length, length-append, length-drop}
@@ -41,15 +43,16 @@ pub use Rattle.std.specs.Option.{option_map_or}
 pub use Rattle.std.specs.Prelude.{All, Err, None, Ok, Option, Result, Some, if◌then◌else◌, is_some, map, nat_le, not}
 pub use Rattle.std.specs.Prelude.{option_map, slice_get, slice_range, slice_set, sum_by, vec_capacity, vec_len, ◌&&◌}
 pub use Rattle.std.specs.Prelude.{◌||◌}
-pub use Rattle.stream_rules.specs.Stream.{Failed, Held, Insecure, LiveKey, StreamState, Taken, Three, TxSub, at_sub}
-pub use Rattle.stream_rules.specs.Stream.{checked, holds_any, is_allowed, is_tagged, lanes_of, live_in, sealed_all}
-pub use Rattle.stream_rules.specs.Stream.{slot_in_set, taken_by, taken_under}
+pub use Rattle.spec_stream.specs.Stream.{Failed, Held, Insecure, LiveKey, StreamState, Taken, Three, TxSub, at_sub}
+pub use Rattle.spec_stream.specs.Stream.{outcome_of_checks, holds_any, is_allowed, is_tagged, lanes_of, live_in}
+pub use Rattle.spec_stream.specs.Stream.{sealed_all}
+pub use Rattle.spec_stream.specs.Stream.{slot_in_set, stream_outcome, stream_outcome_by_keys}
 pub use Rattle.sub_stream.specs.declared.answer.MeasuredPacket.{MeasuredPacket}
 pub use Rattle.tsm_host.specs.Managers.{ManagerView, Named, named, op_named, reset_manager}
 pub use Rattle.tsm_host.specs.Streams.{StreamView, reset_stream}
 pub use Rattle.all_ends.specs.Places.{stream_named}
-pub use Rattle.all_ends.specs.Ends.{EndsView, changed_at, cleared_on, cleared_ends, cleared_pair, line_place, live_on}
-pub use Rattle.all_ends.specs.Ends.{pair_port, port_at_place, port_on, reset_all, settled_all, settled_below}
+pub use Rattle.all_ends.specs.Ends.{EndsView, changed_at, cleared_on, cleared_ends, cleared_pair, line_place, peer_live}
+pub use Rattle.all_ends.specs.Ends.{pair_port, port_at_place, port_on, reset_all, settled_all, settled_first_links}
 pub use Rattle.all_ends.specs.Ends.{settled_ends, settled_link, unlocked_ends, unlocked_link, with_pair_port}
 pub use Rattle.all_ends.specs.Ends.{with_port_at, with_port_on}
 pub use Rattle.all_ends.specs.declared.places.LinePlace.{LinePlace}
@@ -57,12 +60,12 @@ pub use Rattle.all_ends.specs.declared.places.LinePlace.TheVariants.{Link, Near,
 pub use Rattle.all_ends.specs.States.{AreLinks, IsBounded, IsLink, IsPair, IsPort, StreamKept, KeptBy, in_sixteen}
 pub use Rattle.all_ends.specs.States.{name_of, names_from, names_of, ops_in, ops_of, pair_ports, ports_in, rows_of}
 pub use Rattle.all_ends.specs.States.{state_of, views_after}
-pub use Rattle.line_ends.specs.declared.pair.PairEnds.{PairEnds}
-pub use Rattle.line_ends.specs.Ends.{end_in, with_end, reset_pair}
+pub use Rattle.link_ends.specs.declared.pair.PairEnds.{PairEnds}
+pub use Rattle.link_ends.specs.LineEnds.{end_in, with_end, reset_pair}
 pub use Rattle.link_ends.specs.Ends.{port_in, with_port}
 pub use Rattle.link_ends.specs.Keepers.{KeeperView, HasCalls, Operates}
 pub use Rattle.link_ends.specs.declared.ends.LinkEnds.{LinkEnds}
-pub use Rattle.arrival_verdicts.specs.{has_stream, is_closed, mode_of, streams_of, with_id}
+pub use Rattle.arrival_verdicts.specs.{has_stream, is_closed, aggregation_of, streams_of, with_id}
 unfoldable pub use Rattle.arrival_verdicts.specs.{streams_by_line}
 pub use Rattle.link_ends.specs.{KeysKept}
 pub use Rattle.std.proofs.lemmas.Bool.{cases_lt}

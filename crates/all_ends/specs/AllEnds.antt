@@ -9,22 +9,22 @@ use Rattle.ide_types.specs.declared.status.StreamStatus.{StreamStatus}
 use Rattle.link_events.specs.declared.event.Loss.{Loss}
 use Rattle.link_verdicts.specs.declared.verdict.Verdict.{Verdict}
 use Rattle.link_verdicts.specs.declared.verdict.Verdict.TheVariants.{Nothing}
-use Rattle.ide_plan.specs.declared.plan.Region.{Region}
+use Rattle.ide_types.specs.declared.plan.Region.{Region}
 use Rattle.arrival_verdicts.specs.{Grants, reads_by}
 use Rattle.trusted_memory.specs.{MemoryContents, Leads}
 use Rattle.link_ends.specs.Hosts.{InterfacesView}
-use Rattle.tsm_host.specs.declared.operation.Op.{Op}
-use Rattle.tsm_host.specs.declared.operation.Outcome.{Outcome}
+use Rattle.tsm_host.specs.declared.operation.NamedOperation.{NamedOperation}
+use Rattle.tsm_host.specs.declared.operation.StreamOutcome.{StreamOutcome}
 use Rattle.ide_port.specs.declared.answer.Arrival.{Arrival}
 use Rattle.ide_port.specs.declared.answer.Sent.{Sent}
 use Rattle.ide_prefix.specs.Reading.{cut_of}
 use Rattle.ide_port.specs.{PortEnd, IsSentAtPort, take_step}
 use Rattle.link_ends.specs.declared.ends.LinkEnds.{LinkEnds}
-use Rattle.line_ends.specs.declared.pair.PairEnds.{PairEnds}
-use Rattle.guarded_memory.specs.declared.standing.Standing.{Standing}
+use Rattle.link_ends.specs.declared.pair.PairEnds.{PairEnds}
+use Rattle.guarded_memory.specs.declared.standing.InterfaceStatus.{InterfaceStatus}
 use Rattle.guarded_memory.specs.{MmioLeads}
-use Rattle.accesses.specs.declared.link.LinkAccesses.{LinkAccesses}
-use Rattle.accesses.specs.{standings_by}
+use Rattle.link_stores.specs.declared.link.LinkAccesses.{LinkAccesses}
+use Rattle.link_stores.specs.{device_standings}
 use Rattle.arrival_verdicts.specs.Verdicts.{effects_from, packet_write, packet_stored, unit_writes, of_unit}
 use Rattle.arrival_verdicts.specs.Verdicts.{arrival_verdict}
 use Rattle.arrival_verdicts.specs.Switches.{switched_each, unit_waits, all_offered}
@@ -33,19 +33,19 @@ use Rattle.ide_types.specs.declared.direction.Direction.{Direction}
 use Rattle.link_ends.specs.Keepers.{KeeperView, Operates, HasCalls, SameCalls}
 use Rattle.link_ends.specs.PairKeepers.{PairOperates, HasPairCalls}
 use Rattle.all_ends.specs.Ends.{EndsView, port_on, port_at_place, with_port_on, with_port_at, trust_at_place}
-use Rattle.all_ends.specs.Ends.{status_on, live_on, line_place, settled_link, settled_place, reset_all}
+use Rattle.all_ends.specs.Ends.{end_stream_status, peer_live, line_place, settled_link, settled_place, reset_all}
 use Rattle.all_ends.specs.declared.places.LinePlace.{LinePlace}
 use Rattle.all_ends.specs.declared.places.LinePlace.TheVariants.{Link, Near, Pair}
 use Rattle.all_ends.specs.Places.{code_behind}
 use Rattle.link_ends.specs.declared.host.HostKeeper.{HostKeeper}
 use Rattle.link_ends.specs.Hosts.{operated_on, told, pair_told, peer_drawn}
-use Rattle.tdi_state.specs.Machine.{Tdi, Call}
-use Rattle.tdi_device.specs.Replies.{DeviceTdis, called_at, settled_tdis}
-use Rattle.device_side.specs.Ends.{secure_with}
-use Rattle.tdi_host.specs.declared.operation.InterfaceOp.{InterfaceOp}
-use Rattle.tdi_host.specs.declared.operation.Outcome.{Outcome as Outcome'}
-use Rattle.tdi_host.specs.Views.{HostTdi}
-use Rattle.tdi_ends.specs.Keepers.{Ended}
+use Rattle.interface_state.specs.Machine.{Tdi, Call}
+use Rattle.interface_device.specs.Replies.{DeviceTdis, called_at, settled_interfaces}
+use Rattle.link_ends.specs.DeviceEnds.{secure_with}
+use Rattle.interface_host.specs.declared.operation.InterfaceOperation.{InterfaceOperation}
+use Rattle.interface_host.specs.declared.operation.InterfaceOutcome.{InterfaceOutcome as Outcome'}
+use Rattle.interface_host.specs.Views.{HostTdi}
+use Rattle.interface_ends.specs.Keepers.{Ended}
 
 abbrev pub CallsBelow : ℕ → EndsView → Type 0
 CallsBelow most v = (end : PortName) (e : PortEnd) → port_on v end ≡ Some e → e.calls < most
@@ -70,42 +70,43 @@ SendsIn old side place tlp more trusted answer new =
 
 abbrev pub SendsAt : EndsView → PortName → List ℕ → Bool → Bool → Sent → EndsView → Type 0
 SendsAt old end tlp more trusted answer new =
-    SendsIn old end.side (line_place end.link) tlp more trusted answer new
+    SendsIn old end.side (line_place end.line) tlp more trusted answer new
 
 -- ---- arrivals
 
 -- bytes that an end takes
-pub record Takes (old : EndsView) (end : PortName) (bytes : List ℕ) (answer : Arrival) (new : EndsView) (e : PortEnd) :
+pub record EndTakes (old : EndsView) (end : PortName) (bytes : List ℕ) (answer : Arrival) (new : EndsView) (e : PortEnd)
+    :
     Type 0 where
   pub answer_is : answer ≡ (take_step e (cut_of bytes)).answer
   pub new_is : new ≡ with_port_on old end (take_step e (cut_of bytes)).port
 
 abbrev pub TakesAt : EndsView → PortName → List ℕ → Arrival → EndsView → Type 0
-TakesAt old end bytes answer new = (e : PortEnd) → port_on old end ≡ Some e → Takes old end bytes answer new e
+TakesAt old end bytes answer new = (e : PortEnd) → port_on old end ≡ Some e → EndTakes old end bytes answer new e
 
 -- how the interfaces of a link's device stand
-abbrev pub standings_in : LinkEnds → LinkAccesses → List Standing
-standings_in l a = standings_by a.floors l.device.interfaces
+abbrev pub link_standings : LinkEnds → LinkAccesses → List InterfaceStatus
+link_standings l a = device_standings a.floors l.device.interfaces
 
 -- at a device's port its interfaces settle
-abbrev pub settled_at : PortName → EndsView → EndsView
-settled_at port v = by_side port.side
+abbrev pub settled_by_side : PortName → EndsView → EndsView
+settled_by_side port v = by_side port.side
   where
     by_side : Side → EndsView
     by_side Host = v
-    by_side Device = settled_link v port.link
+    by_side Device = settled_link v port.line
 
 -- What such an arrival at an end came to, at a host's or a device's port. Effects depend on what stands at that port's
 -- link.
 pub record Comes (regions : List Region) (grants : Grants) (end port : PortName) (answer : Arrival)
     (verdict : Verdict) (m n : MemoryContents) (a a' : LinkAccesses) (e : PortEnd) (l : LinkEnds) : Type 0 where
   pub verdict_is : verdict ≡ arrival_verdict end port answer
-      (λ unit. effects_from regions grants (standings_in l a) (length a.reads) port unit e.delivered)
+      (λ unit. effects_from regions grants (link_standings l a) (length a.reads) port unit e.delivered)
   pub written : Leads m (unit_writes answer (λ unit. map (packet_write regions grants port unit) e.delivered)) n
   pub reads_are : a'.reads ≡ a.reads ++ of_unit answer (λ unit. reads_by unit.draw
-      (effects_from regions grants (standings_in l a) (length a.reads) port unit e.delivered) e.delivered)
+      (effects_from regions grants (link_standings l a) (length a.reads) port unit e.delivered) e.delivered)
   pub stored : MmioLeads a.guarded
-      (of_unit answer (λ unit. map (packet_stored (standings_in l a) port unit) e.delivered)) a'.guarded
+      (of_unit answer (λ unit. map (packet_stored (link_standings l a) port unit) e.delivered)) a'.guarded
   pub floors_stay : a'.floors ≡ a.floors
   pub sizes_stay : a'.guarded.sizes ≡ a.guarded.sizes
   pub carried_stay : a'.carried ≡ a.carried
@@ -113,7 +114,7 @@ pub record Comes (regions : List Region) (grants : Grants) (end port : PortName)
 abbrev pub ComesAt : EndsView → List Region → Grants → PortName → PortName → Arrival → Verdict → MemoryContents
     → MemoryContents → LinkAccesses → LinkAccesses → Type 0
 ComesAt v regions grants end port answer verdict m n a a' =
-    (e : PortEnd) (l : LinkEnds) → port_on v end ≡ Some e → slice_get v.links port.link ≡ Some l
+    (e : PortEnd) (l : LinkEnds) → port_on v end ≡ Some e → slice_get v.links port.line ≡ Some l
     → Comes regions grants end port answer verdict m n a a' e l
 
 -- what is taken at an end at a host's or a device's port; effects depend on what stands at that port's link before it
@@ -121,8 +122,8 @@ pub record Arrives (old : EndsView) (xs : List LinkAccesses) (regions : List Reg
     (end port : PortName) (bytes : List ℕ) (verdict : Verdict) (m n : MemoryContents) (new : EndsView)
     (ys : List LinkAccesses) (e : PortEnd) (l : LinkEnds) (a : LinkAccesses) : Type 0 where
   pub access : LinkAccesses
-  pub new_is : new ≡ settled_at port (with_port_on old end (take_step e (cut_of bytes)).port)
-  pub accesses_are : ys ≡ slice_set xs port.link access
+  pub new_is : new ≡ settled_by_side port (with_port_on old end (take_step e (cut_of bytes)).port)
+  pub accesses_are : ys ≡ slice_set xs port.line access
   pub came : let step = take_step e (cut_of bytes) in
       Comes regions grants end port step.answer verdict m n a access step.port l
 
@@ -130,7 +131,7 @@ abbrev pub ArrivesAt : EndsView → List LinkAccesses → List Region → Grants
     → MemoryContents → MemoryContents → EndsView → List LinkAccesses → Type 0
 ArrivesAt old xs regions grants end port bytes verdict m n new ys =
     (e : PortEnd) (l : LinkEnds) (a : LinkAccesses) → port_on old end ≡ Some e
-    → slice_get old.links port.link ≡ Some l → slice_get xs port.link ≡ Some a
+    → slice_get old.links port.line ≡ Some l → slice_get xs port.line ≡ Some a
     → Arrives old xs regions grants end port bytes verdict m n new ys e l a
 
 -- nothing is taken
@@ -159,19 +160,21 @@ WaitsAt old end bytes direction verdict q new q' =
 -- the device's interfaces leave their lock if a stream that they are bound to is not Secure there; `live` says what is
 -- Live of those between it and others
 abbrev pub Settles : (ℕ → Option ℕ) → LinkEnds → LinkEnds → Type 0
-Settles live l l' = l'.device.interfaces ≡ settled_tdis (secure_with l'.device.port live) l.device.interfaces
+Settles live l l' = l'.device.interfaces ≡ settled_interfaces (secure_with l'.device.port live) l.device.interfaces
 
 -- on a stream of a link: the interfaces of its device settle
-pub record OperatesOnLink (old : EndsView) (i : ℕ) (k : KeeperView) (op : Op) (loss : Option Loss) (outcome : Outcome)
+pub record OperatesOnLink (old : EndsView) (i : ℕ) (k : KeeperView) (op : NamedOperation) (loss : Option Loss)
+    (outcome : StreamOutcome)
     (new : EndsView) (k' : KeeperView) (l : LinkEnds) : Type 0 where
   pub ends : LinkEnds
   pub new_is : new ≡ record old { links = slice_set old.links i ends }
   pub operates : Operates k l op loss outcome k' ends
   pub calls : HasCalls l ends
-  pub settles : Settles (live_on old i) l ends
+  pub settles : Settles (peer_live old i) l ends
 
 -- of the segment of a hop towards the host
-pub record OperatesOnNear (old : EndsView) (i : ℕ) (k : KeeperView) (op : Op) (loss : Option Loss) (outcome : Outcome)
+pub record OperatesOnNear (old : EndsView) (i : ℕ) (k : KeeperView) (op : NamedOperation) (loss : Option Loss)
+    (outcome : StreamOutcome)
     (new : EndsView) (k' : KeeperView) (l : LinkEnds) : Type 0 where
   pub ends : LinkEnds
   pub new_is : new ≡ record old { near = slice_set old.near i ends }
@@ -179,14 +182,16 @@ pub record OperatesOnNear (old : EndsView) (i : ℕ) (k : KeeperView) (op : Op) 
   pub calls : SameCalls l ends
 
 -- of a line that is keyed by messages at both ends: the interfaces of both devices settle, if it joins two
-pub record OperatesOnPair (old : EndsView) (i : ℕ) (k : KeeperView) (op : Op) (loss : Option Loss) (outcome : Outcome)
+pub record OperatesOnPair (old : EndsView) (i : ℕ) (k : KeeperView) (op : NamedOperation) (loss : Option Loss)
+    (outcome : StreamOutcome)
     (new : EndsView) (k' : KeeperView) (l : PairEnds) : Type 0 where
   pub ends : PairEnds
   pub new_is : new ≡ settled_place (Pair i) (record old { pairs = slice_set old.pairs i ends })
   pub operates : PairOperates k l op loss outcome k' ends
   pub calls : HasPairCalls l ends
 
-abbrev pub OperatesIn : EndsView → LinePlace → KeeperView → Op → Option Loss → Outcome → EndsView → KeeperView → Type 0
+abbrev pub OperatesIn : EndsView → LinePlace → KeeperView → NamedOperation → Option Loss → StreamOutcome → EndsView
+    → KeeperView → Type 0
 OperatesIn old (Link i) k op loss outcome new k' =
     (l : LinkEnds) → slice_get old.links i ≡ Some l → OperatesOnLink old i k op loss outcome new k' l
 OperatesIn old (Near i) k op loss outcome new k' =
@@ -194,32 +199,34 @@ OperatesIn old (Near i) k op loss outcome new k' =
 OperatesIn old (Pair i) k op loss outcome new k' =
     (l : PairEnds) → slice_get old.pairs i ≡ Some l → OperatesOnPair old i k op loss outcome new k' l
 
-abbrev pub OperatesAt : EndsView → ℕ → KeeperView → Op → Option Loss → Outcome → EndsView → KeeperView → Type 0
+abbrev pub OperatesAt : EndsView → ℕ → KeeperView → NamedOperation → Option Loss → StreamOutcome → EndsView → KeeperView
+    → Type 0
 OperatesAt old line k op loss outcome new k' = OperatesIn old (line_place line) k op loss outcome new k'
 
 -- what it tells the manager of interfaces, by the line
-abbrev pub told_in : LinePlace → Op → Bool → Bool → ℕ → Outcome → InterfacesView → InterfacesView
-told_in (Link i) op begins drew draw outcome m = told op begins drew draw outcome m
-told_in (Near i) op begins drew draw outcome m = m
-told_in (Pair i) op begins drew draw outcome m = pair_told op m
+abbrev pub told_by_place : LinePlace → NamedOperation → Bool → Bool → ℕ → StreamOutcome → InterfacesView
+    → InterfacesView
+told_by_place (Link i) op begins drew draw outcome m = told op begins drew draw outcome m
+told_by_place (Near i) op begins drew draw outcome m = m
+told_by_place (Pair i) op begins drew draw outcome m = pair_told op m
 
-abbrev pub told_at : ℕ → Op → Bool → Bool → ℕ → Outcome → InterfacesView → InterfacesView
-told_at line op begins drew draw outcome m = told_in (line_place line) op begins drew draw outcome m
+abbrev pub told_by_line : ℕ → NamedOperation → Bool → Bool → ℕ → StreamOutcome → InterfacesView → InterfacesView
+told_by_line line op begins drew draw outcome m = told_by_place (line_place line) op begins drew draw outcome m
 
 -- the draws of the streams between devices after it
-abbrev pub drawn_in : LinePlace → Op → Bool → ℕ → List ℕ → List ℕ
+abbrev pub drawn_in : LinePlace → NamedOperation → Bool → ℕ → List ℕ → List ℕ
 drawn_in (Link i) op drew draw draws = draws
 drawn_in (Near i) op drew draw draws = draws
 drawn_in (Pair i) op drew draw draws = peer_drawn op drew draw draws
 
-abbrev pub drawn_at : ℕ → Op → Bool → ℕ → List ℕ → List ℕ
+abbrev pub drawn_at : ℕ → NamedOperation → Bool → ℕ → List ℕ → List ℕ
 drawn_at line op drew draw draws = drawn_in (line_place line) op drew draw draws
 
 -- ---- operations on interfaces
 
 -- an operation on an interface of the manager's, at this number, while the device says this of its streams to others:
 -- only the interface and the device's change
-pub record Asks (k : HostKeeper) (interface : ℕ) (o : InterfaceOp) (loss : Option Loss) (live : ℕ → Option ℕ)
+pub record Asks (k : HostKeeper) (interface : ℕ) (o : InterfaceOperation) (loss : Option Loss) (live : ℕ → Option ℕ)
     (result : Ended → Type 0) (k' : HostKeeper) (l l' : LinkEnds) : Type 0 where
   pub ends : l' ≡ record l { device = record l.device { interfaces = l'.device.interfaces } }
   pub keys : k'.keys ≡ k.keys
@@ -233,11 +240,11 @@ pub record IsEnded (outcome : Outcome') (m : InterfacesView) (d : DeviceTdis) (e
   pub manager_is : m ≡ e.manager
   pub device_is : d ≡ e.device
 
-abbrev pub AsksAt : EndsView → ℕ → HostKeeper → ℕ → InterfaceOp → Option Loss → Outcome' → EndsView → HostKeeper
+abbrev pub AsksAt : EndsView → ℕ → HostKeeper → ℕ → InterfaceOperation → Option Loss → Outcome' → EndsView → HostKeeper
     → Type 0
 AsksAt old link k interface o loss outcome new k' =
     Changes old link new
-    (λ l l'. Asks k interface o loss (live_on old link) (IsEnded outcome k'.interfaces l'.device.interfaces) k' l l')
+    (λ l l'. Asks k interface o loss (peer_live old link) (IsEnded outcome k'.interfaces l'.device.interfaces) k' l l')
 
 -- there is such a link, and its device has such an interface
 pub record IsThere (v : EndsView) (link place : ℕ) : Type 0 where
@@ -267,4 +274,5 @@ both_of near far = None
 
 -- of a stream at both ends of a line
 abbrev pub statuses_of : EndsView → ℕ → ℕ → Option (StreamStatus × StreamStatus)
-statuses_of v line stream = both_of (status_on v (host_port line) stream) (status_on v (device_port line) stream)
+statuses_of v line stream = both_of (end_stream_status v (host_port line) stream)
+    (end_stream_status v (device_port line) stream)

@@ -10,18 +10,18 @@ use Rattle.ide_types.specs.declared.port.PortName.{PortName}
 use Rattle.ide_types.specs.declared.status.StreamStatus.{StreamStatus}
 use Rattle.ide_types.specs.declared.sub.SubKind.TheVariants.{Pr}
 use Rattle.ide_types.specs.Lines.{peer_line}
-use Rattle.ide_plan.specs.Ends.{peer_link}
-use Rattle.ide_plan.specs.declared.plan.LinkPlan.{LinkPlan}
-use Rattle.ide_plan.specs.declared.plan.PeerPlan.{PeerPlan}
-use Rattle.ide_plan.specs.declared.plan.Plan.{Plan}
-use Rattle.ide_plan.specs.declared.stream.StreamPlan.{StreamPlan}
-use Rattle.interface_states.specs.Peers.{live_by}
+use Rattle.ide_types.specs.Ends.{peer_link}
+use Rattle.ide_types.specs.declared.plan.LinkPlan.{LinkPlan}
+use Rattle.ide_types.specs.declared.plan.PeerPlan.{PeerPlan}
+use Rattle.ide_types.specs.declared.plan.Plan.{Plan}
+use Rattle.ide_types.specs.declared.stream.StreamPlan.{StreamPlan}
+use Rattle.spec_interfaces.specs.Peers.{live_by_id}
 use Rattle.arrival_verdicts.specs.{lone_stream, hop_streams, in_eight, hop_by_link, behind_near}
-use Rattle.ide_port.specs.{PortEnd, Trusting, status_in, receiving_draw_in, reset_port}
-use Rattle.device_side.specs.Ends.{says_secure, settled_device, peer_trusting}
-use Rattle.tdi_device.specs.Replies.{DeviceTdis, reset_tdis}
-use Rattle.line_ends.specs.declared.pair.PairEnds.{PairEnds}
-use Rattle.line_ends.specs.Ends.{new_pair, end_in, with_end, reset_pair}
+use Rattle.ide_port.specs.{PortEnd, Trusting, port_stream_status, receiving_draw_in, reset_port}
+use Rattle.link_ends.specs.DeviceEnds.{says_secure, settled_device, peer_trusting}
+use Rattle.interface_device.specs.Replies.{DeviceTdis, reset_tdis}
+use Rattle.link_ends.specs.declared.pair.PairEnds.{PairEnds}
+use Rattle.link_ends.specs.LineEnds.{new_pair, end_in, with_end, reset_pair}
 use Rattle.link_ends.specs.declared.ends.LinkEnds.{LinkEnds}
 use Rattle.link_ends.specs.Ends.{new_ends, port_in, with_port, trusting_at}
 use Rattle.all_ends.specs.Requester.{requester_of}
@@ -59,7 +59,7 @@ abbrev pub hop_row : LinkPlan → List StreamPlan
 hop_row l = hop_streams l.hop
 
 abbrev pub peer_row : PeerPlan → List StreamPlan
-peer_row p = lone_stream p.id p.mode ∷ []
+peer_row p = lone_stream p.id p.aggregation ∷ []
 
 -- no stream has keys
 abbrev pub new_all_ends : Plan → EndsView
@@ -86,7 +86,7 @@ port_at_place v side (Pair i) = option_map (λ l. pair_port side l) (slice_get v
 
 -- what stands at an end
 abbrev pub port_on : EndsView → PortName → Option PortEnd
-port_on v end = port_at_place v end.side (line_place end.link)
+port_on v end = port_at_place v end.side (line_place end.line)
 
 -- one item changed, if it is there
 abbrev pub changed_at : {A : Type 0} → List A → ℕ → (A → A) → List A
@@ -104,30 +104,30 @@ with_port_at v side (Pair i) e = record v { pairs = changed_at v.pairs i (with_p
 
 -- with something else at an end
 abbrev pub with_port_on : EndsView → PortName → PortEnd → EndsView
-with_port_on v end e = with_port_at v end.side (line_place end.link) e
+with_port_on v end e = with_port_at v end.side (line_place end.line) e
 
 -- ---- what is read at an end
 
-abbrev pub status_on : EndsView → PortName → ℕ → Option StreamStatus
-status_on v end stream = option_and_then (λ e. status_in e stream) (port_on v end)
+abbrev pub end_stream_status : EndsView → PortName → ℕ → Option StreamStatus
+end_stream_status v end stream = option_and_then (λ e. port_stream_status e stream) (port_on v end)
 
 -- the draw that is Live where a port receives posted requests on a stream, if the stream is Secure there
 abbrev pub live_at_port : PortEnd → ℕ → Option ℕ
 live_at_port e stream =
-    if says_secure (status_in e stream) then Some (unwrap_or (receiving_draw_in e stream Pr) 0) else None
+    if says_secure (port_stream_status e stream) then Some (unwrap_or (receiving_draw_in e stream Pr) 0) else None
 
 -- of the end of a line that is keyed by messages at both
 abbrev pub live_of : List PairEnds → PortName → ℕ → Option ℕ
 live_of pairs end stream =
-    option_and_then (λ l. live_at_port (pair_port end.side l) stream) (slice_get pairs (end.link - 16))
+    option_and_then (λ l. live_at_port (pair_port end.side l) stream) (slice_get pairs (end.line - 16))
 
 -- the end of a side of the stream between devices of this number
 abbrev pub end_named : Side × ℕ → PortName
-end_named x = record { side = x.0; link = peer_line x.1 }
+end_named x = record { side = x.0; line = peer_line x.1 }
 
 -- what a link's device says of the streams between it and others
-abbrev pub live_on : EndsView → ℕ → ℕ → Option ℕ
-live_on v link stream = live_by (live_of v.pairs) v.peers link stream
+abbrev pub peer_live : EndsView → ℕ → ℕ → Option ℕ
+peer_live v link stream = live_by_id (live_of v.pairs) v.peers link stream
 
 -- ---- T
 
@@ -166,7 +166,7 @@ trust_at_place v side (Pair i) trusted = pair_trust v side i trusted
 -- T of what is sent at an end: at a host's port and at a switch as it is asked; at a device's port by the interfaces'
 -- own stream, at its ends of streams to others by what they are bound to; of a hop's segment no device sets T
 abbrev pub trusting_on : EndsView → PortName → Bool → Trusting
-trusting_on v end trusted = trust_at_place v end.side (line_place end.link) trusted
+trusting_on v end trusted = trust_at_place v end.side (line_place end.line) trusted
 
 -- ---- devices' interfaces settle
 
@@ -175,15 +175,15 @@ settled_ends live l = record l { device = settled_device live l.device }
 
 -- the interfaces of a link's device that are bound to a stream that is not Secure there leave their lock
 abbrev pub settled_link : EndsView → ℕ → EndsView
-settled_link v link = record v { links = changed_at v.links link (settled_ends (live_on v link)) }
+settled_link v link = record v { links = changed_at v.links link (settled_ends (peer_live v link)) }
 
 -- those of the links below this number
-abbrev pub settled_below : ℕ → EndsView → EndsView
-settled_below zero v = v
-settled_below (suc n) v = settled_link (settled_below n v) n
+abbrev pub settled_first_links : ℕ → EndsView → EndsView
+settled_first_links zero v = v
+settled_first_links (suc n) v = settled_link (settled_first_links n v) n
 
 abbrev pub settled_all : EndsView → EndsView
-settled_all v = settled_below (length v.links) v
+settled_all v = settled_first_links (length v.links) v
 
 -- those of both devices of a stream between them
 abbrev pub settled_peer : Option PeerPlan → EndsView → EndsView
@@ -215,7 +215,7 @@ cleared_place side (Pair i) v = record v { pairs = changed_at v.pairs i (cleared
 
 -- of a stream between devices one end, of any other line both
 abbrev pub cleared_on : EndsView → PortName → EndsView
-cleared_on v end = cleared_place end.side (line_place end.link) v
+cleared_on v end = cleared_place end.side (line_place end.line) v
 
 abbrev pub all_cleared : EndsView → List PortName → EndsView
 all_cleared v [] = v

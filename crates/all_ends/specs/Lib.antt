@@ -3,20 +3,28 @@ pub mod Ends
 pub mod Places
 pub mod AllEnds
 pub mod States
+pub mod Cuts
+pub mod Packets
+-- what clauses and crates above cite
 pub use Rattle.link_ends.specs.{IsJoined, KeysKept, OperationsJoin, host_of, pool_by, verdict_due, StreamEnds}
 pub use Rattle.link_ends.specs.{WalkedEnds, begun_ends, event_walk, walk_on, draws_by, touched_by}
-pub use Rattle.link_ends.specs.Ends.{port_in, with_port, new_ends, reset_ends}
+pub use Rattle.link_ends.specs.Ends.{port_in, with_port, new_ends, reset_link_ends}
 pub use Rattle.link_ends.specs.Hosts.{InterfacesView, operated_on, keyed_if, live_for, status_for}
 pub use Rattle.link_ends.specs.Hosts.{stopped_if, told}
 pub use Rattle.link_ends.specs.Keepers.{IsAtBothEnds, IsOperated, IsWalked, KeeperView, Operates, ends_found, HasStream}
 pub use Rattle.link_ends.specs.declared.ends.LinkEnds.{LinkEnds}
-pub use Rattle.line_ends.specs.declared.pair.PairEnds.{PairEnds}
-pub use Rattle.all_ends.specs.Ends.{EndsView, port_on, with_port_on, live_on, trusting_on, new_all_ends}
+pub use Rattle.link_ends.specs.declared.pair.PairEnds.{PairEnds}
+pub use Rattle.all_ends.specs.Ends.{EndsView, port_on, with_port_on, peer_live, trusting_on, new_all_ends}
 pub use Rattle.arrival_verdicts.specs.{waiting_reads_after, unit_in, arrival_verdict, grants_in, of_unit, switched_each}
 pub use Rattle.arrival_verdicts.specs.{unit_waits, writes_by, unit_tlps, live_in, arrival_of}
 pub use Rattle.arrival_verdicts.specs.Verdicts.{effects_from, end_sent_verdict, packet_write, unit_writes}
 pub use Rattle.arrival_verdicts.specs.Verdicts.{packet_effect}
-pub use Rattle.device_side.specs.Ends.{says_secure, secure_with}
+pub use Rattle.link_ends.specs.DeviceEnds.{says_secure, secure_with}
 pub use Rattle.link_ends.specs.PairKeepers.{IsAtBoth, IsPairOperated, IsPairWalked, PairOperates, pair_found}
 pub use Rattle.link_ends.specs.declared.host.HostKeeper.{HostKeeper}
-pub use Rattle.sealed_packets.specs.Cuts.{cut_packets}
+pub use Rattle.all_ends.specs.Cuts.{cut_packets}
+pub use Rattle.machine_ports.specs.Machine.{BesidePorts, LinkPacket, LinkState, Stepped, changed_by_id}
+pub use Rattle.machine_ports.specs.Machine.{found_by_id, kept_packet, port_at, port_place, reset_state, machine_status}
+pub use Rattle.machine_ports.specs.Machine.{stepped_answer}
+pub use Rattle.machine_ports.specs.Stands.{PortsStandFor, op_at, standing}
+unfoldable pub use Rattle.machine_ports.specs.Machine.{find, find_op, put}

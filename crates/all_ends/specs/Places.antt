@@ -3,7 +3,7 @@ use Rattle.std.specs.Prelude.{ℕ, ◌+◌, ◌-◌, nat_lt, nat_le, if◌then�
 use Rattle.std.specs.Prelude.{is_some, ◌&&◌}
 use Rattle.ide_types.specs.Ports.{host_port}
 use Rattle.tsm_host.specs.Managers.{ManagerView, named}
-use Rattle.tdi_state.specs.Machine.{Tdi, Call, tdi_after, state_code}
+use Rattle.interface_state.specs.Machine.{Tdi, Call, tdi_after, state_code}
 use Rattle.link_ends.specs.declared.ends.LinkEnds.{LinkEnds}
 use Rattle.all_ends.specs.Ends.{EndsView, port_on}
 
@@ -14,11 +14,11 @@ stream_named m v line stream =
     then Some (line, stream) else None
 
 -- the link and the place on it, of the links from this number on
-abbrev pub located : ℕ → ℕ → List LinkEnds → Option (ℕ × ℕ)
-located link n [] = None
-located link n (l ∷ ls) =
+abbrev pub place_on_links : ℕ → ℕ → List LinkEnds → Option (ℕ × ℕ)
+place_on_links link n [] = None
+place_on_links link n (l ∷ ls) =
     if nat_lt n (length l.device.interfaces.interfaces) then Some (link, n)
-    else located (link + 1) (n - length l.device.interfaces.interfaces) ls
+    else place_on_links (link + 1) (n - length l.device.interfaces.interfaces) ls
 
 -- the state after a call
 abbrev pub code_behind : Tdi → Call → ℕ

@@ -4,17 +4,17 @@ use Rattle.std.specs.Prelude.{slice_get, Bool, true, false}
 use Rattle.ide_types.specs.declared.port.PortName.{PortName}
 use Rattle.ide_types.specs.declared.port.Side.TheVariants.{Host, Device}
 use Rattle.ide_types.specs.Lines.{is_hosted}
-use Rattle.ide_plan.specs.declared.plan.Plan.{Plan}
-use Rattle.ide_plan.specs.declared.stream.StreamPlan.{StreamPlan}
-use Rattle.ide_plan.specs.Fits.{FitsPlan}
-use Rattle.stream_rules.specs.Stream.{StreamState}
-use Rattle.key_laws.specs.Operations.{Op}
+use Rattle.ide_types.specs.declared.plan.Plan.{Plan}
+use Rattle.ide_types.specs.declared.stream.StreamPlan.{StreamPlan}
+use Rattle.ide_types.specs.Fits.{FitsPlan}
+use Rattle.spec_stream.specs.Stream.{StreamState}
+use Rattle.spec_keys.specs.Operations.{StreamStage}
 use Rattle.arrival_verdicts.specs.{streams_by_line, streams_of}
-use Rattle.sealed_packets.specs.{LinkState, LinkPacket, port_at}
+use Rattle.machine_ports.specs.Machine.{LinkState, LinkPacket, port_at}
 use Rattle.tsm_host.specs.Streams.{StreamView}
 use Rattle.link_ends.specs.{KeysKept, PairKeysKeptIn}
 use Rattle.ide_port.specs.{PortEnd}
-use Rattle.line_ends.specs.declared.pair.PairEnds.{PairEnds}
+use Rattle.link_ends.specs.declared.pair.PairEnds.{PairEnds}
 use Rattle.link_ends.specs.declared.ends.LinkEnds.{LinkEnds}
 use Rattle.link_ends.specs.Keepers.{KeeperView}
 use Rattle.all_ends.specs.Ends.{EndsView, port_on}
@@ -40,7 +40,7 @@ abbrev pub rows_of : EndsView → List (List StreamState)
 rows_of v = in_sixteen (ports_in v.links) ++ ports_in v.near ++ pair_ports v.pairs
 
 -- The manager keeps the streams of all lines in one list, line by line.
-abbrev pub ops_of : List StreamPlan → List StreamView → List Op
+abbrev pub ops_of : List StreamPlan → List StreamView → List StreamStage
 ops_of [] vs = []
 ops_of (s ∷ ss) [] = []
 ops_of (s ∷ ss) (v ∷ vs) = v.op ∷ ops_of ss vs
@@ -51,7 +51,7 @@ views_after (s ∷ ss) [] = []
 views_after (s ∷ ss) (v ∷ vs) = views_after ss vs
 
 -- of each line the operations on its streams
-abbrev pub ops_in : List (List StreamPlan) → List StreamView → List (List Op)
+abbrev pub ops_in : List (List StreamPlan) → List StreamView → List (List StreamStage)
 ops_in [] vs = []
 ops_in (ss ∷ lines) vs = ops_of ss vs ∷ ops_in lines (views_after ss vs)
 
@@ -74,7 +74,7 @@ pub record IsBounded (v : EndsView) (packets : List LinkPacket) (steps : ℕ) : 
 -- what stands at an end of the plan
 pub record IsPort (plan : Plan) (end : PortName) (e : PortEnd) : Type 0 where
   pub name : e.name ≡ end
-  pub plans : e.plans ≡ streams_of plan end.link
+  pub plans : e.plans ≡ streams_of plan end.line
   pub limit : e.limit ≡ plan.units_per_key
 
 -- the ends of a line that is keyed at a host
@@ -91,7 +91,7 @@ pub record IsPair (plan : Plan) (line : ℕ) (l : PairEnds) : Type 0 where
   pub far : IsPort plan (port_at Device line) l.far.port
 
 abbrev pub name_of : StreamView → ℕ × ℕ
-name_of v = (v.link, v.id)
+name_of v = (v.line, v.id)
 
 abbrev pub names_of : ℕ → List StreamPlan → List (ℕ × ℕ)
 names_of line ss = map (λ (s : StreamPlan). (line, s.id)) ss
@@ -107,7 +107,7 @@ KeptBy true plan v = KeysKept plan v
 KeptBy false plan v = PairKeysKeptIn plan v.op v.keys
 
 abbrev pub StreamKept : Plan → StreamView → Type 0
-StreamKept plan v = KeptBy (is_hosted v.link) plan v
+StreamKept plan v = KeptBy (is_hosted v.line) plan v
 
 -- the ends of the plan's lines, its streams with the keys of unfinished operations, and its pool
 pub record AreLinks (plan : Plan) (v : EndsView) (k : KeeperView) : Type 0 where

@@ -8,38 +8,36 @@ ghost use Rattle.ide_port.specs.{PortEnd, take_step};
 ghost use Rattle.arrival_verdicts.specs.Verdicts.{grants_in};
 ghost use Rattle.tsm_host.specs.Operations.{op_name};
 ghost use Rattle.tsm_host.specs.Managers.{named};
-ghost use Rattle.key_laws.specs.Operations.{work_of};
-ghost use Rattle.interface_states.specs.Peers.{has_peer};
-ghost use Rattle.all_ends.specs.Places.{located};
+ghost use Rattle.spec_keys.specs.Operations.{work_of};
+ghost use Rattle.spec_interfaces.specs.Peers.{has_peer};
+ghost use Rattle.all_ends.specs.Places.{place_on_links};
 ghost use Rattle.all_ends.specs.Ends.{pair_port, with_pair_port, changed_at, cleared_ends, cleared_pair, settled_ends};
-ghost use Rattle.all_ends.specs.Ends.{unlocked_ends, line_place, live_on};
+ghost use Rattle.all_ends.specs.Ends.{unlocked_ends, line_place, peer_live};
 ghost use Rattle.all_ends.specs.declared.places.LinePlace.TheVariants.{Pair};
-ghost use Rattle.interface_words.specs.RegisterNames.{has_register, width_of};
-ghost use Rattle.tdi_state.specs.Machine.{WriteRegister, LevelReset, FirmwareUpdate, state_code};
+ghost use Rattle.ide_types.specs.RegisterNames.{has_register, width_of};
+ghost use Rattle.interface_state.specs.Machine.{WriteRegister, LevelReset, FirmwareUpdate, state_code};
 
 use crate::making::{add_peer_rows, hop_rows, link_ends, near_ends, pair_ends};
 use crate::peers::{DevicePeers, has_peer};
 use crate::places::{LinePlace, line_place};
 use crate::sending::{bound_on, send_between, send_far, send_near};
-use accesses::{Accesses, LinkAccesses};
 use arrival_verdicts::{ReceivingPort, switch_verdict, taken_verdict};
-use device_side::PeerStreams;
 use hop_queues::HopQueues;
-use ide_plan::{BarPlan, PeerPlan};
 use ide_port::{Arrival, Port, Sent};
-use ide_types::{Direction, Memory, PortName, Side, StreamStatus, SubKind};
-use interface_words::Register;
-use line_ends::PairEnds;
-use link_ends::{HostKeeper, LinkEnds};
+use ide_types::{
+    BarPlan, Direction, OutOfMemory, PeerPlan, PortName, Register, Side, StreamStatus, SubKind,
+    ValidPlan,
+};
+use interface_ends::InterfaceKeeper;
+use interface_host::InterfaceOperation;
+use link_ends::{HostKeeper, LinkEnds, PairEnds, PeerStreams};
 use link_events::Loss;
+use link_stores::{Accesses, LinkAccesses};
 use link_verdicts::Verdict;
 use std::alloc::Global;
 use std::marker::Model;
-use tdi_ends::InterfaceKeeper;
-use tdi_host::InterfaceOp;
 use trusted_memory::Trusted;
-use tsm_host::{Op, Outcome};
-use valid_plan::ValidPlan;
+use tsm_host::{NamedOperation, StreamOutcome};
 
 /// How many lines of hops come before those of streams between devices, among those that are keyed by messages at both
 /// ends.
@@ -69,37 +67,14 @@ impl Model for AllEnds {
 }
 
 impl AllEnds {
-    ghost use Rattle.all_ends.specs.Ends.{
-      new_all_ends,
-      port_on,
-      settled_link,
-      settled_below,
-      cleared_on,
-      all_cleared,
-      unlocked_link,
-      settled_place,
-    };
-    ghost use Rattle.all_ends.specs.AllEnds.{
-      CallsBelow,
-      SendsAt,
-      TakesAt,
-      ComesAt,
-      ArrivesAt,
-      Leaves,
-      WaitsAt,
-      OperatesAt,
-      told_at,
-      drawn_at,
-      AsksAt,
-      CallsAt,
-      IsThere,
-      ResetsAt,
-      settled_at,
-      statuses_of,
-    };
+    ghost use Rattle.all_ends.specs.Ends.{new_all_ends, port_on, settled_link, settled_first_links, cleared_on};
+    ghost use Rattle.all_ends.specs.Ends.{all_cleared, unlocked_link, settled_place};
+    ghost use Rattle.all_ends.specs.AllEnds.{CallsBelow, SendsAt, TakesAt, ComesAt, ArrivesAt, Leaves, WaitsAt};
+    ghost use Rattle.all_ends.specs.AllEnds.{OperatesAt, told_by_line, drawn_at, AsksAt, CallsAt, IsThere, ResetsAt};
+    ghost use Rattle.all_ends.specs.AllEnds.{settled_by_side, statuses_of};
 
-    /// The ends of the plan's lines, without keys. Returns `Memory` for want of memory.
-    pub fn make(alloc: Global, plan: &ValidPlan) -> Result<AllEnds, Memory>
+    /// The ends of the plan's lines, without keys. Returns `OutOfMemory` for want of memory.
+    pub fn make(alloc: Global, plan: &ValidPlan) -> Result<AllEnds, OutOfMemory>
         ensures { IfOk result (λ a. a ≡ new_all_ends plan.now) }
     {
         let plan = plan.plan();
@@ -139,7 +114,7 @@ impl AllEnds {
     pub fn port(&self, end: PortName) -> Option<&Port>
         ensures { option_map (λ e. e.now) result ≡ port_on self.now end }
     {
-        match line_place(end.link) {
+        match line_place(end.line) {
             LinePlace::Link(i) => Some(self.links.get(i)?.port(end.side)),
             LinePlace::Near(i) => Some(self.near.get(i)?.port(end.side)),
             LinePlace::Pair(i) => Some(&self.pairs.get(i)?.end(end.side).port),
@@ -156,7 +131,7 @@ impl AllEnds {
     /// The draw that is Live where the link's device receives posted requests on the stream between devices that has
     /// this ID, if that stream is Secure there; `None` also if there is none.
     pub fn live(&self, link: u8, stream: u8) -> Option<u32>
-        ensures { result ≡ live_on self.now link stream }
+        ensures { result ≡ peer_live self.now link stream }
     {
         let peers = DevicePeers {
             pairs: &self.pairs,
@@ -175,7 +150,7 @@ impl AllEnds {
 
     // Sends at an end of a line that is keyed by messages at both and is kept at this place.
     fn send_pair(&mut self, end: PortName, i: usize, tlp: &[u8], more: bool, trusted: bool) -> Sent
-        requires place { Pair i ≡ line_place end.link }
+        requires place { Pair i ≡ line_place end.line }
         requires here { IsSome (port_on self.old end) }
         requires few { CallsBelow (2 ^ 40) self.old }
         ensures { SendsAt self.old end tlp.now more trusted result self.new }
@@ -196,7 +171,7 @@ impl AllEnds {
         requires few { CallsBelow (2 ^ 40) self.old }
         ensures { SendsAt self.old end tlp.now more trusted result self.new }
     {
-        match line_place(end.link) {
+        match line_place(end.line) {
             LinePlace::Link(i) => self.links[i].send(end.side, tlp, more, trusted),
             LinePlace::Near(i) => send_near(&mut self.near[i], end.side, tlp, more, trusted),
             LinePlace::Pair(i) => self.send_pair(end, i, tlp, more, trusted),
@@ -220,7 +195,7 @@ impl AllEnds {
         requires few { CallsBelow (2 ^ 40) self.old }
         ensures { TakesAt self.old end bytes.now result self.new }
     {
-        match line_place(end.link) {
+        match line_place(end.line) {
             LinePlace::Link(i) => self.links[i].take(end.side, bytes),
             LinePlace::Near(i) => self.near[i].take(end.side, bytes),
             LinePlace::Pair(i) => take_pair(&mut self.pairs[i], end.side, bytes),
@@ -241,11 +216,11 @@ impl AllEnds {
 
     // So at a device's port.
     fn settle_at(&mut self, port: PortName)
-        ensures { self.new ≡ settled_at port self.old }
+        ensures { self.new ≡ settled_by_side port self.old }
     {
         match port.side {
             Side::Host => {}
-            Side::Device => self.settle_link(port.link as usize),
+            Side::Device => self.settle_link(port.line as usize),
         }
     }
 
@@ -265,7 +240,7 @@ impl AllEnds {
 
     // So at the devices of so many links.
     fn settle_below(&mut self, count: usize)
-        ensures { self.new ≡ settled_below count self.old }
+        ensures { self.new ≡ settled_first_links count self.old }
     {
         if count > 0 {
             self.settle_below(count - 1);
@@ -285,7 +260,7 @@ impl AllEnds {
         access: &mut LinkAccesses,
     ) -> Verdict
         requires here { IsSome (port_on self.now end) }
-        requires link { port.link < length self.now.links }
+        requires link { port.line < length self.now.links }
         requires spare { 8 ≤ memory.old.spare }
         requires pages { 16 ≤ access.old.guarded.spare }
         ensures comes { ComesAt self.now memory.old.contents.regions (grants_in keeper.now) end port arrival result
@@ -296,7 +271,7 @@ impl AllEnds {
             end,
             port,
             keeper,
-            interfaces: &self.links[port.link as usize].device.interfaces,
+            interfaces: &self.links[port.line as usize].device.interfaces,
         };
         let packets = self.port(end).unwrap().delivered();
         taken_verdict(&at, arrival, &packets, memory, access)
@@ -315,11 +290,11 @@ impl AllEnds {
         memory: &mut Trusted,
         accesses: &mut Accesses,
     ) -> Verdict
-        requires link { port.link < length self.old.links }
+        requires link { port.line < length self.old.links }
         requires few { CallsBelow (2 ^ 40) self.old }
         requires spare { 8 ≤ memory.old.spare }
-        requires access { port.link < length accesses.old }
-        requires pages { IfSome (slice_get accesses.old port.link) (λ a. 16 ≤ a.guarded.spare) }
+        requires access { port.line < length accesses.old }
+        requires pages { IfSome (slice_get accesses.old port.line) (λ a. 16 ≤ a.guarded.spare) }
         ensures arrives { ArrivesAt self.old accesses.old memory.old.contents.regions (grants_in keeper.now) end port
             bytes.now result memory.old.contents memory.new.contents self.new accesses.new }
         ensures absent { is_some (port_on self.old end) ≡ false → Leaves result self.old memory.old.contents
@@ -329,7 +304,7 @@ impl AllEnds {
         if !self.has_end(end) {
             return Verdict::Nothing;
         }
-        let access = accesses.at_mut(port.link);
+        let access = accesses.at_mut(port.line);
         let arrival = self.take(end, bytes);
         let verdict = self.arrived(end, port, arrival, keeper, memory, access);
         self.settle_at(port);
@@ -360,11 +335,11 @@ impl AllEnds {
     {
         let near = PortName {
             side: Side::Host,
-            link: line,
+            line,
         };
         let far = PortName {
             side: Side::Device,
-            link: line,
+            line,
         };
         let near = self.port(near)?.status(stream)?;
         let far = self.port(far)?.status(stream)?;
@@ -400,17 +375,17 @@ impl AllEnds {
         &mut self,
         line: u8,
         keeper: &mut HostKeeper,
-        op: Op,
+        op: NamedOperation,
         loss: Option<Loss>,
-    ) -> Outcome
+    ) -> StreamOutcome
         requires here { IsSome (port_on self.old (host_port line)) }
-        requires stream { IsSome (named keeper.old.keys.manager (op_name op).link (op_name op).stream) }
+        requires stream { IsSome (named keeper.old.keys.manager (op_name op).line (op_name op).stream) }
         ensures operates { OperatesAt self.old line keeper.old.keys op loss result self.new keeper.new.keys }
-        ensures interfaces { IfSome (named keeper.old.keys.manager (op_name op).link (op_name op).stream) (λ n.
+        ensures interfaces { IfSome (named keeper.old.keys.manager (op_name op).line (op_name op).stream) (λ n.
             let begins = (work_of (op_name op).operation n.stream.op 0).begins in
             let draw = keeper.old.keys.pool.draws in
             let drew = not (keeper.new.keys.pool.draws == draw) in
-            keeper.new.interfaces ≡ told_at line op begins drew draw result keeper.old.interfaces) }
+            keeper.new.interfaces ≡ told_by_line line op begins drew draw result keeper.old.interfaces) }
         ensures peer_draws { let draw = keeper.old.keys.pool.draws in
             let drew = not (keeper.new.keys.pool.draws == draw) in
             keeper.new.peer_draws ≡ drawn_at line op drew draw keeper.old.peer_draws }
@@ -437,7 +412,7 @@ impl AllEnds {
     /// fewer interfaces.
     pub fn interface(&self, number: u64) -> Option<(u8, usize)>
         requires { length self.now.links ≤ 8 }
-        ensures { result ≡ located 0 number self.now.links }
+        ensures { result ≡ place_on_links 0 number self.now.links }
     {
         let mut left = number;
         let mut link = 0;
@@ -459,9 +434,9 @@ impl AllEnds {
         link: u8,
         keeper: &mut HostKeeper,
         interface: usize,
-        op: InterfaceOp,
+        op: InterfaceOperation,
         loss: Option<Loss>,
-    ) -> tdi_host::Outcome
+    ) -> interface_host::InterfaceOutcome
         requires here { link < length self.old.links }
         requires interface { interface < length keeper.old.interfaces.interfaces }
         ensures { AsksAt self.old link keeper.old interface op loss result self.new keeper.new }
@@ -525,7 +500,7 @@ impl AllEnds {
     fn clear(&mut self, end: PortName)
         ensures { self.new ≡ cleared_on self.old end }
     {
-        match line_place(end.link) {
+        match line_place(end.line) {
             LinePlace::Link(i) => clear_hosted(&mut self.links, i),
             LinePlace::Near(i) => clear_hosted(&mut self.near, i),
             LinePlace::Pair(i) => clear_paired(&mut self.pairs, end.side, i),

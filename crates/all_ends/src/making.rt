@@ -1,15 +1,13 @@
 //! The ends of all lines of a plan, as they are made.
 
 ghost use Rattle.std.specs.Prelude.{◌≡◌, ◌+◌, ◌≤◌, ◌++◌, IfOk, All, length, map};
-ghost use Rattle.ide_plan.specs.Fits.{FitsLink, FitsStream};
+ghost use Rattle.ide_types.specs.Fits.{FitsLink, FitsStream};
 ghost use Rattle.arrival_verdicts.specs.{lone_stream, hop_streams, in_eight};
 ghost use Rattle.all_ends.specs.Requester.{requester_of};
 ghost use Rattle.all_ends.specs.Ends.{ends_from, near_from, pairs_from, hop_row, peer_row};
 
-use ide_plan::{HopPlan, LinkPlan, PeerPlan, Selector, StreamPlan};
-use ide_types::{Items, Memory};
-use line_ends::PairEnds;
-use link_ends::LinkEnds;
+use ide_types::{HopPlan, Items, LinkPlan, OutOfMemory, PeerPlan, Selector, StreamPlan};
+use link_ends::{LinkEnds, PairEnds};
 use std::alloc::Global;
 
 /// The most links of a plan.
@@ -32,7 +30,11 @@ fn requester(link: &LinkPlan) -> u16
 }
 
 /// The ends of links, without keys; a key seals at most `limit` units.
-pub fn link_ends(alloc: Global, links: &[LinkPlan], limit: u64) -> Result<Vec<LinkEnds>, Memory>
+pub fn link_ends(
+    alloc: Global,
+    links: &[LinkPlan],
+    limit: u64,
+) -> Result<Vec<LinkEnds>, OutOfMemory>
     requires fit { All FitsLink links.now }
     requires few { length links.now ≤ 8 }
     ensures { IfOk result (λ r. r.items ≡ ends_from limit 0 links.now) }
@@ -56,12 +58,12 @@ pub fn link_ends(alloc: Global, links: &[LinkPlan], limit: u64) -> Result<Vec<Li
 }
 
 // A stream that is alone on its line takes each TLP that is sent there.
-fn lone_stream(alloc: Global, id: u8, mode: u8) -> StreamPlan
-    ensures { result ≡ lone_stream id mode }
+fn lone_stream(alloc: Global, id: u8, aggregation: u8) -> StreamPlan
+    ensures { result ≡ lone_stream id aggregation }
 {
     StreamPlan {
         id,
-        mode,
+        aggregation,
         closed: false,
         selector: Selector::Selective {
             ids: None,
@@ -72,7 +74,7 @@ fn lone_stream(alloc: Global, id: u8, mode: u8) -> StreamPlan
 }
 
 // The streams of a segment of a hop, if there is one.
-fn hop_streams(alloc: Global, hop: &Option<HopPlan>) -> Result<Items<StreamPlan>, Memory>
+fn hop_streams(alloc: Global, hop: &Option<HopPlan>) -> Result<Items<StreamPlan>, OutOfMemory>
     ensures { IfOk result (λ r. r ≡ hop_streams hop.now) }
 {
     let mut streams = Vec::new(alloc);
@@ -84,7 +86,7 @@ fn hop_streams(alloc: Global, hop: &Option<HopPlan>) -> Result<Items<StreamPlan>
 
 // Rows without streams, up to that of the eighth link.
 #[tactic(auto, using(crate::proofs::Rows::fill_one, crate::proofs::Rows::fill_done))]
-fn fill(alloc: Global, rows: &mut Vec<Items<StreamPlan>>) -> Result<(), Memory>
+fn fill(alloc: Global, rows: &mut Vec<Items<StreamPlan>>) -> Result<(), OutOfMemory>
     requires { length rows.old.items ≤ 8 }
     ensures { IfOk result (λ _. rows.new.items ≡ in_eight rows.old.items) }
 {
@@ -95,7 +97,7 @@ fn fill(alloc: Global, rows: &mut Vec<Items<StreamPlan>>) -> Result<(), Memory>
 }
 
 /// The streams of one segment of each link's hop, for each of eight links.
-pub fn hop_rows(alloc: Global, links: &[LinkPlan]) -> Result<Vec<Items<StreamPlan>>, Memory>
+pub fn hop_rows(alloc: Global, links: &[LinkPlan]) -> Result<Vec<Items<StreamPlan>>, OutOfMemory>
     requires { length links.now ≤ 8 }
     ensures { IfOk result (λ r. r.items ≡ in_eight (map hop_row links.now)) }
 {
@@ -112,12 +114,12 @@ pub fn add_peer_rows(
     alloc: Global,
     rows: &mut Vec<Items<StreamPlan>>,
     peers: &[PeerPlan],
-) -> Result<(), Memory>
+) -> Result<(), OutOfMemory>
     ensures { IfOk result (λ _. rows.new.items ≡ rows.old.items ++ map peer_row peers.now) }
 {
     for peer in peers {
         let mut streams = Vec::new(alloc);
-        streams.push(lone_stream(alloc, peer.id, peer.mode))?;
+        streams.push(lone_stream(alloc, peer.id, peer.aggregation))?;
         rows.push(Items::new(streams))?;
     }
     Ok(())
@@ -128,7 +130,7 @@ pub fn near_ends(
     alloc: Global,
     rows: &[Items<StreamPlan>],
     limit: u64,
-) -> Result<Vec<LinkEnds>, Memory>
+) -> Result<Vec<LinkEnds>, OutOfMemory>
     requires fit { All (All FitsStream) rows.now }
     requires few { length rows.now ≤ 8 }
     ensures { IfOk result (λ r. r.items ≡ near_from limit 8 rows.now) }
@@ -150,7 +152,7 @@ pub fn pair_ends(
     alloc: Global,
     rows: &[Items<StreamPlan>],
     limit: u64,
-) -> Result<Vec<PairEnds>, Memory>
+) -> Result<Vec<PairEnds>, OutOfMemory>
     requires fit { All (All FitsStream) rows.now }
     requires few { length rows.now ≤ 16 }
     ensures { IfOk result (λ r. r.items ≡ pairs_from limit 16 rows.now) }

@@ -1,14 +1,12 @@
 //! What a device says of the streams between it and others.
 
 ghost use Rattle.std.specs.Prelude.{◌≡◌, ◌<◌, ◌^◌, IfSome, option_map};
-ghost use Rattle.interface_states.specs.Peers.{peer_end, has_peer, live_by};
+ghost use Rattle.spec_interfaces.specs.Peers.{peer_end, has_peer, live_by_id};
 ghost use Rattle.all_ends.specs.Ends.{live_at_port, live_of, end_named};
 
-use device_side::PeerStreams;
-use ide_plan::PeerPlan;
 use ide_port::Port;
-use ide_types::{Side, StreamStatus, SubKind};
-use line_ends::PairEnds;
+use ide_types::{PeerPlan, Side, StreamStatus, SubKind};
+use link_ends::{PairEnds, PeerStreams};
 
 /// The first line that is keyed by messages at both ends.
 const FIRST_PAIR_LINE: usize = 16;
@@ -25,7 +23,7 @@ pub struct DevicePeers<'a> {
 }
 
 // The end at a link's device of the first of these streams that has the ID and ends there, with its number.
-#[tactic(auto, unfolding(ide_plan::specs::Ends::peer_end))]
+#[tactic(auto, unfolding(ide_types::specs::Ends::peer_end))]
 fn peer_end(peers: &[PeerPlan], link: usize, stream: u64) -> Option<(Side, usize)>
     ensures end { option_map end_named result ≡ peer_end peers.now 0 link stream }
     ensures small { IfSome result (λ r. r.1 < 2 ^ 61) }
@@ -78,7 +76,7 @@ fn live_of(pairs: &[PairEnds], side: Side, number: usize, stream: u8) -> Option<
 }
 
 impl PeerStreams for DevicePeers<'_> {
-    ghost live = { λ s stream. live_by (live_of s.pairs.now) s.peers.now s.link stream };
+    ghost live = { λ s stream. live_by_id (live_of s.pairs.now) s.peers.now s.link stream };
 
     fn live(&self, stream: u8) -> Option<u32> {
         match peer_end(self.peers, self.link, stream as u64) {

@@ -3,16 +3,13 @@
 ghost use Rattle.std.specs.Prelude.{◌≡◌, ◌<◌, ◌^◌, ℕ, option_map};
 ghost use Rattle.ide_port.specs.{IsSentAtPort};
 ghost use Rattle.link_ends.specs.Ends.{port_in, with_port};
-ghost use Rattle.tdi_device.specs.Replies.{DeviceTdis};
+ghost use Rattle.interface_device.specs.Replies.{DeviceTdis};
 ghost use Rattle.all_ends.specs.Ends.{pair_port, with_pair_port, bound_on, far_hop_trust, bound_trust};
 
-use device_side::BoundOwners;
-use ide_plan::PeerPlan;
-use ide_port::{Asked, Sent, Trusting};
-use ide_types::Side;
-use line_ends::PairEnds;
-use link_ends::LinkEnds;
-use tdi_device::DeviceInterfaces;
+use ide_port::{FixedTrust, Sent, Trusting};
+use ide_types::{PeerPlan, Side};
+use interface_device::DeviceInterfaces;
+use link_ends::{BoundOwners, LinkEnds, PairEnds};
 
 /// Sends a TLP's bytes at the end of a side of a hop's segment towards the host, with T as it is asked.
 pub fn send_near(ends: &mut LinkEnds, side: Side, tlp: &[u8], more: bool, trusted: bool) -> Sent
@@ -22,8 +19,8 @@ pub fn send_near(ends: &mut LinkEnds, side: Side, tlp: &[u8], more: bool, truste
     ensures ends { ends.new ≡ with_port side (port_in side ends.new) ends.old }
 {
     match side {
-        Side::Host => ends.host.send(tlp, more, &Asked(trusted)),
-        Side::Device => ends.device.port.send(tlp, more, &Asked(trusted)),
+        Side::Host => ends.host.send(tlp, more, &FixedTrust(trusted)),
+        Side::Device => ends.device.port.send(tlp, more, &FixedTrust(trusted)),
     }
 }
 
@@ -55,8 +52,8 @@ pub fn send_far(ends: &mut PairEnds, side: Side, tlp: &[u8], more: bool, trusted
     ensures ends { ends.new ≡ with_pair_port side (pair_port side ends.new) ends.old }
 {
     match side {
-        Side::Host => send_pair(ends, side, tlp, more, &Asked(trusted)),
-        Side::Device => send_pair(ends, side, tlp, more, &Asked(false)),
+        Side::Host => send_pair(ends, side, tlp, more, &FixedTrust(trusted)),
+        Side::Device => send_pair(ends, side, tlp, more, &FixedTrust(false)),
     }
 }
 
@@ -74,7 +71,7 @@ pub fn send_between(
     ensures ends { ends.new ≡ with_pair_port side (pair_port side ends.new) ends.old }
 {
     match interfaces {
-        None => send_pair(ends, side, tlp, more, &Asked(false)),
+        None => send_pair(ends, side, tlp, more, &FixedTrust(false)),
         Some(interfaces) => send_pair(ends, side, tlp, more, &BoundOwners { interfaces }),
     }
 }

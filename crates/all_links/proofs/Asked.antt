@@ -6,46 +6,46 @@ use Rattle.all_links.proofs.Terms.{◌≡◌, ℕ, suc, zero, ◌+◌, ◌<◌, 
 use Rattle.all_links.proofs.Terms.{nat_tests, Option, Some, None, IsSome, slice_get, slice_set, option_map}
 use Rattle.all_links.proofs.Terms.{option_and_then, none-some, same_Some, slice_get_within, Verdict, StreamState}
 use Rattle.all_links.proofs.Terms.{LinkEnds, Links, InterfacesView, KeeperView, ports_in, IsBounded, links_state}
-use Rattle.all_links.proofs.Terms.{EndsWith, Stepped, Interface, answer_of_links, EndsView, port_on, live_on, Plan}
+use Rattle.all_links.proofs.Terms.{EndsWith, Stepped, Interface, answer_of_links, EndsView, port_on, peer_live, Plan}
 use Rattle.all_links.proofs.Terms.{AreLinks, PortEnd, Side, Host, Device, port_in, state_of, nat_lt, true, ◌++◌, ◌≤◌}
 use Rattle.all_links.proofs.Terms.{if◌then◌else◌}
-use Rattle.interface_answers.specs.{changed_at, in_sixteen, pair_ports, operated_on, HostKeeper, IsThere}
-use Rattle.interface_answers.specs.{CallsAt, AsksAt, located, code_behind, asked_as, report_of}
+use Rattle.line_arrivals.specs.{changed_at, in_sixteen, pair_ports, operated_on, HostKeeper, IsThere}
+use Rattle.line_arrivals.specs.{CallsAt, AsksAt, place_on_links, code_behind, outcome_verdict, report_of}
 use Rattle.all_links.specs.Sides.{with_device}
-use Rattle.tdi_host.specs.declared.operation.PeerStream.{PeerStream}
+use Rattle.interface_host.specs.declared.operation.PeerStream.{PeerStream}
 use Rattle.std.specs.Prelude.{IfSome}
 use Rattle.std.specs.Option.{option_map_or}
 use Rattle.all_links.proofs.Terms.{◌==◌, Bool, false}
 use Rattle.ide_types.specs.declared.sub.SubKind.TheVariants.{Pr}
 use Rattle.ide_port.specs.{receiving_draw_in}
-use Rattle.interface_states.specs.Devices.{is_run}
-use Rattle.tdi_state.specs.declared.states.TdiState.{TdiState}
-use Rattle.tdi_state.specs.declared.states.TdiState.TheVariants.{ConfigUnlocked, ConfigLocked, Run, Error}
+use Rattle.spec_interfaces.specs.Devices.{is_run}
+use Rattle.interface_state.specs.declared.states.TdiState.{TdiState}
+use Rattle.interface_state.specs.declared.states.TdiState.TheVariants.{ConfigUnlocked, ConfigLocked, Run, Error}
 use Rattle.all_links.specs.Accesses.{planned_stream, device_draw, runs_in}
 use Rattle.link_verdicts.specs.declared.verdict.Verdict.TheVariants as v
-use Rattle.tdi_state.specs.Machine.{Tdi, Call, state_code}
-use Rattle.tdi_device.specs.Replies.{DeviceTdis, called_at}
-use Rattle.tdi_host.specs.declared.operation.InterfaceOp.{InterfaceOp}
-use Rattle.tdi_host.specs.declared.operation.Outcome.{Outcome}
-use Rattle.tdi_host.specs.declared.operation.Outcome.TheVariants.{Next, Done, Refused}
-use Rattle.tdi_host.specs.Views.{HostTdi}
-use Rattle.tdi_ends.specs.Keepers.{Ended}
+use Rattle.interface_state.specs.Machine.{Tdi, Call, state_code}
+use Rattle.interface_device.specs.Replies.{DeviceTdis, called_at}
+use Rattle.interface_host.specs.declared.operation.InterfaceOperation.{InterfaceOperation}
+use Rattle.interface_host.specs.declared.operation.InterfaceOutcome.{InterfaceOutcome}
+use Rattle.interface_host.specs.declared.operation.InterfaceOutcome.TheVariants.{Next, Done, Refused}
+use Rattle.interface_host.specs.Views.{HostTdi}
+use Rattle.interface_ends.specs.Keepers.{Ended}
 use Rattle.link_events.specs.declared.event.InterfaceEvent.{InterfaceEvent}
 use Rattle.link_events.specs.declared.event.Loss.{Loss}
-use Rattle.all_links.specs.Interfaces.{interface_named, tdi_named, tdi_of_ends, ended_in, ended_at, ended_on}
+use Rattle.all_links.specs.Interfaces.{interface_named, tdi_named, interface_of_ends, ended_in, ended_at, ended_on}
 use Rattle.all_links.specs.Besides.{op_verdict}
-use Rattle.all_links.specs.Interfaces.{verdict_in, link_named, has_peer_in, peer_stream}
+use Rattle.all_links.specs.Interfaces.{verdict_in, link_named, has_peer_in, managed_peer_stream}
 use Rattle.all_links.specs.Interfaces.{peer_verdict_in}
 use Rattle.all_links.proofs.Finds.{answers, nothing_changes, only_says}
 use Rattle.all_links.proofs.Terms.{true-lt}
 use Rattle.std.proofs.Common.{◌&&◌}
 use Rattle.std.proofs.lemmas.Bool.{and_parts}
 use Rattle.line_arrivals.proofs.{peer_line_is, is_located}
-use Rattle.ide_plan.specs.declared.plan.PeerPlan.{PeerPlan}
-use Rattle.interface_states.specs.Peers.{has_peer}
+use Rattle.ide_types.specs.declared.plan.PeerPlan.{PeerPlan}
+use Rattle.spec_interfaces.specs.Peers.{has_peer}
 use Rattle.all_links.specs.Interfaces.{has_peer_at}
-use Rattle.interface_answers.proofs.{changed_is, there, Grows, KeepsEnds, as_before, bounded_then, links_grow}
-use Rattle.interface_answers.proofs.{links_kept}
+use Rattle.line_arrivals.proofs.{changed_is, there, Grows, KeepsEnds, as_before, bounded_then, links_grow}
+use Rattle.line_arrivals.proofs.{links_kept}
 
 pub if_some : {A : Type 0} (P : A → Type 0) (o : Option A) (x : A) → o ≡ Some x → IfSome o P → P x
 if_some P o x is p = subst (λ y. IfSome y P) is p
@@ -53,7 +53,7 @@ if_some P o x is p = subst (λ y. IfSome y P) is p
 -- ---- where an interface is
 
 named_parts : (m : InterfacesView) (ends : List LinkEnds) (n : ℕ) (at : ℕ × ℕ) → interface_named m ends n ≡ Some at
-    → (located 0 n ends ≡ Some at) × (n < length m.interfaces)
+    → (place_on_links 0 n ends ≡ Some at) × (n < length m.interfaces)
 named_parts m ends n at is = grind (arith, nat_tests)
 
 -- the interface of this number, at its device and at the manager
@@ -83,12 +83,12 @@ is_found m v n at named =
       link_there = link_there;
       tdi_there = t.1;
       kept_there = k.1;
-      named_is = ap (λ (o : Option (ℕ × ℕ)). option_and_then (tdi_of_ends v.links) o) (sym named)
+      named_is = ap (λ (o : Option (ℕ × ℕ)). option_and_then (interface_of_ends v.links) o) (sym named)
           ∙ tdi_is at x.ends_at t.0 link_there t.1;
     }
   where
     tdi_is : (at : ℕ × ℕ) (l : LinkEnds) (tdi : Tdi) → slice_get v.links at.0 ≡ Some l
-        → slice_get l.device.interfaces.interfaces at.1 ≡ Some tdi → tdi_of_ends v.links at ≡ Some tdi
+        → slice_get l.device.interfaces.interfaces at.1 ≡ Some tdi → interface_of_ends v.links at ≡ Some tdi
     tdi_is at l tdi link_there tdi_there = rw link_there tdi_there
 
 pub is_there : (m : InterfacesView) (v : EndsView) (n : ℕ) (at : ℕ × ℕ) → Some at ≡ interface_named m v.links n
@@ -191,7 +191,8 @@ called plan old n at call code ends new verdict e w named calls due says new_is 
 -- ---- operations
 
 -- on no interface
-pub asked_nowhere : {verdict : Verdict} {old new : Links} (plan : Plan) (n : ℕ) (o : InterfaceOp) (loss : Option Loss)
+pub asked_nowhere : {verdict : Verdict} {old new : Links} (plan : Plan) (n : ℕ) (o : InterfaceOperation)
+    (loss : Option Loss)
     (e : InterfaceEvent) → answer_of_links old e ≡ op_verdict old n o loss
     → None ≡ interface_named old.keeper.interfaces old.ends.links n
     → verdict ≡ v.Nothing → new ≡ record old { steps = old.steps + 1 }
@@ -221,7 +222,7 @@ no_such plan v k line stream o links none = by (has_peer_at v line stream o) ref
         (λ i. sym low i && sym is i) ∙ none
 
 -- of a stream between devices that is not there
-pub no_peer : {verdict : Verdict} {old new : Links} (plan : Plan) (n line stream : ℕ) (o : InterfaceOp)
+pub no_peer : {verdict : Verdict} {old new : Links} (plan : Plan) (n line stream : ℕ) (o : InterfaceOperation)
     (loss : Option Loss) (e : InterfaceEvent)
     → peer_verdict_in old.keeper old.ends n line stream o loss ≡ answer_of_links old e
     → (nat_lt stream 256 && has_peer_in old.keeper old.ends n line stream) ≡ false → verdict ≡ v.Nothing
@@ -235,33 +236,35 @@ no_peer {verdict} {old} {new} plan n line stream o loss e same none says is boun
     none)) ∙ same) b plan by _)
 
 -- what it came to at both ends has the verdict that it is due
-record CameTo (old : Links) (n : ℕ) (o : InterfaceOp) (loss : Option Loss) (outcome : Outcome) (k : HostKeeper) :
+record CameTo (old : Links) (n : ℕ) (o : InterfaceOperation) (loss : Option Loss) (outcome : InterfaceOutcome)
+    (k : HostKeeper) :
     Type 0 where
   ended : Ended
   manager_is : k.interfaces ≡ ended.manager
-  due_is : asked_as n loss (report_of o ended) outcome ≡ op_verdict old n o loss
+  due_is : outcome_verdict n loss (report_of o ended) outcome ≡ op_verdict old n o loss
 
-came_to : (old : Links) (n : ℕ) (at : ℕ × ℕ) (o : InterfaceOp) (loss : Option Loss) (outcome : Outcome)
+came_to : (old : Links) (n : ℕ) (at : ℕ × ℕ) (o : InterfaceOperation) (loss : Option Loss) (outcome : InterfaceOutcome)
     (ends : EndsView) (k : HostKeeper) → Some at ≡ interface_named old.keeper.interfaces old.ends.links n
     → AsksAt old.ends at.0 old.keeper n o loss outcome ends k → CameTo old n o loss outcome k
 came_to old n at o loss outcome ends k named asks =
     let x = is_found old.keeper.interfaces old.ends n at named in
-    let e : Ended = operated_on n o loss old.keeper.keys (live_on old.ends at.0) old.keeper.interfaces x.ends_at x.kept
+    let e : Ended = operated_on n o loss old.keeper.keys (peer_live old.ends at.0) old.keeper.interfaces x.ends_at
+    x.kept
     in
     let a = asks x.ends_at x.link_there in
     let is = a.2.ended x.kept x.kept_there in
     record {
       ended = e;
       manager_is = is.manager_is;
-      due_is = ap (λ (z : Outcome). asked_as n loss (report_of o e) z) is.outcome_is
+      due_is = ap (λ (z : InterfaceOutcome). outcome_verdict n loss (report_of o e) z) is.outcome_is
           ∙ sym (λ i. verdict_in n o loss (ended_on old.keeper old.ends n o loss at.0 (x.link_there i)
           (x.kept_there i)))
           ∙ ap (λ (p : Option (ℕ × ℕ)). verdict_in n o loss (ended_at old.keeper old.ends n o loss p)) named;
     }
 
 -- a report does not say whether an operation has a verdict
-any_report : (n : ℕ) (loss : Option Loss) (report other : List ℕ) (outcome : Outcome)
-    → IsSome (asked_as n loss report outcome) → IsSome (asked_as n loss other outcome)
+any_report : (n : ℕ) (loss : Option Loss) (report other : List ℕ) (outcome : InterfaceOutcome)
+    → IsSome (outcome_verdict n loss report outcome) → IsSome (outcome_verdict n loss other outcome)
 any_report n loss report other Next some = some
 any_report n loss report other (Done shown) some = refl
 any_report n loss report other (Refused r) some = some
@@ -271,10 +274,10 @@ pub link_of : (o : Option (ℕ × ℕ)) (link : ℕ) → option_map (λ (at : �
 link_of None link is = absurd (none-some link is)
 link_of (Some at) link is = (at, refl, same_Some at.0 link is)
 
-pub answered : (old : Links) (n link : ℕ) (o : InterfaceOp) (loss : Option Loss) (outcome : Outcome)
+pub answered : (old : Links) (n link : ℕ) (o : InterfaceOperation) (loss : Option Loss) (outcome : InterfaceOutcome)
     (ends : EndsView) (k : HostKeeper) → link_named old.keeper.interfaces old.ends.links n ≡ Some link
     → AsksAt old.ends link old.keeper n o loss outcome ends k → IsSome (op_verdict old n o loss)
-    → (report : List ℕ) → IsSome (asked_as n loss report outcome)
+    → (report : List ℕ) → IsSome (outcome_verdict n loss report outcome)
 answered old n link o loss outcome ends k here asks some report =
     let at = link_of (interface_named old.keeper.interfaces old.ends.links n) link here in
     let x = came_to old n at.0 o loss outcome ends k at.1
@@ -282,12 +285,13 @@ answered old n link o loss outcome ends k here asks some report =
     any_report n loss (report_of o x.ended) report outcome
     (subst (λ (y : Option Verdict). IsSome y) (sym x.due_is) some)
 
-pub operated_as : (plan : Plan) (old : Links) (n : ℕ) (at : ℕ × ℕ) (o : InterfaceOp) (loss : Option Loss)
-    (outcome : Outcome) (ends : EndsView) (k : HostKeeper) (new : Links) (verdict : Verdict) (report : List ℕ)
+pub operated_as : (plan : Plan) (old : Links) (n : ℕ) (at : ℕ × ℕ) (o : InterfaceOperation) (loss : Option Loss)
+    (outcome : InterfaceOutcome) (ends : EndsView) (k : HostKeeper) (new : Links) (verdict : Verdict) (report : List ℕ)
     (event : InterfaceEvent) → answer_of_links old event ≡ op_verdict old n o loss
     → Some at ≡ interface_named old.keeper.interfaces old.ends.links n
     → AsksAt old.ends at.0 old.keeper n o loss outcome ends k
-    → asked_as n loss report outcome ≡ Some verdict → ((e : Ended) → k.interfaces ≡ e.manager → report ≡ report_of o e)
+    → outcome_verdict n loss report outcome ≡ Some verdict →
+    ((e : Ended) → k.interfaces ≡ e.manager → report ≡ report_of o e)
     → new ≡ record old { ends = ends; keeper = k; steps = old.steps + 1 }
     → IsBounded old.ends old.packets.packets old.steps → EndsWith plan verdict old new (Interface event)
 operated_as plan old n at o loss outcome ends k new verdict report event same named asks says reads new_is bounded =
@@ -295,7 +299,7 @@ operated_as plan old n at o loss outcome ends k new verdict report event same na
     let a = asks x.ends_at x.link_there in
     let came = came_to old n at o loss outcome ends k named asks in
     let due : Some verdict ≡ answer_of_links old event =
-    sym says ∙ ap (λ (r : List ℕ). asked_as n loss r outcome) (reads came.ended came.manager_is) ∙ came.due_is
+    sym says ∙ ap (λ (r : List ℕ). outcome_verdict n loss r outcome) (reads came.ended came.manager_is) ∙ came.due_is
     ∙ sym same in
     interfaces_change plan old new at.0 x.ends_at a.0.device.interfaces ends k verdict event due x.link_there
     (a.1 ∙ ap (λ (y : LinkEnds). record old.ends { links = slice_set old.ends.links at.0 y }) a.2.ends) a.2.keys new_is
@@ -312,7 +316,7 @@ run_code Error = refl
 pub runs_not : (s : Links) (n : ℕ) → None ≡ interface_named s.keeper.interfaces s.ends.links n → false ≡ runs_in s n
 runs_not s n nowhere =
     ap (λ (o : Option (ℕ × ℕ)). option_map_or (λ (t : Tdi). is_run t.state)
-    (option_and_then (tdi_of_ends s.ends.links) o)
+    (option_and_then (interface_of_ends s.ends.links) o)
     false) nowhere
 
 pub runs_at : (s : Links) (n : ℕ) (at : ℕ × ℕ) (b : Bool) → Some at ≡ interface_named s.keeper.interfaces s.ends.links n
@@ -352,14 +356,16 @@ some_if false x y is = absurd (none-some y (sym is))
 pub record IsPeer (k : HostKeeper) (v : EndsView) (n line stream : ℕ) (peer : PeerStream) : Type 0 where
   pub small : stream < 256
   pub has : has_peer_in k v n line stream ≡ true
-  pub peer_is : peer ≡ peer_stream k line stream
+  pub peer_is : peer ≡ managed_peer_stream k line stream
 
 pub is_peer : (k : HostKeeper) (v : EndsView) (n line stream : ℕ) (peer : PeerStream)
-    → Some peer ≡ (if nat_lt stream 256 && has_peer_in k v n line stream then Some (peer_stream k line stream) else
+    → Some peer ≡ (if nat_lt stream 256 && has_peer_in k v n line stream then Some (managed_peer_stream k line stream)
+    else
     None)
     → IsPeer k v n line stream peer
 is_peer k v n line stream peer is =
-    let parts = some_if (nat_lt stream 256 && has_peer_in k v n line stream) (peer_stream k line stream) peer is in
+    let parts = some_if (nat_lt stream 256 && has_peer_in k v n line stream) (managed_peer_stream k line stream) peer is
+    in
     let both = and_parts (nat_lt stream 256) (has_peer_in k v n line stream) parts.0 in
     record {
       small = true-lt stream 256 both.0;
@@ -369,10 +375,10 @@ is_peer k v n line stream peer is =
 
 -- an event on it has the verdict of its operation
 pub peer_verdict : (k : HostKeeper) (ends : EndsView) (n line stream : ℕ) (peer : PeerStream) (o : PeerStream
-    → InterfaceOp) (loss : Option Loss) → IsPeer k ends n line stream peer
-    → peer_verdict_in k ends n line stream (o (peer_stream k line stream)) loss
+    → InterfaceOperation) (loss : Option Loss) → IsPeer k ends n line stream peer
+    → peer_verdict_in k ends n line stream (o (managed_peer_stream k line stream)) loss
     ≡ verdict_in n (o peer) loss (ended_in k ends n (o peer) loss)
 peer_verdict k ends n line stream peer o loss p =
-    let kept : PeerStream = peer_stream k line stream in
+    let kept : PeerStream = managed_peer_stream k line stream in
     ap (λ (b : Bool). if b then verdict_in n (o kept) loss (ended_in k ends n (o kept) loss) else Some v.Nothing) p.has
     ∙ sym (ap (λ (q : PeerStream). verdict_in n (o q) loss (ended_in k ends n (o q) loss)) p.peer_is)

@@ -2,7 +2,8 @@
 -- on interfaces.
 use Rattle.all_links.proofs.Terms.{◌≡◌, ◌+◌, List, refl, ap, sym, ◌∙◌, subst, arith, Plan, LinkState, LinkPacket, Some}
 use Rattle.all_links.proofs.Terms.{Stepped, Verdict, History, PortsStandFor, Links, state_of, IsBounded, AreLinks}
-use Rattle.all_links.proofs.Terms.{links_state, EndsBy, EndsIf, EndsWith, beside_in, Ends, Beside, Interface, true}
+use Rattle.all_links.proofs.Terms.{links_state, StepEndsBy, EndsIf, EndsWith, beside_in, Ends, BesidePorts, Interface}
+use Rattle.all_links.proofs.Terms.{true}
 use Rattle.all_links.proofs.Terms.{false, Option, None, IfSome, IsSome, is_some, EndsAs, HasNoVerdict, same_Some}
 use Rattle.all_links.proofs.Terms.{step_of, IsAnsweredBy, answer_of_links}
 use Rattle.link_events.specs.declared.event.Event.{Event}
@@ -10,15 +11,15 @@ use Rattle.link_events.specs.declared.event.InterfaceEvent.{InterfaceEvent}
 
 -- ---- events that change nothing
 
-pub nothing_steps : {IsSo : Beside → Type 0} {step : Beside → LinkState → Stepped} {verdict w : Verdict}
+pub nothing_steps : {IsSo : BesidePorts → Type 0} {step : BesidePorts → LinkState → Stepped} {verdict w : Verdict}
     {old new : Links} (plan : Plan)
     → verdict ≡ w → new ≡ record old { steps = old.steps + 1 } → IsBounded old.ends old.packets.packets old.steps
-    → ((b : Beside) → IsSo b → (h : History) → AreLinks plan old.ends old.keeper.keys
+    → ((b : BesidePorts) → IsSo b → (h : History) → AreLinks plan old.ends old.keeper.keys
     → PortsStandFor plan (links_state plan old) h
     → step (beside_in old b) (links_state plan old) ≡ (w, links_state plan old))
-    → EndsBy IsSo step plan verdict old new
+    → StepEndsBy IsSo step plan verdict old new
 nothing_steps {IsSo} {step} {verdict} {w} {old} {new} plan says is bounded same =
-    subst (λ (s : Links). EndsBy IsSo step plan verdict old s) (sym is) (record {
+    subst (λ (s : Links). StepEndsBy IsSo step plan verdict old s) (sym is) (record {
       counted = refl;
       many = refl;
       regions = refl;
@@ -35,9 +36,9 @@ nothing_steps {IsSo} {step} {verdict} {w} {old} {new} plan says is bounded same 
           };
     })
 
-pub nothing_changes : {IsSo : Beside → Type 0} {verdict w : Verdict} {old new : Links} (plan : Plan) (e : Event)
+pub nothing_changes : {IsSo : BesidePorts → Type 0} {verdict w : Verdict} {old new : Links} (plan : Plan) (e : Event)
     → verdict ≡ w → new ≡ record old { steps = old.steps + 1 } → IsBounded old.ends old.packets.packets old.steps
-    → ((b : Beside) → IsSo b → (h : History) → AreLinks plan old.ends old.keeper.keys
+    → ((b : BesidePorts) → IsSo b → (h : History) → AreLinks plan old.ends old.keeper.keys
     → PortsStandFor plan (links_state plan old) h
     → step_of plan (beside_in old b) (links_state plan old) e ≡ (w, links_state plan old))
     → EndsIf IsSo plan verdict old new e
@@ -61,15 +62,16 @@ some_none some none = let same : false ≡ true = subst (λ (o : Option Verdict)
 
 -- ---- room that is taken first
 
-pub reserved : {IsSo : Beside → Type 0} {step : Beside → LinkState → Stepped} {verdict : Verdict} {new : Links}
+pub reserved : {IsSo : BesidePorts → Type 0} {step : BesidePorts → LinkState → Stepped} {verdict : Verdict}
+    {new : Links}
     (plan : Plan) (old mid : Links) → mid ≡ record old { packets = mid.packets }
-    → mid.packets.packets ≡ old.packets.packets → EndsBy IsSo step plan verdict mid new
-    → EndsBy IsSo step plan verdict old new
+    → mid.packets.packets ≡ old.packets.packets → StepEndsBy IsSo step plan verdict mid new
+    → StepEndsBy IsSo step plan verdict old new
 reserved {IsSo} {step} {verdict} {new} plan old mid is same x =
-    from (subst (λ (m : Links). EndsBy IsSo step plan verdict m new) is x)
+    from (subst (λ (m : Links). StepEndsBy IsSo step plan verdict m new) is x)
   where
-    from : EndsBy IsSo step plan verdict (record old { packets = mid.packets }) new
-        → EndsBy IsSo step plan verdict old new
+    from : StepEndsBy IsSo step plan verdict (record old { packets = mid.packets }) new
+        → StepEndsBy IsSo step plan verdict old new
     from y = record {
       counted = y.counted;
       bounded = y.bounded;
@@ -87,7 +89,7 @@ reserved {IsSo} {step} {verdict} {new} plan old mid is same x =
 
 -- the step of an event that has a verdict
 pub answers : {verdict : Verdict} {e : InterfaceEvent} (old : Links) → Some verdict ≡ answer_of_links old e
-    → (b : Beside) (plan : Plan) → IsAnsweredBy old (Interface e) b → (st : LinkState)
+    → (b : BesidePorts) (plan : Plan) → IsAnsweredBy old (Interface e) b → (st : LinkState)
     → step_of plan (beside_in old b) st (Interface e) ≡ (verdict, st)
 unfolding step_of
 answers {verdict} {e} old says b plan by st =

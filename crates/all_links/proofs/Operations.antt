@@ -1,32 +1,23 @@
 -- An operation at both ends of a line, among all lines.
 use Rattle.line_arrivals.proofs.{WorksOn, Operated, operated, operates_grow, name_is, some_named, step_not}
-use Rattle.interface_answers.proofs.{bounded_then}
+use Rattle.line_arrivals.proofs.{bounded_then}
 use Rattle.all_links.proofs.Terms.{◌≡◌, ◌∙◌, ℕ, ◌+◌, true, refl, sym, subst, arith, IsSome, Option, Some, Plan}
-use Rattle.all_links.proofs.Terms.{
-  EndsView,
-  port_on,
-  Links,
-  links_state,
-  EndsWith,
-  StandsForSome,
-  beside_in,
-  OperatesAt,
-  stream_named,
-}
+use Rattle.all_links.proofs.Terms.{EndsView, port_on, Links, links_state, EndsWith, StandsForSome, beside_in}
+use Rattle.all_links.proofs.Terms.{OperatesAt, stream_named}
 use Rattle.all_links.proofs.Terms.{IsBounded, KeeperView, ManagerView, Verdict, OperationsJoin, named, Named}
 use Rattle.all_links.proofs.Terms.{operation_event, PortsStandFor, AreLinks, History}
 use Rattle.ide_types.specs.Ports.{host_port}
-use Rattle.link_walks.specs.Paired.{PairOperationsJoin}
-use Rattle.interface_answers.specs.{HostKeeper}
+use Rattle.join_keys.specs.Paired.{PairOperationsJoin}
+use Rattle.line_arrivals.specs.{HostKeeper}
 use Rattle.link_events.specs.declared.event.Loss.{Loss}
 use Rattle.link_verdicts.specs.declared.verdict.Operation.{Operation}
 use Rattle.link_verdicts.specs.declared.verdict.Operation.TheVariants as op
-use Rattle.tsm_host.specs.declared.operation.Op.{Op as OpCall}
-use Rattle.tsm_host.specs.declared.operation.Outcome.{Outcome}
+use Rattle.tsm_host.specs.declared.operation.NamedOperation.{NamedOperation as OpCall}
+use Rattle.tsm_host.specs.declared.operation.StreamOutcome.{StreamOutcome}
 use Rattle.tsm_host.specs.Operations.{OpName, op_name}
 use Rattle.tsm_host.specs.Walk.{verdict_of}
 use Rattle.all_links.specs.Sides.{works_on}
-use Rattle.all_links.proofs.Terms.{Beside, LinkState, step_of, false}
+use Rattle.all_links.proofs.Terms.{BesidePorts, LinkState, step_of, false}
 use Rattle.link_verdicts.specs.declared.verdict.Verdict.TheVariants as v
 
 works : (operation : Operation) (line : ℕ) → works_on operation line ≡ true → WorksOn operation line
@@ -54,10 +45,10 @@ found_is m v line stream a b is =
 
 -- what such a call comes to
 module _ (plan : Plan) (old : Links) (h : History) (ends : EndsView) (k' : KeeperView) (call : OpCall)
-    (operation : Operation) (line id : ℕ) (loss : Option Loss) (result : Outcome)
+    (operation : Operation) (line id : ℕ) (loss : Option Loss) (result : StreamOutcome)
     (links : AreLinks plan old.ends old.keeper.keys) (stands : PortsStandFor plan (links_state plan old) h)
     (n : Named) (named_is : named old.keeper.keys.manager line id ≡ Some n)
-    (name : op_name call ≡ record { operation = operation; link = line; stream = id })
+    (name : op_name call ≡ record { operation = operation; line = line; stream = id })
     (works_is : works_on operation line ≡ true) (here : IsSome (port_on old.ends (host_port line)))
     (operates : OperatesAt old.ends line old.keeper.keys call loss result ends k') where
   pub comes_to : OperationsJoin → PairOperationsJoin
@@ -69,25 +60,26 @@ module _ (plan : Plan) (old : Links) (h : History) (ends : EndsView) (k' : Keepe
 
 -- if the links stand for a history, the outcome has a verdict
 pub operates_due : OperationsJoin → PairOperationsJoin → (plan : Plan) (old : Links) (ends : EndsView)
-    (k' : KeeperView) (call : OpCall) (loss : Option Loss) (result : Outcome) → StandsForSome plan old
-    → works_on (op_name call).operation (op_name call).link ≡ true
-    → IsSome (port_on old.ends (host_port (op_name call).link))
-    → IsSome (named old.keeper.keys.manager (op_name call).link (op_name call).stream)
-    → OperatesAt old.ends (op_name call).link old.keeper.keys call loss result ends k'
+    (k' : KeeperView) (call : OpCall) (loss : Option Loss) (result : StreamOutcome) → StandsForSome plan old
+    → works_on (op_name call).operation (op_name call).line ≡ true
+    → IsSome (port_on old.ends (host_port (op_name call).line))
+    → IsSome (named old.keeper.keys.manager (op_name call).line (op_name call).stream)
+    → OperatesAt old.ends (op_name call).line old.keeper.keys call loss result ends k'
     → (verdict : Verdict)
-    × (verdict_of (op_name call).operation (op_name call).link (op_name call).stream loss result ≡ Some verdict)
+    × (verdict_of (op_name call).operation (op_name call).line (op_name call).stream loss result ≡ Some verdict)
 operates_due joins pairs plan old ends k' call loss result standing works_is here there_is operates =
     let a : OpName = op_name call in
-    let n = some_named (named old.keeper.keys.manager a.link a.stream) there_is in
-    let c = comes_to plan old standing.history ends k' call a.operation a.link a.stream loss result standing.links
+    let n = some_named (named old.keeper.keys.manager a.line a.stream) there_is in
+    let c = comes_to plan old standing.history ends k' call a.operation a.line a.stream loss result standing.links
     standing.stands n.0 n.1 refl works_is here operates joins pairs in
     (_, c.verdict_is)
 
 pub operates_on : OperationsJoin → PairOperationsJoin → (plan : Plan) (old : Links) (ends : EndsView) (k : HostKeeper)
-    (call : OpCall) (operation : Operation) (line id : ℕ) (loss : Option Loss) (result : Outcome) (verdict : Verdict)
+    (call : OpCall) (operation : Operation) (line id : ℕ) (loss : Option Loss) (result : StreamOutcome)
+    (verdict : Verdict)
     → IsBounded old.ends old.packets.packets old.steps → works_on operation line ≡ true
     → IsSome (port_on old.ends (host_port line)) → IsSome (named old.keeper.keys.manager line id)
-    → op_name call ≡ record { operation = operation; link = line; stream = id }
+    → op_name call ≡ record { operation = operation; line = line; stream = id }
     → OperatesAt old.ends line old.keeper.keys call loss result ends k.keys
     → verdict_of operation line id loss result ≡ Some verdict
     → EndsWith plan verdict old (record old { ends = ends; keeper = k; steps = old.steps + 1 })
@@ -111,7 +103,8 @@ operates_on joins pairs plan old ends k call operation line id loss result verdi
     }
 
 -- an operation that there is not on the line
-pub not_stepped : (plan : Plan) (b : Beside) (st : LinkState) (operation : Operation) (line id : ℕ) (loss : Option Loss)
+pub not_stepped : (plan : Plan) (b : BesidePorts) (st : LinkState) (operation : Operation) (line id : ℕ)
+    (loss : Option Loss)
     → works_on operation line ≡ false → step_of plan b st (operation_event operation line id loss) ≡ (v.Nothing, st)
 not_stepped plan b st op.Establish line id loss not = absurd cc
 not_stepped plan b st op.Refresh line id loss not = step_not plan b st line id loss not

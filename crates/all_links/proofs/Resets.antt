@@ -1,17 +1,19 @@
 -- The states of streams that are read, and resets, as the machine has them.
 use Rattle.all_links.proofs.Terms.{◌≡◌, ℕ, ◌+◌, Bool, true, List, length, refl, ap, sym, ◌∙◌, subst, arith, Option}
-use Rattle.all_links.proofs.Terms.{Some, None, is_some, nat_lt, if◌then◌else◌, Op, History, Host, Device, StreamStatus}
-use Rattle.all_links.proofs.Terms.{Plan, Reset, Status, Stepped, status_at, status_found, step_of, reset_state}
+use Rattle.all_links.proofs.Terms.{Some, None, is_some, nat_lt, if◌then◌else◌, StreamStage, History, Host, Device}
+use Rattle.all_links.proofs.Terms.{StreamStatus}
+use Rattle.all_links.proofs.Terms.{Plan, Reset, Status, Stepped, machine_status, status_found, step_of, reset_state}
 use Rattle.all_links.proofs.Terms.{PortsStandFor, named, EndsView, port_on, Links, stream_named, KeeperView, ResetsAt}
-use Rattle.all_links.proofs.Terms.{statuses_of, both_of, IsBounded, AreLinks, links_state, EndsWith, Beside, beside_in}
+use Rattle.all_links.proofs.Terms.{statuses_of, both_of, IsBounded, AreLinks, links_state, EndsWith, BesidePorts}
+use Rattle.all_links.proofs.Terms.{beside_in}
 use Rattle.all_links.proofs.Terms.{option_and_then, PortEnd, PortName, LinkEnds, none-some, option_map, port_in}
 use Rattle.all_links.proofs.Terms.{slice_get}
 use Rattle.link_verdicts.specs.declared.verdict.Verdict.TheVariants as v
 use Rattle.ide_types.specs.Ports.{host_port, device_port}
-use Rattle.ide_port.specs.{status_in}
-use Rattle.interface_answers.specs.{HostKeeper, reset_all, port_at_place, pair_port, line_place, LinePlace, Link, Near}
-use Rattle.interface_answers.specs.{Pair, PairEnds, state_of}
-use Rattle.interface_answers.proofs.{bounded_then}
+use Rattle.ide_port.specs.{port_stream_status}
+use Rattle.line_arrivals.specs.{HostKeeper, reset_all, port_at_place, pair_port, line_place, LinePlace, Link, Near}
+use Rattle.line_arrivals.specs.{Pair, PairEnds, state_of}
+use Rattle.line_arrivals.proofs.{bounded_then}
 use Rattle.line_arrivals.proofs.{reset_grows, links_reset, state_reset, keeper_reset, IsName, at_side, op_is, planned}
 use Rattle.line_arrivals.proofs.{some_op, unnamed}
 
@@ -46,8 +48,8 @@ pub status_read : (old : Links) (plan : Plan) (h : History) (line stream a b : �
     → AreLinks plan old.ends old.keeper.keys → PortsStandFor plan (links_state plan old) h
     → IsName old.keeper.keys.manager old.ends line stream a b → read ≡ statuses_of old.ends a b
     → read ≡ Some (
-      status_at plan (links_state plan old) Host line stream,
-      status_at plan (links_state plan old) Device line stream,
+      machine_status plan (links_state plan old) Host line stream,
+      machine_status plan (links_state plan old) Device line stream,
     )
 status_read old plan h line stream a b read links stands n reads =
     let q = some_op (named old.keeper.keys.manager line stream) n.there in
@@ -57,38 +59,39 @@ status_read old plan h line stream a b read links stands n reads =
     let near = some_end (port_on old.ends (host_port line)) n.end_there in
     let far = far_there old.ends line near.0 near.1 in
     reads ∙ (λ i. statuses_of old.ends (n.line_is i) (n.stream_is i))
-    ∙ (λ i. both_of (option_and_then (λ (e : PortEnd). status_in e stream) (near.1 i))
-    (option_and_then (λ (e : PortEnd). status_in e stream) (far.1 i)))
+    ∙ (λ i. both_of (option_and_then (λ (e : PortEnd). port_stream_status e stream) (near.1 i))
+    (option_and_then (λ (e : PortEnd). port_stream_status e stream) (far.1 i)))
     ∙ (λ i. both_of
     (at_side plan old.ends old.keeper.keys old.packets.packets h line stream Host near.0 links stands known near.1 i)
     (at_side plan old.ends old.keeper.keys old.packets.packets h line stream Device far.0 links stands known far.1 i))
 
-pub status_nowhere : (b : Beside) (old : Links) (plan : Plan) (line stream : ℕ)
+pub status_nowhere : (b : BesidePorts) (old : Links) (plan : Plan) (line stream : ℕ)
     → AreLinks plan old.ends old.keeper.keys
     → None ≡ stream_named old.keeper.keys.manager old.ends line stream
     → step_of plan b (links_state plan old) (Status line stream) ≡ (v.Nothing, links_state plan old)
 unfolding step_of
 status_nowhere b old plan line stream links is = ap
-    (λ (o : Option Op). status_found plan (links_state plan old) line stream o)
+    (λ (o : Option StreamStage). status_found plan (links_state plan old) line stream o)
     (unnamed plan old.ends old.keeper.keys old.packets.packets line stream links is)
 
-pub status_here : (b : Beside) (old : Links) (plan : Plan) (line stream : ℕ) → AreLinks plan old.ends old.keeper.keys
+pub status_here : (b : BesidePorts) (old : Links) (plan : Plan) (line stream : ℕ)
+    → AreLinks plan old.ends old.keeper.keys
     → is_some (named old.keeper.keys.manager line stream) ≡ true
     → step_of plan b (links_state plan old) (Status line stream)
     ≡ (
-      v.Status line stream (status_at plan (links_state plan old) Host line stream)
-          (status_at plan (links_state plan old) Device line stream),
+      v.Status line stream (machine_status plan (links_state plan old) Host line stream)
+          (machine_status plan (links_state plan old) Device line stream),
       links_state plan old,
     )
 unfolding step_of
 status_here b old plan line stream links there_is =
     let q = some_op (named old.keeper.keys.manager line stream) there_is in
-    ap (λ (o : Option Op). status_found plan (links_state plan old) line stream o)
+    ap (λ (o : Option StreamStage). status_found plan (links_state plan old) line stream o)
     (op_is plan old.ends old.keeper.keys old.packets.packets line stream links ∙ q.1)
 
 -- ---- resets
 
-pub reset_step : (b : Beside) (old : Links) (plan : Plan) (link : ℕ) (es : List PortName) (here : Bool)
+pub reset_step : (b : BesidePorts) (old : Links) (plan : Plan) (link : ℕ) (es : List PortName) (here : Bool)
     → AreLinks plan old.ends old.keeper.keys → here ≡ nat_lt link (length old.ends.links)
     → step_of plan b (links_state plan old) (Reset link es)
     ≡ (if here then (v.Reset link, reset_state plan (links_state plan old) es) else (v.Nothing, links_state plan old))

@@ -3,28 +3,29 @@ use Rattle.std.specs.Prelude.{zero, suc, not, Result, Ok, Err}
 use Rattle.all_links.proofs.Terms.{◌≡◌, ℕ, ◌+◌, Bool, true, false, List, [], ◌∷◌, ◌++◌, length, refl, ap, sym, ◌∙◌}
 use Rattle.all_links.proofs.Terms.{subst, arith, Option, Some, None, IsSome, slice_get, map, sum_by, if◌then◌else◌}
 use Rattle.all_links.proofs.Terms.{option_map, is_some, Side, Host, Device, PortName, Plan, Verdict, MeasuredPacket}
-use Rattle.all_links.proofs.Terms.{LinkPacket, Stepped, kept_at, step_of, joined_packets, Sent, PortEnd, SendStep}
+use Rattle.all_links.proofs.Terms.{LinkPacket, Stepped, kept_packet, step_of, joined_packets, Sent, PortEnd, SendStep}
 use Rattle.all_links.proofs.Terms.{send_step, sent_verdict, lengths_sent, IsSentAtPort, LinkEnds, Links, SendsAt}
 use Rattle.all_links.proofs.Terms.{state_of, IsBounded, AreLinks, links_state, EndsWith, EndsSending, Send, EndsView}
-use Rattle.all_links.proofs.Terms.{port_on, trusting_on, with_port_on, beside_in, Beside, port_in, with_port, LinkState}
+use Rattle.all_links.proofs.Terms.{port_on, trusting_on, with_port_on, beside_in, BesidePorts, port_in, with_port}
+use Rattle.all_links.proofs.Terms.{LinkState}
 use Rattle.all_links.proofs.Terms.{has_port, stepped_bytes, KeeperView}
-use Rattle.interface_answers.specs.{cut_packets, PairEnds, end_sent_verdict, changed_at, line_place, pair_port}
-use Rattle.interface_answers.specs.{port_at_place, with_pair_port, with_port_at, LinePlace, Link, Near, Pair}
+use Rattle.line_arrivals.specs.{cut_packets, PairEnds, end_sent_verdict, changed_at, line_place, pair_port}
+use Rattle.line_arrivals.specs.{port_at_place, with_pair_port, with_port_at, LinePlace, Link, Near, Pair}
 use Rattle.std.proofs.lemmas.Option.{none-some}
 use Rattle.std.proofs.lemmas.Bool.{and_parts}
 use Rattle.association.specs.Outgoing.{Outgoing, outgoing_of}
-use Rattle.link_history.specs.Ports.{at_switch, may_send, port_of, sealing_end}
+use Rattle.spec_links.specs.Ports.{at_switch, may_send, port_of, sealing_end}
 use Rattle.link_verdicts.specs.declared.verdict.Verdict.TheVariants as v
 use Rattle.ide_port.specs.declared.answer.Sent.TheVariants.{Sealed}
 use Rattle.ide_port.specs.declared.answer.Sent.TheVariants as sent
 use Rattle.all_links.specs.Links.{Ends, EndsOr, EndsSendingOr}
-use Rattle.ide_types.specs.declared.memory.Memory.{Memory}
+use Rattle.ide_types.specs.declared.memory.OutOfMemory.{OutOfMemory}
 use Rattle.all_links.specs.Sides.{SidesKeep}
 use Rattle.ide_port.specs.{Trusting}
 use Rattle.trusted_memory.specs.{TrustedMemory}
 use Rattle.line_arrivals.proofs.{sealing_there, at_port, cut_joined, lengths_join, sealed_on, send_joins, send_keeps}
 use Rattle.line_arrivals.proofs.{sends_as, sent_at_port, sent as sent_at}
-use Rattle.interface_answers.proofs.{port_is, wired, Grows, bounded_then, end_grows, end_kept}
+use Rattle.line_arrivals.proofs.{port_is, wired, Grows, bounded_then, end_grows, end_kept}
 use Rattle.line_arrivals.proofs.Follows.{interfaces_put, put_seen}
 use Rattle.line_arrivals.proofs.Landing.{ends_there}
 
@@ -84,7 +85,7 @@ is_put old new end bytes more trusted answer here sends =
             subst (λ (p : PortEnd). IsSentAtPort e bytes more (trusting_on old end trusted) n answer p) (a.sent n).port
                 (a.sent n),
             ap (λ (w : EndsView). port_on w end) is
-                ∙ put_there old end.side (line_place end.link) e t.port found.1,
+                ∙ put_there old end.side (line_place end.line) e t.port found.1,
           );
     }
 
@@ -108,7 +109,7 @@ seals plan old new end bytes more trusted answer verdict bounded here sends says
     let ends_is : new.ends ≡ now = stepped.0 in
     let sent_is : IsSentAtPort e bytes more sets n answer step.port = stepped.1 in
     let joined : step.port.sealed ≡ joined_packets step.packets = send_joins e out more sets n in
-    let all : List LinkPacket = old.packets.packets ++ map (kept_at end) step.packets in
+    let all : List LinkPacket = old.packets.packets ++ map (kept_packet end) step.packets in
     let packets_is : new.packets.packets ≡ all =
     kept step.port stepped.2 ∙ (λ i. old.packets.packets ++ cut_packets end (sent_is.lengths i) (joined i))
     ∙ ap (λ (ps : List LinkPacket). old.packets.packets ++ ps) (cut_joined end step.packets) in
@@ -126,7 +127,7 @@ seals plan old new end bytes more trusted answer verdict bounded here sends says
           (subst (λ (ps : List LinkPacket). IsBounded now ps new.steps) (sym packets_is)
           (subst (λ (m : ℕ). IsBounded now all m) (sym steps) after));
       ends = λ said has h links stands.
-          let b : Beside = beside_in old said in
+          let b : BesidePorts = beside_in old said in
           let at_end = port_is plan old.ends old.keeper.keys links end e put.at in
           let as_machine : stepped_bytes plan b (links_state plan old) end bytes more trusted
           ≡ sent_at plan old.ends old.keeper.keys old.packets.packets end step =
@@ -155,7 +156,7 @@ sent_keeps old new end bytes more trusted answer here sends keeper memory =
       keeper = ap (λ k. k.interfaces) keeper;
       peer_draws = ap (λ k. k.peer_draws) keeper;
       devices = λ i l l' is at.
-          put_seen (λ (x : LinkEnds). x.device.interfaces) old.ends end.side (line_place end.link) _ i l l'
+          put_seen (λ (x : LinkEnds). x.device.interfaces) old.ends end.side (line_place end.line) _ i l l'
           (λ j place x. interfaces_put end.side _ x) is
           (ap (λ (w : EndsView). slice_get w.links i) (sym stepped.0) ∙ at);
       contents = ap (λ (t : TrustedMemory). t.contents) memory;
@@ -184,14 +185,15 @@ sealed_length old new end bytes more trusted answer ps lent here sends said lend
 
 -- ---- a send at a port
 
-pub nothing_sent : (plan : Plan) (b : Beside) (st : LinkState) (port : PortName) (bytes : List ℕ) (more trusted : Bool)
+pub nothing_sent : (plan : Plan) (b : BesidePorts) (st : LinkState) (port : PortName) (bytes : List ℕ)
+    (more trusted : Bool)
     → may_send plan port ≡ false → step_of plan b st (Send port bytes more trusted) ≡ (v.Nothing, st)
 unfolding step_of
 nothing_sent plan b st port bytes more trusted is =
     ap (λ (t : Bool). if t then stepped_bytes plan b st (sealing_end plan port bytes) bytes more trusted
     else (v.Nothing, st)) is
 
-bytes_sent : (plan : Plan) (b : Beside) (st : LinkState) (port : PortName) (bytes : List ℕ) (more trusted : Bool)
+bytes_sent : (plan : Plan) (b : BesidePorts) (st : LinkState) (port : PortName) (bytes : List ℕ) (more trusted : Bool)
     → may_send plan port ≡ true → step_of plan b st (Send port bytes more trusted)
     ≡ stepped_bytes plan b st (sealing_end plan port bytes) bytes more trusted
 unfolding step_of
@@ -228,7 +230,7 @@ nowhere_sent plan old end none links has =
     never true is some = absurd cc
     never false is some = absurd cc
 
-pub sends_or : (plan : Plan) (result : Result Verdict Memory) (old new : Links) (port : PortName) (bytes : List ℕ)
+pub sends_or : (plan : Plan) (result : Result Verdict OutOfMemory) (old new : Links) (port : PortName) (bytes : List ℕ)
     (more trusted : Bool) → may_send plan port ≡ true
     → EndsSendingOr plan result old new (sealing_end plan port bytes) bytes more trusted
     → EndsOr plan result old new (Send port bytes more trusted)

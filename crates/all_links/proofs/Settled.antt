@@ -4,27 +4,28 @@ use Rattle.all_links.proofs.Terms.{◌≡◌, ℕ, suc, zero, ◌+◌, ◌-◌, 
 use Rattle.all_links.proofs.Terms.{length, refl, ap, sym, ◌∙◌, subst, arith, nat_tests, Option, Some, None, option_map}
 use Rattle.all_links.proofs.Terms.{map, option_and_then, slice_get, slice_set, none-some, same_Some, slice_get_within}
 use Rattle.all_links.proofs.Terms.{IsSome, if◌then◌else◌, nat_lt, LinkEnds, EndsView, PortName, Side, Host, Device}
-use Rattle.all_links.proofs.Terms.{port_on, live_on, KeeperView, OperatesAt, port_in}
+use Rattle.all_links.proofs.Terms.{port_on, peer_live, KeeperView, OperatesAt, port_in}
 use Rattle.std.proofs.Common.{inl, inr, ◌||◌}
 use Rattle.std.proofs.lemmas.Bool.{eqb-true}
-use Rattle.ide_plan.specs.Ends.{peer_link}
-use Rattle.ide_plan.specs.declared.plan.PeerPlan.{PeerPlan}
+use Rattle.ide_types.specs.Ends.{peer_link}
+use Rattle.ide_types.specs.declared.plan.PeerPlan.{PeerPlan}
 use Rattle.ide_types.specs.Ports.{host_port}
-unfoldable use Rattle.interface_states.specs.Peers.{peer_end}
+unfoldable use Rattle.spec_interfaces.specs.Peers.{peer_end}
 use Rattle.line_arrivals.proofs.{peer_end_is}
 use Rattle.link_events.specs.declared.event.Loss.{Loss}
-use Rattle.interface_answers.specs.{PairEnds, secure_with, OperatesIn, OperatesOnLink, OperatesOnPair, line_place}
-use Rattle.interface_answers.specs.{changed_at, port_at_place, live_of, live_at_port, pair_port, settled_ends}
-use Rattle.interface_answers.specs.{settled_link, settled_below, settled_peer, cleared_place, cleared_ends, cleared_on}
-use Rattle.interface_answers.specs.{all_cleared, unlocked_ends, unlocked_link, reset_all, LinePlace, Link, Near, Pair}
-use Rattle.tdi_state.specs.Machine.{Tdi, StreamLeft, tdi_after, bound_stream, after_failure, bindings_left}
-use Rattle.tdi_state.specs.declared.bindings.Binding.{Binding}
-use Rattle.tdi_state.specs.declared.states.TdiState.{TdiState}
-use Rattle.tdi_state.specs.declared.states.TdiState.TheVariants.{ConfigUnlocked, ConfigLocked, Run, Error}
-use Rattle.tdi_device.specs.Replies.{DeviceTdis, settled_tdi, settled_tdis, is_left, any_left}
-use Rattle.tsm_host.specs.declared.operation.Op.{Op as OpCall}
-use Rattle.tsm_host.specs.declared.operation.Outcome.{Outcome}
-use Rattle.interface_answers.proofs.{each_set, seen_same}
+use Rattle.line_arrivals.specs.{PairEnds, secure_with, OperatesIn, OperatesOnLink, OperatesOnPair, line_place}
+use Rattle.line_arrivals.specs.{changed_at, port_at_place, live_of, live_at_port, pair_port, settled_ends}
+use Rattle.line_arrivals.specs.{settled_link, settled_first_links, settled_peer, cleared_place, cleared_ends}
+use Rattle.line_arrivals.specs.{cleared_on}
+use Rattle.line_arrivals.specs.{all_cleared, unlocked_ends, unlocked_link, reset_all, LinePlace, Link, Near, Pair}
+use Rattle.interface_state.specs.Machine.{Tdi, StreamLeft, tdi_after, bound_link_stream, after_failure, bindings_left}
+use Rattle.interface_state.specs.declared.bindings.Binding.{Binding}
+use Rattle.interface_state.specs.declared.states.TdiState.{TdiState}
+use Rattle.interface_state.specs.declared.states.TdiState.TheVariants.{ConfigUnlocked, ConfigLocked, Run, Error}
+use Rattle.interface_device.specs.Replies.{DeviceTdis, settled_interface, settled_interfaces, is_left, any_left}
+use Rattle.tsm_host.specs.declared.operation.NamedOperation.{NamedOperation as OpCall}
+use Rattle.tsm_host.specs.declared.operation.StreamOutcome.{StreamOutcome}
+use Rattle.line_arrivals.proofs.{each_set, seen_same}
 use Rattle.line_arrivals.specs.Follows.{IsSettledOrSame, AllFollow}
 use Rattle.line_arrivals.proofs.Follows.{changed_other}
 use Rattle.all_links.specs.Sides.{reset_if}
@@ -98,63 +99,65 @@ left_twice t = λ i. record {
   bindings = bindings_twice t.state t.bindings i;
 }
 
-tdi_twice : (f : ℕ → Bool) (t : Tdi) → settled_tdi f (settled_tdi f t) ≡ settled_tdi f t
-tdi_twice f t = by (is_left f (bound_stream t.state) || any_left f t.bindings) refl
+interface_twice : (f : ℕ → Bool) (t : Tdi) → settled_interface f (settled_interface f t) ≡ settled_interface f t
+interface_twice f t = by (is_left f (bound_link_stream t.state) || any_left f t.bindings) refl
   where
     again : (b : Bool) → (if b then tdi_after (tdi_after t StreamLeft) StreamLeft else tdi_after t StreamLeft)
         ≡ tdi_after t StreamLeft
     again true = left_twice t
     again false = refl
 
-    by : (b : Bool) → (is_left f (bound_stream t.state) || any_left f t.bindings) ≡ b
-        → settled_tdi f (if b then tdi_after t StreamLeft else t) ≡ (if b then tdi_after t StreamLeft else t)
+    by : (b : Bool) → (is_left f (bound_link_stream t.state) || any_left f t.bindings) ≡ b
+        → settled_interface f (if b then tdi_after t StreamLeft else t) ≡ (if b then tdi_after t StreamLeft else t)
     by true is = let u : Tdi = tdi_after t StreamLeft in
-        again (is_left f (bound_stream u.state) || any_left f u.bindings)
+        again (is_left f (bound_link_stream u.state) || any_left f u.bindings)
     by false is = ap (λ (b : Bool). if b then tdi_after t StreamLeft else t) is
 
-each_twice : (f : ℕ → Bool) (ts : List Tdi) → map (settled_tdi f) (map (settled_tdi f) ts) ≡ map (settled_tdi f) ts
+each_twice : (f : ℕ → Bool) (ts : List Tdi) → map (settled_interface f) (map (settled_interface f) ts)
+    ≡ map (settled_interface f) ts
 each_twice f [] = refl
-each_twice f (t ∷ ts) = λ i. tdi_twice f t i ∷ each_twice f ts i
+each_twice f (t ∷ ts) = λ i. interface_twice f t i ∷ each_twice f ts i
 
-settled_twice : (f : ℕ → Bool) (d : DeviceTdis) → settled_tdis f (settled_tdis f d) ≡ settled_tdis f d
+settled_twice : (f : ℕ → Bool) (d : DeviceTdis) → settled_interfaces f (settled_interfaces f d) ≡ settled_interfaces f d
 settled_twice f d = ap (λ (ts : List Tdi). record d { interfaces = ts }) (each_twice f d.interfaces)
 
 -- ---- a reset
 
-all_below : (n : ℕ) (v : EndsView) (i id : ℕ) → live_on (settled_below n v) i id ≡ live_on v i id
+all_below : (n : ℕ) (v : EndsView) (i id : ℕ) → peer_live (settled_first_links n v) i id ≡ peer_live v i id
 all_below zero v i id = refl
 all_below (suc n) v i id = all_below n v i id
 
-live_below : (n : ℕ) (v : EndsView) (i : ℕ) → live_on (settled_below n v) i ≡ live_on v i
+live_below : (n : ℕ) (v : EndsView) (i : ℕ) → peer_live (settled_first_links n v) i ≡ peer_live v i
 live_below n v i = λ j id. all_below n v i id j
 
-past_below : (n : ℕ) (v : EndsView) (i : ℕ) → n ≤ i → slice_get (settled_below n v).links i ≡ slice_get v.links i
+past_below : (n : ℕ) (v : EndsView) (i : ℕ) → n ≤ i → slice_get (settled_first_links n v).links i ≡ slice_get v.links i
 past_below zero v i le = refl
 past_below (suc n) v i le =
-    changed_past (settled_below n v).links n i (settled_ends (live_on (settled_below n v) n)) (omega (arith, le))
+    changed_past (settled_first_links n v).links n i (settled_ends (peer_live (settled_first_links n v) n))
+    (omega (arith, le))
     ∙ past_below n v i (omega (arith, le))
 
 is_below : (n : ℕ) (v : EndsView) (i : ℕ) (x : LinkEnds) → i < n → slice_get v.links i ≡ Some x
-    → slice_get (settled_below n v).links i ≡ Some (settled_ends (live_on v i) x)
+    → slice_get (settled_first_links n v).links i ≡ Some (settled_ends (peer_live v i) x)
 is_below zero v i x lt is = absurd (omega (arith, lt))
 is_below (suc n) v i x lt is = by (i == n) refl (is_below n v i x)
   where
     w : EndsView
-    w = settled_below n v
+    w = settled_first_links n v
 
     by : (b : Bool) → (i == n) ≡ b
-        → (i < n → slice_get v.links i ≡ Some x → slice_get w.links i ≡ Some (settled_ends (live_on v i) x))
-        → slice_get (settled_link w n).links i ≡ Some (settled_ends (live_on v i) x)
+        → (i < n → slice_get v.links i ≡ Some x → slice_get w.links i ≡ Some (settled_ends (peer_live v i) x))
+        → slice_get (settled_link w n).links i ≡ Some (settled_ends (peer_live v i) x)
     by true same below =
         let one : i ≡ n = eqb-true i n same in
         let there = past_below n v i (omega (arith, one)) ∙ is in
-        changed_if w.links n i (settled_ends (live_on w n)) x there
+        changed_if w.links n i (settled_ends (peer_live w n)) x there
         ∙ (λ j. Some (if same j then settled_ends (live_below n v (sym one j) j) x else x))
     by false other below =
         let there = below (grind (arith, nat_tests, lt, other)) is in
-        changed_if w.links n i (settled_ends (live_on w n)) (settled_ends (live_on v i) x) there
-        ∙ (λ j. Some (if other j then settled_ends (live_on w n) (settled_ends (live_on v i) x)
-        else settled_ends (live_on v i) x))
+        changed_if w.links n i (settled_ends (peer_live w n)) (settled_ends (peer_live v i) x) there
+        ∙ (λ j. Some (if other j then settled_ends (peer_live w n) (settled_ends (peer_live v i) x)
+        else settled_ends (peer_live v i) x))
 
 abbrev interfaces_of : LinkEnds → DeviceTdis
 interfaces_of l = l.device.interfaces
@@ -170,7 +173,7 @@ each_cleared : (es : List PortName) (v : EndsView) (i : ℕ)
     → option_map interfaces_of (slice_get (all_cleared v es).links i)
     ≡ option_map interfaces_of (slice_get v.links i)
 each_cleared [] v i = refl
-each_cleared (e ∷ es) v i = each_cleared es (cleared_on v e) i ∙ one_cleared v e.side (line_place e.link) i
+each_cleared (e ∷ es) v i = each_cleared es (cleared_on v e) i ∙ one_cleared v e.side (line_place e.line) i
 
 unlocked_as : (b : Bool) (x : LinkEnds)
     → (if b then unlocked_ends x else x).device.interfaces ≡ reset_if b x.device.interfaces
@@ -179,10 +182,10 @@ unlocked_as false x = refl
 
 pub reset_device : (old : EndsView) (link : ℕ) (es : List PortName) (i : ℕ) (l l' : LinkEnds)
     → slice_get old.links i ≡ Some l → slice_get (reset_all link es old).links i ≡ Some l'
-    → l'.device.interfaces ≡ settled_tdis (secure_with l'.device.port (live_on (reset_all link es old) i))
+    → l'.device.interfaces ≡ settled_interfaces (secure_with l'.device.port (peer_live (reset_all link es old) i))
     (reset_if (i == link) l.device.interfaces)
 reset_device old link es i l l' at at' =
-    subst IsSo (sym is) (λ j. settled_tdis (secure_with y.device.port (live j)) (interfaces j))
+    subst IsSo (sym is) (λ j. settled_interfaces (secure_with y.device.port (live j)) (interfaces j))
   where
     c : EndsView
     c = all_cleared old es
@@ -203,18 +206,18 @@ reset_device old link es i l l' at at' =
     there : slice_get u.links i ≡ Some y
     there = changed_if c.links link i unlocked_ends x.0 x.1
 
-    is : l' ≡ settled_ends (live_on u i) y
-    is = same_Some l' (settled_ends (live_on u i) y)
+    is : l' ≡ settled_ends (peer_live u i) y
+    is = same_Some l' (settled_ends (peer_live u i) y)
         (sym at' ∙ is_below (length u.links) u i y (slice_get_within u.links i y there) there)
 
-    live : live_on u i ≡ live_on new i
+    live : peer_live u i ≡ peer_live new i
     live = sym (live_below (length u.links) u i)
 
     interfaces : y.device.interfaces ≡ reset_if (i == link) l.device.interfaces
     interfaces = unlocked_as (i == link) x.0 ∙ ap (λ (d : DeviceTdis). reset_if (i == link) d) x.2
 
     IsSo : LinkEnds → Type 0
-    IsSo z = z.device.interfaces ≡ settled_tdis (secure_with z.device.port (live_on new i))
+    IsSo z = z.device.interfaces ≡ settled_interfaces (secure_with z.device.port (peer_live new i))
         (reset_if (i == link) l.device.interfaces)
 
 -- ---- nothing changes
@@ -222,7 +225,7 @@ reset_device old link es i l l' at at' =
 pub all_same : (old new : EndsView) → new ≡ old → AllFollow old new
 all_same old new is j l l' at at' = inr (
   ap (λ (y : LinkEnds). y.device) (same_Some l' l (sym at' ∙ ap (λ (v : EndsView). slice_get v.links j) is ∙ at)),
-  λ id. ap (λ (v : EndsView). live_on v j id) is,
+  λ id. ap (λ (v : EndsView). peer_live v j id) is,
 )
 
 -- ---- operations
@@ -230,7 +233,7 @@ all_same old new is j l l' at at' = inr (
 -- what a device says of its streams to others, if another pair of ends changes
 other_says : (v : EndsView) (k : ℕ) (y : PairEnds) (j id : ℕ)
     → ((n : ℕ) (p : PeerPlan) (s : Side) → k ≡ 8 + n → slice_get v.peers n ≡ Some p → peer_link s p ≡ j → ⊥)
-    → live_on (record v { pairs = slice_set v.pairs k y }) j id ≡ live_on v j id
+    → peer_live (record v { pairs = slice_set v.pairs k y }) j id ≡ peer_live v j id
 other_says v k y j id other = by (peer_end v.peers 0 j id) refl
   where
     by : (o : Option PortName) → peer_end v.peers 0 j id ≡ o
@@ -240,14 +243,14 @@ other_says v k y j id other = by (peer_end v.peers 0 j id) refl
     by (Some x) is =
         let r = peer_end_is v.peers 0 j id x is in
         ap (λ (o : Option PairEnds). option_and_then (λ (l : PairEnds). live_at_port (pair_port x.side l) id) o)
-        (set_other v.pairs k (x.link - 16) y
+        (set_other v.pairs k (x.line - 16) y
         (λ same. other r.number r.peer x.side (let line = r.line_is in omega (arith, same, line)) r.peer_is r.at_link))
 
 abbrev settled_if : Bool → (ℕ → Option ℕ) → LinkEnds → LinkEnds
 settled_if b live l = if b then settled_ends live l else l
 
 abbrev IsSettledBy : (ℕ → Option ℕ) → LinkEnds → LinkEnds → Type 0
-IsSettledBy live l z = z.device.interfaces ≡ settled_tdis (secure_with z.device.port live) l.device.interfaces
+IsSettledBy live l z = z.device.interfaces ≡ settled_interfaces (secure_with z.device.port live) l.device.interfaces
 
 settled_once : (a b : Bool) (live : ℕ → Option ℕ) (l : LinkEnds) → (a || b) ≡ true
     → IsSettledBy live l (settled_if b live (settled_if a live l))
@@ -272,32 +275,32 @@ both_settle v k n y p k_is p_is j l l' at at' = by (j == p.near) (j == p.far) re
 
     -- either is the device, whose streams to others are then asked about
     as_near : (b : Bool) → near ≡ b → (x : LinkEnds)
-        → settled_if b (live_on u p.near) x ≡ settled_if b (live_on u j) x
-    as_near true same x = ap (λ (i : ℕ). settled_ends (live_on u i) x) (sym (eqb-true j p.near same))
+        → settled_if b (peer_live u p.near) x ≡ settled_if b (peer_live u j) x
+    as_near true same x = ap (λ (i : ℕ). settled_ends (peer_live u i) x) (sym (eqb-true j p.near same))
     as_near false other x = refl
 
     as_far : (b : Bool) → far ≡ b → (x : LinkEnds)
-        → settled_if b (live_on u p.far) x ≡ settled_if b (live_on u j) x
-    as_far true same x = ap (λ (i : ℕ). settled_ends (live_on u i) x) (sym (eqb-true j p.far same))
+        → settled_if b (peer_live u p.far) x ≡ settled_if b (peer_live u j) x
+    as_far true same x = ap (λ (i : ℕ). settled_ends (peer_live u i) x) (sym (eqb-true j p.far same))
     as_far false other x = refl
 
-    first : slice_get (settled_link u p.near).links j ≡ Some (settled_if near (live_on u p.near) l)
-    first = changed_if v.links p.near j (settled_ends (live_on u p.near)) l at
+    first : slice_get (settled_link u p.near).links j ≡ Some (settled_if near (peer_live u p.near) l)
+    first = changed_if v.links p.near j (settled_ends (peer_live u p.near)) l at
 
     both : slice_get (settled_peer (Some p) u).links j
-        ≡ Some (settled_if far (live_on u p.far) (settled_if near (live_on u p.near) l))
-    both = changed_if (settled_link u p.near).links p.far j (settled_ends (live_on u p.far))
-        (settled_if near (live_on u p.near) l) first
+        ≡ Some (settled_if far (peer_live u p.far) (settled_if near (peer_live u p.near) l))
+    both = changed_if (settled_link u p.near).links p.far j (settled_ends (peer_live u p.far))
+        (settled_if near (peer_live u p.near) l) first
 
-    is : l' ≡ settled_if far (live_on u j) (settled_if near (live_on u j) l)
-    is = same_Some l' (settled_if far (live_on u p.far) (settled_if near (live_on u p.near) l)) (sym at' ∙ both)
-        ∙ as_far far refl (settled_if near (live_on u p.near) l)
-        ∙ ap (λ (x : LinkEnds). settled_if far (live_on u j) x) (as_near near refl l)
+    is : l' ≡ settled_if far (peer_live u j) (settled_if near (peer_live u j) l)
+    is = same_Some l' (settled_if far (peer_live u p.far) (settled_if near (peer_live u p.near) l)) (sym at' ∙ both)
+        ∙ as_far far refl (settled_if near (peer_live u p.near) l)
+        ∙ ap (λ (x : LinkEnds). settled_if far (peer_live u j) x) (as_near near refl l)
 
-    settles : (a b : Bool) → near ≡ a → far ≡ b → (a || b) ≡ true → IsSettledBy (live_on u j) l l'
-    settles a b a_is b_is some = subst (λ (x : LinkEnds). IsSettledBy (live_on u j) l x)
-        (sym (is ∙ (λ i. settled_if (b_is i) (live_on u j) (settled_if (a_is i) (live_on u j) l))))
-        (settled_once a b (live_on u j) l some)
+    settles : (a b : Bool) → near ≡ a → far ≡ b → (a || b) ≡ true → IsSettledBy (peer_live u j) l l'
+    settles a b a_is b_is some = subst (λ (x : LinkEnds). IsSettledBy (peer_live u j) l x)
+        (sym (is ∙ (λ i. settled_if (b_is i) (peer_live u j) (settled_if (a_is i) (peer_live u j) l))))
+        (settled_once a b (peer_live u j) l some)
 
     apart : near ≡ false → far ≡ false → (m : ℕ) (q : PeerPlan) (s : Side) → k ≡ 8 + m → slice_get v.peers m ≡ Some q
         → peer_link s q ≡ j → ⊥
@@ -315,11 +318,11 @@ both_settle v k n y p k_is p_is j l l' at at' = by (j == p.near) (j == p.far) re
     by false true a_is b_is = inl (settles false true a_is b_is refl)
     by false false a_is b_is = inr (
       ap (λ (x : LinkEnds). x.device)
-          (is ∙ (λ i. settled_if (b_is i) (live_on u j) (settled_if (a_is i) (live_on u j) l))),
+          (is ∙ (λ i. settled_if (b_is i) (peer_live u j) (settled_if (a_is i) (peer_live u j) l))),
       λ id. other_says v k y j id (apart a_is b_is),
     )
 
-module _ (old : EndsView) (k : KeeperView) (c : OpCall) (loss : Option Loss) (outcome : Outcome) (ends : EndsView)
+module _ (old : EndsView) (k : KeeperView) (c : OpCall) (loss : Option Loss) (outcome : StreamOutcome) (ends : EndsView)
     (k' : KeeperView) where
   on_link : (i : ℕ) (l : LinkEnds) → slice_get old.links i ≡ Some l
       → OperatesOnLink old i k c loss outcome ends k' l → AllFollow old ends

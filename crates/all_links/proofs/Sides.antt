@@ -2,36 +2,37 @@
 -- alone; what an operation on a stream tells the manager of interfaces goes by the cases of its outcome (`told_here`).
 use Rattle.all_links.proofs.Terms.{◌≡◌, ℕ, ◌+◌, ◌==◌, ◌<◌, not, Bool, true, false, List, length, refl, ap, sym}
 use Rattle.all_links.proofs.Terms.{◌∙◌, subst, arith, nat_tests, Option, Some, None, slice_get, slice_set, EndsView}
-use Rattle.all_links.proofs.Terms.{none-some, same_Some, true-lt, nat_lt, IsSome, if◌then◌else◌, Verdict, Op}
+use Rattle.all_links.proofs.Terms.{none-some, same_Some, true-lt, nat_lt, IsSome, if◌then◌else◌, Verdict, StreamStage}
 use Rattle.all_links.proofs.Terms.{LinkEnds, Links, InterfacesView, ManagerView, Named, named, stream_named, OperatesAt}
-use Rattle.all_links.proofs.Terms.{ResetsAt, PortName, live_on, port_on, work_of}
-use Rattle.all_links.proofs.Terms.{told_at, drawn_at, nat_le}
+use Rattle.all_links.proofs.Terms.{ResetsAt, PortName, peer_live, port_on, work_of}
+use Rattle.all_links.proofs.Terms.{told_by_line, drawn_at, nat_le}
 use Rattle.std.proofs.Common.{◌&&◌}
 use Rattle.std.specs.Prelude.{IfSome}
 use Rattle.link_events.specs.declared.event.Loss.{Loss}
 use Rattle.link_verdicts.specs.declared.verdict.Operation.{Operation}
 use Rattle.link_verdicts.specs.declared.verdict.Operation.TheVariants as operation
-use Rattle.tsm_host.specs.declared.operation.Op.{Op as OpCall}
-use Rattle.tsm_host.specs.declared.operation.Op.TheVariants as call
-use Rattle.tsm_host.specs.declared.operation.Outcome.{Outcome}
+use Rattle.tsm_host.specs.declared.operation.NamedOperation.{NamedOperation as OpCall}
+use Rattle.tsm_host.specs.declared.operation.NamedOperation.TheVariants as call
+use Rattle.tsm_host.specs.declared.operation.StreamOutcome.{StreamOutcome}
 use Rattle.tsm_host.specs.Operations.{OpName, op_name}
 use Rattle.tsm_host.specs.Walk.{verdict_of}
-use Rattle.tdi_state.specs.Machine.{Tdi, Call}
-use Rattle.tdi_host.specs.declared.operation.InterfaceOp.{InterfaceOp}
-use Rattle.tdi_host.specs.declared.operation.Outcome.{Outcome as Outcome'}
-use Rattle.tdi_host.specs.Managers.{reset_interface_manager}
-use Rattle.tdi_ends.specs.Keepers.{Ended}
-use Rattle.interface_answers.specs.{operated_on, HostKeeper, AsksAt, CallsAt, told_in, drawn_in, line_place, LinePlace}
-use Rattle.interface_answers.specs.{Link, Near, Pair, secure_with, told}
+use Rattle.interface_state.specs.Machine.{Tdi, Call}
+use Rattle.interface_host.specs.declared.operation.InterfaceOperation.{InterfaceOperation}
+use Rattle.interface_host.specs.declared.operation.InterfaceOutcome.{InterfaceOutcome as Outcome'}
+use Rattle.interface_host.specs.Managers.{reset_interface_manager}
+use Rattle.interface_ends.specs.Keepers.{Ended}
+use Rattle.line_arrivals.specs.{operated_on, HostKeeper, AsksAt, CallsAt, told_by_place, drawn_in, line_place}
+use Rattle.line_arrivals.specs.{LinePlace}
+use Rattle.line_arrivals.specs.{Link, Near, Pair, secure_with, told}
 use Rattle.all_links.specs.Interfaces.{interface_named, has_peer_in}
-use Rattle.all_links.specs.Sides.{SidesKeep, told_by, peers_drawn, SidesOperate, SidesReset, SidesAsk, SidesPeer}
+use Rattle.all_links.specs.Sides.{SidesKeep, told_on_line, peers_drawn, SidesOperate, SidesReset, SidesAsk, SidesPeer}
 use Rattle.all_links.specs.Sides.{called_if, SidesCall}
 use Rattle.all_links.proofs.Asked.{if_some, is_found, set_back, with_interfaces}
 use Rattle.all_links.proofs.Settled.{all_same, reset_device, operated_follow}
 use Rattle.all_links.specs.Sides.{told_by_link, told_by_peer, works_on, reset_if}
 use Rattle.ide_types.specs.Ports.{host_port}
-use Rattle.interface_states.specs.Views.{peer_of}
-use Rattle.tdi_device.specs.Replies.{settled_tdis}
+use Rattle.spec_interfaces.specs.Views.{peer_of}
+use Rattle.interface_device.specs.Replies.{settled_interfaces}
 use Rattle.all_links.proofs.Terms.{◌-◌}
 
 -- ---- nothing
@@ -74,7 +75,8 @@ reset_beside old link es ends k here ends_are keeper draws =
       contents = refl;
       peer_draws = draws;
       devices = λ there i l l' at at'.
-          subst (λ (v : EndsView). l'.device.interfaces ≡ settled_tdis (secure_with l'.device.port (live_on v i))
+          subst (λ (v : EndsView). l'.device.interfaces ≡ settled_interfaces
+          (secure_with l'.device.port (peer_live v i))
           (reset_if (i == link) l.device.interfaces)) (sym ends_are)
           (reset_device old.ends link es i l l' at
           (ap (λ (v : EndsView). slice_get v.links i) (sym ends_are) ∙ at'));
@@ -84,7 +86,7 @@ reset_beside old link es ends k here ends_are keeper draws =
 
 -- ---- operations of the manager on interfaces
 
-pub nothing_asked : {old new : Links} (n : ℕ) (o : InterfaceOp) (loss : Option Loss)
+pub nothing_asked : {old new : Links} (n : ℕ) (o : InterfaceOperation) (loss : Option Loss)
     → None ≡ interface_named old.keeper.interfaces old.ends.links n → new ≡ record old { steps = old.steps + 1 }
     → SidesAsk n o loss old new
 nothing_asked {old} {new} n o loss nowhere is = record {
@@ -94,7 +96,8 @@ nothing_asked {old} {new} n o loss nowhere is = record {
   asked = λ at l x named_is link_there kept_there. absurd (none-some at (nowhere ∙ named_is));
 }
 
-pub asked_beside : (old new : Links) (n : ℕ) (at : ℕ × ℕ) (o : InterfaceOp) (loss : Option Loss) (outcome : Outcome')
+pub asked_beside : (old new : Links) (n : ℕ) (at : ℕ × ℕ) (o : InterfaceOperation) (loss : Option Loss)
+    (outcome : Outcome')
     (ends : EndsView) (k : HostKeeper) → Some at ≡ interface_named old.keeper.interfaces old.ends.links n
     → AsksAt old.ends at.0 old.keeper n o loss outcome ends k
     → new ≡ record old { ends = ends; keeper = k; steps = old.steps + 1 } → SidesAsk n o loss old new
@@ -106,7 +109,7 @@ asked_beside old new n at o loss outcome ends k here asks is = record {
   asked = λ place l x named_is link_there kept_there.
       let same : at ≡ place = same_Some at place (here ∙ named_is) in
       let a = subst (λ (p : ℕ × ℕ). AsksAt old.ends p.0 old.keeper n o loss outcome ends k) same asks l link_there in
-      let e : Ended = operated_on n o loss old.keeper.keys (live_on old.ends place.0) old.keeper.interfaces l x in
+      let e : Ended = operated_on n o loss old.keeper.keys (peer_live old.ends place.0) old.keeper.interfaces l x in
       let came = a.2.ended x kept_there in (
         ap (λ (s : Links). s.keeper.interfaces) is ∙ came.manager_is,
         ap (λ (s : Links). s.ends) is ∙ a.1
@@ -116,7 +119,7 @@ asked_beside old new n at o loss outcome ends k here asks is = record {
 }
 
 -- one on a stream between devices that is not there, and one on one that is
-pub no_peer_beside : {old new : Links} (n line stream : ℕ) (o : InterfaceOp) (loss : Option Loss)
+pub no_peer_beside : {old new : Links} (n line stream : ℕ) (o : InterfaceOperation) (loss : Option Loss)
     → (nat_lt stream 256 && has_peer_in old.keeper old.ends n line stream) ≡ false
     → new ≡ record old { steps = old.steps + 1 } → SidesPeer n line stream o loss old new
 no_peer_beside {old} {new} n line stream o loss none is = record {
@@ -130,7 +133,7 @@ no_peer_beside {old} {new} n line stream o loss none is = record {
         let low : nat_lt stream 256 ≡ true = grind (arith, nat_tests, small) in
         let both : true ≡ false = sym (λ i. low i && has i) ∙ none in cc
 
-pub peer_beside : (old new : Links) (n line stream : ℕ) (o : InterfaceOp) (loss : Option Loss) → stream < 256
+pub peer_beside : (old new : Links) (n line stream : ℕ) (o : InterfaceOperation) (loss : Option Loss) → stream < 256
     → has_peer_in old.keeper old.ends n line stream ≡ true → SidesAsk n o loss old new
     → SidesPeer n line stream o loss old new
 peer_beside old new n line stream o loss small has x = record {
@@ -201,27 +204,29 @@ not_peers : (line : ℕ) → nat_lt line 16 ≡ true → nat_le 24 line ≡ fals
 not_peers line low = grind (arith, nat_tests, low)
 
 -- where no stream of a link is
-module _ (q : Op) (before after : ℕ) (m : InterfacesView) where
+module _ (q : StreamStage) (before after : ℕ) (m : InterfacesView) where
   abbrev drew : Bool
   drew = not (after == before)
 
-  told_link : (c : OpCall) (loss : Option Loss) (result : Outcome) (verdict : Verdict)
-      → verdict_of (op_name c).operation (op_name c).link (op_name c).stream loss result ≡ Some verdict
+  told_link : (c : OpCall) (loss : Option Loss) (result : StreamOutcome) (verdict : Verdict)
+      → verdict_of (op_name c).operation (op_name c).line (op_name c).stream loss result ≡ Some verdict
       → told c (work_of (op_name c).operation q 0).begins drew before result m
-      ≡ told_by_link (op_name c).operation (op_name c).link (op_name c).stream q before after verdict m
+      ≡ told_by_link (op_name c).operation (op_name c).line (op_name c).stream q before after verdict m
   told_link (call.Establish link id) loss result verdict says = refl
   told_link (call.Stop link id) loss result verdict says = refl
   told_link (call.Refresh link id) loss result verdict says = grind arith
 
   -- of another line
-  told_other : (c : OpCall) (begins : Bool) (result : Outcome) (near : Bool)
-      → nat_lt (op_name c).link 16 ≡ near
-      → told_in (if near then Near ((op_name c).link - 8) else Pair ((op_name c).link - 16)) c begins drew before result
+  told_other : (c : OpCall) (begins : Bool) (result : StreamOutcome) (near : Bool)
+      → nat_lt (op_name c).line 16 ≡ near
+      → told_by_place (if near then Near ((op_name c).line - 8) else Pair ((op_name c).line - 16)) c begins drew before
+      result
       m
-      ≡ (if nat_le 24 (op_name c).link then told_by_peer (op_name c).operation (op_name c).link m else m)
+      ≡ (if nat_le 24 (op_name c).line then told_by_peer (op_name c).operation (op_name c).line m else m)
   told_other (call.Establish link id) begins result near is = both near (nat_le 24 link)
     where
-      both : (a b : Bool) → told_in (if a then Near (link - 8) else Pair (link - 16)) (call.Establish link id) begins
+      both : (a b : Bool) → told_by_place (if a then Near (link - 8) else Pair (link - 16)) (call.Establish link id)
+          begins
           drew
           before result m ≡ (if b then m else m)
       both true true = refl
@@ -230,7 +235,8 @@ module _ (q : Op) (before after : ℕ) (m : InterfacesView) where
       both false false = refl
   told_other (call.Refresh link id) begins result near is = both near (nat_le 24 link)
     where
-      both : (a b : Bool) → told_in (if a then Near (link - 8) else Pair (link - 16)) (call.Refresh link id) begins drew
+      both : (a b : Bool) → told_by_place (if a then Near (link - 8) else Pair (link - 16)) (call.Refresh link id)
+          begins drew
           before result m ≡ (if b then m else m)
       both true true = refl
       both true false = refl
@@ -240,23 +246,24 @@ module _ (q : Op) (before after : ℕ) (m : InterfacesView) where
       sym (ap (λ (b : Bool). if b then told_by_peer operation.Stop link m else m) (not_peers link is))
   told_other (call.Stop link id) begins result false is = refl
 
-  told_here : (c : OpCall) (loss : Option Loss) (result : Outcome) (verdict : Verdict)
-      → verdict_of (op_name c).operation (op_name c).link (op_name c).stream loss result ≡ Some verdict
-      → told_at (op_name c).link c (work_of (op_name c).operation q 0).begins drew before result m
-      ≡ told_by (op_name c).operation (op_name c).link (op_name c).stream q before after verdict m
-  told_here c loss result verdict says = by (nat_lt (op_name c).link 8) refl
+  told_here : (c : OpCall) (loss : Option Loss) (result : StreamOutcome) (verdict : Verdict)
+      → verdict_of (op_name c).operation (op_name c).line (op_name c).stream loss result ≡ Some verdict
+      → told_by_line (op_name c).line c (work_of (op_name c).operation q 0).begins drew before result m
+      ≡ told_on_line (op_name c).operation (op_name c).line (op_name c).stream q before after verdict m
+  told_here c loss result verdict says = by (nat_lt (op_name c).line 8) refl
     where
-      by : (b : Bool) → nat_lt (op_name c).link 8 ≡ b
-          → told_in (if b then Link (op_name c).link else if nat_lt (op_name c).link 16 then Near ((op_name c).link - 8)
-          else Pair ((op_name c).link - 16)) c (work_of (op_name c).operation q 0).begins drew before result m
-          ≡ (if b then told_by_link (op_name c).operation (op_name c).link (op_name c).stream q before after verdict m
-          else if nat_le 24 (op_name c).link then told_by_peer (op_name c).operation (op_name c).link m else m)
+      by : (b : Bool) → nat_lt (op_name c).line 8 ≡ b
+          → told_by_place (if b then Link (op_name c).line else if nat_lt (op_name c).line 16 then Near
+          ((op_name c).line - 8)
+          else Pair ((op_name c).line - 16)) c (work_of (op_name c).operation q 0).begins drew before result m
+          ≡ (if b then told_by_link (op_name c).operation (op_name c).line (op_name c).stream q before after verdict m
+          else if nat_le 24 (op_name c).line then told_by_peer (op_name c).operation (op_name c).line m else m)
       by true is = told_link c loss result verdict says
-      by false is = told_other c (work_of (op_name c).operation q 0).begins result (nat_lt (op_name c).link 16) refl
+      by false is = told_other c (work_of (op_name c).operation q 0).begins result (nat_lt (op_name c).line 16) refl
 
 drawn_here : (c : OpCall) (before after : ℕ) (draws : List ℕ)
-    → drawn_at (op_name c).link c (not (after == before)) before draws
-    ≡ peers_drawn (op_name c).operation (op_name c).link before after draws
+    → drawn_at (op_name c).line c (not (after == before)) before draws
+    ≡ peers_drawn (op_name c).operation (op_name c).line before after draws
 drawn_here (call.Establish link id) before after draws = by (nat_lt link 8) refl
   where
     drawn : Bool → List ℕ
@@ -312,8 +319,8 @@ not_operated {old} {new} operation.Refresh line id verdict not is = record {
   drawn = λ n there_is named_is. ap (λ (s : Links). s.keeper.peer_draws) is;
 }
   where
-    nothing_told : (q : Op) (after : ℕ) (m : InterfacesView)
-        → told_by operation.Refresh line id q old.keeper.keys.pool.draws after verdict m ≡ m
+    nothing_told : (q : StreamStage) (after : ℕ) (m : InterfacesView)
+        → told_on_line operation.Refresh line id q old.keeper.keys.pool.draws after verdict m ≡ m
     nothing_told q after m =
         ap (λ (b : Bool). if b then told_by_link operation.Refresh line id q old.keeper.keys.pool.draws after verdict m
         else if nat_le 24 line then m else m) not ∙ both (nat_le 24 line)
@@ -323,15 +330,15 @@ not_operated {old} {new} operation.Refresh line id verdict not is = record {
         both false = refl
 
 pub operated_beside : (old : Links) (ends : EndsView) (k : HostKeeper) (c : OpCall) (operation : Operation)
-    (line id : ℕ) (loss : Option Loss) (result : Outcome) (verdict : Verdict)
+    (line id : ℕ) (loss : Option Loss) (result : StreamOutcome) (verdict : Verdict)
     → Some (line, id) ≡ stream_named old.keeper.keys.manager old.ends line id
     → IsSome (port_on old.ends (host_port line))
-    → op_name c ≡ record { operation = operation; link = line; stream = id }
+    → op_name c ≡ record { operation = operation; line = line; stream = id }
     → OperatesAt old.ends line old.keeper.keys c loss result ends k.keys
-    → IfSome (named old.keeper.keys.manager (op_name c).link (op_name c).stream) (λ (n : Named).
-    k.interfaces ≡ told_at (op_name c).link c (work_of (op_name c).operation n.stream.op 0).begins
+    → IfSome (named old.keeper.keys.manager (op_name c).line (op_name c).stream) (λ (n : Named).
+    k.interfaces ≡ told_by_line (op_name c).line c (work_of (op_name c).operation n.stream.op 0).begins
     (not (k.keys.pool.draws == old.keeper.keys.pool.draws)) old.keeper.keys.pool.draws result old.keeper.interfaces)
-    → k.peer_draws ≡ drawn_at (op_name c).link c (not (k.keys.pool.draws == old.keeper.keys.pool.draws))
+    → k.peer_draws ≡ drawn_at (op_name c).line c (not (k.keys.pool.draws == old.keeper.keys.pool.draws))
     old.keeper.keys.pool.draws old.keeper.peer_draws
     → verdict_of operation line id loss result ≡ Some verdict
     → SidesOperate operation line id verdict old (record old { ends = ends; keeper = k; steps = old.steps + 1 })
@@ -344,15 +351,15 @@ operated_beside old ends k c operation line id loss result verdict found here na
       contents = refl;
       unnamed = λ none. absurd (none-some (line, id) (sym none ∙ sym found));
       told = λ n at named_is.
-          let same : named m (op_name c).link (op_name c).stream ≡ Some n =
-          ap (λ (x : OpName). named m x.link x.stream) name ∙ named_is in
-          if_some (λ (y : Named). k.interfaces ≡ told_at (op_name c).link c
+          let same : named m (op_name c).line (op_name c).stream ≡ Some n =
+          ap (λ (x : OpName). named m x.line x.stream) name ∙ named_is in
+          if_some (λ (y : Named). k.interfaces ≡ told_by_line (op_name c).line c
           (work_of (op_name c).operation y.stream.op 0).begins (not (after == before)) before result
-          old.keeper.interfaces) (named m (op_name c).link (op_name c).stream) n same tells
+          old.keeper.interfaces) (named m (op_name c).line (op_name c).stream) n same tells
           ∙ told_here n.stream.op before after old.keeper.interfaces c loss result verdict
-          (subst (λ (x : OpName). verdict_of x.operation x.link x.stream loss result ≡ Some verdict) (sym name) says)
-          ∙ ap (λ (x : OpName). told_by x.operation x.link x.stream n.stream.op before after verdict
+          (subst (λ (x : OpName). verdict_of x.operation x.line x.stream loss result ≡ Some verdict) (sym name) says)
+          ∙ ap (λ (x : OpName). told_on_line x.operation x.line x.stream n.stream.op before after verdict
           old.keeper.interfaces) name;
       drawn = λ n at named_is. draws ∙ drawn_here c before after old.keeper.peer_draws
-          ∙ ap (λ (x : OpName). peers_drawn x.operation x.link before after old.keeper.peer_draws) name;
+          ∙ ap (λ (x : OpName). peers_drawn x.operation x.line before after old.keeper.peer_draws) name;
     }

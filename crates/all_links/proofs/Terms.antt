@@ -1,5 +1,5 @@
 -- What the proofs of this crate name from other modules.
-pub use Rattle.ide_plan.specs.declared.plan.Plan.{Plan}
+pub use Rattle.ide_types.specs.declared.plan.Plan.{Plan}
 pub use Rattle.ide_port.specs.{IsSentAtPort, PortEnd, SendStep, lengths_sent, send_step, sent_verdict}
 pub use Rattle.ide_port.specs.declared.answer.Sent.{Sent}
 pub use Rattle.ide_stream.specs.{joined_packets}
@@ -7,29 +7,31 @@ pub use Rattle.ide_types.specs.declared.port.PortName.{PortName}
 pub use Rattle.ide_types.specs.declared.port.Side.{Side}
 pub use Rattle.ide_types.specs.declared.port.Side.TheVariants.{Device, Host}
 pub use Rattle.ide_types.specs.declared.status.StreamStatus.{StreamStatus}
-pub use Rattle.key_laws.proofs.Tests.{true-lt}
-pub use Rattle.key_laws.specs.History.{History}
-pub use Rattle.key_laws.specs.Operations.{Op, work_of}
-pub use Rattle.interface_answers.specs.{OperatesAt, ResetsAt, SendsAt, both_of, statuses_of, told_at, drawn_at}
-pub use Rattle.interface_answers.specs.{EndsView, live_on, port_on, trusting_on, with_port_on, stream_named, AreLinks}
-pub use Rattle.interface_answers.specs.{IsBounded, ports_in, state_of, port_in, with_port, KeeperView, LinkEnds}
-pub use Rattle.interface_answers.specs.{InterfacesView}
+pub use Rattle.spec_keys.proofs.Tests.{true-lt}
+pub use Rattle.spec_keys.specs.History.{History}
+pub use Rattle.spec_keys.specs.Operations.{StreamStage, work_of}
+pub use Rattle.line_arrivals.specs.{OperatesAt, ResetsAt, SendsAt, both_of, statuses_of, told_by_line, drawn_at}
+pub use Rattle.line_arrivals.specs.{EndsView, peer_live, port_on, trusting_on, with_port_on, stream_named, AreLinks}
+pub use Rattle.line_arrivals.specs.{IsBounded, ports_in, state_of, port_in, with_port, KeeperView, LinkEnds}
+pub use Rattle.line_arrivals.specs.{InterfacesView}
 pub use Rattle.all_links.specs.Events.{operation_event}
 pub use Rattle.all_links.specs.States.{links_state}
-pub use Rattle.all_links.specs.Links.{Ends, EndsBy, EndsIf, EndsAs, EndsSending, EndsWith, HasNoVerdict, StandsForSome}
+pub use Rattle.all_links.specs.Links.{Ends, StepEndsBy, EndsIf, EndsAs, EndsSending, EndsWith, HasNoVerdict}
+pub use Rattle.all_links.specs.Links.{StandsForSome}
 pub use Rattle.all_links.specs.Besides.{IsAnsweredBy, answer_of_links, beside_in}
 pub use Rattle.all_links.specs.declared.links.Links.{Links}
 pub use Rattle.link_events.specs.declared.event.Event.TheVariants.{Interface, Dump, Reset, Send, Status}
 pub use Rattle.trusted_memory.specs.{MemoryContents}
-pub use Rattle.ide_plan.specs.declared.plan.Region.{Region}
-pub use Rattle.link_history.specs.Plan.{has_port}
-pub use Rattle.link_ports.specs.Machine.{Beside, LinkPacket, LinkState, Stepped, stepped_bytes, kept_at, reset_state}
-pub use Rattle.link_ports.specs.Machine.{status_at, status_found}
-pub use Rattle.stream_rules.specs.Stream.{StreamState}
-unfoldable pub use Rattle.link_ports.specs.Machine.{step_of}
-pub use Rattle.link_ports.specs.Stands.{PortsStandFor}
+pub use Rattle.ide_types.specs.declared.plan.Region.{Region}
+pub use Rattle.spec_links.specs.Plan.{has_port}
+pub use Rattle.machine_ports.specs.Machine.{BesidePorts, LinkPacket, LinkState, Stepped, stepped_bytes, kept_packet}
+pub use Rattle.machine_ports.specs.Machine.{reset_state}
+pub use Rattle.machine_ports.specs.Machine.{machine_status, status_found}
+pub use Rattle.spec_stream.specs.Stream.{StreamState}
+unfoldable pub use Rattle.machine_ports.specs.Machine.{step_of}
+pub use Rattle.machine_ports.specs.Stands.{PortsStandFor}
 pub use Rattle.link_verdicts.specs.declared.verdict.Verdict.{Verdict}
-pub use Rattle.link_walks.specs.Joined.{OperationsJoin}
+pub use Rattle.join_keys.specs.Joined.{OperationsJoin}
 pub use Rattle.std.proofs.Common.{Bool, List, [], ap, arith, drop, false, length, refl, subst, suc, sym, take, true}
 pub use Rattle.std.proofs.Common.{zero, ℕ, ◌++◌, ◌+◌, ◌-◌, ◌<◌, ◌==◌, ◌∙◌, ◌∷◌, ◌≡◌, ◌≤◌}
 pub use Rattle.std.proofs.Math.Seq.{take-append_seam}

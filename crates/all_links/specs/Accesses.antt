@@ -4,12 +4,13 @@ use Rattle.std.specs.Option.{option_map_or, option_and_then}
 use Rattle.ide_types.specs.declared.sub.SubKind.TheVariants.{Pr}
 use Rattle.link_verdicts.specs.declared.verdict.Verdict.{Verdict}
 use Rattle.link_verdicts.specs.declared.verdict.Verdict.TheVariants as v
-use Rattle.tdi_state.specs.Machine.{Tdi}
-use Rattle.interface_states.specs.Devices.{is_run}
+use Rattle.interface_state.specs.Machine.{Tdi}
+use Rattle.spec_interfaces.specs.Devices.{is_run}
 use Rattle.ide_port.specs.{receiving_draw_in}
-use Rattle.interface_answers.specs.{LinkEnds}
+use Rattle.line_arrivals.specs.{LinkEnds}
 pub use Rattle.line_arrivals.specs.{reads_at, floors_at, sizes_at, mmio_at, standings_of_ends, policy_in, AreLeftBy}
-pub use Rattle.line_arrivals.specs.{AccessesTurn, AccessesStay, same_reads, same_floors, nothing_happens, carried_at}
+pub use Rattle.line_arrivals.specs.{AccessesTurn, AccessesStay, same_reads, same_floors, nothing_happens}
+pub use Rattle.line_arrivals.specs.{carried_on_link}
 pub use Rattle.line_arrivals.specs.{same_carried, Brings}
 use Rattle.all_links.specs.declared.links.Links.{Links}
 use Rattle.all_links.specs.Interfaces.{tdi_named}

@@ -5,14 +5,14 @@ use Rattle.link_events.specs.declared.event.Event.TheVariants.{Interface}
 use Rattle.link_events.specs.declared.event.InterfaceEvent.{InterfaceEvent}
 use Rattle.link_events.specs.declared.event.Loss.{Loss}
 use Rattle.link_verdicts.specs.declared.verdict.Verdict.{Verdict}
-use Rattle.link_ports.specs.Machine.{Beside}
-use Rattle.tdi_host.specs.declared.operation.InterfaceOp.{InterfaceOp}
-use Rattle.interface_answers.specs.{trusting_on}
+use Rattle.machine_ports.specs.Machine.{BesidePorts}
+use Rattle.interface_host.specs.declared.operation.InterfaceOperation.{InterfaceOperation}
+use Rattle.line_arrivals.specs.{trusting_on}
 use Rattle.all_links.specs.declared.links.Links.{Links}
 use Rattle.all_links.specs.Interfaces.{ended_in, verdict_at_ends, verdict_in}
 
 -- T is theirs; all else is said elsewhere
-abbrev pub beside_in : Links → Beside → Beside
+abbrev pub beside_in : Links → BesidePorts → BesidePorts
 beside_in s b = record b { t = λ port head stream trusted. trusting_on s.ends port trusted head stream }
 
 -- ---- events on interfaces
@@ -22,7 +22,7 @@ abbrev pub answer_of_links : Links → InterfaceEvent → Option Verdict
 answer_of_links s e = verdict_at_ends s.ends s.keeper s.trusted.contents e
 
 -- that of an operation on an interface
-abbrev pub op_verdict : Links → ℕ → InterfaceOp → Option Loss → Option Verdict
+abbrev pub op_verdict : Links → ℕ → InterfaceOperation → Option Loss → Option Verdict
 op_verdict s n o loss = verdict_in n o loss (ended_in s.keeper s.ends n o loss)
 
 -- If the event is one on an interface, it has a verdict: it is no operation with a bad reply, nor one that lost an
@@ -31,5 +31,5 @@ abbrev pub IsAnswered : Links → Event → Type 0
 IsAnswered s event = (e : InterfaceEvent) → event ≡ Interface e → IsSome (answer_of_links s e)
 
 -- If the event is one on an interface, it has a verdict, and this answer is that verdict.
-abbrev pub IsAnsweredBy : Links → Event → Beside → Type 0
+abbrev pub IsAnsweredBy : Links → Event → BesidePorts → Type 0
 IsAnsweredBy s event b = (e : InterfaceEvent) → event ≡ Interface e → answer_of_links s e ≡ Some (b.answer e)

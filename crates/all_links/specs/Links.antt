@@ -1,19 +1,19 @@
 -- What an event makes of all links.
 use Rattle.std.specs.Prelude.{◌≡◌, ◌+◌, ℕ, Bool, true, List, [], length, replicate, Option, Some, None, Result, Ok, Err}
-use Rattle.ide_types.specs.declared.memory.Memory.{Memory}
+use Rattle.ide_types.specs.declared.memory.OutOfMemory.{OutOfMemory}
 use Rattle.ide_types.specs.declared.port.PortName.{PortName}
-use Rattle.ide_plan.specs.declared.plan.Plan.{Plan}
+use Rattle.ide_types.specs.declared.plan.Plan.{Plan}
 use Rattle.link_events.specs.declared.event.Event.{Event}
 use Rattle.link_verdicts.specs.declared.verdict.Verdict.{Verdict}
-use Rattle.key_laws.specs.History.{History}
-use Rattle.link_history.specs.Plan.{has_port}
-use Rattle.link_ports.specs.Machine.{Beside, LinkState, Stepped, step_of, stepped_bytes}
-use Rattle.link_ports.specs.Stands.{PortsStandFor}
+use Rattle.spec_keys.specs.History.{History}
+use Rattle.spec_links.specs.Plan.{has_port}
+use Rattle.machine_ports.specs.Machine.{BesidePorts, LinkState, Stepped, step_of, stepped_bytes}
+use Rattle.machine_ports.specs.Stands.{PortsStandFor}
 use Rattle.key_slots.specs.{new_pool}
 use Rattle.tsm_host.specs.Managers.{new_manager}
-use Rattle.tdi_host.specs.Managers.{new_interface_manager as new_interfaces}
+use Rattle.interface_host.specs.Managers.{new_interface_manager as new_interfaces}
 use Rattle.trusted_memory.specs.{new_memory}
-use Rattle.interface_answers.specs.{new_all_ends, AreLinks, IsBounded}
+use Rattle.line_arrivals.specs.{new_all_ends, AreLinks, IsBounded}
 use Rattle.all_links.specs.declared.links.Links.{Links}
 use Rattle.all_links.specs.Besides.{IsAnswered, IsAnsweredBy, beside_in}
 use Rattle.all_links.specs.States.{links_state}
@@ -43,19 +43,20 @@ pub record Ends (plan : Plan) (new : Links) (verdict : Verdict) (step : Stepped)
 
 -- An event with this verdict: if the links are those of the plan, and stand for some history, they are then in the
 -- state that this step gives, whatever else is said beside the ports that is so.
-pub record EndsBy (IsSo : Beside → Type 0) (step : Beside → LinkState → Stepped) (plan : Plan) (verdict : Verdict)
+pub record StepEndsBy (IsSo : BesidePorts → Type 0) (step : BesidePorts → LinkState → Stepped) (plan : Plan)
+    (verdict : Verdict)
     (old new : Links) : Type 0 where
   pub counted : new.steps ≡ old.steps + 1
   pub bounded : IsBounded new.ends new.packets.packets new.steps
   pub many : length new.ends.links ≡ length old.ends.links
   pub regions : new.trusted.contents.regions ≡ old.trusted.contents.regions
-  pub ends : (b : Beside) → IsSo b → (h : History) → AreLinks plan old.ends old.keeper.keys
+  pub ends : (b : BesidePorts) → IsSo b → (h : History) → AreLinks plan old.ends old.keeper.keys
       → PortsStandFor plan (links_state plan old) h
       → Ends plan new verdict (step (beside_in old b) (links_state plan old))
 
 -- that of the event
-abbrev pub EndsIf : (Beside → Type 0) → Plan → Verdict → Links → Links → Event → Type 0
-EndsIf IsSo plan verdict old new event = EndsBy IsSo (λ b st. step_of plan b st event) plan verdict old new
+abbrev pub EndsIf : (BesidePorts → Type 0) → Plan → Verdict → Links → Links → Event → Type 0
+EndsIf IsSo plan verdict old new event = StepEndsBy IsSo (λ b st. step_of plan b st event) plan verdict old new
 
 -- If the event is one on an interface, it has this verdict.
 abbrev pub EndsWith : Plan → Verdict → Links → Links → Event → Type 0
@@ -64,7 +65,8 @@ EndsWith plan verdict old new event = EndsIf (IsAnsweredBy old event) plan verdi
 -- Bytes are sent at an end that the topology has.
 abbrev pub EndsSending : Plan → Verdict → Links → Links → PortName → List ℕ → Bool → Bool → Type 0
 EndsSending plan verdict old new end bytes more trusted =
-    EndsBy (λ b. has_port plan end ≡ true) (λ b st. stepped_bytes plan b st end bytes more trusted) plan verdict old new
+    StepEndsBy (λ b. has_port plan end ≡ true) (λ b st. stepped_bytes plan b st end bytes more trusted) plan verdict old
+    new
 
 -- for want of memory all that is kept is as before
 pub record Stays (old new : Links) : Type 0 where
@@ -74,11 +76,11 @@ pub record Stays (old new : Links) : Type 0 where
   pub packets : new.packets.packets ≡ old.packets.packets
   pub steps : new.steps ≡ old.steps
 
-abbrev pub EndsOr : Plan → Result Verdict Memory → Links → Links → Event → Type 0
+abbrev pub EndsOr : Plan → Result Verdict OutOfMemory → Links → Links → Event → Type 0
 EndsOr plan (Ok verdict) old new event = EndsWith plan verdict old new event
 EndsOr plan (Err e) old new event = Stays old new
 
-abbrev pub EndsSendingOr : Plan → Result Verdict Memory → Links → Links → PortName → List ℕ → Bool → Bool → Type 0
+abbrev pub EndsSendingOr : Plan → Result Verdict OutOfMemory → Links → Links → PortName → List ℕ → Bool → Bool → Type 0
 EndsSendingOr plan (Ok verdict) old new end bytes more trusted = EndsSending plan verdict old new end bytes more trusted
 EndsSendingOr plan (Err e) old new end bytes more trusted = Stays old new
 
@@ -91,6 +93,6 @@ abbrev pub EndsAs : Plan → Option Verdict → Links → Links → Event → Ty
 EndsAs plan (Some verdict) old new event = EndsWith plan verdict old new event
 EndsAs plan None old new event = HasNoVerdict plan old event
 
-abbrev pub EndsAsOr : Plan → Result (Option Verdict) Memory → Links → Links → Event → Type 0
+abbrev pub EndsAsOr : Plan → Result (Option Verdict) OutOfMemory → Links → Links → Event → Type 0
 EndsAsOr plan (Ok verdict) old new event = EndsAs plan verdict old new event
 EndsAsOr plan (Err e) old new event = Stays old new

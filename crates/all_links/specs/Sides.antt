@@ -3,9 +3,9 @@
 use Rattle.std.specs.Prelude.{ℕ, ◌≡◌, ◌<◌, ◌≤◌, ◌==◌, ◌&&◌, Bool, true, false, not, List, length, slice_get, slice_set}
 use Rattle.std.specs.Prelude.{nat_le, Option, Some, None, if◌then◌else◌}
 use Rattle.ide_types.specs.Lines.{is_link_line}
-use Rattle.ide_plan.specs.declared.plan.Plan.{Plan}
-use Rattle.interface_words.specs.RegisterNames.{has_register}
-use Rattle.interface_states.specs.Views.{peer_of}
+use Rattle.ide_types.specs.declared.plan.Plan.{Plan}
+use Rattle.ide_types.specs.RegisterNames.{has_register}
+use Rattle.spec_interfaces.specs.Views.{peer_of}
 use Rattle.link_events.specs.declared.event.Event.{Event}
 use Rattle.link_events.specs.declared.event.Event.TheVariants as event
 use Rattle.link_events.specs.declared.event.InterfaceEvent.{InterfaceEvent}
@@ -15,24 +15,24 @@ use Rattle.link_verdicts.specs.declared.verdict.Operation.{Operation}
 use Rattle.link_verdicts.specs.declared.verdict.Operation.TheVariants as operation
 use Rattle.link_verdicts.specs.declared.verdict.Verdict.{Verdict}
 use Rattle.link_verdicts.specs.declared.verdict.Verdict.TheVariants as v
-use Rattle.key_laws.specs.History.{History}
-use Rattle.key_laws.specs.Operations.{Op, work_of}
-use Rattle.link_history.specs.History.{Arrival}
-use Rattle.link_ports.specs.Machine.{LinkState}
-use Rattle.link_ports.specs.Stands.{PortsStandFor}
+use Rattle.spec_keys.specs.History.{History}
+use Rattle.spec_keys.specs.Operations.{StreamStage, work_of}
+use Rattle.spec_links.specs.History.{Arrival}
+use Rattle.machine_ports.specs.Machine.{LinkState}
+use Rattle.machine_ports.specs.Stands.{PortsStandFor}
 use Rattle.tsm_host.specs.Managers.{Named, named}
-use Rattle.tdi_state.specs.Machine.{Tdi, Call, WriteRegister, LevelReset, FirmwareUpdate}
-use Rattle.tdi_device.specs.Replies.{DeviceTdis, settled_tdis, reset_tdis, called_at}
-use Rattle.tdi_host.specs.declared.operation.InterfaceOp.{InterfaceOp}
-use Rattle.tdi_host.specs.declared.operation.InterfaceOp.TheVariants as op
-use Rattle.tdi_host.specs.Views.{HostTdi}
-use Rattle.tdi_host.specs.Managers.{stream_keyed, peer_stop, reset_interface_manager}
+use Rattle.interface_state.specs.Machine.{Tdi, Call, WriteRegister, LevelReset, FirmwareUpdate}
+use Rattle.interface_device.specs.Replies.{DeviceTdis, settled_interfaces, reset_tdis, called_at}
+use Rattle.interface_host.specs.declared.operation.InterfaceOperation.{InterfaceOperation}
+use Rattle.interface_host.specs.declared.operation.InterfaceOperation.TheVariants as op
+use Rattle.interface_host.specs.Views.{HostTdi}
+use Rattle.interface_host.specs.Managers.{stream_keyed, peer_stop, reset_interface_manager}
 use Rattle.trusted_memory.specs.{Leads}
-use Rattle.interface_answers.specs.{secure_with, LinkEnds, InterfacesView, keyed_if, stopped_if, operated_on}
-use Rattle.interface_answers.specs.{arrival_of, writes_by, grants_in, EndsView, live_on, stream_named, AreLinks}
+use Rattle.line_arrivals.specs.{secure_with, LinkEnds, InterfacesView, keyed_if, stopped_if, operated_on}
+use Rattle.line_arrivals.specs.{arrival_of, writes_by, grants_in, EndsView, peer_live, stream_named, AreLinks}
 pub use Rattle.line_arrivals.specs.Follows.{IsSettledOrSame, AllFollow}
 use Rattle.all_links.specs.declared.links.Links.{Links}
-use Rattle.all_links.specs.Interfaces.{interface_named, has_peer_in, peer_stream}
+use Rattle.all_links.specs.Interfaces.{interface_named, has_peer_in, managed_peer_stream}
 use Rattle.all_links.specs.States.{links_state}
 
 -- ---- nothing
@@ -67,9 +67,8 @@ works_on o line = true
 
 -- what an operation on a stream of a link tells the manager of interfaces: an establish that drew and a refresh at its
 -- end give the stream its draw, a stop that begins breaks views; the manager's operation on the stream was this one,
--- and
--- so many draws were made before it and after it
-abbrev pub told_by_link : Operation → ℕ → ℕ → Op → ℕ → ℕ → Verdict → InterfacesView → InterfacesView
+-- and so many draws were made before it and after it
+abbrev pub told_by_link : Operation → ℕ → ℕ → StreamStage → ℕ → ℕ → Verdict → InterfacesView → InterfacesView
 told_by_link operation.Establish link stream q before after verdict m =
     keyed_if (not (after == before)) link stream before m
 told_by_link operation.Refresh link stream q before after (v.Refreshed l s draw) m = stream_keyed link stream draw m
@@ -83,8 +82,8 @@ told_by_peer operation.Stop line m = peer_stop (peer_of line) m
 told_by_peer o line m = m
 
 -- one on any line; one of a hop tells nothing
-abbrev pub told_by : Operation → ℕ → ℕ → Op → ℕ → ℕ → Verdict → InterfacesView → InterfacesView
-told_by o line stream q before after verdict m =
+abbrev pub told_on_line : Operation → ℕ → ℕ → StreamStage → ℕ → ℕ → Verdict → InterfacesView → InterfacesView
+told_on_line o line stream q before after verdict m =
     if is_link_line line then told_by_link o line stream q before after verdict m
     else if nat_le 24 line then told_by_peer o line m else m
 
@@ -101,7 +100,7 @@ pub record SidesOperate (o : Operation) (line stream : ℕ) (verdict : Verdict) 
       → (new.keeper.interfaces ≡ old.keeper.interfaces) × (new.keeper.peer_draws ≡ old.keeper.peer_draws)
   pub told : (n : Named) → stream_named old.keeper.keys.manager old.ends line stream ≡ Some (line, stream)
       → named old.keeper.keys.manager line stream ≡ Some n
-      → new.keeper.interfaces ≡ told_by o line stream n.stream.op old.keeper.keys.pool.draws
+      → new.keeper.interfaces ≡ told_on_line o line stream n.stream.op old.keeper.keys.pool.draws
       new.keeper.keys.pool.draws verdict old.keeper.interfaces
   pub drawn : (n : Named) → stream_named old.keeper.keys.manager old.ends line stream ≡ Some (line, stream)
       → named old.keeper.keys.manager line stream ≡ Some n
@@ -119,7 +118,8 @@ pub record SidesReset (link : ℕ) (old new : Links) : Type 0 where
   pub peer_draws : new.keeper.peer_draws ≡ old.keeper.peer_draws
   pub devices : link < length old.ends.links → (i : ℕ) (l l' : LinkEnds) → slice_get old.ends.links i ≡ Some l
       → slice_get new.ends.links i ≡ Some l' → l'.device.interfaces
-      ≡ settled_tdis (secure_with l'.device.port (live_on new.ends i)) (reset_if (i == link) l.device.interfaces)
+      ≡ settled_interfaces (secure_with l'.device.port (peer_live new.ends i))
+      (reset_if (i == link) l.device.interfaces)
   pub keeper : link < length old.ends.links
       → new.keeper.interfaces ≡ reset_interface_manager link old.keeper.interfaces
   pub absent : length old.ends.links ≤ link → SidesKeep old new
@@ -132,22 +132,23 @@ with_device v link l d =
     record v { links = slice_set v.links link (record l { device = record l.device { interfaces = d } }) }
 
 -- the manager and the device's interfaces after an operation of the manager on an interface
-pub record SidesAsk (number : ℕ) (o : InterfaceOp) (loss : Option Loss) (old new : Links) : Type 0 where
+pub record SidesAsk (number : ℕ) (o : InterfaceOperation) (loss : Option Loss) (old new : Links) : Type 0 where
   pub contents : new.trusted.contents ≡ old.trusted.contents
   pub peer_draws : new.keeper.peer_draws ≡ old.keeper.peer_draws
   pub unnamed : interface_named old.keeper.interfaces old.ends.links number ≡ None → SidesKeep old new
   pub asked : (at : ℕ × ℕ) (l : LinkEnds) (x : HostTdi)
       → interface_named old.keeper.interfaces old.ends.links number ≡ Some at
       → slice_get old.ends.links at.0 ≡ Some l → slice_get old.keeper.interfaces.interfaces number ≡ Some x
-      → let e = operated_on number o loss old.keeper.keys (live_on old.ends at.0) old.keeper.interfaces l x in
+      → let e = operated_on number o loss old.keeper.keys (peer_live old.ends at.0) old.keeper.interfaces l x in
       (new.keeper.interfaces ≡ e.manager) × (new.ends ≡ with_device old.ends at.0 l e.device)
 
 -- of one on a stream between devices, if there is such an interface, and its device has the stream; its ID is a byte
-pub record SidesPeer (number line stream : ℕ) (o : InterfaceOp) (loss : Option Loss) (old new : Links) : Type 0 where
-  pub late : 256 ≤ stream → SidesKeep old new
-  pub absent : has_peer_in old.keeper old.ends number line stream ≡ false → SidesKeep old new
-  pub asked : stream < 256 → has_peer_in old.keeper old.ends number line stream ≡ true
-      → SidesAsk number o loss old new
+pub record SidesPeer (number line stream : ℕ) (o : InterfaceOperation) (loss : Option Loss) (old new : Links) : Type 0
+  where
+    pub late : 256 ≤ stream → SidesKeep old new
+    pub absent : has_peer_in old.keeper old.ends number line stream ≡ false → SidesKeep old new
+    pub asked : stream < 256 → has_peer_in old.keeper old.ends number line stream ≡ true
+        → SidesAsk number o loss old new
 
 -- a call of one interface of a device, if it meets a test
 abbrev pub called_if : (Tdi → Bool) → LinkEnds → ℕ → Tdi → Call → LinkEnds
@@ -172,9 +173,9 @@ SidesInterface (ie.Start i loss) old new = SidesAsk i op.Start loss old new
 SidesInterface (ie.Halt i loss) old new = SidesAsk i op.Halt loss old new
 SidesInterface (ie.State i loss) old new = SidesAsk i op.State loss old new
 SidesInterface (ie.Bind i line stream loss) old new =
-    SidesPeer i line stream (op.Bind (peer_stream old.keeper line stream)) loss old new
+    SidesPeer i line stream (op.Bind (managed_peer_stream old.keeper line stream)) loss old new
 SidesInterface (ie.Unbind i line stream loss) old new =
-    SidesPeer i line stream (op.Unbind (peer_stream old.keeper line stream)) loss old new
+    SidesPeer i line stream (op.Unbind (managed_peer_stream old.keeper line stream)) loss old new
 SidesInterface (ie.View i) old new = SidesKeep old new
 SidesInterface (ie.Write i register value) old new =
     SidesCall i (λ tdi. has_register tdi.plan register) (WriteRegister register value) old new

@@ -4,16 +4,15 @@ ghost use Rattle.std.specs.Prelude.{◌≡◌, ◌+◌, ◌<◌, ◌≤◌, ◌^
 ghost use Rattle.std.specs.Prelude.{true, List, length, nat_lt, if◌then◌else◌};
 ghost use Rattle.ide_types.specs.Lines.{is_peer_line};
 ghost use Rattle.link_events.specs.Interfaces.{IsAllowedInterface};
-ghost use Rattle.interface_words.specs.RegisterNames.{width_of};
+ghost use Rattle.ide_types.specs.RegisterNames.{width_of};
 
 use crate::links::Links;
-use ide_types::{Bytes, Memory, SubKind};
-use interface_answers::asked_verdict;
-use interface_words::{InterfaceVerdict, Register};
+use ide_types::{Bytes, InterfaceVerdict, OutOfMemory, Register, SubKind};
+use interface_host::{InterfaceOperation, PeerStream};
+use line_arrivals::asked_verdict;
 use link_events::{Event, InterfaceEvent, Loss};
 use link_verdicts::Verdict;
 use std::alloc::Global;
-use tdi_host::{InterfaceOp, PeerStream};
 
 /// The most bytes of a report.
 const MOST_REPORT: usize = 1_140;
@@ -22,13 +21,13 @@ const MOST_REPORT: usize = 1_140;
 const FIRST_PEER_LINE: u64 = 24;
 
 impl Links {
-    ghost use Rattle.ide_plan.specs.declared.plan.Plan.{Plan as PlanView};
-    ghost use Rattle.interface_answers.specs.{IsBounded, AsksAt, report_of, asked_as, NoBadInterfaceReply};
+    ghost use Rattle.ide_types.specs.declared.plan.Plan.{Plan as PlanView};
+    ghost use Rattle.line_arrivals.specs.{IsBounded, AsksAt, report_of, outcome_verdict, NoBadInterfaceReply};
     ghost use Rattle.all_links.specs.Links.{EndsWith, EndsOr, EndsAs, EndsAsOr};
     ghost use Rattle.all_links.specs.Accesses.{runs_in, device_draw};
     ghost use Rattle.all_links.specs.Sides.{SidesKeep, SidesAsk, SidesInterface};
     ghost use Rattle.all_links.specs.Besides.{answer_of_links, op_verdict};
-    ghost use Rattle.all_links.specs.Interfaces.{interface_named, link_named, has_peer_in, peer_stream};
+    ghost use Rattle.all_links.specs.Interfaces.{interface_named, link_named, has_peer_in, managed_peer_stream};
 
     fn shows(&mut self, verdict: InterfaceVerdict) -> Verdict
         requires { self.old.steps < 2 ^ 28 }
@@ -83,14 +82,14 @@ impl Links {
         &mut self,
         link: u8,
         number: u64,
-        op: InterfaceOp,
+        op: InterfaceOperation,
         loss: Option<Loss>,
-    ) -> tdi_host::Outcome
+    ) -> interface_host::InterfaceOutcome
         requires here { link_named self.old.keeper.interfaces self.old.ends.links number ≡ Some link }
         ensures links { self.new ≡ record self.old { ends = self.new.ends; keeper = self.new.keeper } }
         ensures asks { AsksAt self.old.ends link self.old.keeper number op loss result self.new.ends self.new.keeper }
         ensures answered { IsSome (op_verdict self.old number op loss)
-            → (report : List ℕ) → IsSome (asked_as number loss report result) }
+            → (report : List ℕ) → IsSome (outcome_verdict number loss report result) }
         ensures no_bad_reply { IsSome (op_verdict self.old number op loss) → NoBadInterfaceReply loss result }
     {
         let interface = number as usize;
@@ -103,7 +102,7 @@ impl Links {
     pub fn operate_interface(
         &mut self,
         alloc: Global,
-        op: InterfaceOp,
+        op: InterfaceOperation,
         number: u64,
         loss: Option<Loss>,
     ) -> Option<Verdict>
@@ -131,7 +130,7 @@ impl Links {
         requires few { length self.now.ends.links ≤ 8 }
         requires peer { is_peer_line line ≡ true }
         ensures { result ≡ (if nat_lt stream 256 && has_peer_in self.now.keeper self.now.ends number line stream
-            then Some (peer_stream self.now.keeper line stream) else None) }
+            then Some (managed_peer_stream self.now.keeper line stream) else None) }
     {
         if stream > 255 {
             return None;
@@ -171,7 +170,12 @@ impl Links {
     {
         match self.peer(number, line, stream) {
             None => Some(self.only(Verdict::Nothing)),
-            Some(peer) => self.operate_interface(alloc, InterfaceOp::Bind(peer), number, loss),
+            Some(peer) => self.operate_interface(
+                alloc,
+                InterfaceOperation::Bind(peer),
+                number,
+                loss,
+            ),
         }
     }
 
@@ -194,7 +198,12 @@ impl Links {
     {
         match self.peer(number, line, stream) {
             None => Some(self.only(Verdict::Nothing)),
-            Some(peer) => self.operate_interface(alloc, InterfaceOp::Unbind(peer), number, loss),
+            Some(peer) => self.operate_interface(
+                alloc,
+                InterfaceOperation::Unbind(peer),
+                number,
+                loss,
+            ),
         }
     }
 
@@ -204,18 +213,19 @@ impl Links {
         alloc: Global,
         number: u64,
         loss: Option<Loss>,
-    ) -> Result<Option<Verdict>, Memory>
+    ) -> Result<Option<Verdict>, OutOfMemory>
         requires steps { self.old.steps < 2 ^ 28 }
         requires bounded { IsBounded self.old.ends self.old.packets.packets self.old.steps }
         ensures ends { (plan : PlanView) → EndsAsOr plan result self.old self.new
             (Event.Interface (InterfaceEvent.Report number loss)) }
-        ensures sides { IfOk result (λ o. IfSome o (λ v. SidesAsk number InterfaceOp.Report loss self.old self.new)) }
+        ensures sides { IfOk result (λ o. IfSome o (λ v.
+            SidesAsk number InterfaceOperation.Report loss self.old self.new)) }
     {
         match self.interface(number) {
             None => Ok(Some(self.only(Verdict::Nothing))),
             Some((link, _)) => {
                 let mut report = Vec::with_capacity(alloc, MOST_REPORT)?;
-                let outcome = self.carry_interface(link, number, InterfaceOp::Report, loss);
+                let outcome = self.carry_interface(link, number, InterfaceOperation::Report, loss);
                 report
                     .extend_from_slice(self.keeper.interfaces.manager().report())
                     .unwrap();
@@ -301,7 +311,7 @@ impl Links {
     }
 
     // Bytes of trusted memory, if one region has them all.
-    fn memory(&mut self, alloc: Global, address: u64, length: u64) -> Result<Verdict, Memory>
+    fn memory(&mut self, alloc: Global, address: u64, length: u64) -> Result<Verdict, OutOfMemory>
         requires steps { self.old.steps < 2 ^ 28 }
         requires bounded { IsBounded self.old.ends self.old.packets.packets self.old.steps }
         ensures ends { (plan : PlanView) → EndsOr plan result self.old self.new
@@ -318,7 +328,11 @@ impl Links {
     }
 
     /// The verdict of an event on an interface or on trusted memory, if it has one. For want of memory nothing changes.
-    pub fn ask(&mut self, alloc: Global, event: &InterfaceEvent) -> Result<Option<Verdict>, Memory>
+    pub fn ask(
+        &mut self,
+        alloc: Global,
+        event: &InterfaceEvent,
+    ) -> Result<Option<Verdict>, OutOfMemory>
         requires steps { self.old.steps < 2 ^ 28 }
         requires bounded { IsBounded self.old.ends self.old.packets.packets self.old.steps }
         requires allowed { IsAllowedInterface event.now }
@@ -327,17 +341,17 @@ impl Links {
     {
         match event {
             InterfaceEvent::Lock { interface, lose } => {
-                Ok(self.operate_interface(alloc, InterfaceOp::Lock, *interface, *lose))
+                Ok(self.operate_interface(alloc, InterfaceOperation::Lock, *interface, *lose))
             }
             InterfaceEvent::Report { interface, lose } => self.report(alloc, *interface, *lose),
             InterfaceEvent::Start { interface, lose } => {
-                Ok(self.operate_interface(alloc, InterfaceOp::Start, *interface, *lose))
+                Ok(self.operate_interface(alloc, InterfaceOperation::Start, *interface, *lose))
             }
             InterfaceEvent::Halt { interface, lose } => {
-                Ok(self.operate_interface(alloc, InterfaceOp::Halt, *interface, *lose))
+                Ok(self.operate_interface(alloc, InterfaceOperation::Halt, *interface, *lose))
             }
             InterfaceEvent::State { interface, lose } => {
-                Ok(self.operate_interface(alloc, InterfaceOp::State, *interface, *lose))
+                Ok(self.operate_interface(alloc, InterfaceOperation::State, *interface, *lose))
             }
             InterfaceEvent::Bind {
                 interface,

@@ -2,13 +2,12 @@
 
 ghost use Rattle.std.specs.Prelude.{◌≡◌, ◌+◌, ◌<◌, ◌^◌, IfOk, length, nat_lt, if◌then◌else◌};
 
-use ide_types::{Memory, PortName};
-use interface_answers::{AllEnds, HostKeeper, Packets};
+use ide_types::{OutOfMemory, PortName, ValidPlan};
+use line_arrivals::{AllEnds, HostKeeper, Packets};
 use link_events::Event;
 use link_verdicts::Verdict;
 use std::alloc::Global;
 use trusted_memory::Trusted;
-use valid_plan::ValidPlan;
 
 /// The ends of all lines, the manager, the packets that were sealed, trusted memory, and how many events came (PCI
 /// Express Base 6.0 section 6.33 and chapter 11, in this profile).
@@ -22,14 +21,14 @@ pub struct Links {
 }
 
 impl Links {
-    ghost use Rattle.ide_plan.specs.declared.plan.Plan.{Plan as PlanView};
-    ghost use Rattle.interface_answers.specs.{IsBounded};
+    ghost use Rattle.ide_types.specs.declared.plan.Plan.{Plan as PlanView};
+    ghost use Rattle.line_arrivals.specs.{IsBounded};
     ghost use Rattle.all_links.specs.Links.{IsFirst, EndsWith};
     ghost use Rattle.all_links.specs.Sides.{SidesReset};
 
     /// The lines of the plan before the first event: no stream has keys, no interface is locked, and memory is 0.
-    /// Returns `Memory` for want of memory.
-    pub fn make(alloc: Global, plan: &ValidPlan) -> Result<Links, Memory>
+    /// Returns `OutOfMemory` for want of memory.
+    pub fn make(alloc: Global, plan: &ValidPlan) -> Result<Links, OutOfMemory>
         ensures { IfOk result (λ s. IsFirst plan.now s) }
     {
         let ends = AllEnds::make(alloc, plan)?;

@@ -1,27 +1,26 @@
-//! What is sent on all links, and the packets that this sealed.
+//! What is sent on all lines, and the packets that this sealed.
 
 ghost use Rattle.std.specs.Prelude.{◌≡◌, ◌+◌, ◌<◌, ◌≤◌, ◌^◌, true, IfOk, OnOk, IsSome};
-ghost use Rattle.interface_answers.specs.{port_on};
+ghost use Rattle.line_arrivals.specs.{port_on};
 
 use crate::links::Links;
 use ide_port::Sent;
-use ide_types::{Bytes, Memory, PortName};
-use interface_answers::send_verdict;
+use ide_types::{Bytes, OutOfMemory, PortName, ValidPlan};
+use line_arrivals::send_verdict;
 use line_routes::{may_send, port_of, sealing_end};
 use link_events::Event;
 use link_verdicts::Verdict;
 use std::alloc::Global;
-use valid_plan::ValidPlan;
 
 impl Links {
-    ghost use Rattle.ide_plan.specs.declared.plan.Plan.{Plan as PlanView};
-    ghost use Rattle.interface_answers.specs.{IsBounded};
+    ghost use Rattle.ide_types.specs.declared.plan.Plan.{Plan as PlanView};
+    ghost use Rattle.line_arrivals.specs.{IsBounded};
     ghost use Rattle.all_links.specs.Links.{EndsOr, EndsSending, EndsSendingOr};
     ghost use Rattle.all_links.specs.Accesses.{is_sending};
     ghost use Rattle.all_links.specs.Sides.{SidesKeep};
 
     // Takes room for what one send seals.
-    fn reserve_packets(&mut self) -> Result<(), Memory>
+    fn reserve_packets(&mut self) -> Result<(), OutOfMemory>
         ensures links { self.new ≡ record self.old { packets = self.new.packets } }
         ensures packets { self.new.packets.packets ≡ self.old.packets.packets }
         ensures marks { OnOk result (3 ≤ self.new.packets.mark_room) }
@@ -39,7 +38,7 @@ impl Links {
         bytes: &[u8],
         more: bool,
         trusted: bool,
-    ) -> Result<Verdict, Memory>
+    ) -> Result<Verdict, OutOfMemory>
         requires steps { self.old.steps < 2 ^ 28 }
         requires bounded { IsBounded self.old.ends self.old.packets.packets self.old.steps }
         ensures ends { EndsOr plan.now result self.old self.new (Event.Send port bytes.now more trusted) }
@@ -61,7 +60,7 @@ impl Links {
         bytes: &[u8],
         more: bool,
         trusted: bool,
-    ) -> Result<Verdict, Memory>
+    ) -> Result<Verdict, OutOfMemory>
         requires steps { self.old.steps < 2 ^ 28 }
         requires bounded { IsBounded self.old.ends self.old.packets.packets self.old.steps }
         ensures ends { EndsSendingOr plan.now result self.old self.new end bytes.now more trusted }
@@ -104,7 +103,7 @@ impl Links {
     }
 
     /// The bytes of a packet by its number.
-    pub fn dump(&mut self, alloc: Global, packet: u64) -> Result<Verdict, Memory>
+    pub fn dump(&mut self, alloc: Global, packet: u64) -> Result<Verdict, OutOfMemory>
         requires steps { self.old.steps < 2 ^ 28 }
         requires bounded { IsBounded self.old.ends self.old.packets.packets self.old.steps }
         ensures ends { (plan : PlanView) → EndsOr plan result self.old self.new (Event.Dump packet) }

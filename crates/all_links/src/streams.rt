@@ -1,21 +1,21 @@
-//! Operations on the streams of all links, and the states of streams.
+//! Operations on the streams of all lines, and the states of streams.
 
 ghost use Rattle.std.specs.Prelude.{◌≡◌, ◌==◌, ◌<◌, ◌^◌, true, not, IsSome, IfSome};
-ghost use Rattle.key_laws.specs.Operations.{work_of};
+ghost use Rattle.spec_keys.specs.Operations.{work_of};
 ghost use Rattle.tsm_host.specs.Managers.{named};
 ghost use Rattle.tsm_host.specs.Operations.{op_name};
 ghost use Rattle.tsm_host.specs.Walk.{NoBadReply as NoBadStreamReply, verdict_of};
-ghost use Rattle.interface_answers.specs.{port_on, stream_named};
+ghost use Rattle.line_arrivals.specs.{port_on, stream_named};
 ghost use Rattle.ide_types.specs.Ports.{host_port};
 ghost use Rattle.all_links.specs.Events.{operation_event};
 ghost use Rattle.all_links.specs.Sides.{works_on};
 
 use crate::links::Links;
 use ide_types::{PortName, Side};
-use interface_answers::{named_op, operated_verdict};
+use line_arrivals::{named_op, operated_verdict};
 use link_events::{Event, Loss};
 use link_verdicts::{Operation, Verdict};
-use tsm_host::{Op, Outcome};
+use tsm_host::{NamedOperation, StreamOutcome};
 
 // Whether there is such an operation on a line: a refresh is of a link's stream alone.
 fn works_on(operation: Operation, line: u8) -> bool
@@ -28,8 +28,8 @@ fn works_on(operation: Operation, line: u8) -> bool
 }
 
 impl Links {
-    ghost use Rattle.ide_plan.specs.declared.plan.Plan.{Plan as PlanView};
-    ghost use Rattle.interface_answers.specs.{IsBounded, OperatesAt, told_at, drawn_at};
+    ghost use Rattle.ide_types.specs.declared.plan.Plan.{Plan as PlanView};
+    ghost use Rattle.line_arrivals.specs.{IsBounded, OperatesAt, told_by_line, drawn_at};
     ghost use Rattle.all_links.specs.Links.{StandsForSome, EndsWith, EndsAs};
     ghost use Rattle.all_links.specs.Sides.{SidesKeep, SidesOperate};
 
@@ -42,7 +42,7 @@ impl Links {
         }
         let side = Side::Host;
         let (link, stream) = (line as u8, stream as u8);
-        if !self.ends.has_end(PortName { side, link }) {
+        if !self.ends.has_end(PortName { side, line: link }) {
             return None;
         }
         if !self.keeper.keys.has_stream(link, stream) {
@@ -66,8 +66,8 @@ impl Links {
             (operation_event operation line stream loss) }
         ensures sides { IfSome result (λ v. SidesOperate operation line stream v self.old self.new) }
     {
-        link_walks::operations_join();
-        link_walks::pair_operations_join();
+        join_keys::operations_join();
+        join_keys::pair_operations_join();
         match self.named(line, stream) {
             None => Some(self.only(Verdict::Nothing)),
             Some((line, stream)) => {
@@ -84,28 +84,28 @@ impl Links {
 
     // Carries an operation on a stream that exists. If there is such a one on its line, and the links stand for some
     // history, no reply is bad.
-    fn carry_stream(&mut self, op: Op, loss: Option<Loss>) -> Outcome
-        requires here { IsSome (port_on self.old.ends (host_port (op_name op).link)) }
-        requires stream { IsSome (named self.old.keeper.keys.manager (op_name op).link (op_name op).stream) }
+    fn carry_stream(&mut self, op: NamedOperation, loss: Option<Loss>) -> StreamOutcome
+        requires here { IsSome (port_on self.old.ends (host_port (op_name op).line)) }
+        requires stream { IsSome (named self.old.keeper.keys.manager (op_name op).line (op_name op).stream) }
         ensures links { self.new ≡ record self.old { ends = self.new.ends; keeper = self.new.keeper } }
-        ensures operates { OperatesAt self.old.ends (op_name op).link self.old.keeper.keys op loss result
+        ensures operates { OperatesAt self.old.ends (op_name op).line self.old.keeper.keys op loss result
             self.new.ends self.new.keeper.keys }
-        ensures interfaces { IfSome (named self.old.keeper.keys.manager (op_name op).link (op_name op).stream) (λ n.
+        ensures interfaces { IfSome (named self.old.keeper.keys.manager (op_name op).line (op_name op).stream) (λ n.
             let begins = (work_of (op_name op).operation n.stream.op 0).begins in
             let draw = self.old.keeper.keys.pool.draws in
             let drew = not (self.new.keeper.keys.pool.draws == draw) in
             self.new.keeper.interfaces
-            ≡ told_at (op_name op).link op begins drew draw result self.old.keeper.interfaces) }
+            ≡ told_by_line (op_name op).line op begins drew draw result self.old.keeper.interfaces) }
         ensures peer_draws { let draw = self.old.keeper.keys.pool.draws in
             let drew = not (self.new.keeper.keys.pool.draws == draw) in
-            self.new.keeper.peer_draws ≡ drawn_at (op_name op).link op drew draw self.old.keeper.peer_draws }
-        ensures answered { let name = op_name op in works_on name.operation name.link ≡ true → (plan : PlanView)
-            → StandsForSome plan self.old → IsSome (verdict_of name.operation name.link name.stream loss result) }
-        ensures no_bad_reply { works_on (op_name op).operation (op_name op).link ≡ true → (plan : PlanView)
+            self.new.keeper.peer_draws ≡ drawn_at (op_name op).line op drew draw self.old.keeper.peer_draws }
+        ensures answered { let name = op_name op in works_on name.operation name.line ≡ true → (plan : PlanView)
+            → StandsForSome plan self.old → IsSome (verdict_of name.operation name.line name.stream loss result) }
+        ensures no_bad_reply { works_on (op_name op).operation (op_name op).line ≡ true → (plan : PlanView)
             → StandsForSome plan self.old → NoBadStreamReply loss result }
     {
-        link_walks::operations_join();
-        link_walks::pair_operations_join();
+        join_keys::operations_join();
+        join_keys::pair_operations_join();
         self.ends.operate(op.link(), &mut self.keeper, op, loss)
     }
 

@@ -11,13 +11,14 @@ use Rattle.sub_stream.specs.{lent_parts, mark_of}
 use Rattle.sub_stream.specs.declared.answer.PacketMark.{PacketMark}
 use Rattle.hop_queues.specs.declared.queue.HopTlp.{HopTlp}
 use Rattle.hop_queues.specs.declared.queues.HopQueues.{HopQueues}
-use Rattle.arrival_verdicts.specs.Switches.{switched_as, switched_each, tlps_as, tlps_in, offered, all_offered}
+use Rattle.arrival_verdicts.specs.Switches.{switched_as, switched_each, tlps_as, tlps_in, queues_after_offer}
+use Rattle.arrival_verdicts.specs.Switches.{all_offered}
 use Rattle.arrival_verdicts.proofs.Effects.{IsThere, packet_there}
 
 offered_both : (d : Direction) (xs ys : List HopTlp) (q : HopQueues)
     → all_offered d (xs ++ ys) q ≡ all_offered d ys (all_offered d xs q)
 offered_both d [] ys q = refl
-offered_both d (x ∷ xs) ys q = offered_both d xs ys (offered d x q)
+offered_both d (x ∷ xs) ys q = offered_both d xs ys (queues_after_offer d x q)
 
 module _ (ps : List Packet) (sub : SubKind) (d : Direction) (q0 : HopQueues) where
   -- the packets before this place got these effects, and made these of the queues

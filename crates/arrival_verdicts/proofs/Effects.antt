@@ -5,8 +5,8 @@ use Rattle.std.proofs.lemmas.List.{append-nil}
 use Rattle.std.specs.Prelude.{map, slice_get, if◌then◌else◌, Some, None, Option, Result, Ok, Err}
 use Rattle.std.proofs.lemmas.Option.{none-some, same_Some, some_pair_parts}
 use Rattle.link_verdicts.specs.declared.verdict.UnitName.{UnitName}
-use Rattle.ide_plan.specs.declared.plan.Region.{Region}
-use Rattle.link_history.specs.Memory.{Grants}
+use Rattle.ide_types.specs.declared.plan.Region.{Region}
+use Rattle.spec_links.specs.Memory.{Grants}
 use Rattle.ide_types.specs.declared.port.Side.TheVariants.{Host, Device}
 use Rattle.ide_types.specs.declared.port.Side.{Side}
 use Rattle.ide_types.specs.declared.port.PortName.{PortName}
@@ -14,7 +14,7 @@ use Rattle.ide_prefix.specs.Packet.{Packet}
 use Rattle.sub_stream.specs.{lent_parts, mark_of}
 use Rattle.link_verdicts.specs.declared.verdict.Effect.{Effect}
 use Rattle.trusted_memory.specs.{Write, Leads}
-use Rattle.key_laws.specs.Places.{sent_direction}
+use Rattle.spec_keys.specs.Places.{sent_direction}
 use Rattle.std.proofs.lemmas.List.{append_assoc}
 use Rattle.std.specs.List.{cons_option}
 use Rattle.tlp_layout.specs.declared.head.HeadView.{HeadView}
@@ -26,34 +26,22 @@ use Rattle.trusted_memory.specs.declared.grant.Grant.{Grant}
 use Rattle.trusted_memory.specs.declared.span.Span.{Span}
 use Rattle.trusted_memory.specs.{MemoryContents, write_effect, write_span}
 use Rattle.trusted_memory.specs.Causes.{block_cause, block_effect}
-use Rattle.waiting_reads.specs.declared.queue.WaitingRead.{WaitingRead}
-use Rattle.waiting_reads.specs.declared.read.MemReadView.{MemReadView}
-use Rattle.waiting_reads.specs.{memory_read, waiting_after}
-use Rattle.waiting_reads.specs.Waiting.{request_effect, effect_by_read, read_cause, read_effect}
-use Rattle.guarded_memory.specs.declared.standing.Standing.{Standing}
+use Rattle.trusted_memory.specs.declared.queue.WaitingRead.{WaitingRead}
+use Rattle.trusted_memory.specs.declared.read.MemReadView.{MemReadView}
+use Rattle.trusted_memory.specs.{memory_read, waiting_after}
+use Rattle.trusted_memory.specs.Waiting.{request_effect, effect_by_read, read_cause, read_effect}
+use Rattle.guarded_memory.specs.declared.standing.InterfaceStatus.{InterfaceStatus}
 use Rattle.guarded_memory.specs.declared.claims.Claim.{Claim}
 use Rattle.guarded_memory.specs.{GuardedMemory, Happened, MmioLeads, mmio_effect, mmio_cause}
 use Rattle.guarded_memory.specs.{claim_effect, cause_effect, claim_of}
-use Rattle.link_history.specs.Admission.{waiting_then}
-use Rattle.link_history.specs.Sent.{read_under, reads_by}
-use Rattle.link_history.specs.Guarded.{stored_as}
-use Rattle.accesses.specs.Accesses.{waiting_with, reads_after}
-use Rattle.arrival_verdicts.specs.Verdicts.{
-  head_effect,
-  head_grant,
-  head_write,
-  claimed_effect,
-  marked_effect,
-  queued_by,
-}
-use Rattle.arrival_verdicts.specs.Verdicts.{
-  effects_from,
-  packet_effect,
-  packet_write,
-  packet_stored,
-  PacketCame,
-  UnitCame,
-}
+use Rattle.spec_links.specs.Admission.{waiting_then}
+use Rattle.spec_links.specs.Sent.{drawn_read, reads_by}
+use Rattle.spec_links.specs.Guarded.{tlp_happened}
+use Rattle.link_stores.specs.Accesses.{waiting_with, reads_after}
+use Rattle.arrival_verdicts.specs.Verdicts.{head_effect, head_grant, head_write, claimed_effect, marked_effect}
+use Rattle.arrival_verdicts.specs.Verdicts.{queued_by}
+use Rattle.arrival_verdicts.specs.Verdicts.{effects_from, packet_effect, packet_write, packet_stored, PacketCame}
+use Rattle.arrival_verdicts.specs.Verdicts.{UnitCame}
 use Rattle.sub_stream.specs.declared.answer.PacketMark.{PacketMark}
 
 -- ---- reads that wait
@@ -75,7 +63,7 @@ module _ (draw : ℕ) where
   read_waits : (n : ℕ) (head : HeadView) (read : MemReadView) (c : Option BlockCause) → memory_read head ≡ Some read
       → Waits n (read_effect c) (Ok head)
   read_waits n head read None is =
-      ap (λ (o : Option MemReadView). n + length (read_under draw o)) (sym is)
+      ap (λ (o : Option MemReadView). n + length (drawn_read draw o)) (sym is)
   read_waits n head read (Some c) is = omega arith
 
   by_read : (regions : List Region) (t : Bool) (grant : Grant) (n : ℕ) (head : HeadView) (o : Option MemReadView)
@@ -102,7 +90,8 @@ module _ (draw : ℕ) where
   claim_none t stream at s r None = refl
   claim_none t stream at s r (Some c) = cause_none r (mmio_cause c.standing c.range s t stream at)
 
-  pub mmio_none : (xs : List Standing) (t : Bool) (stream at : ℕ) (r : Result HeadView TlpFault) (o : Option Span)
+  pub mmio_none : (xs : List InterfaceStatus) (t : Bool) (stream at : ℕ) (r : Result HeadView TlpFault)
+      (o : Option Span)
       → queued_by draw (mmio_effect xs t stream at o) r ≡ []
   mmio_none xs t stream at r None = refl
   mmio_none xs t stream at r (Some s) = claim_none t stream at s r (claim_of xs s)
@@ -116,7 +105,7 @@ module _ (draw : ℕ) where
   claim_waits n t stream at s r None = omega arith
   claim_waits n t stream at s r (Some c) = cause_waits n r (mmio_cause c.standing c.range s t stream at)
 
-  mmio_waits : (n : ℕ) (xs : List Standing) (t : Bool) (stream at : ℕ) (r : Result HeadView TlpFault)
+  mmio_waits : (n : ℕ) (xs : List InterfaceStatus) (t : Bool) (stream at : ℕ) (r : Result HeadView TlpFault)
       (o : Option Span) → Waits n (mmio_effect xs t stream at o) r
   mmio_waits n xs t stream at r None = omega arith
   mmio_waits n xs t stream at r (Some s) = claim_waits n t stream at s r (claim_of xs s)
@@ -128,7 +117,7 @@ module _ (draw : ℕ) where
   same_reads e ws (Some read) same = same (record { read = read; draw = draw }) ∙ sym (append-nil ws)
 
   one_read : (ws : List WaitingRead) (o : Option MemReadView) → waiting_with effect.Queued draw o ws
-      ≡ ws ++ read_under draw o
+      ≡ ws ++ drawn_read draw o
   one_read ws None = sym (append-nil ws)
   one_read ws (Some read) = refl
 
@@ -164,11 +153,11 @@ store_on : (m k n : GuardedMemory) (o : Option Happened) (os : List (Option Happ
     → MmioLeads k os n → MmioLeads m (o ∷ os) n
 store_on m k n o os first rest = λ older is. rest (cons_option o older) (first older is)
 
-module _ (regions : List Region) (grants : Grants) (xs : List Standing) (port : PortName) (unit : UnitName) where
+module _ (regions : List Region) (grants : Grants) (xs : List InterfaceStatus) (port : PortName) (unit : UnitName) where
   head_waits : (n : ℕ) (t : Bool) (r : Result HeadView TlpFault)
-      → Waits unit.draw n (head_effect regions grants port.link n unit t r) r
+      → Waits unit.draw n (head_effect regions grants port.line n unit t r) r
   head_waits n t (Err f) = omega arith
-  head_waits n t (Ok head) = request_waits unit.draw regions t (head_grant grants port.link unit head) n head
+  head_waits n t (Ok head) = request_waits unit.draw regions t (head_grant grants port.line unit head) n head
 
   claimed_waits : (n : ℕ) (t : Bool) (r : Result HeadView TlpFault) → Waits unit.draw n (claimed_effect xs unit t r) r
   claimed_waits n t (Err f) = omega arith
@@ -225,7 +214,7 @@ module _ (regions : List Region) (grants : Grants) (xs : List Standing) (port : 
 
 -- ---- the ports
 
-module _ (regions : List Region) (grants : Grants) (xs : List Standing) (unit : UnitName) (header body : List ℕ)
+module _ (regions : List Region) (grants : Grants) (xs : List InterfaceStatus) (unit : UnitName) (header body : List ℕ)
     (ws : List WaitingRead) (m : MemoryContents) (g : GuardedMemory) where
   pub sync : (port : PortName) (mark : PacketMark) → mark.sync ≡ true
       → PacketCame regions grants xs port unit mark header body ws m g effect.Sync ws m g
@@ -241,14 +230,14 @@ module _ (regions : List Region) (grants : Grants) (xs : List Standing) (unit : 
 
   pub at_host : (port : PortName) (mark : PacketMark) (e : Effect) (ws' : List WaitingRead) (m' : MemoryContents)
       → mark.sync ≡ false → port.side ≡ Host
-      → e ≡ head_effect regions grants port.link (length ws) unit mark.t (read_head_of header)
+      → e ≡ head_effect regions grants port.line (length ws) unit mark.t (read_head_of header)
       → ws' ≡ ws ++ queued_by unit.draw e (read_head_of header)
-      → Leads m (head_write regions grants port.link unit mark.t body (read_head_of header) ∷ []) m'
+      → Leads m (head_write regions grants port.line unit mark.t body (read_head_of header) ∷ []) m'
       → PacketCame regions grants xs port unit mark header body ws m g e ws' m' g
   at_host port mark e ws' m' plain at effect_is reads_are written =
       subst (λ (b : Bool). PacketCame regions grants xs port unit (record { t = mark.t; sync = b }) header body ws m g
       e ws' m' g) (sym plain)
-      (subst (λ (s : Side). PacketCame regions grants xs (record { side = s; link = port.link }) unit
+      (subst (λ (s : Side). PacketCame regions grants xs (record { side = s; line = port.line }) unit
       (record { t = mark.t; sync = false }) header body ws m g e ws' m' g) (sym at)
       (record { effect_is = effect_is; reads_are = reads_are; written = written; stored = λ older is. is }))
 
@@ -256,12 +245,12 @@ module _ (regions : List Region) (grants : Grants) (xs : List Standing) (unit : 
       → mark.sync ≡ false → port.side ≡ Device
       → e ≡ claimed_effect xs unit mark.t (read_head_of header)
       → queued_by unit.draw e (read_head_of header) ≡ []
-      → MmioLeads g (stored_as xs unit mark.t body (read_head_of header) ∷ []) g'
+      → MmioLeads g (tlp_happened xs unit mark.t body (read_head_of header) ∷ []) g'
       → PacketCame regions grants xs port unit mark header body ws m g e ws m g'
   at_device port mark e g' plain at effect_is none stored =
       subst (λ (b : Bool). PacketCame regions grants xs port unit (record { t = mark.t; sync = b }) header body ws m g
       e ws m g') (sym plain)
-      (subst (λ (s : Side). PacketCame regions grants xs (record { side = s; link = port.link }) unit
+      (subst (λ (s : Side). PacketCame regions grants xs (record { side = s; line = port.line }) unit
       (record { t = mark.t; sync = false }) header body ws m g e ws m g') (sym at)
       (record {
         effect_is = effect_is;

@@ -9,46 +9,47 @@ use Rattle.std.specs.Prelude.{nat_le, if◌then◌else◌}
 use Rattle.std.proofs.lemmas.Option.{none-some, same_Some}
 use Rattle.std.proofs.Math.Seq.{take-append_seam, drop-append_seam}
 use Rattle.ide_types.specs.declared.port.PortName.{PortName}
-use Rattle.ide_plan.specs.declared.plan.Plan.{Plan}
+use Rattle.ide_types.specs.declared.plan.Plan.{Plan}
 use Rattle.ide_prefix.specs.Packet.{Packet}
 use Rattle.link_verdicts.specs.declared.verdict.Effect.{Effect}
 use Rattle.link_verdicts.specs.declared.verdict.UnitName.{UnitName}
-use Rattle.key_laws.specs.Places.{sent_direction}
-use Rattle.stream_rules.specs.Stream.{StreamState, LiveKey, Taken, Insecure, Failed, Held, holds_any, is_tagged}
-use Rattle.stream_rules.specs.Stream.{is_allowed, checked, taken_under, taken_by, live_in, slot_in_set, at_sub}
-use Rattle.stream_rules.specs.Stream.{unit_name}
-use Rattle.sub_stream.specs.{opened_from, opened_under}
-use Rattle.ide_stream.specs.{opened_after}
-use Rattle.whole_machine.specs.{LinkState, PortsStandFor}
-use Rattle.ide_port.specs.{PortEnd, Found, found, take_step}
-use Rattle.link_history.specs.Memory.{Grants}
+use Rattle.spec_keys.specs.Places.{sent_direction}
+use Rattle.spec_stream.specs.Stream.{StreamState, LiveKey, Taken, Insecure, Failed, Held, holds_any, is_tagged}
+use Rattle.spec_stream.specs.Stream.{is_allowed, outcome_of_checks, stream_outcome_by_keys, stream_outcome, live_in}
+use Rattle.spec_stream.specs.Stream.{slot_in_set, at_sub}
+use Rattle.spec_stream.specs.Stream.{unit_name}
+use Rattle.sub_stream.specs.{opened_from_byte, opened_unit}
+use Rattle.ide_stream.specs.{opened_if_accepted}
+use Rattle.machine_whole.specs.{LinkState, PortsStandFor}
+use Rattle.ide_port.specs.{PortEnd, Found, found_stream, take_step}
+use Rattle.spec_links.specs.Memory.{Grants}
 use Rattle.trusted_memory.specs.{Write}
 use Rattle.arrival_verdicts.specs.Verdicts.{packet_write, unit_writes, arrival_verdict}
-use Rattle.key_laws.specs.History.{History}
-unfoldable use Rattle.whole_machine.specs.{find}
-use Rattle.link_history.specs.Plan.{mode_of, is_closed}
-use Rattle.stream_rules.specs.Stream.{Accepted}
+use Rattle.spec_keys.specs.History.{History}
+unfoldable use Rattle.machine_whole.specs.{find}
+use Rattle.spec_links.specs.Plan.{aggregation_of, is_closed}
+use Rattle.spec_stream.specs.Stream.{Accepted}
 use Rattle.ide_types.specs.declared.sub.SubKind.{SubKind}
 use Rattle.ide_types.specs.declared.sub.SubKind.TheVariants.{Pr, Npr, Cpl}
 use Rattle.ide_types.specs.declared.sub.FailCause.TheVariants as fail
-use Rattle.gcm_seal.specs.Gcm.{masked}
+use Rattle.gcm_seal.specs.Gcm.{masked_bytes}
 unfoldable use Rattle.gcm_seal.specs.Gcm.{open_of}
-use Rattle.gcm_seal.proofs.Sealing.{masked-append, length-masked}
+use Rattle.gcm_seal.proofs.Sealing.{masked_bytes-append, length-masked_bytes}
 use Rattle.tlp_layout.specs.declared.head.HeadView.{HeadView}
 use Rattle.tlp_layout.specs.declared.fault.TlpFault.{TlpFault}
 use Rattle.tlp_layout.specs.Reading.{read_head_of}
-use Rattle.ide_prefix.specs.{encrypted, iv_of, is_sync_packet}
+use Rattle.ide_prefix.specs.{encrypted_bytes, iv_of, is_sync_packet}
 use Rattle.ide_prefix.specs.declared.fault.PacketFault.{PacketFault}
 use Rattle.ide_prefix.specs.Reading.{CutValue, PlainTlp, IdePacket, cut_of}
-use Rattle.key_laws.specs.Keys.{Keyed, Off, Loaded, On, Keys}
-use Rattle.link_history.specs.Plan.{SubStream, lane_in, key_of, has_stream}
-use Rattle.link_history.specs.History.{Arrival as Arrives, keys_at}
-use Rattle.link_history.specs.Admission.{admitted_as, admitted, admitted_each, admitted_in, plain_of}
-use Rattle.link_history.specs.Ports.{port_of, at_switch}
-use Rattle.link_history.specs.Packets.{received_in}
-use Rattle.whole_machine.specs.{rx_slot, rx_slots, receiving_key}
-unfoldable use Rattle.whole_machine.specs.{standing}
-use Rattle.whole_machine.specs.Machine.{unit_taken, unit_found, unit_cut, unit_in}
+use Rattle.spec_keys.specs.Keys.{Keyed, Off, Loaded, On, Keys}
+use Rattle.spec_links.specs.Plan.{SubStream, lane_in, key_of, has_stream}
+use Rattle.spec_links.specs.History.{Arrival as Arrives, port_keys}
+use Rattle.spec_links.specs.Admission.{payload_write, admitted, admitted_each, admitted_writes, plain_of}
+use Rattle.spec_links.specs.Ports.{port_of, at_switch}
+use Rattle.spec_links.specs.Packets.{received_in}
+use Rattle.machine_whole.specs.{rx_slot, rx_slots, receiving_key}
+unfoldable use Rattle.machine_whole.specs.{standing}
+use Rattle.machine_whole.specs.Machine.{unit_taken, unit_found, unit_cut, unit_in}
 use Rattle.ide_port.specs.Arrivals.{TakeStep, port_arrival, packet_step}
 use Rattle.ide_port.specs.declared.answer.Arrival.{Arrival}
 use Rattle.ide_port.specs.declared.answer.Arrival.TheVariants as came
@@ -60,7 +61,7 @@ use Rattle.arrival_verdicts.specs.Verdicts.{head_write, of_unit}
 module _ (plan : Plan) (grants : Grants) (port : PortName) (unit : UnitName) (apart : at_switch plan port ≡ false)
   where
     head_same : (t : Bool) (payload : List ℕ) (r : Result HeadView TlpFault)
-        → admitted_as plan grants port unit t payload r ≡ head_write plan.memory grants port.link unit t payload r
+        → payload_write plan grants port unit t payload r ≡ head_write plan.memory grants port.line unit t payload r
     head_same t payload (Err f) = refl
     head_same t payload (Ok head) = refl
 
@@ -70,22 +71,22 @@ module _ (plan : Plan) (grants : Grants) (port : PortName) (unit : UnitName) (ap
         (record { prefix = p.prefix; head = p.head; body = plain; tag = [] })
     write_same p plain =
         ap (λ (b : Bool). if not (is_sync_packet p) && (not b && (sent_direction port.side == 0))
-        then admitted_as plan grants port unit p.prefix.t plain (read_head_of p.head) else None) apart
+        then payload_write plan grants port unit p.prefix.t plain (read_head_of p.head) else None) apart
         ∙ ap (λ (o : Option Write). if not (is_sync_packet p) && (sent_direction port.side == 0) then o else None)
         (head_same p.prefix.t plain (read_head_of p.head))
 
     -- ---- the packets of a unit
 
     each_opened : (key iv : List ℕ) (n : ℕ) (ps : List Packet)
-        → admitted_each plan grants port unit (masked key iv n (encrypted ps)) ps
-        ≡ map (packet_write plan.memory grants port unit) (opened_from key iv n ps)
+        → admitted_each plan grants port unit (masked_bytes key iv n (encrypted_bytes ps)) ps
+        ≡ map (packet_write plan.memory grants port unit) (opened_from_byte key iv n ps)
     each_opened key iv n [] = refl
     each_opened key iv n (p ∷ ps) =
-        let first : List ℕ = masked key iv n p.body in
-        let rest : List ℕ = masked key iv (n + length p.body) (encrypted ps) in
-        let plain : List ℕ = masked key iv n (p.body ++ encrypted ps) in
-        let joined : plain ≡ first ++ rest = masked-append key iv n p.body (encrypted ps) in
-        let long : length p.body ≡ length first = sym (length-masked key iv n p.body) in
+        let first : List ℕ = masked_bytes key iv n p.body in
+        let rest : List ℕ = masked_bytes key iv (n + length p.body) (encrypted_bytes ps) in
+        let plain : List ℕ = masked_bytes key iv n (p.body ++ encrypted_bytes ps) in
+        let joined : plain ≡ first ++ rest = masked_bytes-append key iv n p.body (encrypted_bytes ps) in
+        let long : length p.body ≡ length first = sym (length-masked_bytes key iv n p.body) in
         let front : take (length p.body) plain ≡ first =
         (λ i. take (long i) (joined i)) ∙ take-append_seam first rest in
         let back : drop (length p.body) plain ≡ rest =
@@ -113,11 +114,11 @@ module _ (plan : Plan) (h : History) (port : PortName) where
       → y.key ≡ key_of plan y.draw (lane_in port stream u)
   unfolding standing
   standing_key stream Pr k y is =
-      slots_key (lane_in port stream Pr) (keys_at h port (lane_in port stream Pr)) k y is
+      slots_key (lane_in port stream Pr) (port_keys h port (lane_in port stream Pr)) k y is
   standing_key stream Npr k y is =
-      slots_key (lane_in port stream Npr) (keys_at h port (lane_in port stream Npr)) k y is
+      slots_key (lane_in port stream Npr) (port_keys h port (lane_in port stream Npr)) k y is
   standing_key stream Cpl k y is =
-      slots_key (lane_in port stream Cpl) (keys_at h port (lane_in port stream Cpl)) k y is
+      slots_key (lane_in port stream Cpl) (port_keys h port (lane_in port stream Cpl)) k y is
 
 -- ---- what a stream takes
 
@@ -138,19 +139,19 @@ IsTaken x p t = Unit {0}
 
 module _ (x : StreamState) (p : Packet) where
   keyed_taken : (y : LiveKey) (a b m c : Bool) → first_key x p ≡ Some y
-      → IsTaken x p (if a then Failed fail.Unit else if m then checked b c y p else Held y.draw (y.units + 1))
+      → IsTaken x p (if a then Failed fail.Unit else if m then outcome_of_checks b c y p else Held y.draw (y.units + 1))
   keyed_taken y true b m c is = tt
   keyed_taken y false b false c is = tt
   keyed_taken y false false true c is = tt
   keyed_taken y false true true false is = tt
   keyed_taken y false true true true is = record { key = y; live = is; draw_is = refl; unit_is = refl }
 
-  under_taken : (mode : ℕ) (closed : Bool) (one other : Option LiveKey) → first_key x p ≡ one
-      → IsTaken x p (taken_under mode closed x.rx p one other)
-  under_taken mode closed None None is = tt
-  under_taken mode closed None (Some y) is = tt
-  under_taken mode closed (Some y) other is =
-      keyed_taken y (holds_any other || (not p.prefix.m && nat_le mode (length y.packets + 1)))
+  under_taken : (aggregation : ℕ) (closed : Bool) (one other : Option LiveKey) → first_key x p ≡ one
+      → IsTaken x p (stream_outcome_by_keys aggregation closed x.rx p one other)
+  under_taken aggregation closed None None is = tt
+  under_taken aggregation closed None (Some y) is = tt
+  under_taken aggregation closed (Some y) other is =
+      keyed_taken y (holds_any other || (not p.prefix.m && nat_le aggregation (length y.packets + 1)))
       (is_tagged closed (at_sub x.rx p.prefix.sub).total y p) p.prefix.m
       (is_allowed x.rx p.prefix.sub (y.packets ++ p ∷ [])) is
 
@@ -158,10 +159,10 @@ module _ (x : StreamState) (p : Packet) where
   failed_taken true t is = tt
   failed_taken false t is = is
 
-  pub taken_is : (mode : ℕ) (closed : Bool) → IsTaken x p (taken_by mode closed x p)
-  taken_is mode closed =
+  pub taken_is : (aggregation : ℕ) (closed : Bool) → IsTaken x p (stream_outcome aggregation closed x p)
+  taken_is aggregation closed =
       failed_taken x.failed _
-      (under_taken mode closed (first_key x p)
+      (under_taken aggregation closed (first_key x p)
       (live_in (slot_in_set (at_sub x.rx p.prefix.sub).slots (not p.prefix.k))) refl)
 
 -- ---- an accepted unit
@@ -170,12 +171,12 @@ module _ (x : StreamState) (p : Packet) where
 abbrev pub OpensAs : Plan → PortName → {A : Type 0} → (UnitName → List Packet → List A)
     → (UnitName → List Packet → List A) → Type 0
 OpensAs plan port f g = (unit : UnitName) (ps : List Packet) → f unit ps
-    ≡ g unit (opened_from (key_of plan unit.draw (received_in port unit)) (iv_of unit.sub unit.unit) 0 ps)
+    ≡ g unit (opened_from_byte (key_of plan unit.draw (received_in port unit)) (iv_of unit.sub unit.unit) 0 ps)
 
 -- of the writes that are admitted at an end that is at this port of a host or a device
 pub writes_open : (plan : Plan) (grants : Grants) (end port : PortName) → port_of plan end ≡ port
     → at_switch plan port ≡ false
-    → OpensAs plan end (λ unit ps. admitted_in plan grants end unit ps)
+    → OpensAs plan end (λ unit ps. admitted_writes plan grants end unit ps)
     (λ unit ps. map (packet_write plan.memory grants port unit) ps)
 unfolding open_of
 writes_open plan grants end port at apart unit ps =
@@ -193,7 +194,7 @@ module _ {A : Type 0} (plan : Plan) (port : PortName) (f g : UnitName → List P
   -- by the machine, of an arrival that gave this, and by the port
   taken_same : (p : Packet) (x : StreamState) (t : Taken) → HasKeys p x → IsTaken x p t
       → of_unit (port_arrival p t) (λ unit. f unit (unit_taken t))
-      ≡ of_unit (port_arrival p t) (λ unit. g unit (opened_after x p t))
+      ≡ of_unit (port_arrival p t) (λ unit. g unit (opened_if_accepted x p t))
   taken_same p x (Accepted draw n ps) keys under =
       let unit : UnitName = unit_name p draw n in
       let s : SubStream = lane_in port p.prefix.stream p.prefix.sub in
@@ -201,8 +202,8 @@ module _ {A : Type 0} (plan : Plan) (port : PortName) (f g : UnitName → List P
       let same : key_of plan draw s ≡ y.key =
       ap (λ (j : ℕ). key_of plan j s) under.draw_is ∙ sym (keys y under.live) in
       opens unit ps
-      ∙ (λ i. g unit (opened_from (same i) (iv_of p.prefix.sub (under.unit_is i)) 0 ps))
-      ∙ ap (λ (o : Option LiveKey). g unit (opened_under o p.prefix.sub ps)) (sym under.live)
+      ∙ (λ i. g unit (opened_from_byte (same i) (iv_of p.prefix.sub (under.unit_is i)) 0 ps))
+      ∙ ap (λ (o : Option LiveKey). g unit (opened_unit o p.prefix.sub ps)) (sym under.live)
   taken_same p x t keys under = refl
 
 -- ---- one arrival
@@ -213,11 +214,12 @@ where_it_stands false x y is = absurd (none-some x is)
 
 -- an end with the plan's streams, whose states are the machine's at this end
 pub record IsEndOf (plan : Plan) (now : LinkState) (end : PortName) (here : PortEnd) : Type 0 where
-  pub finds : (id : ℕ) → find plan now end id ≡ option_map (λ (x : Found). x.state) (found here.plans here.states id)
-  pub modes : (id : ℕ) (x : Found) → found here.plans here.states id ≡ Some x
-      → mode_of plan end.link id ≡ x.plan.mode
-  pub closes : (id : ℕ) (x : Found) → found here.plans here.states id ≡ Some x
-      → is_closed plan end.link id ≡ x.plan.closed
+  pub finds : (id : ℕ) → find plan now end id ≡ option_map (λ (x : Found). x.state)
+      (found_stream here.plans here.states id)
+  pub aggregations : (id : ℕ) (x : Found) → found_stream here.plans here.states id ≡ Some x
+      → aggregation_of plan end.line id ≡ x.plan.aggregation
+  pub closes : (id : ℕ) (x : Found) → found_stream here.plans here.states id ≡ Some x
+      → is_closed plan end.line id ≡ x.plan.closed
 
 module _ {A : Type 0} (plan : Plan) (now : LinkState) (h : History) (end : PortName) (here : PortEnd)
     (stands : PortsStandFor plan now h) (is : IsEndOf plan now end here) (f g : UnitName → List Packet → List A)
@@ -227,7 +229,7 @@ module _ {A : Type 0} (plan : Plan) (now : LinkState) (h : History) (end : PortN
   Agrees unit_ended t =
       of_unit t.answer (λ unit. f unit unit_ended) ≡ of_unit t.answer (λ unit. g unit t.port.delivered)
 
-  found_agrees : (p : Packet) (x : Found) → found here.plans here.states p.prefix.stream ≡ Some x
+  found_agrees : (p : Packet) (x : Found) → found_stream here.plans here.states p.prefix.stream ≡ Some x
       → Agrees (unit_found plan end p (Some x.state)) (packet_step here p (Some x))
   found_agrees p x at =
       let id : ℕ = p.prefix.stream in
@@ -236,16 +238,17 @@ module _ {A : Type 0} (plan : Plan) (now : LinkState) (h : History) (end : PortN
       let state : standing plan h end id ≡ x.state =
       where_it_stands (has_stream plan end id) x.state (standing plan h end id)
       (sym (stands.ports_stand.streams end id) ∙ seen) in
-      let t : Taken = taken_by x.plan.mode x.plan.closed x.state p in
-      let mode : mode_of plan end.link id ≡ x.plan.mode = is.modes id x at in
-      let closed : is_closed plan end.link id ≡ x.plan.closed = is.closes id x at in
-      (λ i. of_unit (port_arrival p t) (λ unit. f unit (unit_taken (taken_by (mode i) (closed i) x.state p))))
+      let t : Taken = stream_outcome x.plan.aggregation x.plan.closed x.state p in
+      let aggregation : aggregation_of plan end.line id ≡ x.plan.aggregation = is.aggregations id x at in
+      let closed : is_closed plan end.line id ≡ x.plan.closed = is.closes id x at in
+      (λ i. of_unit (port_arrival p t)
+      (λ unit. f unit (unit_taken (stream_outcome (aggregation i) (closed i) x.state p))))
       ∙ taken_same plan end f g opens p x.state t
       (subst (λ (y : StreamState). HasKeys plan end f g opens p y) state
       (λ y key. standing_key plan h end id p.prefix.sub p.prefix.k y key))
-      (taken_is x.state p x.plan.mode x.plan.closed)
+      (taken_is x.state p x.plan.aggregation x.plan.closed)
 
-  option_agrees : (p : Packet) (o : Option Found) → found here.plans here.states p.prefix.stream ≡ o
+  option_agrees : (p : Packet) (o : Option Found) → found_stream here.plans here.states p.prefix.stream ≡ o
       → Agrees (unit_found plan end p (option_map (λ (x : Found). x.state) o)) (packet_step here p o)
   option_agrees p None at = refl
   option_agrees p (Some x) at = found_agrees p x at
@@ -257,7 +260,7 @@ module _ {A : Type 0} (plan : Plan) (now : LinkState) (h : History) (end : PortN
       ap (λ (o : Option StreamState).
       of_unit (take_step here (Ok (IdePacket p))).answer (λ unit. f unit (unit_found plan end p o)))
       (is.finds p.prefix.stream)
-      ∙ option_agrees p (found here.plans here.states p.prefix.stream) refl
+      ∙ option_agrees p (found_stream here.plans here.states p.prefix.stream) refl
 
   -- of the unit that these bytes end, if they end one
   pub unit_agrees : (bytes : List ℕ) → (let t = take_step here (cut_of bytes) in
@@ -271,7 +274,7 @@ module _ {A : Type 0} (plan : Plan) (now : LinkState) (h : History) (end : PortN
 by_verdict : (plan : Plan) (grants : Grants) (st : LinkState) (end port : PortName) (arrival : Option Arrives)
     (answer : Arrival) (effects : UnitName → List Effect)
     → writes_by plan grants st arrival (arrival_verdict end port answer effects)
-    ≡ of_unit answer (λ unit. admitted_in plan grants end unit (unit_in plan st arrival))
+    ≡ of_unit answer (λ unit. admitted_writes plan grants end unit (unit_in plan st arrival))
 by_verdict plan grants st end port arrival (came.Malformed fault) effects = refl
 by_verdict plan grants st end port arrival came.Plain effects = refl
 by_verdict plan grants st end port arrival (came.Unknown stream) effects = refl
@@ -291,7 +294,7 @@ pub writes_agree : (plan : Plan) (grants : Grants) (now : LinkState) (h : Histor
 writes_agree plan grants now h end port here stands is at apart bytes effects =
     by_verdict plan grants now end port (Some (record { port = end; bytes = bytes }))
     (take_step here (cut_of bytes)).answer effects
-    ∙ unit_agrees plan now h end here stands is (λ unit ps. admitted_in plan grants end unit ps)
+    ∙ unit_agrees plan now h end here stands is (λ unit ps. admitted_writes plan grants end unit ps)
     (λ unit ps. map (packet_write plan.memory grants port unit) ps) (writes_open plan grants end port at apart) bytes
 
 -- at a switch none is admitted
@@ -302,7 +305,8 @@ module _ (plan : Plan) (grants : Grants) (unit : UnitName) where
   none_each port plain (p ∷ ps) at =
       let none : admitted plan grants port unit p (take (length p.body) plain) ≡ None =
       ap (λ (b : Bool). if not (is_sync_packet p) && (not b && (sent_direction port.side == 0))
-      then admitted_as plan grants port unit p.prefix.t (take (length p.body) plain) (read_head_of p.head) else None) at
+      then payload_write plan grants port unit p.prefix.t (take (length p.body) plain) (read_head_of p.head) else None)
+      at
       ∙ never (not (is_sync_packet p)) _ in
       (λ i. none i ∷ none_each port (drop (length p.body) plain) ps at i)
     where
@@ -311,5 +315,5 @@ module _ (plan : Plan) (grants : Grants) (unit : UnitName) where
       never false o = refl
 
   pub switch_admits_none : (end : PortName) (ps : List Packet) → at_switch plan (port_of plan end) ≡ true
-      → admitted_in plan grants end unit ps ≡ map (λ p. None) ps
+      → admitted_writes plan grants end unit ps ≡ map (λ p. None) ps
   switch_admits_none end ps at = none_each (port_of plan end) (plain_of plan end unit ps) ps at

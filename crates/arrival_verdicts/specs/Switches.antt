@@ -42,12 +42,12 @@ abbrev pub waits_last : HopTlp → WaitingTlps → WaitingTlps
 waits_last x w = record { tlps = w.tlps ++ x ∷ []; has_room = false }
 
 -- A TLP is queued if there is room for it and it is no longer than a TLP may be.
-abbrev pub offered : Direction → HopTlp → HopQueues → HopQueues
-offered d x q =
+abbrev pub queues_after_offer : Direction → HopTlp → HopQueues → HopQueues
+queues_after_offer d x q =
     if (queue_of q d).has_room && nat_le (length x.bytes) most_bytes
     then with_queue q d (waits_last x (queue_of q d)) else q
 
 -- one after the other
 abbrev pub all_offered : Direction → List HopTlp → HopQueues → HopQueues
 all_offered d [] q = q
-all_offered d (x ∷ xs) q = all_offered d xs (offered d x q)
+all_offered d (x ∷ xs) q = all_offered d xs (queues_after_offer d x q)

@@ -4,7 +4,7 @@ use Rattle.std.specs.Prelude.{ℕ, ◌≡◌, ◌==◌, ◌&&◌, Bool, not, Lis
 use Rattle.std.specs.Prelude.{Ok, Err, if◌then◌else◌}
 use Rattle.std.specs.Option.{option_and_then}
 use Rattle.ide_types.specs.declared.port.PortName.{PortName}
-use Rattle.ide_plan.specs.declared.plan.Region.{Region}
+use Rattle.ide_types.specs.declared.plan.Region.{Region}
 use Rattle.link_verdicts.specs.declared.verdict.UnitName.{UnitName}
 use Rattle.link_verdicts.specs.declared.verdict.Verdict.{Verdict}
 use Rattle.link_verdicts.specs.declared.verdict.Verdict.TheVariants as v
@@ -15,23 +15,23 @@ use Rattle.tlp_layout.specs.declared.fault.TlpFault.{TlpFault}
 use Rattle.tlp_layout.specs.Reading.{read_head_of}
 use Rattle.ide_prefix.specs.Faults.{packet_place}
 use Rattle.ide_prefix.specs.Packet.{Packet}
-use Rattle.fault_words.specs.FaultWords.{packet_word}
-use Rattle.key_laws.specs.Places.{sent_direction}
-use Rattle.link_history.specs.{owner_of}
-use Rattle.link_history.specs.Admission.{Grants, waiting_then}
-use Rattle.link_history.specs.Sent.{read_in, reads_by}
-use Rattle.link_history.specs.Guarded.{stored_as}
-use Rattle.waiting_reads.specs.declared.queue.WaitingRead.{WaitingRead}
-use Rattle.waiting_reads.specs.Waiting.{request_effect}
-use Rattle.guarded_memory.specs.declared.standing.Standing.{Standing}
+use Rattle.ide_prefix.specs.FaultWords.{packet_word}
+use Rattle.spec_keys.specs.Places.{sent_direction}
+use Rattle.spec_links.specs.{owner_of}
+use Rattle.spec_links.specs.Admission.{Grants, waiting_then}
+use Rattle.spec_links.specs.Sent.{read_in, reads_by}
+use Rattle.spec_links.specs.Guarded.{tlp_happened}
+use Rattle.trusted_memory.specs.declared.queue.WaitingRead.{WaitingRead}
+use Rattle.trusted_memory.specs.Waiting.{request_effect}
+use Rattle.guarded_memory.specs.declared.standing.InterfaceStatus.{InterfaceStatus}
 use Rattle.guarded_memory.specs.{Happened, GuardedMemory, MmioLeads, mmio_effect}
 use Rattle.trusted_memory.specs.declared.grant.Grant.{Grant}
 use Rattle.trusted_memory.specs.{Write, MemoryContents, Leads, write_span, memory_write, admitted_write}
 use Rattle.sub_stream.specs.{mark_of}
 use Rattle.sub_stream.specs.declared.answer.PacketMark.{PacketMark}
 use Rattle.tlp_layout.specs.Faults.{place_in}
-use Rattle.fault_words.specs.FaultWords.{tlp_word}
-use Rattle.tdi_host.specs.Managers.{InterfaceManagerView, granted}
+use Rattle.ide_prefix.specs.FaultWords.{tlp_word}
+use Rattle.interface_host.specs.Managers.{InterfaceManagerView, granted}
 use Rattle.ide_stream.specs.{refusal_verdict, numbered_from}
 use Rattle.ide_port.specs.declared.answer.Sent.{Sent}
 use Rattle.ide_port.specs.declared.answer.Sent.TheVariants as sent
@@ -71,38 +71,39 @@ head_write regions grants link unit t payload (Ok head) =
     admitted_write regions t (head_grant grants link unit head) (memory_write head payload)
 
 -- of a TLP at a device's port whose interfaces stand so
-abbrev pub claimed_effect : List Standing → UnitName → Bool → Result HeadView TlpFault → Effect
+abbrev pub claimed_effect : List InterfaceStatus → UnitName → Bool → Result HeadView TlpFault → Effect
 claimed_effect xs unit t (Err f) = effect.Delivered
 claimed_effect xs unit t (Ok head) = mmio_effect xs t unit.stream unit.draw (write_span head)
 
 -- of a packet with this mark, header and payload
-abbrev pub marked_effect : List Region → Grants → List Standing → ℕ → PortName → UnitName → PacketMark → List ℕ
+abbrev pub marked_effect : List Region → Grants → List InterfaceStatus → ℕ → PortName → UnitName → PacketMark → List ℕ
     → Effect
 marked_effect regions grants xs waiting port unit mark header =
     if mark.sync then effect.Sync
     else if sent_direction port.side == 0
-    then head_effect regions grants port.link waiting unit mark.t (read_head_of header)
+    then head_effect regions grants port.line waiting unit mark.t (read_head_of header)
     else claimed_effect xs unit mark.t (read_head_of header)
 
 abbrev pub marked_write : List Region → Grants → PortName → UnitName → PacketMark → List ℕ → List ℕ → Option Write
 marked_write regions grants port unit mark header payload =
     if not mark.sync && (sent_direction port.side == 0)
-    then head_write regions grants port.link unit mark.t payload (read_head_of header)
+    then head_write regions grants port.line unit mark.t payload (read_head_of header)
     else None
 
 -- what it makes happen to the memory of a device's interfaces that stand so
-abbrev pub marked_stored : List Standing → PortName → UnitName → PacketMark → List ℕ → List ℕ → Option Happened
+abbrev pub marked_stored : List InterfaceStatus → PortName → UnitName → PacketMark → List ℕ → List ℕ → Option Happened
 marked_stored xs port unit mark header payload =
     if not mark.sync && (sent_direction port.side == 1)
-    then stored_as xs unit mark.t payload (read_head_of header)
+    then tlp_happened xs unit mark.t payload (read_head_of header)
     else None
 
-abbrev pub packet_effect : List Region → Grants → List Standing → ℕ → PortName → UnitName → Packet → Effect
+abbrev pub packet_effect : List Region → Grants → List InterfaceStatus → ℕ → PortName → UnitName → Packet → Effect
 packet_effect regions grants xs waiting port unit p =
     marked_effect regions grants xs waiting port unit (mark_of p) p.head
 
 -- of packets in order, while so many reads wait ahead of the first
-abbrev pub effects_from : List Region → Grants → List Standing → ℕ → PortName → UnitName → List Packet → List Effect
+abbrev pub effects_from : List Region → Grants → List InterfaceStatus → ℕ → PortName → UnitName → List Packet
+    → List Effect
 effects_from regions grants xs waiting port unit [] = []
 effects_from regions grants xs waiting port unit (p ∷ ps) =
     packet_effect regions grants xs waiting port unit p
@@ -112,7 +113,7 @@ effects_from regions grants xs waiting port unit (p ∷ ps) =
 abbrev pub packet_write : List Region → Grants → PortName → UnitName → Packet → Option Write
 packet_write regions grants port unit p = marked_write regions grants port unit (mark_of p) p.head p.body
 
-abbrev pub packet_stored : List Standing → PortName → UnitName → Packet → Option Happened
+abbrev pub packet_stored : List InterfaceStatus → PortName → UnitName → Packet → Option Happened
 packet_stored xs port unit p = marked_stored xs port unit (mark_of p) p.head p.body
 
 -- of a TLP of this header, by its effect: the read that waits
@@ -125,7 +126,8 @@ queued_by draw e r = []
 -- A packet with this mark, header and payload got this effect at a port. `ws` are the reads of the link that waited,
 -- `m` stood in trusted memory and `g` in the memory of the device's interfaces, which stand as `xs`; then `ws'`, `m'`
 -- and `g'` do.
-pub record PacketCame (regions : List Region) (grants : Grants) (xs : List Standing) (port : PortName) (unit : UnitName)
+pub record PacketCame (regions : List Region) (grants : Grants) (xs : List InterfaceStatus) (port : PortName)
+    (unit : UnitName)
     (mark : PacketMark) (header payload : List ℕ) (ws : List WaitingRead) (m : MemoryContents) (g : GuardedMemory)
     (e : Effect) (ws' : List WaitingRead) (m' : MemoryContents) (g' : GuardedMemory) : Type 0 where
   pub effect_is : e ≡ marked_effect regions grants xs (length ws) port unit mark header
@@ -134,7 +136,8 @@ pub record PacketCame (regions : List Region) (grants : Grants) (xs : List Stand
   pub stored : MmioLeads g (marked_stored xs port unit mark header payload ∷ []) g'
 
 -- the packets of a unit got these effects, likewise
-pub record UnitCame (regions : List Region) (grants : Grants) (xs : List Standing) (port : PortName) (unit : UnitName)
+pub record UnitCame (regions : List Region) (grants : Grants) (xs : List InterfaceStatus) (port : PortName)
+    (unit : UnitName)
     (ps : List Packet) (ws : List WaitingRead) (m : MemoryContents) (g : GuardedMemory) (es : List Effect)
     (ws' : List WaitingRead) (m' : MemoryContents) (g' : GuardedMemory) : Type 0 where
   pub effects_are : es ≡ effects_from regions grants xs (length ws) port unit ps

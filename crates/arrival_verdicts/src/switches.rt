@@ -2,7 +2,8 @@
 
 ghost use Rattle.std.specs.Prelude.{◌≡◌, ◌++◌};
 ghost use Rattle.arrival_verdicts.specs.Verdicts.{arrival_verdict, of_unit};
-ghost use Rattle.arrival_verdicts.specs.Switches.{switched_as, switched_each, tlps_as, tlps_in, unit_waits, offered};
+ghost use Rattle.arrival_verdicts.specs.Switches.{switched_as, switched_each, tlps_as, tlps_in, unit_waits};
+ghost use Rattle.arrival_verdicts.specs.Switches.{queues_after_offer};
 ghost use Rattle.arrival_verdicts.specs.Switches.{all_offered};
 
 use crate::verdicts::verdict_with;
@@ -21,7 +22,7 @@ fn offer(
     payload: &[u8],
     t: bool,
 )
-    ensures { queues.new ≡ offered direction (record { sub = sub; bytes = header.now ++ payload.now; t = t })
+    ensures { queues.new ≡ queues_after_offer direction (record { sub = sub; bytes = header.now ++ payload.now; t = t })
         queues.old }
 {
     if queues.has_room(direction) && header.len() + payload.len() <= MOST_BYTES {

@@ -3,30 +3,30 @@
 ghost use Rattle.std.specs.Option.{option_and_then};
 ghost use Rattle.std.specs.Prelude.{◌≡◌, ◌∷◌, [], ◌+◌, ◌++◌, ◌<◌, ◌≤◌, ◌^◌, length, map, if◌then◌else◌};
 ghost use Rattle.tlp_layout.specs.Reading.{read_head_of};
-ghost use Rattle.link_history.specs.{owner_of};
-ghost use Rattle.tdi_host.specs.Managers.{granted};
+ghost use Rattle.spec_links.specs.{owner_of};
+ghost use Rattle.interface_host.specs.Managers.{granted};
 ghost use Rattle.trusted_memory.specs.{Leads};
 ghost use Rattle.guarded_memory.specs.{MmioLeads};
-ghost use Rattle.accesses.specs.{standings_by};
-ghost use Rattle.link_history.specs.Guarded.{stored_as};
-ghost use Rattle.link_history.specs.Sent.{reads_by};
-ghost use Rattle.sub_stream.specs.{numbered};
+ghost use Rattle.link_stores.specs.{device_standings};
+ghost use Rattle.spec_links.specs.Guarded.{tlp_happened};
+ghost use Rattle.spec_links.specs.Sent.{reads_by};
+ghost use Rattle.sub_stream.specs.{numbered_packet};
 ghost use Rattle.ide_stream.specs.{refusal_verdict as verdict_refused, numbered_from};
 ghost use Rattle.arrival_verdicts.specs.Verdicts.{grants_in, end_sent_verdict};
 ghost use Rattle.arrival_verdicts.specs.Verdicts.{head_effect, head_write, claimed_effect, queued_by, effects_from};
 ghost use Rattle.arrival_verdicts.specs.Verdicts.{packet_write, packet_stored, unit_writes, of_unit, arrival_verdict};
 ghost use Rattle.arrival_verdicts.specs.Verdicts.{PacketCame, UnitCame};
 
-use accesses::LinkAccesses;
 use association::owner;
-use fault_words::{packet_word, tlp_word};
 use ide_port::{Arrival, Sent};
+use ide_prefix::{packet_word, tlp_word};
 use ide_stream::SendRefusal;
 use ide_types::{PortName, Side};
+use interface_device::DeviceInterfaces;
+use interface_ends::InterfaceKeeper;
+use link_stores::LinkAccesses;
 use link_verdicts::{Effect, Effects, SealedPacket, SealedPackets, UnitName, Verdict};
 use sub_stream::{Delivered, PacketMark};
-use tdi_device::DeviceInterfaces;
-use tdi_ends::InterfaceKeeper;
 use tlp_layout::{HeadView, TlpView, read_head};
 use trusted_memory::{Grant, Trusted};
 
@@ -34,7 +34,7 @@ use trusted_memory::{Grant, Trusted};
 
 // A sealed packet with its number and the end that sealed it.
 fn described(end: PortName, number: u64, packet: &sub_stream::MeasuredPacket) -> SealedPacket
-    ensures { result ≡ numbered end number packet.now }
+    ensures { result ≡ numbered_packet end number packet.now }
 {
     SealedPacket {
         number,
@@ -130,20 +130,20 @@ fn requested(
     access: &mut LinkAccesses,
 ) -> Effect
     requires { 1 ≤ memory.old.spare }
-    ensures effect { result ≡ head_effect memory.old.contents.regions (grants_in at.now.keeper.now) at.now.port.link
+    ensures effect { result ≡ head_effect memory.old.contents.regions (grants_in at.now.keeper.now) at.now.port.line
         (length access.old.reads) unit trusted (read_head_of header.now) }
     ensures reads { access.new.reads ≡ access.old.reads ++ queued_by unit.draw result (read_head_of header.now) }
     ensures kept { access.new ≡ record access.old { reads = access.new.reads } }
     ensures regions { memory.new.contents.regions ≡ memory.old.contents.regions }
     ensures spare { memory.old.spare ≤ memory.new.spare + 1 }
     ensures leads { Leads memory.old.contents (head_write memory.old.contents.regions (grants_in at.now.keeper.now)
-        at.now.port.link unit trusted payload.now (read_head_of header.now) ∷ []) memory.new.contents }
+        at.now.port.line unit trusted payload.now (read_head_of header.now) ∷ []) memory.new.contents }
 {
     match read_head(header) {
         Err(_) => Effect::Delivered,
         Ok(head) => {
             let grant = Grant {
-                bound: bound(at.port.link, at.keeper, &head),
+                bound: bound(at.port.line, at.keeper, &head),
                 stream: unit.stream,
                 draw: unit.draw,
             };
@@ -163,11 +163,11 @@ fn claimed(
     access: &mut LinkAccesses,
 ) -> Effect
     requires { 2 ≤ access.old.guarded.spare }
-    ensures effect { let xs = standings_by access.old.floors at.now.interfaces.now in
+    ensures effect { let xs = device_standings access.old.floors at.now.interfaces.now in
         result ≡ claimed_effect xs unit trusted (read_head_of header.now) }
     ensures none_waits { queued_by unit.draw result (read_head_of header.now) ≡ [] }
-    ensures stored { let xs = standings_by access.old.floors at.now.interfaces.now in
-        MmioLeads access.old.guarded (stored_as xs unit trusted payload.now (read_head_of header.now) ∷ [])
+    ensures stored { let xs = device_standings access.old.floors at.now.interfaces.now in
+        MmioLeads access.old.guarded (tlp_happened xs unit trusted payload.now (read_head_of header.now) ∷ [])
         access.new.guarded }
     ensures kept { access.new ≡ record access.old { guarded = access.new.guarded } }
     ensures sizes { access.new.guarded.sizes ≡ access.old.guarded.sizes }
@@ -193,7 +193,7 @@ fn effect(
     requires spare { 1 ≤ memory.old.spare }
     requires pages { 2 ≤ access.old.guarded.spare }
     ensures came { PacketCame memory.old.contents.regions (grants_in at.now.keeper.now)
-        (standings_by access.old.floors at.now.interfaces.now) at.now.port unit mark header.now payload.now
+        (device_standings access.old.floors at.now.interfaces.now) at.now.port unit mark header.now payload.now
         access.old.reads memory.old.contents access.old.guarded
         result access.new.reads memory.new.contents access.new.guarded }
     ensures regions { memory.new.contents.regions ≡ memory.old.contents.regions }
@@ -223,7 +223,7 @@ fn effects(
     requires spare { 8 ≤ memory.old.spare }
     requires pages { 16 ≤ access.old.guarded.spare }
     ensures came { UnitCame memory.old.contents.regions (grants_in at.now.keeper.now)
-        (standings_by access.old.floors at.now.interfaces.now) at.now.port unit packets.now
+        (device_standings access.old.floors at.now.interfaces.now) at.now.port unit packets.now
         access.old.reads memory.old.contents access.old.guarded
         result access.new.reads memory.new.contents access.new.guarded }
     ensures regions { memory.new.contents.regions ≡ memory.old.contents.regions }
@@ -250,17 +250,17 @@ fn unit_effects(
 ) -> Effects
     requires spare { 8 ≤ memory.old.spare }
     requires pages { 16 ≤ access.old.guarded.spare }
-    ensures effects { let xs = standings_by access.old.floors at.now.interfaces.now in
+    ensures effects { let xs = device_standings access.old.floors at.now.interfaces.now in
         result ≡ of_unit arrival (λ unit. effects_from memory.old.contents.regions (grants_in at.now.keeper.now) xs
         (length access.old.reads) at.now.port unit packets.now) }
-    ensures reads { let xs = standings_by access.old.floors at.now.interfaces.now in
+    ensures reads { let xs = device_standings access.old.floors at.now.interfaces.now in
         access.new.reads ≡ access.old.reads ++ of_unit arrival (λ unit. reads_by unit.draw
         (effects_from memory.old.contents.regions (grants_in at.now.keeper.now) xs (length access.old.reads)
         at.now.port unit packets.now) packets.now) }
     ensures leads { let regions = memory.old.contents.regions in
         Leads memory.old.contents (unit_writes arrival (λ unit. map (packet_write regions (grants_in at.now.keeper.now)
         at.now.port unit) packets.now)) memory.new.contents }
-    ensures stored { let xs = standings_by access.old.floors at.now.interfaces.now in
+    ensures stored { let xs = device_standings access.old.floors at.now.interfaces.now in
         MmioLeads access.old.guarded (of_unit arrival (λ unit. map (packet_stored xs at.now.port unit) packets.now))
         access.new.guarded }
     ensures regions { memory.new.contents.regions ≡ memory.old.contents.regions }
@@ -324,17 +324,17 @@ pub fn taken_verdict(
 ) -> Verdict
     requires spare { 8 ≤ memory.old.spare }
     requires pages { 16 ≤ access.old.guarded.spare }
-    ensures verdict { let xs = standings_by access.old.floors at.now.interfaces.now in
+    ensures verdict { let xs = device_standings access.old.floors at.now.interfaces.now in
         result ≡ arrival_verdict at.now.end at.now.port arrival (λ unit. effects_from memory.old.contents.regions
         (grants_in at.now.keeper.now) xs (length access.old.reads) at.now.port unit packets.now) }
-    ensures reads { let xs = standings_by access.old.floors at.now.interfaces.now in
+    ensures reads { let xs = device_standings access.old.floors at.now.interfaces.now in
         access.new.reads ≡ access.old.reads ++ of_unit arrival (λ unit. reads_by unit.draw
         (effects_from memory.old.contents.regions (grants_in at.now.keeper.now) xs (length access.old.reads)
         at.now.port unit packets.now) packets.now) }
     ensures leads { let regions = memory.old.contents.regions in
         Leads memory.old.contents (unit_writes arrival (λ unit. map (packet_write regions (grants_in at.now.keeper.now)
         at.now.port unit) packets.now)) memory.new.contents }
-    ensures stored { let xs = standings_by access.old.floors at.now.interfaces.now in
+    ensures stored { let xs = device_standings access.old.floors at.now.interfaces.now in
         MmioLeads access.old.guarded (of_unit arrival (λ unit. map (packet_stored xs at.now.port unit) packets.now))
         access.new.guarded }
     ensures regions { memory.new.contents.regions ≡ memory.old.contents.regions }

@@ -4,8 +4,8 @@ use Rattle.std.proofs.Common.{Option, Some, None, refl, sym, ap, ◌∙◌, inl,
 use Rattle.std.specs.List.{list_any}
 use Rattle.std.proofs.Math.Seq.{take-suc}
 use Rattle.std.proofs.lemmas.Bool.{cases_Bool, true≢false}
-use Rattle.ide_plan.specs.declared.stream.StreamPlan.{StreamPlan}
-use Rattle.ide_plan.specs.declared.stream.Selector.{Selector}
+use Rattle.ide_types.specs.declared.stream.StreamPlan.{StreamPlan}
+use Rattle.ide_types.specs.declared.stream.Selector.{Selector}
 use Rattle.association.specs.Choice.{lesser_id, least_of}
 
 swapped : (n m : ℕ) (o : Option ℕ) → lesser_id n (lesser_id m o) ≡ lesser_id m (lesser_id n o)

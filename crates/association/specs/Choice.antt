@@ -10,11 +10,11 @@ use Rattle.tlp_layout.specs.declared.head.Fields.{Fields}
 use Rattle.tlp_layout.specs.declared.head.Fields.TheVariants.{Memory, Config, Message, Completion}
 use Rattle.tlp_layout.specs.declared.head.Routing.{Routing}
 use Rattle.tlp_layout.specs.declared.head.Routing.TheVariants.{ById}
-use Rattle.ide_plan.specs.declared.stream.StreamPlan.{StreamPlan}
-use Rattle.ide_plan.specs.declared.stream.Selector.{Selector}
-use Rattle.ide_plan.specs.declared.stream.Selector.TheVariants.{Selective, Link}
-use Rattle.ide_plan.specs.declared.stream.IdRange.{IdRange}
-use Rattle.ide_plan.specs.declared.stream.AddressRange.{AddressRange}
+use Rattle.ide_types.specs.declared.stream.StreamPlan.{StreamPlan}
+use Rattle.ide_types.specs.declared.stream.Selector.{Selector}
+use Rattle.ide_types.specs.declared.stream.Selector.TheVariants.{Selective, Link}
+use Rattle.ide_types.specs.declared.stream.IdRange.{IdRange}
+use Rattle.ide_types.specs.declared.stream.AddressRange.{AddressRange}
 use Rattle.association.specs.declared.choice.Choice.{Choice}
 use Rattle.association.specs.declared.choice.Choice.TheVariants as choices
 
@@ -94,8 +94,8 @@ choice_of streams side head =
     (if_none (least_of (takes_class head) streams) choices.Link choices.Plain))
 
 -- the stream that was chosen
-abbrev pub chosen : Choice → Option ℕ
-chosen (choices.Selective id) = Some id
-chosen (choices.Default id) = Some id
-chosen (choices.Link id) = Some id
-chosen choices.Plain = None
+abbrev pub chosen_stream : Choice → Option ℕ
+chosen_stream (choices.Selective id) = Some id
+chosen_stream (choices.Default id) = Some id
+chosen_stream (choices.Link id) = Some id
+chosen_stream choices.Plain = None

@@ -1,7 +1,7 @@
 -- The three ways in which a stream takes a TLP.
 use Rattle.std.specs.Prelude.{Bool}
 use Rattle.ide_types.specs.declared.port.Side.{Side}
-use Rattle.ide_plan.specs.declared.stream.Selector.{Selector}
+use Rattle.ide_types.specs.declared.stream.Selector.{Selector}
 use Rattle.tlp_layout.specs.declared.head.HeadView.{HeadView}
 use Rattle.association.specs.declared.choosing.Way.{Way}
 use Rattle.association.specs.declared.choosing.Way.TheVariants.{ByRange, ByDefault, ByClass}

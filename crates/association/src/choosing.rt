@@ -7,8 +7,7 @@ ghost use Rattle.association.specs.Choice.{takes_the_rest, takes_class, lesser_i
 ghost use Rattle.association.specs.Ways.{test_of};
 
 use crate::Choice;
-use ide_plan::{AddressRange, IdRange, Selector, StreamPlan};
-use ide_types::{Items, Side};
+use ide_types::{AddressRange, IdRange, Items, Selector, Side, StreamPlan};
 use tlp_layout::{Fields, HeadView, Routing};
 
 /// The streams of a link, as its topology lists them.

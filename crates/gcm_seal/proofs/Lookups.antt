@@ -1,25 +1,7 @@
 -- Look-ups of 4 bits: a byte of a product with a byte is the sum of two entries, and a table of 16 entries has the sums
 -- of one byte of a block, of x, of x² and of x³ times it.
-use Rattle.std.proofs.Common.{
-  ◌≡◌,
-  ℕ,
-  zero,
-  suc,
-  ◌+◌,
-  ◌*◌,
-  ◌/◌,
-  ◌%◌,
-  ◌^◌,
-  ◌<◌,
-  ◌≤◌,
-  ◌==◌,
-  Bool,
-  true,
-  false,
-  List,
-  [],
-  ◌∷◌,
-}
+use Rattle.std.proofs.Common.{◌≡◌, ℕ, zero, suc, ◌+◌, ◌*◌, ◌/◌, ◌%◌, ◌^◌, ◌<◌, ◌≤◌, ◌==◌, Bool, true, false, List, []}
+use Rattle.std.proofs.Common.{◌∷◌}
 use Rattle.std.proofs.Common.{◌++◌, Fits, subst}
 use Rattle.std.proofs.Common.{length, T}
 use Rattle.std.proofs.Common.{map, replicate, cond, leb, bit_and, bit_xor, slice_index, get_or, refl, sym, ap, ◌∙◌}
@@ -41,7 +23,7 @@ use Rattle.aes_block.proofs.Places.{same_map}
 use Rattle.aes_block.proofs.Halves.{lower-entry, upper-entry, lower-is, lower_places, upper-is, upper_places}
 use Rattle.aes_block.proofs.Halves.{may_look_twice, zip2-append}
 use Rattle.gcm_seal.specs.Polynomials.{bits}
-use Rattle.gcm_seal.specs.Inside.{step_x, act, raised, byte_of, byte_product, AreSteps, IsTable, IsRow}
+use Rattle.gcm_seal.specs.Inside.{step_x, act, raised_block, byte_of, byte_product, AreSteps, IsTable, IsRow}
 use Rattle.gcm_seal.specs.declared.ghash.Row.{Row}
 use Rattle.gcm_seal.specs.declared.ghash.Steps.{Steps}
 use Rattle.gcm_seal.proofs.Moves.{byte_at-is}
@@ -84,13 +66,13 @@ halves h j row is x lt =
     let low_is : low x ≡ m = and_mask x 4 in
     let top : entry_of row.upper n ≡ byte_of j (act (bits 4 n) h) =
     entry_below row.upper n (omega arith) ∙ is.0 n (omega arith) in
-    let bottom : entry_of row.lower (low x) ≡ byte_of j (act (bits 4 x) (raised 4 h)) =
+    let bottom : entry_of row.lower (low x) ≡ byte_of j (act (bits 4 x) (raised_block 4 h)) =
     ap (entry_of row.lower) low_is
     ∙ entry_below row.lower m (omega arith)
     ∙ is.1 m (omega arith)
-    ∙ ap (λ (p : List Bool). byte_of j (act p (raised 4 h))) (bits-low x) in
+    ∙ ap (λ (p : List Bool). byte_of j (act p (raised_block 4 h))) (bits-low x) in
     (λ i. bit_xor (top i) (bottom i))
-    ∙ sym (ap (byte_of j) (split 4 4 x h) ∙ byte_of-xor j (act (bits 4 n) h) (act (bits 4 x) (raised 4 h)))
+    ∙ sym (ap (byte_of j) (split 4 4 x h) ∙ byte_of-xor j (act (bits 4 n) h) (act (bits 4 x) (raised_block 4 h)))
 
 pub high_may : (v : List ℕ) → IsVector v → SwzOk w8 16 16 0 (zip2 (λ a b. a / 2 ^ b) v (replicate 16 4))
 high_may v fits =

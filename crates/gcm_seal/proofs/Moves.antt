@@ -19,9 +19,9 @@ use Rattle.aes_block.specs.Nibbles.{IsVector}
 use Rattle.aes_block.proofs.Blocks.{byte_at-byte}
 use Rattle.aes_block.proofs.Places.{of_16}
 use Rattle.gcm_seal.specs.Polynomials.{bits}
-use Rattle.gcm_seal.specs.Inside.{step_x, act, raised, joined_bytes, byte_of, byte_product, block_product}
+use Rattle.gcm_seal.specs.Inside.{step_x, act, raised_block, joined_bytes, byte_of, byte_product, block_product}
 use Rattle.gcm_seal.proofs.Places.{act-append, bits-append}
-use Rattle.gcm_seal.proofs.Reduction.{raised-xor, raised-zero, raised-add, raised-shifted}
+use Rattle.gcm_seal.proofs.Reduction.{raised_block-xor, raised_block-zero, raised_block-add, raised_block-shifted}
 use Rattle.gcm_seal.proofs.Ring.{xor_four, act-lt, length-bits}
 
 -- ---- joined bytes
@@ -42,30 +42,33 @@ joined-sum (x ∷ xs) [] zs e = absurd (omega (arith, e))
 joined-sum (x ∷ xs) (y ∷ ys) zs e =
     let a : ℕ = joined_bytes (xs ++ zs) in
     let b : ℕ = joined_bytes ys in
-    (λ i. bit_xor (xor-up 120 x y i) ((ap (raised 8) (joined-sum xs ys zs (omega (arith, e))) ∙ raised-xor 8 a b) i))
-    ∙ xor_four (x * 2 ^ 120) (y * 2 ^ 120) (raised 8 a) (raised 8 b)
+    (λ i. bit_xor (xor-up 120 x y i)
+    ((ap (raised_block 8) (joined-sum xs ys zs (omega (arith, e))) ∙ raised_block-xor 8 a b) i))
+    ∙ xor_four (x * 2 ^ 120) (y * 2 ^ 120) (raised_block 8 a) (raised_block 8 b)
 
-raised-none : (b : ℕ) → raised 0 b ≡ b
-unfolding raised
-raised-none b = refl
+raised_block-none : (b : ℕ) → raised_block 0 b ≡ b
+unfolding raised_block
+raised_block-none b = refl
 
 pub joined-append : (xs ys : List ℕ) → joined_bytes (xs ++ ys)
-    ≡ bit_xor (joined_bytes xs) (raised (8 * length xs) (joined_bytes ys))
-joined-append [] ys = sym (ap (bit_xor 0) (raised-none (joined_bytes ys)) ∙ xor_zero_l (joined_bytes ys))
+    ≡ bit_xor (joined_bytes xs) (raised_block (8 * length xs) (joined_bytes ys))
+joined-append [] ys = sym (ap (bit_xor 0) (raised_block-none (joined_bytes ys)) ∙ xor_zero_l (joined_bytes ys))
 joined-append (x ∷ xs) ys =
     let n : ℕ = 8 * length xs in
     let whole : 8 + n ≡ 8 * suc (length xs) = omega arith in
     ap (bit_xor (x * 2 ^ 120))
-    (ap (raised 8) (joined-append xs ys)
-    ∙ raised-xor 8 (joined_bytes xs) (raised n (joined_bytes ys))
-    ∙ ap (bit_xor (raised 8 (joined_bytes xs)))
-    (raised-add 8 n (joined_bytes ys) ∙ ap (λ (k : ℕ). raised k (joined_bytes ys)) whole))
-    ∙ sym (xor_assoc (x * 2 ^ 120) (raised 8 (joined_bytes xs)) (raised (8 * suc (length xs)) (joined_bytes ys)))
+    (ap (raised_block 8) (joined-append xs ys)
+    ∙ raised_block-xor 8 (joined_bytes xs) (raised_block n (joined_bytes ys))
+    ∙ ap (bit_xor (raised_block 8 (joined_bytes xs)))
+    (raised_block-add 8 n (joined_bytes ys) ∙ ap (λ (k : ℕ). raised_block k (joined_bytes ys)) whole))
+    ∙ sym (xor_assoc (x * 2 ^ 120) (raised_block 8 (joined_bytes xs))
+    (raised_block (8 * suc (length xs)) (joined_bytes ys)))
 
 joined-ended : (xs : List ℕ) → joined_bytes (xs ++ 0 ∷ []) ≡ joined_bytes xs
 joined-ended xs =
     joined-append xs (0 ∷ [])
-    ∙ ap (bit_xor (joined_bytes xs)) (ap (raised (8 * length xs)) (raised-zero 8) ∙ raised-zero (8 * length xs))
+    ∙ ap (bit_xor (joined_bytes xs))
+    (ap (raised_block (8 * length xs)) (raised_block-zero 8) ∙ raised_block-zero (8 * length xs))
     ∙ xor_zero_r (joined_bytes xs)
 
 -- ---- bytes as a number
@@ -94,7 +97,7 @@ joined-spelled (x ∷ xs) fits r e =
     let whole : 2 ^ n * 2 ^ r ≡ 2 ^ 120 = sym (pow-add 2 n r) ∙ ap (λ (k : ℕ). 2 ^ k) sum in
     let fit : s * 2 ^ r < 2 ^ 120 = rw (ap (λ (k : ℕ). 2 ^ k) sum) at (shl_below s n r (spelled-lt xs fits.1)) in
     ap (bit_xor (x * 2 ^ 120))
-    (ap (raised 8) (joined-spelled xs fits.1 (r + 8) (omega arith) ∙ up) ∙ raised-shifted 8 (s * 2 ^ r))
+    (ap (raised_block 8) (joined-spelled xs fits.1 (r + 8) (omega arith) ∙ up) ∙ raised_block-shifted 8 (s * 2 ^ r))
     ∙ xor_shifted x 120 (s * 2 ^ r) fit
     ∙ omega (arith, ap (λ (y : ℕ). x * y) whole)
 
@@ -114,11 +117,11 @@ number-lt v fits =
     rw (ap (λ (n : ℕ). 2 ^ n) whole, sym (from_be_bytes-spelled v fits.0)) at (spelled-lt v fits.1)
 
 pub two-joined : (p q : List ℕ) → IsVector p → IsVector q
-    → bit_xor (from_be_bytes w128 p) (raised 128 (from_be_bytes w128 q)) ≡ joined_bytes (p ++ q)
+    → bit_xor (from_be_bytes w128 p) (raised_block 128 (from_be_bytes w128 q)) ≡ joined_bytes (p ++ q)
 two-joined p q fp fq =
     let whole : 8 * length p ≡ 128 = omega (arith, fp.0) in
-    (λ i. bit_xor (sym (joined-number p fp) i) (raised 128 (sym (joined-number q fq) i)))
-    ∙ sym (joined-append p q ∙ ap (λ (n : ℕ). bit_xor (joined_bytes p) (raised n (joined_bytes q))) whole)
+    (λ i. bit_xor (sym (joined-number p fp) i) (raised_block 128 (sym (joined-number q fq) i)))
+    ∙ sym (joined-append p q ∙ ap (λ (n : ℕ). bit_xor (joined_bytes p) (raised_block n (joined_bytes q))) whole)
 
 -- ---- moves by a byte
 
@@ -156,7 +159,7 @@ high-is =
 -- the sum of 32 bytes p and q after a move, with `next` added
 pub moved-joined : (p q next : List ℕ) → length p ≡ 16 → length q ≡ 16 → length next ≡ 16 → slice_index q 15 ≡ 0
     → joined_bytes (zip2 bit_xor (pick_l 0 (replicate 16 0 ++ p) up) next ++ pick_l 0 (p ++ q) up)
-    ≡ bit_xor (joined_bytes next) (raised 8 (joined_bytes (p ++ q)))
+    ≡ bit_xor (joined_bytes next) (raised_block 8 (joined_bytes (p ++ q)))
 moved-joined p q next lp lq ln none =
     let a : List ℕ = pick_l 0 (replicate 16 0 ++ p) up in
     let b : List ℕ = pick_l 0 (p ++ q) up in
@@ -167,7 +170,7 @@ moved-joined p q next lp lq ln none =
     joined-sum a next b (sym ln)
     ∙ xor_comm (joined_bytes (a ++ b)) (joined_bytes next)
     ∙ ap (bit_xor (joined_bytes next))
-    (ap joined_bytes (moved-is p lp q lq) ∙ xor_zero_l (raised 8 (joined_bytes t)) ∙ ap (raised 8) rest)
+    (ap joined_bytes (moved-is p lp q lq) ∙ xor_zero_l (raised_block 8 (joined_bytes t)) ∙ ap (raised_block 8) rest)
 
 -- only zeros from place n on
 abbrev pub IsNoneFrom : ℕ → List ℕ → Type 0
@@ -185,29 +188,29 @@ none-moved n x q none (suc k) le = elim (cases_lt k 15) [
 -- the bytes 15, 14 and so on, t of them, of f at each byte of v: each sum of them moved up by a byte before the next
 abbrev pub moved_sum : (ℕ → ℕ → ℕ) → List ℕ → ℕ → ℕ
 moved_sum f v zero = 0
-moved_sum f v (suc t) = bit_xor (joined_bytes (map (f (15 - t)) v)) (raised 8 (moved_sum f v t))
+moved_sum f v (suc t) = bit_xor (joined_bytes (map (f (15 - t)) v)) (raised_block 8 (moved_sum f v t))
 
 -- the same of one byte's
 abbrev tails : (ℕ → ℕ) → ℕ → ℕ
 tails g zero = 0
-tails g (suc t) = bit_xor (g (15 - t) * 2 ^ 120) (raised 8 (tails g t))
+tails g (suc t) = bit_xor (g (15 - t) * 2 ^ 120) (raised_block 8 (tails g t))
 
 sum-none : (f : ℕ → ℕ → ℕ) (t : ℕ) → moved_sum f [] t ≡ 0
 sum-none f zero = refl
-sum-none f (suc t) = xor_zero_l _ ∙ ap (raised 8) (sum-none f t) ∙ raised-zero 8
+sum-none f (suc t) = xor_zero_l _ ∙ ap (raised_block 8) (sum-none f t) ∙ raised_block-zero 8
 
 -- the first byte apart
 sum-first : (f : ℕ → ℕ → ℕ) (x : ℕ) (v : List ℕ) (t : ℕ)
-    → moved_sum f (x ∷ v) t ≡ bit_xor (tails (λ j. f j x) t) (raised 8 (moved_sum f v t))
-sum-first f x v zero = sym (xor_zero_l _ ∙ raised-zero 8)
+    → moved_sum f (x ∷ v) t ≡ bit_xor (tails (λ j. f j x) t) (raised_block 8 (moved_sum f v t))
+sum-first f x v zero = sym (xor_zero_l _ ∙ raised_block-zero 8)
 sum-first f x v (suc t) =
     let a : ℕ = f (15 - t) x * 2 ^ 120 in
     let j : ℕ = joined_bytes (map (f (15 - t)) v) in
     let b : ℕ = tails (λ j. f j x) t in
-    let m : ℕ = raised 8 (moved_sum f v t) in
-    ap (bit_xor (bit_xor a (raised 8 j))) (ap (raised 8) (sum-first f x v t) ∙ raised-xor 8 b m)
-    ∙ xor_four a (raised 8 j) (raised 8 b) (raised 8 m)
-    ∙ ap (bit_xor (bit_xor a (raised 8 b))) (sym (raised-xor 8 j m))
+    let m : ℕ = raised_block 8 (moved_sum f v t) in
+    ap (bit_xor (bit_xor a (raised_block 8 j))) (ap (raised_block 8) (sum-first f x v t) ∙ raised_block-xor 8 b m)
+    ∙ xor_four a (raised_block 8 j) (raised_block 8 b) (raised_block 8 m)
+    ∙ ap (bit_xor (bit_xor a (raised_block 8 b))) (sym (raised_block-xor 8 j m))
 
 -- ---- products by bytes
 
@@ -249,7 +252,7 @@ bytes-vector n = (refl, go 16 n) where
 -- the products with the bytes of v, each moved up to its place
 abbrev by_bytes : ℕ → List ℕ → ℕ
 by_bytes h [] = 0
-by_bytes h (x ∷ v) = bit_xor (act (bits 8 x) h) (raised 8 (by_bytes h v))
+by_bytes h (x ∷ v) = bit_xor (act (bits 8 x) h) (raised_block 8 (by_bytes h v))
 
 tails-whole : (m : ℕ) → m < 2 ^ 128 → tails (λ j. byte_of j m) 16 ≡ m
 tails-whole m lt = joined-number (to_be_bytes w128 m) (bytes-vector m) ∙ from-to m lt
@@ -258,7 +261,7 @@ sum-bytes : (h : ℕ) → h < 2 ^ 128 → (v : List ℕ) → moved_sum (byte_pro
 sum-bytes h lt [] = sum-none (byte_product h) 16
 sum-bytes h lt (x ∷ v) =
     sum-first (byte_product h) x v 16
-    ∙ (λ i. bit_xor (tails-whole (act (bits 8 x) h) (act-lt (bits 8 x) h lt) i) (raised 8 (sum-bytes h lt v i)))
+    ∙ (λ i. bit_xor (tails-whole (act (bits 8 x) h) (act-lt (bits 8 x) h lt) i) (raised_block 8 (sum-bytes h lt v i)))
 
 bits-cat : (n k x s : ℕ) → n ≤ k → bits n (x * 2 ^ k + s) ≡ bits n s
 unfolding bits
@@ -278,7 +281,7 @@ by_bytes-product h (x ∷ v) fits =
     ∙ ap (λ (p : List Bool). act p h)
     (bits-append 8 k (x * 2 ^ k + s) ∙ (λ i. bits 8 (top i) ++ bits-cat k k x s (omega arith) i))
     ∙ act-append (bits 8 x) (bits k s) h
-    ∙ (λ i. bit_xor (act (bits 8 x) h) (raised (length-bits 8 x i) (by_bytes-product h v fits.1 i)))
+    ∙ (λ i. bit_xor (act (bits 8 x) h) (raised_block (length-bits 8 x i) (by_bytes-product h v fits.1 i)))
 
 -- all 16 moved sums are the product
 pub sum-product : (h : ℕ) (v : List ℕ) → h < 2 ^ 128 → IsVector v
@@ -296,11 +299,11 @@ none-zeros k le = elim (cases_lt k 16) [
 ]
 
 pub joined-none : joined_bytes (replicate 16 0 ++ replicate 16 0) ≡ 0
-unfolding raised step_x
+unfolding raised_block step_x
 joined-none = refl
 
 pub sum-next : (f : ℕ → ℕ → ℕ) (v : List ℕ) (t : ℕ)
-    → bit_xor (joined_bytes (map (f (15 - t)) v)) (raised 8 (moved_sum f v t)) ≡ moved_sum f v (t + 1)
+    → bit_xor (joined_bytes (map (f (15 - t)) v)) (raised_block 8 (moved_sum f v t)) ≡ moved_sum f v (t + 1)
 sum-next f v t =
     let next : suc t ≡ t + 1 = omega arith in
     ap (moved_sum f v) next
@@ -316,14 +319,15 @@ joined-two xs ys e =
 sums-next : (f g : ℕ → ℕ → ℕ) (a b p q : List ℕ) (s t : ℕ) → length a ≡ 16 → length b ≡ 16
     → p ≡ map (f (15 - t)) a → q ≡ map (g (15 - t)) b
     → s ≡ bit_xor (moved_sum f a t) (moved_sum g b t)
-    → bit_xor (joined_bytes (zip2 bit_xor p q)) (raised 8 s) ≡ bit_xor (moved_sum f a (t + 1)) (moved_sum g b (t + 1))
+    → bit_xor (joined_bytes (zip2 bit_xor p q)) (raised_block 8 s)
+    ≡ bit_xor (moved_sum f a (t + 1)) (moved_sum g b (t + 1))
 sums-next f g a b p q s t la lb ep eq es =
     let m : List ℕ = map (f (15 - t)) a in
     let n : List ℕ = map (g (15 - t)) b in
     let long : length m ≡ length n = length-map a (f (15 - t)) ∙ la ∙ sym (length-map b (g (15 - t)) ∙ lb) in
-    (λ i. bit_xor (joined_bytes (zip2 bit_xor (ep i) (eq i))) (raised 8 (es i)))
-    ∙ (λ i. bit_xor (joined-two m n long i) (raised-xor 8 (moved_sum f a t) (moved_sum g b t) i))
-    ∙ xor_four (joined_bytes m) (joined_bytes n) (raised 8 (moved_sum f a t)) (raised 8 (moved_sum g b t))
+    (λ i. bit_xor (joined_bytes (zip2 bit_xor (ep i) (eq i))) (raised_block 8 (es i)))
+    ∙ (λ i. bit_xor (joined-two m n long i) (raised_block-xor 8 (moved_sum f a t) (moved_sum g b t) i))
+    ∙ xor_four (joined_bytes m) (joined_bytes n) (raised_block 8 (moved_sum f a t)) (raised_block 8 (moved_sum g b t))
     ∙ (λ i. bit_xor (sum-next f a t i) (sum-next g b t i))
 
 -- the sum of four such sums, of a and c and of b and d
@@ -334,7 +338,7 @@ four_sums f g k l a b c d t =
 pub four-next : (f g k l : ℕ → ℕ → ℕ) (a b c d : List ℕ) (s t : ℕ) → length a ≡ 16 → length b ≡ 16 → length c ≡ 16
     → length d ≡ 16 → s ≡ four_sums f g k l a b c d t
     → bit_xor (joined_bytes (zip2 bit_xor (zip2 bit_xor (map (f (15 - t)) a) (map (k (15 - t)) c))
-    (zip2 bit_xor (map (g (15 - t)) b) (map (l (15 - t)) d)))) (raised 8 s)
+    (zip2 bit_xor (map (g (15 - t)) b) (map (l (15 - t)) d)))) (raised_block 8 s)
     ≡ four_sums f g k l a b c d (t + 1)
 four-next f g k l a b c d s t la lb lc ld e =
     let n : ℕ = 15 - t in
@@ -347,7 +351,7 @@ four-next f g k l a b c d s t la lb lc ld e =
     let x : ℕ = bit_xor (moved_sum f a t) (moved_sum k c t) in
     let y : ℕ = bit_xor (moved_sum g b t) (moved_sum l d t) in
     (λ i. bit_xor (joined-two p q (sum (f n) (k n) a c la lc ∙ sym (sum (g n) (l n) b d lb ld)) i)
-    ((ap (raised 8) e ∙ raised-xor 8 x y) i))
-    ∙ xor_four (joined_bytes p) (joined_bytes q) (raised 8 x) (raised 8 y)
+    ((ap (raised_block 8) e ∙ raised_block-xor 8 x y) i))
+    ∙ xor_four (joined_bytes p) (joined_bytes q) (raised_block 8 x) (raised_block 8 y)
     ∙ (λ i. bit_xor (sums-next f k a c (map (f n) a) (map (k n) c) x t la lc refl refl refl i)
     (sums-next g l b d (map (g n) b) (map (l n) d) y t lb ld refl refl refl i))

@@ -6,24 +6,24 @@ use Rattle.std.proofs.Common.{arith}
 use Rattle.std.proofs.lemmas.Nat.{shr-shr}
 use lib.Bits.{xor_assoc, xor_zero_l, xor_zero_r}
 use Rattle.gcm_seal.specs.Polynomials.{bits}
-use Rattle.gcm_seal.specs.Inside.{step_x, act, raised}
+use Rattle.gcm_seal.specs.Inside.{step_x, act, raised_block}
 use Rattle.gcm_seal.proofs.Ring.{term, step_x-xor, step_x-zero, act-step_x, length-bits}
 
 -- ---- powers of x
 
-pub act-raised : (p : List Bool) (n k : ℕ) → act p (raised n k) ≡ raised n (act p k)
-unfolding raised
-act-raised p zero k = refl
-act-raised p (suc n) k = act-step_x p (raised n k) ∙ ap step_x (act-raised p n k)
+pub act-raised_block : (p : List Bool) (n k : ℕ) → act p (raised_block n k) ≡ raised_block n (act p k)
+unfolding raised_block
+act-raised_block p zero k = refl
+act-raised_block p (suc n) k = act-step_x p (raised_block n k) ∙ ap step_x (act-raised_block p n k)
 
 -- ---- polynomials in two parts
 
-pub act-append : (p q : List Bool) (k : ℕ) → act (p ++ q) k ≡ bit_xor (act p k) (raised (length p) (act q k))
-unfolding raised
+pub act-append : (p q : List Bool) (k : ℕ) → act (p ++ q) k ≡ bit_xor (act p k) (raised_block (length p) (act q k))
+unfolding raised_block
 act-append [] q k = sym (xor_zero_l (act q k))
 act-append (a ∷ p) q k =
-    rw (act-append p q k, step_x-xor (act p k) (raised (length p) (act q k)))
-    (sym (xor_assoc (term a k) (step_x (act p k)) (step_x (raised (length p) (act q k)))))
+    rw (act-append p q k, step_x-xor (act p k) (raised_block (length p) (act q k)))
+    (sym (xor_assoc (term a k) (step_x (act p k)) (step_x (raised_block (length p) (act q k)))))
 
 pub bits-append : (m n v : ℕ) → bits (m + n) v ≡ bits m (v / 2 ^ n) ++ bits n v
 unfolding bits
@@ -37,12 +37,14 @@ bits-append (suc m) n v =
     rw (e, same, bits-append m n v) refl
 
 -- the highest m of m + n bits, and then the others times xᵐ
-pub split : (m n v h : ℕ) → act (bits (m + n) v) h ≡ bit_xor (act (bits m (v / 2 ^ n)) h) (act (bits n v) (raised m h))
+pub split : (m n v h : ℕ) → act (bits (m + n) v) h ≡ bit_xor (act (bits m (v / 2 ^ n)) h)
+    (act (bits n v) (raised_block m h))
 split m n v h =
     ap (λ (p : List Bool). act p h) (bits-append m n v)
     ∙ act-append (bits m (v / 2 ^ n)) (bits n v) h
     ∙ ap (bit_xor (act (bits m (v / 2 ^ n)) h))
-    (ap (λ (k : ℕ). raised k (act (bits n v) h)) (length-bits m (v / 2 ^ n)) ∙ sym (act-raised (bits n v) m h))
+    (ap (λ (k : ℕ). raised_block k (act (bits n v) h)) (length-bits m (v / 2 ^ n)) ∙ sym
+    (act-raised_block (bits n v) m h))
 
 pub bits-low : (u : ℕ) → bits 4 (u % 16) ≡ bits 4 u
 unfolding bits

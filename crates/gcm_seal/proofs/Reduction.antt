@@ -4,38 +4,38 @@ use Rattle.std.proofs.Common.{◌≡◌, ℕ, zero, suc, ◌+◌, ◌*◌, ◌/�
 use Rattle.std.proofs.Common.{arith}
 use Rattle.std.proofs.Math.Nat.{pow-suc}
 use Rattle.aes_block.proofs.Entries.{all_below}
-use Rattle.gcm_seal.specs.Inside.{step_x, raised}
+use Rattle.gcm_seal.specs.Inside.{step_x, raised_block}
 use Rattle.gcm_seal.proofs.Ring.{step_x-xor, step_x-even, step_x-zero}
 use Rattle.gcm_seal.proofs.Linear.{IsLinear, linear-sum, linear-after, linear-down, linear-up, linear_same}
 
 -- ---- powers of x
 
-pub raised-xor : (n : ℕ) → IsLinear (raised n)
-unfolding raised
-raised-xor zero a b = refl
-raised-xor (suc n) a b = ap step_x (raised-xor n a b) ∙ step_x-xor (raised n a) (raised n b)
+pub raised_block-xor : (n : ℕ) → IsLinear (raised_block n)
+unfolding raised_block
+raised_block-xor zero a b = refl
+raised_block-xor (suc n) a b = ap step_x (raised_block-xor n a b) ∙ step_x-xor (raised_block n a) (raised_block n b)
 
-pub raised-zero : (n : ℕ) → raised n 0 ≡ 0
-unfolding raised
-raised-zero zero = refl
-raised-zero (suc n) = ap step_x (raised-zero n) ∙ step_x-zero
+pub raised_block-zero : (n : ℕ) → raised_block n 0 ≡ 0
+unfolding raised_block
+raised_block-zero zero = refl
+raised_block-zero (suc n) = ap step_x (raised_block-zero n) ∙ step_x-zero
 
-pub raised-add : (m n b : ℕ) → raised m (raised n b) ≡ raised (m + n) b
-unfolding raised
-raised-add zero n b =
+pub raised_block-add : (m n b : ℕ) → raised_block m (raised_block n b) ≡ raised_block (m + n) b
+unfolding raised_block
+raised_block-add zero n b =
     let e : 0 + n ≡ n = omega arith in
-    sym (ap (λ (k : ℕ). raised k b) e)
-raised-add (suc m) n b =
+    sym (ap (λ (k : ℕ). raised_block k b) e)
+raised_block-add (suc m) n b =
     let e : suc m + n ≡ suc (m + n) = omega arith in
-    rw e (ap step_x (raised-add m n b))
+    rw e (ap step_x (raised_block-add m n b))
 
 -- a number with n zeros at its end goes down by n places
-pub raised-shifted : (n b : ℕ) → raised n (b * 2 ^ n) ≡ b
-unfolding raised
-raised-shifted zero b = omega arith
-raised-shifted (suc n) b =
+pub raised_block-shifted : (n b : ℕ) → raised_block n (b * 2 ^ n) ≡ b
+unfolding raised_block
+raised_block-shifted zero b = omega arith
+raised_block-shifted (suc n) b =
     let e : b * 2 ^ suc n ≡ b * 2 * 2 ^ n = rw (pow-suc 2 n) (omega arith) in
-    ap step_x (ap (raised n) e ∙ raised-shifted n (b * 2)) ∙ step_x-even b
+    ap step_x (ap (raised_block n) e ∙ raised_block-shifted n (b * 2)) ∙ step_x-even b
 
 -- ---- the reduction at the end
 
@@ -61,15 +61,16 @@ four-linear =
     (linear-sum (λ d. bit_xor d (d / 2 ^ 1)) (λ d. d / 2 ^ 2)
     (linear-sum (λ d. d) (λ d. d / 2 ^ 1) (λ a b. refl) (linear-down 1)) (linear-down 2)) (linear-down 7)
 
-reduced_test : all_below (λ i. raised 128 (2 ^ i) == four (spill (2 ^ i))) 128 ≡ true
-unfolding raised step_x four spill
+reduced_test : all_below (λ i. raised_block 128 (2 ^ i) == four (spill (2 ^ i))) 128 ≡ true
+unfolding raised_block step_x four spill
 reduced_test = refl
 
-reduced-zero : raised 128 0 ≡ four (spill 0)
+reduced-zero : raised_block 128 0 ≡ four (spill 0)
 unfolding four spill
-reduced-zero = raised-zero 128
+reduced-zero = raised_block-zero 128
 
-pub raised-reduced : (w : ℕ) → w < 2 ^ 128 → raised 128 w ≡ four (spill w)
-raised-reduced w lt =
-    linear_same (raised 128) (λ w. four (spill w)) (raised-xor 128) (linear-after four spill four-linear spill-linear)
+pub raised_block-reduced : (w : ℕ) → w < 2 ^ 128 → raised_block 128 w ≡ four (spill w)
+raised_block-reduced w lt =
+    linear_same (raised_block 128) (λ w. four (spill w)) (raised_block-xor 128)
+    (linear-after four spill four-linear spill-linear)
     reduced-zero 128 reduced_test w lt

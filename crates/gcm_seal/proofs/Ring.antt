@@ -19,7 +19,8 @@ use Rattle.gcm_seal.specs.Gcm.{sum_of_products, ghash, blocks, hash_input}
 use Rattle.gcm_seal.proofs.Strings.{hashed_blocks}
 use Rattle.std.specs.Int.{div_ceil}
 use Rattle.std.proofs.lemmas.List.Sums.{fold-append}
-use Rattle.gcm_seal.specs.Inside.{step_x, act, block_product, absorbed, padded_block, padded_blocks, sum_of_four}
+use Rattle.gcm_seal.specs.Inside.{step_x, act, block_product, hash_after_blocks, padded_block, padded_blocks}
+use Rattle.gcm_seal.specs.Inside.{sum_of_four}
 
 -- ---- xor
 
@@ -381,15 +382,15 @@ times-xor h y x hl yl =
     ∙ rw (polynomial-xor y x, act-plus (polynomial y) (polynomial x) one, act-polynomial y yl)
     (act-xor (polynomial h) y (act (polynomial x) one))
 
-absorbed-sum : (h : ℕ) (xs : List ℕ) (y : ℕ) → h < 2 ^ 128 → y < 2 ^ 128
-    → absorbed h y xs ≡ bit_xor (act (power (polynomial h) (length xs)) y) (act (sum_of_products h xs) one)
-absorbed-sum h [] y hl yl = sym (rw step_x-zero (xor_zero_r _ ∙ xor_zero_r y))
-absorbed-sum h (x ∷ xs) y hl yl =
+hash_after_blocks-sum : (h : ℕ) (xs : List ℕ) (y : ℕ) → h < 2 ^ 128 → y < 2 ^ 128
+    → hash_after_blocks h y xs ≡ bit_xor (act (power (polynomial h) (length xs)) y) (act (sum_of_products h xs) one)
+hash_after_blocks-sum h [] y hl yl = sym (rw step_x-zero (xor_zero_r _ ∙ xor_zero_r y))
+hash_after_blocks-sum h (x ∷ xs) y hl yl =
     let hp = polynomial h in
     let p = power hp (length xs) in
     let w = act (polynomial x) one in
     let rest = act (sum_of_products h xs) one in
-    let more = absorbed-sum h xs (block_product h (bit_xor y x)) hl (times-lt h (bit_xor y x) hl) in
+    let more = hash_after_blocks-sum h xs (block_product h (bit_xor y x)) hl (times-lt h (bit_xor y x) hl) in
     let turn : act p (block_product h (bit_xor y x)) ≡ bit_xor (act (product hp p) y) (act (product hp p) w) =
     rw (times-xor h y x hl yl, act-product hp p y, act-product hp p w, act-act hp p y, act-act hp p w)
     (act-xor p (act hp y) (act hp w)) in
@@ -399,16 +400,16 @@ absorbed-sum h (x ∷ xs) y hl yl =
     (xor_assoc (act (product hp p) y) (act (product hp p) w) rest)
 
 -- GHASH is what the blocks give one by one
-pub absorbed-ghash : (h : ℕ) (xs : List ℕ) → h < 2 ^ 128 → absorbed h 0 xs ≡ ghash h xs
+pub hash_after_blocks-ghash : (h : ℕ) (xs : List ℕ) → h < 2 ^ 128 → hash_after_blocks h 0 xs ≡ ghash h xs
 unfolding ghash
-absorbed-ghash h xs hl =
-    absorbed-sum h xs 0 hl (omega arith)
+hash_after_blocks-ghash h xs hl =
+    hash_after_blocks-sum h xs 0 hl (omega arith)
     ∙ rw (act-zero (power (polynomial h) (length xs)), remainder-act (sum_of_products h xs)) refl
 
 -- the hash of additional data a and a ciphertext c, in the code's order
 pub hashed-ghash : (h : ℕ) (a c : List ℕ) → h < 2 ^ 128 → 8 * length a < 2 ^ 64 → 8 * length c < 2 ^ 64
     → block_product h (bit_xor
-    (absorbed h (absorbed h 0 (padded_blocks a (div_ceil (length a) 16)))
+    (hash_after_blocks h (hash_after_blocks h 0 (padded_blocks a (div_ceil (length a) 16)))
     (padded_blocks c (div_ceil (length c) 16))) (8 * length a * 2 ^ 64 + 8 * length c))
     ≡ ghash h (blocks (hash_input a c) (length (hash_input a c) / 16))
 hashed-ghash h a c hl ha hc =
@@ -416,16 +417,17 @@ hashed-ghash h a c hl ha hc =
     let p : List ℕ = padded_blocks a (div_ceil (length a) 16) in
     let q : List ℕ = padded_blocks c (div_ceil (length c) 16) in
     let n : ℕ = 8 * length a * 2 ^ 64 + 8 * length c in
-    sym (ap (ghash h) (hashed_blocks a c ha hc) ∙ sym (absorbed-ghash h (p ++ q ++ n ∷ []) hl) ∙ fold-append step 0
+    sym (ap (ghash h) (hashed_blocks a c ha hc) ∙ sym (hash_after_blocks-ghash h (p ++ q ++ n ∷ []) hl) ∙ fold-append
+    step 0
     (p ++ q) (n ∷ []) ∙ ap (λ (y : ℕ). block_product h (bit_xor y n)) (fold-append step 0 p q))
 
 -- ---- the loop over the blocks
 
-pub absorbed-next : (h y : ℕ) (s : List ℕ) (i : ℕ)
-    → block_product h (bit_xor (absorbed h y (padded_blocks s i)) (padded_block s i))
-    ≡ absorbed h y (padded_blocks s (i + 1))
+pub hash_after_blocks-next : (h y : ℕ) (s : List ℕ) (i : ℕ)
+    → block_product h (bit_xor (hash_after_blocks h y (padded_blocks s i)) (padded_block s i))
+    ≡ hash_after_blocks h y (padded_blocks s (i + 1))
 unfolding padded_blocks
-absorbed-next h y s i =
+hash_after_blocks-next h y s i =
     let next : i + 1 ≡ suc i = omega arith in
     rw next
     (sym (fold-append (λ y x. block_product h (bit_xor y x)) y (padded_blocks s i) (padded_block s i ∷ [])))

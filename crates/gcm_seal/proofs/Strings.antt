@@ -15,7 +15,7 @@ use Rattle.std.specs.Int.{div_ceil, w32, w64, w128, from_be_bytes, to_be_bytes}
 use Rattle.aes_block.specs.Aes.{aes}
 use Rattle.aes_block.proofs.Blocks.{length-aes}
 use lib.Lanes.{zip2}
-use Rattle.gcm_seal.specs.Gcm.{counter, masked, combined, key_stream, padding, hash_input, block, blocks}
+use Rattle.gcm_seal.specs.Gcm.{counter, masked_bytes, combined_bytes, key_stream, padding, hash_input, block, blocks}
 use Rattle.gcm_seal.specs.Inside.{padded_block, padded_blocks}
 
 -- two strings with the same first 16 bytes spell the same block
@@ -87,68 +87,69 @@ stream-at key iv (suc n) k lt =
           get_or-append_right before last (16 * n) k 0 len new ∙ rw (number, place) refl
     ]
 
-pub length-combined : (xs ks : List ℕ) → length (combined xs ks) ≡ length xs
-length-combined [] ks = refl
-length-combined (x ∷ xs) [] = refl
-length-combined (x ∷ xs) (k ∷ ks) = ap suc (length-combined xs ks)
+pub length-combined_bytes : (xs ks : List ℕ) → length (combined_bytes xs ks) ≡ length xs
+length-combined_bytes [] ks = refl
+length-combined_bytes (x ∷ xs) [] = refl
+length-combined_bytes (x ∷ xs) (k ∷ ks) = ap suc (length-combined_bytes xs ks)
 
-pub combined-at : (xs ks : List ℕ) (i : ℕ) → i < length xs → length xs ≤ length ks
-    → slice_index (combined xs ks) i ≡ bit_xor (slice_index xs i) (slice_index ks i)
-combined-at [] ks i lt le = absurd (omega arith)
-combined-at (x ∷ xs) [] i lt le = absurd (omega arith)
-combined-at (x ∷ xs) (k ∷ ks) zero lt le = refl
-combined-at (x ∷ xs) (k ∷ ks) (suc i) lt le = combined-at xs ks i (omega arith) (omega arith)
+pub combined_bytes-at : (xs ks : List ℕ) (i : ℕ) → i < length xs → length xs ≤ length ks
+    → slice_index (combined_bytes xs ks) i ≡ bit_xor (slice_index xs i) (slice_index ks i)
+combined_bytes-at [] ks i lt le = absurd (omega arith)
+combined_bytes-at (x ∷ xs) [] i lt le = absurd (omega arith)
+combined_bytes-at (x ∷ xs) (k ∷ ks) zero lt le = refl
+combined_bytes-at (x ∷ xs) (k ∷ ks) (suc i) lt le = combined_bytes-at xs ks i (omega arith) (omega arith)
 
-pub length-masked : (key iv : List ℕ) (n : ℕ) (xs : List ℕ) → length (masked key iv n xs) ≡ length xs
-unfolding masked
-length-masked key iv n xs = length-combined xs (drop n (key_stream key iv (div_ceil (n + length xs) 16)))
+pub length-masked_bytes : (key iv : List ℕ) (n : ℕ) (xs : List ℕ) → length (masked_bytes key iv n xs) ≡ length xs
+unfolding masked_bytes
+length-masked_bytes key iv n xs = length-combined_bytes xs (drop n (key_stream key iv (div_ceil (n + length xs) 16)))
 
 -- strings of one length, combined lane by lane
-pub zip2-combined : (xs ks : List ℕ) → length xs ≡ length ks → zip2 bit_xor xs ks ≡ combined xs ks
-zip2-combined [] ks e = refl
-zip2-combined (x ∷ xs) [] e = absurd (omega (arith, e))
-zip2-combined (x ∷ xs) (k ∷ ks) e = ap (λ (l : List ℕ). bit_xor x k ∷ l) (zip2-combined xs ks (omega (arith, e)))
+pub zip2-combined_bytes : (xs ks : List ℕ) → length xs ≡ length ks → zip2 bit_xor xs ks ≡ combined_bytes xs ks
+zip2-combined_bytes [] ks e = refl
+zip2-combined_bytes (x ∷ xs) [] e = absurd (omega (arith, e))
+zip2-combined_bytes (x ∷ xs) (k ∷ ks) e = ap (λ (l : List ℕ). bit_xor x k ∷ l)
+    (zip2-combined_bytes xs ks (omega (arith, e)))
 
 -- byte i of a masked string
-pub masked-at : (key iv : List ℕ) (n : ℕ) (xs : List ℕ) (i : ℕ) → i < length xs
-    → slice_index (masked key iv n xs) i ≡ bit_xor (slice_index xs i) (stream_byte key iv (n + i))
-unfolding masked
-masked-at key iv n xs i lt =
+pub masked_bytes-at : (key iv : List ℕ) (n : ℕ) (xs : List ℕ) (i : ℕ) → i < length xs
+    → slice_index (masked_bytes key iv n xs) i ≡ bit_xor (slice_index xs i) (stream_byte key iv (n + i))
+unfolding masked_bytes
+masked_bytes-at key iv n xs i lt =
     let m : ℕ = div_ceil (n + length xs) 16 in
     let ks = drop n (key_stream key iv m) in
     let enough = div_ceil_times (n + length xs) 16 (lit< tt) in
     let long : length xs ≤ length ks = omega
     (arith, length-drop n (key_stream key iv m), length-stream key iv m, enough) in
     let within : n + i < 16 * m = omega (arith, enough) in
-    combined-at xs ks i lt long
+    combined_bytes-at xs ks i lt long
     ∙ ap (bit_xor (slice_index xs i)) (get_or-drop n (key_stream key iv m) i 0 ∙ stream-at key iv m (n + i) within)
 
 -- a buffer with each byte combined is the masked string
 pub masked_from : (key iv : List ℕ) (n : ℕ) (xs ys : List ℕ) → length ys ≡ length xs
     → ((i : ℕ) → i < length xs → slice_index ys i ≡ bit_xor (slice_index xs i) (stream_byte key iv (n + i)))
-    → ys ≡ masked key iv n xs
+    → ys ≡ masked_bytes key iv n xs
 masked_from key iv n xs ys len each =
-    same_number_lists ys (masked key iv n xs) (len ∙ sym (length-masked key iv n xs))
+    same_number_lists ys (masked_bytes key iv n xs) (len ∙ sym (length-masked_bytes key iv n xs))
     (λ i lt.
     let within : i < length xs = omega (arith, len) in
-    each i within ∙ sym (masked-at key iv n xs i within))
+    each i within ∙ sym (masked_bytes-at key iv n xs i within))
 
 -- bytes that lie within block n of the plaintext, from its byte skip on
-pub masked-within : (key iv : List ℕ) (n skip : ℕ) (xs : List ℕ) → skip + length xs ≤ 16
-    → combined xs (drop skip (aes key (counter iv (n + 1)))) ≡ masked key iv (16 * n + skip) xs
-masked-within key iv n skip xs le =
+pub masked_bytes-within : (key iv : List ℕ) (n skip : ℕ) (xs : List ℕ) → skip + length xs ≤ 16
+    → combined_bytes xs (drop skip (aes key (counter iv (n + 1)))) ≡ masked_bytes key iv (16 * n + skip) xs
+masked_bytes-within key iv n skip xs le =
     let out = aes key (counter iv (n + 1)) in
     let long : length xs ≤ length (drop skip out) = omega
     (arith, length-drop skip out, length-aes key (counter iv (n + 1))) in
-    masked_from key iv (16 * n + skip) xs (combined xs (drop skip out)) (length-combined xs (drop skip out))
+    masked_from key iv (16 * n + skip) xs (combined_bytes xs (drop skip out)) (length-combined_bytes xs (drop skip out))
     (λ i lt.
     let block : (16 * n + skip + i) / 16 ≡ n = omega arith in
     let place : (16 * n + skip + i) % 16 ≡ skip + i = omega arith in
-    combined-at xs (drop skip out) i lt long ∙ rw (block, place)
+    combined_bytes-at xs (drop skip out) i lt long ∙ rw (block, place)
     (ap (bit_xor (slice_index xs i)) (get_or-drop skip out i 0)))
 
-pub masked-none : (key iv : List ℕ) (n : ℕ) (xs : List ℕ) → length xs ≡ 0 → xs ≡ masked key iv n xs
-masked-none key iv n xs none = masked_from key iv n xs xs refl (λ i lt. absurd (omega (arith, none)))
+pub masked_bytes-none : (key iv : List ℕ) (n : ℕ) (xs : List ℕ) → length xs ≡ 0 → xs ≡ masked_bytes key iv n xs
+masked_bytes-none key iv n xs none = masked_from key iv n xs xs refl (λ i lt. absurd (omega (arith, none)))
 
 -- ---- blocks
 

@@ -1,15 +1,16 @@
 -- The definitions on test cases 13, 14 and 16 of the GCM specification, the tags cut to 12 bytes.
 use Rattle.std.proofs.Common.{◌≡◌, [], ◌∷◌, replicate, refl}
-use Rattle.aes_block.specs.Aes.{key_words, temp, mixed, sbox, sub_bytes, shift_rows, mix_columns, add_round_key}
+use Rattle.aes_block.specs.Aes.{key_words, temp, mixed_byte, sbox, sub_bytes, shift_rows, mix_columns, add_round_key}
 use Rattle.aes_block.specs.Aes.{sub_word, expansion, rounds, cipher, aes}
 use Rattle.gcm_seal.specs.Polynomials.{bits}
-use Rattle.gcm_seal.specs.Gcm.{seal_of, ciphertext_of, tag_of, ghash, hash_key, blocks, counter, masked, key_stream}
+use Rattle.gcm_seal.specs.Gcm.{seal_of, ciphertext_of, tag_of, ghash, hash_key, blocks, counter, masked_bytes}
+use Rattle.gcm_seal.specs.Gcm.{key_stream}
 
 -- the empty plaintext
 pub empty-example : seal_of (replicate 32 0) (replicate 12 0) [] []
     ≡ ([], (0x53 ∷ 0x0f ∷ 0x8a ∷ 0xfb ∷ 0xc7 ∷ 0x45 ∷ 0x36 ∷ 0xb9 ∷ 0xa9 ∷ 0x63 ∷ 0xb4 ∷ 0xf1 ∷ []))
-unfolding seal_of ciphertext_of tag_of ghash hash_key blocks counter key_stream masked bits aes cipher rounds
-    add_round_key mixed mix_columns shift_rows sub_bytes key_words temp expansion sub_word sbox
+unfolding seal_of ciphertext_of tag_of ghash hash_key blocks counter key_stream masked_bytes bits aes cipher rounds
+    add_round_key mixed_byte mix_columns shift_rows sub_bytes key_words temp expansion sub_word sbox
 empty-example = refl
 
 -- a plaintext of one block
@@ -17,8 +18,8 @@ pub block-example : seal_of (replicate 32 0) (replicate 12 0) [] (replicate 16 0
   (0xce ∷ 0xa7 ∷ 0x40 ∷ 0x3d ∷ 0x4d ∷ 0x60 ∷ 0x6b ∷ 0x6e ∷ 0x07 ∷ 0x4e ∷ 0xc5 ∷ 0xd3 ∷ 0xba ∷ 0xf3 ∷ 0x9d ∷ 0x18 ∷ []),
   (0xd0 ∷ 0xd1 ∷ 0xc8 ∷ 0xa7 ∷ 0x99 ∷ 0x99 ∷ 0x6b ∷ 0xf0 ∷ 0x26 ∷ 0x5b ∷ 0x98 ∷ 0xb5 ∷ []),
 )
-unfolding seal_of ciphertext_of tag_of ghash hash_key blocks counter key_stream masked bits aes cipher rounds
-    add_round_key mixed mix_columns shift_rows sub_bytes key_words temp expansion sub_word sbox
+unfolding seal_of ciphertext_of tag_of ghash hash_key blocks counter key_stream masked_bytes bits aes cipher rounds
+    add_round_key mixed_byte mix_columns shift_rows sub_bytes key_words temp expansion sub_word sbox
 block-example = refl
 
 -- additional data, and a ciphertext that ends inside a block
@@ -34,6 +35,6 @@ pub long-example : tag_of
     ∷ 0xaa ∷ 0x8c ∷ 0xb0 ∷ 0x8e ∷ 0x48 ∷ 0x59 ∷ 0x0d ∷ 0xbb ∷ 0x3d ∷ 0xa7 ∷ 0xb0 ∷ 0x8b ∷ 0x10 ∷ 0x56 ∷ 0x82 ∷ 0x88
     ∷ 0x38 ∷ 0xc5 ∷ 0xf6 ∷ 0x1e ∷ 0x63 ∷ 0x93 ∷ 0xba ∷ 0x7a ∷ 0x0a ∷ 0xbc ∷ 0xc9 ∷ 0xf6 ∷ 0x62 ∷ [])
     ≡ (0x76 ∷ 0xfc ∷ 0x6e ∷ 0xce ∷ 0x0f ∷ 0x4e ∷ 0x17 ∷ 0x68 ∷ 0xcd ∷ 0xdf ∷ 0x88 ∷ 0x53 ∷ [])
-unfolding tag_of ghash hash_key blocks counter bits aes cipher rounds add_round_key mixed mix_columns shift_rows
+unfolding tag_of ghash hash_key blocks counter bits aes cipher rounds add_round_key mixed_byte mix_columns shift_rows
     sub_bytes key_words temp expansion sub_word sbox
 long-example = refl

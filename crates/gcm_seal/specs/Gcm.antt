@@ -42,19 +42,19 @@ key_stream key iv zero = []
 key_stream key iv (suc n) = key_stream key iv n ++ aes key (counter iv (suc n))
 
 -- the bytes of two strings combined, as many as the first has
-abbrev pub combined : Bytes → Bytes → Bytes
-combined [] ks = []
-combined (x ∷ xs) [] = x ∷ xs
-combined (x ∷ xs) (k ∷ ks) = bit_xor x k ∷ combined xs ks
+abbrev pub combined_bytes : Bytes → Bytes → Bytes
+combined_bytes [] ks = []
+combined_bytes (x ∷ xs) [] = x ∷ xs
+combined_bytes (x ∷ xs) (k ∷ ks) = bit_xor x k ∷ combined_bytes xs ks
 
 -- GCTR from inc₃₂(J₀) on, of a piece of its input (6.5): the bytes that stand at place n of the
 -- plaintext or of the ciphertext, combined with the key stream from its byte n on
-unfoldable pub masked : Key → Iv → ℕ → Bytes → Bytes
-masked key iv n xs = combined xs (drop n (key_stream key iv (div_ceil (n + length xs) 16)))
+unfoldable pub masked_bytes : Key → Iv → ℕ → Bytes → Bytes
+masked_bytes key iv n xs = combined_bytes xs (drop n (key_stream key iv (div_ceil (n + length xs) 16)))
 
 -- GCTR from inc₃₂(J₀) on, of a whole plaintext or ciphertext (6.5)
 abbrev pub gctr : Key → Iv → Bytes → Bytes
-gctr key iv xs = masked key iv 0 xs
+gctr key iv xs = masked_bytes key iv 0 xs
 
 -- H, the hash subkey: the cipher's output at the zero block (7.1, step 1)
 unfoldable pub hash_key : Key → BlockNumber

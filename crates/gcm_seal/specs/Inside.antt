@@ -19,17 +19,17 @@ act [] k = 0
 act (a ∷ p) k = bit_xor (if a then k else 0) (step_x (act p k))
 
 -- xⁿ • b
-unfoldable pub raised : ℕ → BlockNumber → BlockNumber
-raised zero b = b
-raised (suc n) b = step_x (raised n b)
+unfoldable pub raised_block : ℕ → BlockNumber → BlockNumber
+raised_block zero b = b
+raised_block (suc n) b = step_x (raised_block n b)
 
 -- the product of two blocks
 unfoldable pub block_product : BlockNumber → BlockNumber → BlockNumber
 block_product h v = act (polynomial v) h
 
 -- the hash y after the blocks xs
-abbrev pub absorbed : BlockNumber → BlockNumber → List BlockNumber → BlockNumber
-absorbed h y xs = fold (λ y x. block_product h (bit_xor y x)) y xs
+abbrev pub hash_after_blocks : BlockNumber → BlockNumber → List BlockNumber → BlockNumber
+hash_after_blocks h y xs = fold (λ y x. block_product h (bit_xor y x)) y xs
 
 -- block i of a string, with zeros past its end
 abbrev pub padded_block : Bytes → ℕ → BlockNumber
@@ -51,7 +51,7 @@ byte_product h j x = byte_of j (act (bits 8 x) h)
 -- the sum of bytes, each moved up to its place: byte i times x⁸ⁱ
 abbrev pub joined_bytes : List ℕ → BlockNumber
 joined_bytes [] = 0
-joined_bytes (b ∷ bs) = bit_xor (b * 2 ^ 120) (raised 8 (joined_bytes bs))
+joined_bytes (b ∷ bs) = bit_xor (b * 2 ^ 120) (raised_block 8 (joined_bytes bs))
 
 -- b, x • b, x² • b and x³ • b, as bytes
 abbrev pub AreSteps : BlockNumber → Steps → Type 0
@@ -65,7 +65,7 @@ IsTable b j table = (n : ℕ) → n < 16 → slice_index table n ≡ byte_of j (
 
 -- byte j of the multiples of h by the upper 4 bits of a byte, and by the lower
 abbrev pub IsRow : BlockNumber → ℕ → Row → Type 0
-IsRow h j row = IsTable h j row.upper × IsTable (raised 4 h) j row.lower
+IsRow h j row = IsTable h j row.upper × IsTable (raised_block 4 h) j row.lower
 
 abbrev pub row_at : List Row → ℕ → Row
 row_at rows j = get_or rows j (record { upper = []; lower = [] })

@@ -6,8 +6,9 @@ ghost use Rattle.std.specs.Prelude.{◌/◌, slice_index, take, ◌∷◌};
 ghost use Rattle.std.specs.Int.{div_ceil, from_be_bytes, to_be_bytes, w128};
 ghost use lib.Lanes.{Each1, zip2};
 ghost use Rattle.aes_block.specs.Nibbles.{IsVector, entry_of};
-ghost use Rattle.gcm_seal.specs.Inside.{AreMultiples, AreRows, AreSteps, IsRow, IsTable, absorbed, block_product};
-ghost use Rattle.gcm_seal.specs.Inside.{byte_product, joined_bytes, padded_block, padded_blocks, raised, step_x};
+ghost use Rattle.gcm_seal.specs.Inside.{AreMultiples, AreRows, AreSteps, IsRow, IsTable, hash_after_blocks};
+ghost use Rattle.gcm_seal.specs.Inside.{block_product};
+ghost use Rattle.gcm_seal.specs.Inside.{byte_product, joined_bytes, padded_block, padded_blocks, raised_block, step_x};
 ghost use Rattle.gcm_seal.specs.Inside.{sum_of_four};
 
 use crate::MAX_BYTES;
@@ -25,7 +26,7 @@ fn times_x(b: u128) -> u128
 
 // x^4 • b.
 fn times_x4(b: u128) -> u128
-    ensures { result ≡ raised 4 b }
+    ensures { result ≡ raised_block 4 b }
 {
     times_x(times_x(times_x(times_x(b))))
 }
@@ -205,7 +206,8 @@ const UP: [usize; 16] = [
 #[inline(always)]
 fn moved(low: u8x16, high: u8x16, next: u8x16) -> (u8x16, u8x16)
     ensures sum { slice_index high 15 ≡ 0
-        → joined_bytes (result.0 ++ result.1) ≡ bit_xor (joined_bytes next) (raised 8 (joined_bytes (low ++ high))) }
+        → joined_bytes (result.0 ++ result.1)
+        ≡ bit_xor (joined_bytes next) (raised_block 8 (joined_bytes (low ++ high))) }
     ensures high { result.1 ≡ slice_index low 15 ∷ take 15 high }
 {
     let none = u8x16::splat(0);
@@ -214,7 +216,7 @@ fn moved(low: u8x16, high: u8x16, next: u8x16) -> (u8x16, u8x16)
 
 // z + x^128 w, reduced.
 fn reduced(z: u128, w: u128) -> u128
-    ensures { result ≡ bit_xor z (raised 128 w) }
+    ensures { result ≡ bit_xor z (raised_block 128 w) }
 {
     let d = w ^ (w << 127) ^ (w << 126) ^ (w << 121);
     z ^ (d ^ (d >> 1) ^ (d >> 2) ^ (d >> 7))
@@ -341,7 +343,7 @@ fn absorb_one(m: &Multiples, y: u128, v: u8x16) -> u128
 pub fn absorb(m: &Multiples, y: u128, s: &[u8]) -> u128
     requires { length s.now ≤ MAX_BYTES }
     ensures { (h : ℕ) → h < 2 ^ 128 → AreMultiples h m.now
-        → result ≡ absorbed h y (padded_blocks s.now (div_ceil (length s.now) 16)) }
+        → result ≡ hash_after_blocks h y (padded_blocks s.now (div_ceil (length s.now) 16)) }
 {
     let n = (s.len() + 15) / 16;
     let mut x = y;

@@ -9,7 +9,7 @@
 ghost use Rattle.std.specs.Prelude.{◌≡◌, ℕ, List, ◌+◌, ◌-◌, ◌*◌, ◌^◌, ◌<◌, ◌≤◌, length};
 ghost use Rattle.std.specs.Int.{w128, to_be_bytes};
 ghost use Rattle.aes_block.specs.Aes.{aes};
-ghost use Rattle.gcm_seal.specs.Gcm.{combined, counter, hash_key, masked, seal_of, tag_of, verifies};
+ghost use Rattle.gcm_seal.specs.Gcm.{combined_bytes, counter, hash_key, masked_bytes, seal_of, tag_of, verifies};
 ghost use Rattle.gcm_seal.specs.Inside.{AreMultiples};
 
 mod ghash;
@@ -26,7 +26,7 @@ pub const MAX_BYTES: usize = 1_048_576;
 // Combines the bytes of `buf` with as many of `out`.
 fn combine(buf: &mut [u8], out: &[u8])
     requires { length buf.old ≤ length out.now }
-    ensures { buf.new ≡ combined buf.old out.now }
+    ensures { buf.new ≡ combined_bytes buf.old out.now }
 {
     for k in 0..buf.len() {
         buf[k] ^= out[k];
@@ -37,7 +37,7 @@ fn combine(buf: &mut [u8], out: &[u8])
 #[inline(always)]
 fn combine_block(buf: &mut [u8], out: u8x16)
     requires { length buf.old ≡ 16 }
-    ensures { buf.new ≡ combined buf.old out }
+    ensures { buf.new ≡ combined_bytes buf.old out }
 {
     let block = u8x16::from_slice(buf) ^ out;
     block.copy_to_slice(buf);
@@ -48,7 +48,7 @@ fn combine_block(buf: &mut [u8], out: u8x16)
 fn combine_two(buf: &mut [u8], first: u8x16, second: u8x16)
     requires { length buf.old ≡ 32 }
     ensures { (key iv : List ℕ) → (block : ℕ) → first ≡ aes key (counter iv (block + 1))
-        → second ≡ aes key (counter iv (block + 1 + 1)) → buf.new ≡ masked key iv (16 * block) buf.old }
+        → second ≡ aes key (counter iv (block + 1 + 1)) → buf.new ≡ masked_bytes key iv (16 * block) buf.old }
 {
     combine_block(&mut buf[..16], first);
     combine_block(&mut buf[16..], second);
@@ -117,7 +117,7 @@ impl Gcm {
     fn mask_within(&self, iv: &[u8; 12], block: u32, skip: usize, buf: &mut [u8])
         requires block { block ≤ MAX_BYTES }
         requires within { skip + length buf.old ≤ 16 }
-        ensures { buf.new ≡ masked self.now iv.now (16 * block + skip) buf.old }
+        ensures { buf.new ≡ masked_bytes self.now iv.now (16 * block + skip) buf.old }
     {
         if buf.is_empty() {
             return;
@@ -131,7 +131,7 @@ impl Gcm {
     fn mask_two(&self, iv: &[u8; 12], block: u32, buf: &mut [u8])
         requires two { length buf.old ≡ 32 }
         requires block { block ≤ MAX_BYTES }
-        ensures { buf.new ≡ masked self.now iv.now (16 * block) buf.old }
+        ensures { buf.new ≡ masked_bytes self.now iv.now (16 * block) buf.old }
     {
         let out = self.outputs_two(iv, block + 1);
         combine_two(buf, out.0, out.1);
@@ -142,7 +142,7 @@ impl Gcm {
     fn mask_four(&self, iv: &[u8; 12], block: u32, buf: &mut [u8])
         requires four { length buf.old ≡ 64 }
         requires block { block ≤ MAX_BYTES }
-        ensures { buf.new ≡ masked self.now iv.now (16 * block) buf.old }
+        ensures { buf.new ≡ masked_bytes self.now iv.now (16 * block) buf.old }
     {
         let out = self.outputs_four(iv, block + 1);
         combine_two(&mut buf[..32], out.0, out.1);
@@ -153,7 +153,7 @@ impl Gcm {
     fn mask_short(&self, iv: &[u8; 12], block: u32, buf: &mut [u8])
         requires short { length buf.old ≤ 32 }
         requires block { block + 1 ≤ MAX_BYTES }
-        ensures { buf.new ≡ masked self.now iv.now (16 * block) buf.old }
+        ensures { buf.new ≡ masked_bytes self.now iv.now (16 * block) buf.old }
     {
         let first = buf.len().min(16);
         self.mask_within(iv, block, 0, &mut buf[..first]);
@@ -164,7 +164,7 @@ impl Gcm {
     fn mask_last(&self, iv: &[u8; 12], block: u32, buf: &mut [u8])
         requires short { length buf.old ≤ 64 }
         requires block { block + 3 ≤ MAX_BYTES }
-        ensures { buf.new ≡ masked self.now iv.now (16 * block) buf.old }
+        ensures { buf.new ≡ masked_bytes self.now iv.now (16 * block) buf.old }
     {
         if buf.len() < 32 {
             self.mask_short(iv, block, buf);
@@ -177,7 +177,7 @@ impl Gcm {
     // Masks the bytes from block `block` of the plaintext on.
     fn mask_blocks(&self, iv: &[u8; 12], block: u32, buf: &mut [u8])
         requires { 16 * block + length buf.old ≤ MAX_BYTES + 15 }
-        ensures { buf.new ≡ masked self.now iv.now (16 * block) buf.old }
+        ensures { buf.new ≡ masked_bytes self.now iv.now (16 * block) buf.old }
     {
         let fours = buf.len() / 64;
         'fours: for i in 0..fours {
@@ -191,7 +191,7 @@ impl Gcm {
     /// of section 7.1 and 4 of 7.2). A ciphertext is masked only once `verify` holds of it (7.2, step 8).
     pub fn mask(&self, iv: &[u8; 12], from: u32, buf: &mut [u8])
         requires { from + length buf.old ≤ MAX_BYTES }
-        ensures { buf.new ≡ masked self.now iv.now from buf.old }
+        ensures { buf.new ≡ masked_bytes self.now iv.now from buf.old }
     {
         let skip = from as usize % 16;
         let first = ((16 - skip) % 16).min(buf.len());

@@ -5,9 +5,9 @@ use Rattle.std.proofs.Common.{is_some, refl, sym, ap, ◌∙◌, subst, inl, inr
 use Rattle.std.specs.Prelude.{slice_get}
 use Rattle.std.specs.Option.{option_or, option_map}
 use Rattle.std.proofs.lemmas.Bool.{cases_Bool, true≢false}
-use Rattle.ide_plan.specs.declared.interface.BarPlan.{BarPlan}
+use Rattle.ide_types.specs.declared.interface.BarPlan.{BarPlan}
 use Rattle.trusted_memory.specs.declared.span.Span.{Span}
-use Rattle.guarded_memory.specs.declared.standing.Standing.{Standing}
+use Rattle.guarded_memory.specs.declared.standing.InterfaceStatus.{InterfaceStatus}
 use Rattle.guarded_memory.specs.declared.claims.Claim.{Claim}
 use Rattle.guarded_memory.specs.Claims.{holds_span, first_passing, holding_bar, claimed_bar, claim_by, claim_from}
 use Rattle.guarded_memory.specs.Claims.{claim_of}
@@ -40,11 +40,12 @@ found {X} test n (x ∷ xs) r e = elim (cases_Bool (test x)) [
 
 -- ---- interfaces
 
-abbrev ClaimsAt : ℕ → List Standing → Span → Claim → Type 0
+abbrev ClaimsAt : ℕ → List InterfaceStatus → Span → Claim → Type 0
 ClaimsAt n xs s c = (j : ℕ) × (c.interface ≡ n + j) × (slice_get xs j ≡ Some c.standing)
     × (claimed_bar c.standing s ≡ Some (c.bar, c.range))
 
-claims_step : (n : ℕ) (x : Standing) (xs : List Standing) (s : Span) (c : Claim) (o : Option (ℕ × BarPlan))
+claims_step : (n : ℕ) (x : InterfaceStatus) (xs : List InterfaceStatus) (s : Span) (c : Claim)
+    (o : Option (ℕ × BarPlan))
     → claimed_bar x s ≡ o → option_or (option_map (claim_by n x) o) (claim_from (n + 1) xs s) ≡ Some c
     → (claim_from (n + 1) xs s ≡ Some c → ClaimsAt (n + 1) xs s c) → ClaimsAt n (x ∷ xs) s c
 claims_step n x xs s c None is e next = let p = next e in (suc p.0, omega (arith, p.1), p.2, p.3)
@@ -52,12 +53,12 @@ claims_step n x xs s c (Some bar) is e next =
     let same : claim_by n x bar ≡ c = ap (λ (o : Option Claim). unwrap_or o (claim_by n x bar)) e in
     subst (λ (d : Claim). ClaimsAt n (x ∷ xs) s d) same (0, omega arith, refl, is)
 
-claims_at : (n : ℕ) (xs : List Standing) (s : Span) (c : Claim) → claim_from n xs s ≡ Some c → ClaimsAt n xs s c
+claims_at : (n : ℕ) (xs : List InterfaceStatus) (s : Span) (c : Claim) → claim_from n xs s ≡ Some c → ClaimsAt n xs s c
 claims_at n [] s c e = absurd (true≢false (sym (ap (λ (o : Option Claim). is_some o) e)))
 claims_at n (x ∷ xs) s c e = claims_step n x xs s c (claimed_bar x s) refl e (claims_at (n + 1) xs s c)
 
 -- the interface and the BAR of a claim stand so, and the range holds the span
-pub record IsClaimed (xs : List Standing) (s : Span) (c : Claim) : Type 0 where
+pub record IsClaimed (xs : List InterfaceStatus) (s : Span) (c : Claim) : Type 0 where
   pub interface : slice_get xs c.interface ≡ Some c.standing
   pub bar : slice_get c.standing.bars c.bar ≡ Some c.range
   pub holds : holds_span c.range s ≡ true
@@ -66,7 +67,7 @@ if_some : (m : Bool) (o : Option (ℕ × BarPlan)) (r : ℕ × BarPlan) → cond
 if_some true o r e = e
 if_some false o r e = absurd (true≢false (sym (ap (λ (p : Option (ℕ × BarPlan)). is_some p) e)))
 
-pub claimed : (xs : List Standing) (s : Span) (c : Claim) → claim_of xs s ≡ Some c → IsClaimed xs s c
+pub claimed : (xs : List InterfaceStatus) (s : Span) (c : Claim) → claim_of xs s ≡ Some c → IsClaimed xs s c
 claimed xs s c e =
     let p = claims_at 0 xs s c e in
     let i : p.0 ≡ c.interface = omega (arith, p.1) in
@@ -90,10 +91,10 @@ drop_at {X} (y ∷ xs) (suc i) x e =
     subst (λ (k : ℕ). drop i xs ≡ x ∷ drop k (y ∷ xs)) next (drop_at xs i x e)
 
 -- the claim from an interface on is its own, or that of those behind it
-pub claim_from-next : (n i : ℕ) (xs : List Standing) (s : Span) (x : Standing) (o : Option (ℕ × BarPlan))
+pub claim_from-next : (n i : ℕ) (xs : List InterfaceStatus) (s : Span) (x : InterfaceStatus) (o : Option (ℕ × BarPlan))
     → slice_get xs i ≡ Some x → claimed_bar x s ≡ o → claim_from n (drop i xs) s
     ≡ option_or (option_map (claim_by n x) o) (claim_from (n + 1) (drop (i + 1) xs) s)
 claim_from-next n i xs s x o is bar =
-    ap (λ (ys : List Standing). claim_from n ys s) (drop_at xs i x is)
+    ap (λ (ys : List InterfaceStatus). claim_from n ys s) (drop_at xs i x is)
     ∙ ap (λ (p : Option (ℕ × BarPlan)). option_or (option_map (claim_by n x) p)
     (claim_from (n + 1) (drop (i + 1) xs) s)) bar

@@ -5,13 +5,13 @@ use Rattle.std.specs.Prelude.{slice_get}
 use Rattle.std.specs.Option.{option_map_or}
 use Rattle.std.proofs.lemmas.Bool.{and_parts, cases_Bool, eqb-true, true≢false}
 use Rattle.std.proofs.lemmas.Bool.Decides.{nat_tests}
-use Rattle.ide_plan.specs.declared.interface.BarPlan.{BarPlan}
-use Rattle.tdi_state.specs.Bindings.{floor_on}
+use Rattle.ide_types.specs.declared.interface.BarPlan.{BarPlan}
+use Rattle.interface_state.specs.Bindings.{floor_on}
 use Rattle.trusted_memory.specs.Spans.{crosses}
 use Rattle.trusted_memory.specs.Writes.{Write}
 use Rattle.guarded_memory.specs.declared.standing.InterfaceState.{InterfaceState}
 use Rattle.guarded_memory.specs.declared.standing.InterfaceState.TheVariants as state
-use Rattle.guarded_memory.specs.declared.standing.Standing.{Standing}
+use Rattle.guarded_memory.specs.declared.standing.InterfaceStatus.{InterfaceStatus}
 use Rattle.guarded_memory.specs.declared.claims.Claim.{Claim}
 use Rattle.link_verdicts.specs.declared.verdict.BlockCause.{BlockCause}
 use Rattle.link_verdicts.specs.declared.verdict.BlockCause.TheVariants as cause
@@ -54,7 +54,7 @@ not_unlocked state.ConfigLocked e = refl
 not_unlocked state.Run e = refl
 not_unlocked state.Error e = refl
 
-accessed : (x : Standing) (range : BarPlan) (t : Bool) (stream draw : ℕ) → is_locked_or_run x.state ≡ true
+accessed : (x : InterfaceStatus) (range : BarPlan) (t : Bool) (stream draw : ℕ) → is_locked_or_run x.state ≡ true
     → is_open_range range ≡ false → access_cause x range t stream draw ≡ None → is_admitted x t stream draw ≡ true
 accessed x range true stream draw held shut e =
     let r = running (is_in_run x.state) (floor_cause (floor_on stream x.bound) draw) e in
@@ -72,7 +72,7 @@ is_false : (p : Bool) → not p ≡ true → p ≡ false
 is_false true e = absurd (true≢false (sym e))
 is_false false e = refl
 
-not_guarded : (xs : List Standing) (w : Write) (c : Claim) (t : Bool) (stream draw i b : ℕ) (x : Standing)
+not_guarded : (xs : List InterfaceStatus) (w : Write) (c : Claim) (t : Bool) (stream draw i b : ℕ) (x : InterfaceStatus)
     → IsClaimed xs w.span c → mmio_cause c.standing c.range w.span t stream draw ≡ None
     → (eqb c.interface i && eqb c.bar b) ≡ true → slice_get xs i ≡ Some x → is_guarded x b ≡ true
     → is_admitted x t stream draw ≡ true
@@ -81,21 +81,22 @@ not_guarded xs w c t stream draw i b x is none placed there guarded =
     let interface = eqb-true c.interface i places.0 in
     let bar = eqb-true c.bar b places.1 in
     let same : c.standing ≡ x =
-    ap (λ (o : Option Standing). unwrap_or o c.standing)
+    ap (λ (o : Option InterfaceStatus). unwrap_or o c.standing)
     (sym is.interface ∙ ap (λ (k : ℕ). slice_get xs k) interface ∙ there) in
     let parts = and_parts (is_locked_or_run x.state) (not (has_open_range x.bars b)) guarded in
-    let held : is_locked_or_run c.standing.state ≡ true = ap (λ (y : Standing). is_locked_or_run y.state) same ∙ parts.0
+    let held : is_locked_or_run c.standing.state ≡ true = ap (λ (y : InterfaceStatus). is_locked_or_run y.state) same ∙
+    parts.0
     in
     let shut_there : has_open_range c.standing.bars c.bar ≡ false =
     (λ k. has_open_range (same k).bars (bar k)) ∙ is_false (has_open_range x.bars b) parts.1 in
     let shut : is_open_range c.range ≡ false =
     sym (opened (slice_get c.standing.bars c.bar) c.range is.bar) ∙ shut_there in
     let access = not_crossing (crosses w.span) (access_cause c.standing c.range t stream draw) none in
-    subst (λ (y : Standing). is_admitted y t stream draw ≡ true) same
+    subst (λ (y : InterfaceStatus). is_admitted y t stream draw ≡ true) same
     (accessed c.standing c.range t stream draw held shut access)
 
-by_cause : (xs : List Standing) (w : Write) (c : Claim) (t : Bool) (stream draw : ℕ) (old : ℕ → ℕ → ℕ → ℕ)
-    (i b a : ℕ) (x : Standing) (o : Option BlockCause)
+by_cause : (xs : List InterfaceStatus) (w : Write) (c : Claim) (t : Bool) (stream draw : ℕ) (old : ℕ → ℕ → ℕ → ℕ)
+    (i b a : ℕ) (x : InterfaceStatus) (o : Option BlockCause)
     → IsClaimed xs w.span c → mmio_cause c.standing c.range w.span t stream draw ≡ o
     → slice_get xs i ≡ Some x → is_guarded x b ≡ true → is_admitted x t stream draw ≡ false
     → contents_by (stored_unless o c w) old i b a ≡ old i b a
@@ -107,8 +108,8 @@ by_cause xs w c t stream draw old i b a x None is none there guarded other =
       | inr e ↦ rw e refl
     ]
 
-by_claim : (xs : List Standing) (w : Write) (t : Bool) (stream draw : ℕ) (old : ℕ → ℕ → ℕ → ℕ)
-    (i b a : ℕ) (x : Standing) (o : Option Claim) → claim_of xs w.span ≡ o
+by_claim : (xs : List InterfaceStatus) (w : Write) (t : Bool) (stream draw : ℕ) (old : ℕ → ℕ → ℕ → ℕ)
+    (i b a : ℕ) (x : InterfaceStatus) (o : Option Claim) → claim_of xs w.span ≡ o
     → slice_get xs i ≡ Some x → is_guarded x b ≡ true → is_admitted x t stream draw ≡ false
     → contents_by (stored_by_claim o w t stream draw) old i b a ≡ old i b a
 by_claim xs w t stream draw old i b a x None is there guarded other = refl

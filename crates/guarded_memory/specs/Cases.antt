@@ -2,21 +2,21 @@
 use Rattle.std.specs.Prelude.{◌≡◌, ℕ, Bool, true, false, List, [], ◌∷◌, map, Option, Some}
 use Rattle.std.specs.List.{range_with_len, cons_option}
 use Rattle.std.specs.Option.{option_map}
-use Rattle.ide_plan.specs.declared.interface.BarPlan.{BarPlan}
+use Rattle.ide_types.specs.declared.interface.BarPlan.{BarPlan}
 use Rattle.tlp_layout.specs.Reading.{tlp_read}
 use Rattle.trusted_memory.specs.declared.span.Span.{Span}
 use Rattle.trusted_memory.specs.Writes.{Write, write_in}
-use Rattle.tdi_state.specs.declared.bindings.Binding.{Binding}
+use Rattle.interface_state.specs.declared.bindings.Binding.{Binding}
 use Rattle.guarded_memory.specs.declared.standing.InterfaceState.{InterfaceState}
 use Rattle.guarded_memory.specs.declared.standing.InterfaceState.TheVariants.{ConfigUnlocked, ConfigLocked, Run, Error}
-use Rattle.guarded_memory.specs.declared.standing.Standing.{Standing}
+use Rattle.guarded_memory.specs.declared.standing.InterfaceStatus.{InterfaceStatus}
 use Rattle.link_verdicts.specs.declared.verdict.BlockCause.TheVariants.{Crosses, NotTrusted, NotRunning, WrongStream}
 use Rattle.link_verdicts.specs.declared.verdict.BlockCause.TheVariants.{Stale}
 use Rattle.link_verdicts.specs.declared.verdict.Effect.{Effect}
 use Rattle.link_verdicts.specs.declared.verdict.Effect.TheVariants.{Delivered, Stored, Blocked}
 use Rattle.guarded_memory.specs.Causes.{mmio_effect}
 use Rattle.guarded_memory.specs.Happenings.{Happened, InterfaceReset, AllReset, InterfaceStopped, byte_shown}
-use Rattle.guarded_memory.specs.Stored.{stored_by}
+use Rattle.guarded_memory.specs.Stored.{write_happened}
 
 -- by requester 0000h
 abbrev pub case_bytes : List ℕ
@@ -38,12 +38,12 @@ case_bars attributes = case_range 0x40000000 16 attributes ∷ case_range 0x4000
 abbrev pub case_bound : List Binding
 case_bound = record { stream = 5; floor = 1 } ∷ record { stream = 9; floor = 2 } ∷ []
 
-abbrev pub case_standing : InterfaceState → List BarPlan → Standing
+abbrev pub case_standing : InterfaceState → List BarPlan → InterfaceStatus
 case_standing state bars = record { state = state; memory_space = true; bars = bars; bound = case_bound }
 
 -- ---- effects
 
-abbrev pub HasEffect : List Standing → Bool → ℕ → ℕ → Effect → Type 0
+abbrev pub HasEffect : List InterfaceStatus → Bool → ℕ → ℕ → Effect → Type 0
 HasEffect xs t stream draw effect = mmio_effect xs t stream draw (option_map (λ w. w.span) case_write) ≡ effect
 
 -- of a range that is not open: trusted on a bound stream in each state; on another stream; under an older key; not
@@ -97,8 +97,8 @@ abbrev pub four_shown : List Happened → ℕ → ℕ → ℕ → List ℕ
 four_shown happened i b offset = map (byte_shown happened i b) (range_with_len offset 4)
 
 -- what the write leaves if it is trusted
-abbrev pub after_write_to : List Standing → List Happened
-after_write_to xs = cons_option (stored_by xs true 5 1 case_write) []
+abbrev pub after_write_to : List InterfaceStatus → List Happened
+after_write_to xs = cons_option (write_happened xs true 5 1 case_write) []
 
 -- at the offset of its address, also of a base inside a page; in the interface that claims it, if a lesser one does
 -- not, and in no other; in the least BAR that holds it, and in no other

@@ -1,18 +1,18 @@
 -- Why a claimed write is blocked, the first cause that holds (this profile). The causes speak of the bytes that it
 -- names, of T, and of the stream and the draw that its packet came under, and of no payload.
 use Rattle.std.specs.Prelude.{ℕ, ◌||◌, nat_lt, Bool, true, false, if◌then◌else◌, List, Option, Some, None}
-use Rattle.ide_plan.specs.declared.interface.BarPlan.{BarPlan}
+use Rattle.ide_types.specs.declared.interface.BarPlan.{BarPlan}
 use Rattle.trusted_memory.specs.declared.span.Span.{Span}
 use Rattle.trusted_memory.specs.Spans.{crosses}
 use Rattle.guarded_memory.specs.declared.standing.InterfaceState.{InterfaceState}
-use Rattle.guarded_memory.specs.declared.standing.Standing.{Standing}
+use Rattle.guarded_memory.specs.declared.standing.InterfaceStatus.{InterfaceStatus}
 use Rattle.guarded_memory.specs.declared.claims.Claim.{Claim}
 use Rattle.link_verdicts.specs.declared.verdict.BlockCause.{BlockCause}
 use Rattle.link_verdicts.specs.declared.verdict.BlockCause.TheVariants.{Crosses, NotTrusted, NotRunning, WrongStream}
 use Rattle.link_verdicts.specs.declared.verdict.BlockCause.TheVariants.{Stale}
 use Rattle.link_verdicts.specs.declared.verdict.Effect.{Effect}
 use Rattle.link_verdicts.specs.declared.verdict.Effect.TheVariants.{Delivered, Stored, Blocked}
-use Rattle.tdi_state.specs.Bindings.{floor_on}
+use Rattle.interface_state.specs.Bindings.{floor_on}
 use Rattle.guarded_memory.specs.Standings.{is_open_range, is_config_unlocked, is_in_run}
 use Rattle.guarded_memory.specs.Claims.{claim_of}
 
@@ -26,15 +26,15 @@ floor_cause None draw = Some WrongStream
 floor_cause (Some floor) draw = if nat_lt draw floor then Some Stale else None
 
 -- of a trusted write: the interface is not in RUN; else by stream and draw
-abbrev pub trusted_cause : Standing → ℕ → ℕ → Option BlockCause
+abbrev pub trusted_cause : InterfaceStatus → ℕ → ℕ → Option BlockCause
 trusted_cause x stream draw = if is_in_run x.state then floor_cause (floor_on stream x.bound) draw else Some NotRunning
 
-abbrev pub access_cause : Standing → BarPlan → Bool → ℕ → ℕ → Option BlockCause
+abbrev pub access_cause : InterfaceStatus → BarPlan → Bool → ℕ → ℕ → Option BlockCause
 access_cause x range true stream draw = trusted_cause x stream draw
 access_cause x range false stream draw = untrusted_cause x.state range
 
 -- its bytes cross a 4 KiB boundary of addresses; else by T
-abbrev pub mmio_cause : Standing → BarPlan → Span → Bool → ℕ → ℕ → Option BlockCause
+abbrev pub mmio_cause : InterfaceStatus → BarPlan → Span → Bool → ℕ → ℕ → Option BlockCause
 mmio_cause x range s t stream draw = if crosses s then Some Crosses else access_cause x range t stream draw
 
 -- ---- effects
@@ -53,6 +53,6 @@ claim_effect None s t stream draw = Delivered
 claim_effect (Some c) s t stream draw = cause_effect (mmio_cause c.standing c.range s t stream draw)
 
 -- of a TLP at a device's port: of a memory write by the bytes that it names, else it is delivered
-abbrev pub mmio_effect : List Standing → Bool → ℕ → ℕ → Option Span → Effect
+abbrev pub mmio_effect : List InterfaceStatus → Bool → ℕ → ℕ → Option Span → Effect
 mmio_effect xs t stream draw None = Delivered
 mmio_effect xs t stream draw (Some s) = claim_effect (claim_of xs s) s t stream draw

@@ -3,8 +3,8 @@ use Rattle.std.specs.Prelude.{ℕ, ◌≡◌, ◌≤◌, ◌+◌, ◌*◌, ◌/�
 use Rattle.std.specs.Prelude.{map, slice_get, slice_index, unwrap_or, is_some, All, Option}
 use Rattle.std.specs.Option.{option_map_or}
 use Rattle.std.specs.Map.{lookup}
-use Rattle.ide_plan.specs.declared.interface.BarPlan.{BarPlan}
-use Rattle.ide_plan.specs.declared.interface.InterfacePlan.{InterfacePlan}
+use Rattle.ide_types.specs.declared.interface.BarPlan.{BarPlan}
+use Rattle.ide_types.specs.declared.interface.InterfacePlan.{InterfacePlan}
 use Rattle.trusted_memory.specs.Pages.{IsBlank}
 use Rattle.guarded_memory.specs.declared.names.PageName.{PageName}
 use Rattle.guarded_memory.specs.Happenings.{Happened, byte_shown, newest_happened}

@@ -2,7 +2,7 @@
 -- range of a BAR of an interface (this profile).
 use Rattle.std.specs.Prelude.{ℕ, ◌==◌, ◌&&◌, not, Bool, true, false, if◌then◌else◌, List, [], ◌∷◌, Option, Some, None}
 use Rattle.std.specs.List.{cons_option}
-use Rattle.ide_plan.specs.declared.interface.BarPlan.{BarPlan}
+use Rattle.ide_types.specs.declared.interface.BarPlan.{BarPlan}
 use Rattle.trusted_memory.specs.Writes.{Write, written, byte_after}
 use Rattle.guarded_memory.specs.Standings.{has_open_range}
 

@@ -1,14 +1,14 @@
 -- What a lock guards (PCI Express Base 6.0 chapter 11, in this profile).
 use Rattle.std.specs.Prelude.{ℕ, ◌≡◌, ◌&&◌, nat_le, not, Bool, true, false, List, slice_get, Option, Some, None}
-use Rattle.tdi_state.specs.Bindings.{floor_on}
+use Rattle.interface_state.specs.Bindings.{floor_on}
 use Rattle.trusted_memory.specs.Writes.{Write}
-use Rattle.guarded_memory.specs.declared.standing.Standing.{Standing}
+use Rattle.guarded_memory.specs.declared.standing.InterfaceStatus.{InterfaceStatus}
 use Rattle.guarded_memory.specs.Standings.{has_open_range, is_in_run, is_locked_or_run}
 use Rattle.guarded_memory.specs.Happenings.{contents_by}
-use Rattle.guarded_memory.specs.Stored.{stored_by}
+use Rattle.guarded_memory.specs.Stored.{write_happened}
 
 -- a range that is not open, of an interface in CONFIG_LOCKED or RUN
-abbrev pub is_guarded : Standing → ℕ → Bool
+abbrev pub is_guarded : InterfaceStatus → ℕ → Bool
 is_guarded x b = is_locked_or_run x.state && not (has_open_range x.bars b)
 
 -- the draw is from the floor on
@@ -17,12 +17,12 @@ is_from_floor None draw = false
 is_from_floor (Some floor) draw = nat_le floor draw
 
 -- a trusted write, to an interface in RUN, on a stream that it is bound to, under a draw from its floor there on
-abbrev pub is_admitted : Standing → Bool → ℕ → ℕ → Bool
+abbrev pub is_admitted : InterfaceStatus → Bool → ℕ → ℕ → Bool
 is_admitted x t stream draw = t && (is_in_run x.state && is_from_floor (floor_on stream x.bound) draw)
 
 -- a byte of a guarded range changes only by an admitted write: by any other TLP it stays
 abbrev pub GuardedBytesStay : Type 0
-GuardedBytesStay = (xs : List Standing) (t : Bool) (stream draw : ℕ) (o : Option Write) (old : ℕ → ℕ → ℕ → ℕ)
-    (i b offset : ℕ) (x : Standing)
+GuardedBytesStay = (xs : List InterfaceStatus) (t : Bool) (stream draw : ℕ) (o : Option Write) (old : ℕ → ℕ → ℕ → ℕ)
+    (i b offset : ℕ) (x : InterfaceStatus)
     → slice_get xs i ≡ Some x → is_guarded x b ≡ true → is_admitted x t stream draw ≡ false
-    → contents_by (stored_by xs t stream draw o) old i b offset ≡ old i b offset
+    → contents_by (write_happened xs t stream draw o) old i b offset ≡ old i b offset

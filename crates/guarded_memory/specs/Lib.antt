@@ -8,10 +8,10 @@ pub mod Laws
 pub mod Cases
 -- what clauses and crates above cite
 pub use Rattle.guarded_memory.specs.declared.standing.InterfaceState.{InterfaceState}
-pub use Rattle.guarded_memory.specs.declared.standing.Standing.{Standing}
+pub use Rattle.guarded_memory.specs.declared.standing.InterfaceStatus.{InterfaceStatus}
 pub use Rattle.guarded_memory.specs.declared.claims.Claim.{Claim}
 pub use Rattle.guarded_memory.specs.Standings.{is_open_range, has_open_range, is_config_unlocked, is_in_run}
-pub use Rattle.guarded_memory.specs.Standings.{is_locked_or_run, interface_state, standing_of}
+pub use Rattle.guarded_memory.specs.Standings.{is_locked_or_run, state_of_interface, standing_of}
 pub use Rattle.guarded_memory.specs.Claims.{holds_span, first_passing, holding_bar, claimed_bar, claim_by, claim_from}
 pub use Rattle.guarded_memory.specs.Claims.{claim_of}
 pub use Rattle.guarded_memory.specs.Causes.{untrusted_cause, floor_cause, trusted_cause, access_cause, mmio_cause}
@@ -19,7 +19,7 @@ pub use Rattle.guarded_memory.specs.Causes.{cause_effect, is_stored, claim_effec
 pub use Rattle.guarded_memory.specs.Happenings.{Happened, WriteStored, InterfaceReset, AllReset, InterfaceStopped}
 pub use Rattle.guarded_memory.specs.Happenings.{clears, stored_write, writes_since, byte_shown, contents_after}
 pub use Rattle.guarded_memory.specs.Happenings.{contents_by, newest_happened}
-pub use Rattle.guarded_memory.specs.Stored.{write_to, write_from, stored_unless, stored_by_claim, stored_by}
+pub use Rattle.guarded_memory.specs.Stored.{write_to, write_from, stored_unless, stored_by_claim, write_happened}
 pub use Rattle.guarded_memory.specs.Contents.{GuardedMemory, page_count, page_counts, range_size, fits_range}
 pub use Rattle.guarded_memory.specs.Contents.{has_bytes, new_guarded, mmio_byte, IsMmioLeftBy, MmioLeads}
 pub use Rattle.guarded_memory.specs.Laws.{is_guarded, is_from_floor, is_admitted, GuardedBytesStay}

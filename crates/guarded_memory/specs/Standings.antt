@@ -1,15 +1,15 @@
 -- How an interface stands, and which of its ranges are open (PCI Express Base 6.0 chapter 11, in this profile).
 use Rattle.std.specs.Prelude.{ℕ, ◌/◌, ◌%◌, ◌==◌, Bool, true, false, List, slice_get}
 use Rattle.std.specs.Option.{option_map_or}
-use Rattle.ide_plan.specs.declared.interface.BarPlan.{BarPlan}
+use Rattle.ide_types.specs.declared.interface.BarPlan.{BarPlan}
 use Rattle.guarded_memory.specs.declared.standing.InterfaceState.{InterfaceState}
 use Rattle.guarded_memory.specs.declared.standing.InterfaceState.TheVariants.{ConfigUnlocked, ConfigLocked, Run, Error}
-use Rattle.guarded_memory.specs.declared.standing.Standing.{Standing}
-use Rattle.tdi_state.specs.declared.states.TdiState.{TdiState}
-use Rattle.tdi_state.specs.declared.states.TdiState.TheVariants as tdi
-use Rattle.tdi_state.specs.RegisterValues.{has_bit}
-use Rattle.tdi_state.specs.Bars.{bars_of}
-use Rattle.tdi_state.specs.Machine.{Tdi, all_bindings}
+use Rattle.guarded_memory.specs.declared.standing.InterfaceStatus.{InterfaceStatus}
+use Rattle.interface_state.specs.declared.states.TdiState.{TdiState}
+use Rattle.interface_state.specs.declared.states.TdiState.TheVariants as tdi
+use Rattle.interface_state.specs.RegisterValues.{has_bit}
+use Rattle.interface_state.specs.Bars.{bars_of}
+use Rattle.interface_state.specs.Machine.{Tdi, all_bindings}
 
 -- bit 2 of the attributes: open to writes that are not trusted
 abbrev pub is_open_range : BarPlan → Bool
@@ -36,17 +36,17 @@ is_locked_or_run state = false
 
 -- ---- of a device interface
 
-abbrev pub interface_state : TdiState → InterfaceState
-interface_state tdi.ConfigUnlocked = ConfigUnlocked
-interface_state (tdi.ConfigLocked lock nonce) = ConfigLocked
-interface_state (tdi.Run lock) = Run
-interface_state tdi.Error = Error
+abbrev pub state_of_interface : TdiState → InterfaceState
+state_of_interface tdi.ConfigUnlocked = ConfigUnlocked
+state_of_interface (tdi.ConfigLocked lock nonce) = ConfigLocked
+state_of_interface (tdi.Run lock) = Run
+state_of_interface tdi.Error = Error
 
 -- memory space is bit 1 of its command register; it is bound to the stream that its lock keeps, with this floor, and to
 -- streams between two devices
-abbrev pub standing_of : Tdi → ℕ → Standing
+abbrev pub standing_of : Tdi → ℕ → InterfaceStatus
 standing_of t floor = record {
-  state = interface_state t.state;
+  state = state_of_interface t.state;
   memory_space = has_bit 1 t.registers.command;
   bars = bars_of t.plan t.registers;
   bound = all_bindings floor t;

@@ -1,7 +1,7 @@
 -- What a TLP that was delivered made happen (this profile).
 use Rattle.std.specs.Prelude.{ℕ, ◌-◌, Bool, List, Option, Some, None}
 use Rattle.trusted_memory.specs.Writes.{Write}
-use Rattle.guarded_memory.specs.declared.standing.Standing.{Standing}
+use Rattle.guarded_memory.specs.declared.standing.InterfaceStatus.{InterfaceStatus}
 use Rattle.guarded_memory.specs.declared.claims.Claim.{Claim}
 use Rattle.link_verdicts.specs.declared.verdict.BlockCause.{BlockCause}
 use Rattle.guarded_memory.specs.Claims.{claim_of}
@@ -26,6 +26,6 @@ stored_by_claim None w t stream draw = None
 stored_by_claim (Some c) w t stream draw = stored_unless (mmio_cause c.standing c.range w.span t stream draw) c w
 
 -- by the memory write that a TLP is, if it is one
-abbrev pub stored_by : List Standing → Bool → ℕ → ℕ → Option Write → Option Happened
-stored_by xs t stream draw None = None
-stored_by xs t stream draw (Some w) = stored_by_claim (claim_of xs w.span) w t stream draw
+abbrev pub write_happened : List InterfaceStatus → Bool → ℕ → ℕ → Option Write → Option Happened
+write_happened xs t stream draw None = None
+write_happened xs t stream draw (Some w) = stored_by_claim (claim_of xs w.span) w t stream draw

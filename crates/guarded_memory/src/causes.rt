@@ -4,8 +4,8 @@ ghost use Rattle.std.specs.Prelude.{◌≡◌};
 ghost use Rattle.guarded_memory.specs.Causes.{untrusted_cause, floor_cause, trusted_cause, access_cause, mmio_cause};
 
 use crate::standing::is_open_range;
-use crate::{Claim, InterfaceState, Standing};
-use ide_plan::BarPlan;
+use crate::{Claim, InterfaceState, InterfaceStatus};
+use ide_types::BarPlan;
 use link_verdicts::BlockCause;
 use trusted_memory::Span;
 
@@ -37,7 +37,7 @@ fn floor_cause(floor: Option<u32>, draw: u32) -> Option<BlockCause>
 }
 
 // Of a trusted write.
-fn trusted_cause(standing: &Standing, stream: u8, draw: u32) -> Option<BlockCause>
+fn trusted_cause(standing: &InterfaceStatus, stream: u8, draw: u32) -> Option<BlockCause>
     ensures { result ≡ trusted_cause standing.now stream draw }
 {
     if standing.state.is_in_run() {

@@ -3,8 +3,8 @@
 ghost use Rattle.std.specs.Prelude.{◌≡◌, true, IfSome};
 ghost use Rattle.guarded_memory.specs.Claims.{holds_span, holding_bar, claimed_bar, claim_of};
 
-use crate::{Standing, Standings};
-use ide_plan::BarPlan;
+use crate::{InterfaceStatus, Standings};
+use ide_types::BarPlan;
 use trusted_memory::Span;
 
 /// The BAR that claims a write, and the interface that has it, by their numbers and as they stand (PCI Express Base 6.0
@@ -14,7 +14,7 @@ pub struct Claim {
     /// The interface's number among those of the device.
     pub interface: usize,
     /// How the interface stands.
-    pub standing: Standing,
+    pub standing: InterfaceStatus,
     /// The BAR's number.
     pub bar: usize,
     /// The BAR's range, with its base as it stands.
@@ -44,7 +44,7 @@ fn holding_bar(bars: &[BarPlan], span: Span) -> Option<(usize, BarPlan)>
 }
 
 // The BAR by which an interface claims the bytes: none while its memory space is off.
-fn claimed_bar(standing: &Standing, span: Span) -> Option<(usize, BarPlan)>
+fn claimed_bar(standing: &InterfaceStatus, span: Span) -> Option<(usize, BarPlan)>
     ensures bar { result ≡ claimed_bar standing.now span }
     ensures holds { IfSome result (λ r. holds_span r.1 span ≡ true) }
 {

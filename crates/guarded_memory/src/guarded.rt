@@ -7,15 +7,14 @@ ghost use Rattle.tlp_layout.specs.Tlp.{viewed_tlp};
 ghost use Rattle.trusted_memory.specs.Spans.{span_byte_count, is_enabled, crosses, write_span};
 ghost use Rattle.trusted_memory.specs.Writes.{write_in, write_of};
 ghost use Rattle.trusted_memory.specs.Memory.{bytes_from};
-ghost use Rattle.guarded_memory.specs.declared.standing.Standing.{Standing};
+ghost use Rattle.guarded_memory.specs.declared.standing.InterfaceStatus.{InterfaceStatus};
 
 use crate::causes::mmio_cause;
 use crate::claims::claim_of;
 use crate::names::{PageName, name_at, outlives_stop, put};
 use crate::sizes::{fits_range, sizes_of};
 use crate::{Claim, Standings};
-use ide_plan::{BarPlan, InterfacePlan};
-use ide_types::Memory;
+use ide_types::{BarPlan, InterfacePlan, OutOfMemory};
 use link_verdicts::{Effect, UnitName};
 use std::alloc::Global;
 use std::collections::HashMap;
@@ -58,13 +57,13 @@ impl Guarded {
     ghost use Rattle.guarded_memory.specs.Happenings.{Happened, WriteStored, InterfaceReset, AllReset};
     ghost use Rattle.guarded_memory.specs.Happenings.{InterfaceStopped};
     ghost use Rattle.guarded_memory.specs.Happenings.{byte_shown, contents_after, contents_by};
-    ghost use Rattle.guarded_memory.specs.Stored.{write_to, write_from, stored_unless, stored_by};
+    ghost use Rattle.guarded_memory.specs.Stored.{write_to, write_from, stored_unless, write_happened};
     ghost use Rattle.guarded_memory.specs.Contents.{GuardedMemory, new_guarded, range_size, has_bytes, is_page_name};
     ghost use Rattle.guarded_memory.specs.Contents.{name_at, mmio_byte, keeps_page, IsMmioLeftBy, MmioLeads};
     ghost use Rattle.guarded_memory.specs.Laws.{is_guarded, is_admitted};
 
     /// The ranges of the interfaces of a device, with 0 in every byte, and no page.
-    pub fn make(alloc: Global, interfaces: &[InterfacePlan]) -> Result<Guarded, Memory>
+    pub fn make(alloc: Global, interfaces: &[InterfacePlan]) -> Result<Guarded, OutOfMemory>
         ensures new { IfOk result (λ memory. memory ≡ new_guarded interfaces.now) }
         ensures stands { IfOk result (λ memory. IsMmioLeftBy memory []) }
     {
@@ -78,8 +77,8 @@ impl Guarded {
     }
 
     /// Makes sure that at least `pages` pages are spare, so that half as many writes need no memory. The contents are
-    /// as before, also after `Memory`.
-    pub fn spare(&mut self, pages: u8) -> Result<(), Memory>
+    /// as before, also after `OutOfMemory`.
+    pub fn spare(&mut self, pages: u8) -> Result<(), OutOfMemory>
         ensures bytes { (i b offset : ℕ) → mmio_byte self.new i b offset ≡ mmio_byte self.old i b offset }
         ensures sizes { self.new.sizes ≡ self.old.sizes }
         ensures ok { OnOk result (self.new.spare ≡ max self.old.spare pages) }
@@ -222,7 +221,7 @@ impl Guarded {
         ensures effect { result ≡ mmio_effect (S.stand standings.now) trusted unit.stream unit.draw
             (Some write.now.span) }
         ensures bytes { (i b at : ℕ) → mmio_byte self.new i b at ≡ contents_by
-            (stored_by (S.stand standings.now) trusted unit.stream unit.draw (Some (write_of write.now)))
+            (write_happened (S.stand standings.now) trusted unit.stream unit.draw (Some (write_of write.now)))
             (mmio_byte self.old) i b at }
         ensures as_before { is_stored result ≡ false → self.new ≡ self.old }
         ensures sizes { self.new.sizes ≡ self.old.sizes }
@@ -249,14 +248,14 @@ impl Guarded {
         ensures effect { result ≡ mmio_effect (S.stand standings.now) trusted unit.stream unit.draw
             (write_span tlp.now.head) }
         ensures bytes { (i b at : ℕ) → mmio_byte self.new i b at ≡ contents_by
-            (stored_by (S.stand standings.now) trusted unit.stream unit.draw (write_in (viewed_tlp tlp.now)))
+            (write_happened (S.stand standings.now) trusted unit.stream unit.draw (write_in (viewed_tlp tlp.now)))
             (mmio_byte self.old) i b at }
         ensures leads { MmioLeads self.old
-            (stored_by (S.stand standings.now) trusted unit.stream unit.draw (write_in (viewed_tlp tlp.now)) ∷ [])
+            (write_happened (S.stand standings.now) trusted unit.stream unit.draw (write_in (viewed_tlp tlp.now)) ∷ [])
             self.new }
         // A byte of a range that is not open, of an interface in CONFIG_LOCKED or RUN, changes only by a trusted write
         // in RUN, on a bound stream, under a draw from its floor on.
-        ensures guarded { (i b at : ℕ) (x : Standing) → slice_get (S.stand standings.now) i ≡ Some x
+        ensures guarded { (i b at : ℕ) (x : InterfaceStatus) → slice_get (S.stand standings.now) i ≡ Some x
             → is_guarded x b ≡ true → is_admitted x trusted unit.stream unit.draw ≡ false
             → mmio_byte self.new i b at ≡ mmio_byte self.old i b at }
         ensures as_before { is_stored result ≡ false → self.new ≡ self.old }
@@ -290,7 +289,7 @@ impl Guarded {
 
     /// Sets the ranges of an interface that are not open to 0: it accepted a STOP_INTERFACE, and these are its base
     /// address registers (PCI Express Base 6.0 chapter 11, in this profile).
-    pub fn stop(&mut self, interface: usize, bars: &[BarPlan])
+    pub fn stop_interface(&mut self, interface: usize, bars: &[BarPlan])
         ensures bytes { (i b at : ℕ) → mmio_byte self.new i b at
             ≡ contents_after (InterfaceStopped interface bars.now) (mmio_byte self.old) i b at }
         ensures leads { MmioLeads self.old (Some (InterfaceStopped interface bars.now) ∷ []) self.new }

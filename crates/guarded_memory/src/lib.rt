@@ -18,5 +18,5 @@ pub use causes::mmio_cause;
 pub use claims::{Claim, claim_of};
 pub use guarded::Guarded;
 pub use laws::{guarded_bytes_stay, happenings_in_turn, mmio_cases};
-pub use standing::{InterfaceState, Standing};
+pub use standing::{InterfaceState, InterfaceStatus};
 pub use standings::Standings;

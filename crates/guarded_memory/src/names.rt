@@ -7,7 +7,7 @@ ghost use Rattle.guarded_memory.specs.Happenings.{clears, InterfaceStopped};
 ghost use Rattle.guarded_memory.specs.Contents.{is_page_name, name_at};
 
 use crate::standing::has_open_range;
-use ide_plan::BarPlan;
+use ide_types::BarPlan;
 use std::collections::HashMap;
 use trusted_memory::{PAGE_BYTES, Page};
 

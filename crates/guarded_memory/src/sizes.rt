@@ -3,8 +3,7 @@
 ghost use Rattle.std.specs.Prelude.{◌≡◌, IfOk, map};
 ghost use Rattle.guarded_memory.specs.Contents.{page_count, page_counts, fits_range};
 
-use ide_plan::{BarPlan, InterfacePlan};
-use ide_types::Memory;
+use ide_types::{BarPlan, InterfacePlan, OutOfMemory};
 use std::alloc::Global;
 
 fn page_count(bars: &[BarPlan], n: usize) -> u32
@@ -39,7 +38,7 @@ pub fn fits_range(size: u64, offset: u64, n: usize) -> bool
 }
 
 /// Of each interface how many pages each of its six BARs has.
-pub fn sizes_of(alloc: Global, interfaces: &[InterfacePlan]) -> Result<Vec<[u32; 6]>, Memory>
+pub fn sizes_of(alloc: Global, interfaces: &[InterfacePlan]) -> Result<Vec<[u32; 6]>, OutOfMemory>
     ensures { IfOk result (λ v. v.items ≡ map page_counts interfaces.now) }
 {
     let mut sizes = Vec::new(alloc);

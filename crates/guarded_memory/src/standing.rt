@@ -1,12 +1,12 @@
 //! How an interface stands when a write arrives.
 
 ghost use Rattle.std.specs.Prelude.{◌≡◌};
-ghost use Rattle.tdi_state.specs.RegisterValues.{has_bit};
+ghost use Rattle.interface_state.specs.RegisterValues.{has_bit};
 ghost use Rattle.guarded_memory.specs.Standings.{is_open_range, has_open_range};
-ghost use Rattle.guarded_memory.specs.Standings.{is_config_unlocked, is_in_run, interface_state, standing_of};
+ghost use Rattle.guarded_memory.specs.Standings.{is_config_unlocked, is_in_run, state_of_interface, standing_of};
 
-use ide_plan::BarPlan;
-use tdi_state::{Bindings, Interface, Register, TdiState};
+use ide_types::BarPlan;
+use interface_state::{Bindings, Interface, Register, TdiState};
 
 /// The state of a device interface (PCI Express Base 6.0 chapter 11).
 #[derive(Clone, Copy, PartialEq, Eq)]
@@ -19,7 +19,7 @@ pub enum InterfaceState {
 
 /// What is asked of an interface when a write arrives (PCI Express Base 6.0 chapter 11, in this profile).
 #[derive(Drop)]
-pub struct Standing {
+pub struct InterfaceStatus {
     /// Its state.
     pub state: InterfaceState,
     /// Whether memory space is on: bit 1 of its command register.
@@ -51,7 +51,7 @@ pub fn has_open_range(bars: &[BarPlan], bar: usize) -> bool
 impl InterfaceState {
     /// The state, without what the lock that stands kept.
     pub fn of(state: &TdiState) -> InterfaceState
-        ensures { result ≡ interface_state state.now }
+        ensures { result ≡ state_of_interface state.now }
     {
         match state {
             TdiState::ConfigUnlocked => InterfaceState::ConfigUnlocked,
@@ -83,13 +83,13 @@ fn has_memory_space(interface: &Interface) -> bool
     (interface.register(Register::Command) >> 1) & 1 == 1
 }
 
-impl Standing {
+impl InterfaceStatus {
     /// How a device interface with this floor stands, the least draw under which writes on the stream of its link are
     /// admitted.
-    pub fn of(interface: &Interface, floor: u32) -> Standing
+    pub fn of(interface: &Interface, floor: u32) -> InterfaceStatus
         ensures { result ≡ standing_of interface.now floor }
     {
-        Standing {
+        InterfaceStatus {
             state: InterfaceState::of(interface.standing()),
             memory_space: has_memory_space(interface),
             bars: interface.bars(),

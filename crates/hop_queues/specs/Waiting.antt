@@ -12,7 +12,7 @@ pub record WaitingTlps : Type 0 where
   pub has_room : Bool
 
 -- an empty buffer with room for the longest TLP
-pub record IsBlank (bytes : List ℕ) (room : ℕ) : Type 0 where
+pub record IsBlankBuffer (bytes : List ℕ) (room : ℕ) : Type 0 where
   pub empty : bytes ≡ []
   pub roomy : most_bytes ≤ room
 

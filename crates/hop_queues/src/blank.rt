@@ -3,7 +3,7 @@
 ghost use Rattle.std.specs.Prelude.{◌≡◌, ◌+◌, ◌≤◌, ◌++◌, length, vec_len, vec_capacity};
 
 use crate::MOST_BYTES;
-use ide_types::{Bytes, Memory};
+use ide_types::{Bytes, OutOfMemory};
 use std::alloc::Global;
 use std::marker::Model;
 
@@ -15,13 +15,13 @@ pub struct Blank {
 
 impl Model for Blank {
     ghost use Rattle.std.specs.Prelude.{vec_capacity};
-    ghost use Rattle.hop_queues.specs.Waiting.{IsBlank};
+    ghost use Rattle.hop_queues.specs.Waiting.{IsBlankBuffer};
 
     ghost Value = { Unit {0} };
 
     ghost view = { λ b. tt };
 
-    ghost invariant = { λ b. IsBlank b.bytes.items (vec_capacity b.bytes) };
+    ghost invariant = { λ b. IsBlankBuffer b.bytes.items (vec_capacity b.bytes) };
 }
 
 // Appends the bytes, for which there is room.
@@ -36,7 +36,7 @@ fn append(out: &mut Vec<u8>, bytes: &[u8])
 
 impl Blank {
     /// Takes the memory of one.
-    pub fn make(alloc: Global) -> Result<Blank, Memory> {
+    pub fn make(alloc: Global) -> Result<Blank, OutOfMemory> {
         let bytes = Vec::with_capacity(alloc, MOST_BYTES)?;
         Ok(Blank { bytes })
     }

@@ -4,7 +4,7 @@ ghost use Rattle.std.specs.Prelude.{◌≡◌, ◌+◌, ◌≤◌, ◌++◌, [],
 ghost use Rattle.std.specs.Prelude.{IsSome, IfSome, ◌↔◌, ◌<◌, slice_index_or};
 
 use crate::blank::Blank;
-use ide_types::{Bytes, Memory, SubKind};
+use ide_types::{Bytes, OutOfMemory, SubKind};
 use std::alloc::Global;
 use std::collections::VecDeque;
 use std::marker::Model;
@@ -53,7 +53,7 @@ impl HopQueue {
     }
 
     /// Room for one more.
-    pub fn room(&mut self, alloc: Global) -> Result<(), Memory>
+    pub fn room(&mut self, alloc: Global) -> Result<(), OutOfMemory>
         ensures { self.new ≡ (if is_ok result then record self.old { has_room = true } else self.old) }
     {
         if self.next.is_some() {

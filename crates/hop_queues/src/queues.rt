@@ -5,7 +5,7 @@ ghost use Rattle.std.specs.Prelude.{IsSome, IfSome, ◌↔◌, ◌<◌, slice_in
 ghost use Rattle.hop_queues.specs.Directions.{queue_of, with_queue, all_roomy};
 
 use crate::{HopQueue, HopTlp, MOST_BYTES};
-use ide_types::{Direction, Memory, SubKind};
+use ide_types::{Direction, OutOfMemory, SubKind};
 use std::alloc::Global;
 
 /// The TLPs that wait at the switch of a link's hop: those on their way to the device, and those to the host (this
@@ -31,7 +31,7 @@ impl HopQueues {
     }
 
     /// Room for one more TLP in each direction. Where there is no memory for both, those that wait stay.
-    pub fn room(&mut self, alloc: Global) -> Result<(), Memory>
+    pub fn room(&mut self, alloc: Global) -> Result<(), OutOfMemory>
         ensures room { OnOk result (self.new ≡ all_roomy self.old) }
         ensures downstream { self.new.downstream.tlps ≡ self.old.downstream.tlps }
         ensures upstream { self.new.upstream.tlps ≡ self.old.upstream.tlps }

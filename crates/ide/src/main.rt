@@ -1,7 +1,7 @@
 //! `ide`: the program over real files and standard output.
 #![tactic(auto)]
 
-use ide_base::{FileShelf, OutSink};
+use cli_files::{FileShelf, OutSink};
 use ide_cli::Status;
 use std::alloc::Global;
 use std::io::ErrorKind;
@@ -10,7 +10,7 @@ use std::rt::Files;
 use std::{env, io};
 
 // The words of the command line. If one of them is not UTF-8 there are none, and no words ask for nothing
-// (`ide_words::no_words_are_refused`).
+// (`cli_words::no_words_are_refused`).
 fn words(rt: &HostRuntime, alloc: Global) -> Result<Vec<String>, Status> {
     match env::args(rt) {
         Ok(args) => args.collect(alloc).map_err(|_| Status::Memory),
@@ -69,7 +69,7 @@ fn told_of_words(rt: &HostRuntime, words: &[String]) -> Status {
         let _ = eprintln!(rt; "ide: a word is not UTF-8");
         return Status::Usage;
     }
-    let _ = match ide_words::refusal(rt.alloc(), words) {
+    let _ = match cli_words::refusal(rt.alloc(), words) {
         Ok(Some(text)) => eprintln!(rt; "ide: {text}"),
         _ => eprintln!(rt; "ide: the words are no command"),
     };

@@ -1,8 +1,8 @@
 -- How far is read if a run ends by itself, and which names are asked for, by the words.
 use Rattle.std.proofs.Common.{◌≡◌, ℕ, List, Option, Some, None, Result, Ok, Err, ap, sym, subst, arith}
 use Rattle.std.specs.Prelude.{IfOk}
-use Rattle.ide_base.specs.Outside.{AsksOnly, Contents, ShelfSeen}
-use Rattle.ide_words.specs.Words.{Asked, asked}
+use Rattle.cli_files.specs.Outside.{AsksOnly, Contents, ShelfSeen}
+use Rattle.cli_words.specs.Words.{CommandRequest, asked}
 use Rattle.line_runs.specs.declared.ends.End.{End}
 use Rattle.line_runs.specs.declared.ends.Fault.{Fault}
 use Rattle.line_runs.specs.Gain.{Text}
@@ -10,18 +10,21 @@ use Rattle.line_runs.specs.Gathering.{ReadAsFar, ReadAsFarOf}
 use Rattle.ide_cli.specs.Reads.{AskedNoFurther, Names, ReadNoFurther}
 use Rattle.ide_cli.specs.Seen.{CallSeen}
 
-pub asked_far : (call : CallSeen) (a : Asked) → asked call.words ≡ Some a
+pub asked_far : (call : CallSeen) (a : CommandRequest) → asked call.words ≡ Some a
     → IfOk call.outcome (λ e. ReadAsFar (AskedNoFurther (Some a)) call.shelf_before call.shelf_after)
     → ReadNoFurther call
 asked_far call a is far = subst
-    (λ (o : Option Asked). IfOk call.outcome (λ e. ReadAsFar (AskedNoFurther o) call.shelf_before call.shelf_after))
+    (λ (o : Option CommandRequest). IfOk call.outcome
+    (λ e. ReadAsFar (AskedNoFurther o) call.shelf_before call.shelf_after))
     (sym is) far
 
 -- nothing is read if nothing is asked for, or generated events are
-pub nothing_read : (call : CallSeen) (a : Option Asked) → asked call.words ≡ a → call.shelf_after ≡ call.shelf_before
+pub nothing_read : (call : CallSeen) (a : Option CommandRequest) → asked call.words ≡ a → call.shelf_after
+    ≡ call.shelf_before
     → ((contents : Contents) (ahead : ℕ) → AskedNoFurther a contents 0 ahead) → ReadNoFurther call
 nothing_read call a is same none = subst
-    (λ (o : Option Asked). IfOk call.outcome (λ e. ReadAsFar (AskedNoFurther o) call.shelf_before call.shelf_after))
+    (λ (o : Option CommandRequest). IfOk call.outcome
+    (λ e. ReadAsFar (AskedNoFurther o) call.shelf_before call.shelf_after))
     (sym is) (by_outcome call.outcome)
   where
     given : call.shelf_after.given ≡ call.shelf_before.given
@@ -38,6 +41,8 @@ nothing_read call a is same none = subst
 
 -- ---- the names that are asked for
 
-pub asked_names : (words : Option Asked) (a : Asked) (before now : Option (List Text)) → words ≡ Some a
+pub asked_names : (words : Option CommandRequest) (a : CommandRequest) (before now : Option (List Text)) → words
+    ≡ Some a
     → AsksOnly (Names (Some a)) before now → AsksOnly (Names words) before now
-asked_names words a before now is asks = subst (λ (o : Option Asked). AsksOnly (Names o) before now) (sym is) asks
+asked_names words a before now is asks = subst (λ (o : Option CommandRequest). AsksOnly (Names o) before now) (sym is)
+    asks

@@ -1,37 +1,20 @@
 -- The script of generated events runs on their topology as these events.
-use Rattle.std.proofs.Common.{
-  ◌≡◌,
-  refl,
-  sym,
-  ap,
-  ap₂,
-  ◌∙◌,
-  subst,
-  ℕ,
-  ◌+◌,
-  ◌≤◌,
-  ◌==◌,
-  nat_lt,
-  Bool,
-  true,
-  false,
-  List,
-  [],
-}
+use Rattle.std.proofs.Common.{◌≡◌, refl, sym, ap, ap₂, ◌∙◌, subst, ℕ, ◌+◌, ◌≤◌, ◌==◌, nat_lt, Bool, true, false, List}
+use Rattle.std.proofs.Common.{[]}
 use Rattle.std.proofs.Common.{◌∷◌, ◌++◌, length, map, take, Option, Some, None, Result, Ok, cond, arith}
 use Rattle.std.specs.List.{slice_index_or}
 use Rattle.std.proofs.lemmas.Bool.Decides.{nat_tests}
 use Rattle.std.proofs.lemmas.List.{take_all}
 use Rattle.std.proofs.lemmas.Option.{same_Some}
-use Rattle.ide_base.specs.Outside.{Contents}
-use Rattle.ide_words.specs.Words.{Asked, asked}
-use Rattle.generated_events.specs.Events.{generated}
-use Rattle.generated_events.specs.Topology.{the_plan}
-use Rattle.generated_texts.specs.Laws.{Spells}
-use Rattle.generated_texts.specs.Script.{generated_script}
-use Rattle.generated_texts.specs.Topology.{generated_topology}
-use Rattle.generated_texts.proofs.Events.{script_short, script_spells}
-use Rattle.generated_texts.proofs.Whole.{topology_read, topology_short}
+use Rattle.cli_files.specs.Outside.{Contents}
+use Rattle.cli_words.specs.Words.{CommandRequest, asked}
+use Rattle.script_events.specs.GeneratedEvents.{generated}
+use Rattle.script_events.specs.GeneratedTopology.{the_plan}
+use Rattle.script_events.specs.TextLaws.{Spells}
+use Rattle.script_events.specs.ScriptText.{generated_script}
+use Rattle.script_events.specs.TopologyText.{generated_topology}
+use Rattle.script_events.proofs.TextEvents.{script_short, script_spells}
+use Rattle.script_events.proofs.Whole.{topology_read, topology_short}
 use Rattle.link_events.specs.declared.event.Event.{Event}
 use Rattle.link_events.specs.declared.script.ScriptEvent.{ScriptEvent}
 use Rattle.link_events.specs.Parse.{line_meaning}
@@ -117,7 +100,7 @@ ends_by (Some c) contents due other read write quiet gained r is same ends =
 pub runs_generated : (call : CallSeen) → Answered call → RunsGenerated call
 runs_generated call answered contents topology script seed count told asks is_topology is_script few =
     let same : command_due answered.migrated (asked call.words) contents ≡ Some (generated_run_due seed count) =
-    ap (λ (a : Option Asked). command_due answered.migrated a contents) asks
+    ap (λ (a : Option CommandRequest). command_due answered.migrated a contents) asks
     ∙ (ap₂ run_due is_topology is_script ∙ generated_runs seed count few) in
     ends_by call.shelf_before.contents contents (command_due answered.migrated (asked call.words))
     (λ c. Some (generated_run_due seed count)) _ _ _ _ call.outcome told same answered.ran

@@ -2,8 +2,8 @@
 use Rattle.std.proofs.Common.{◌≡◌, ◌∙◌, ◌++◌, [], Option, Some, Result, Ok, Err, option_map, refl, sym, ap, subst, inl}
 use Rattle.std.specs.Prelude.{IfOk}
 use Rattle.std.proofs.lemmas.List.{append-nil}
-use Rattle.ide_base.specs.Outside.{Contents}
-use Rattle.ide_plan.specs.declared.plan.Plan.{Plan}
+use Rattle.cli_files.specs.Outside.{Contents}
+use Rattle.ide_types.specs.declared.plan.Plan.{Plan}
 use Rattle.line_runs.specs.declared.ends.End.{End}
 use Rattle.line_runs.specs.declared.ends.End.TheVariants as end
 use Rattle.line_runs.specs.declared.ends.Fault.{Fault}
@@ -11,20 +11,20 @@ use Rattle.line_runs.specs.Gain.{Text, Gained}
 use Rattle.line_runs.specs.Outcome.{Due, EndsBy, EndsDue, EndsOn}
 use Rattle.ide_runs.specs.{Tells, judged}
 use Rattle.ide_runs.specs.declared.topologies.Loaded.TheVariants.{Sound}
-use Rattle.ide_runs.specs.Judge.{judge_due, judged_by, judged_run}
+use Rattle.ide_runs.specs.Judge.{judge_due, judged_script_run, judged_run}
 use Rattle.ide_runs.specs.Script.{AtEnd, Script, due_after, end_of_stop, events_on, run_due, script_of}
 use Rattle.ide_runs.specs.Topologies.{loaded}
 use Rattle.ide_runs.proofs.{judged_tells}
-use Rattle.ide_words.specs.Words.{asked}
+use Rattle.cli_words.specs.Words.{asked}
 use Rattle.ide_cli.specs.Headline.{AllJudged}
 use Rattle.ide_cli.specs.Meaning.{Answered, command_due}
 use Rattle.ide_cli.specs.Seen.{CallSeen}
-use Rattle.ide_cli.specs.Went.{AsksJudge, CameToEnd, Judged}
+use Rattle.ide_cli.specs.Went.{AsksJudge, CameToEnd, JudgedCall}
 use Rattle.ide_cli.proofs.Written.{at_end}
 
 ended_at : (verdicts : Option Text) (e : End) (text : Text) → e ≡ end.Done
-    → judged_by verdicts e text ≡ option_map (judged text) verdicts
-ended_at verdicts e text is = subst (λ (x : End). judged_by verdicts x text ≡ option_map (judged text) verdicts)
+    → judged_script_run verdicts e text ≡ option_map (judged text) verdicts
+ended_at verdicts e text is = subst (λ (x : End). judged_script_run verdicts x text ≡ option_map (judged text) verdicts)
     (sym is) refl
 
 ran_is : (topology bytes : Text) (plan : Plan) (script : Script) → loaded topology ≡ Sound plan
@@ -62,7 +62,7 @@ pub at_this_end : {P : End → Type 0} (r : Result End Fault) → ((e : End) →
 at_this_end (Ok e) holds = holds e refl
 at_this_end (Err f) holds = tt
 
-pub is_judged : (call : CallSeen) → Answered call → Judged call
+pub is_judged : (call : CallSeen) → Answered call → JudgedCall call
 is_judged call answered = at_this_end call.outcome (λ e ended plan script a claimed held stop claims held_before.
     let text = (due_after plan [] script).1 in
     let due = judged text claimed in

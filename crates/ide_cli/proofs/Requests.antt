@@ -1,29 +1,12 @@
 -- What is asked for is answered, and generated events whatever the shelf tells; who is told that a text differs, or
 -- that a script lacks an event.
-use Rattle.std.proofs.Common.{
-  ◌≡◌,
-  ◌≢◌,
-  ◌∙◌,
-  ◌≤◌,
-  ◌+◌,
-  ℕ,
-  [],
-  Option,
-  Some,
-  None,
-  Result,
-  Ok,
-  Err,
-  option_map,
-  refl,
-  sym,
-  ap,
-  subst,
-}
+use Rattle.std.proofs.Common.{◌≡◌, ◌≢◌, ◌∙◌, ◌≤◌, ◌+◌, ℕ, [], Option, Some, None, Result, Ok, Err, option_map, refl}
+use Rattle.std.proofs.Common.{sym, ap, subst}
 use Rattle.std.specs.Prelude.{IfOk}
-use Rattle.ide_base.specs.Outside.{Contents, ShelfSeen, SinkSeen}
-use Rattle.ide_words.specs.Words.{Asked, asked, run, judge, why, check, migrate, show, generate, generate_script}
-use Rattle.ide_words.specs.Words.{generate_topology}
+use Rattle.cli_files.specs.Outside.{Contents, ShelfSeen, SinkSeen}
+use Rattle.cli_words.specs.Words.{CommandRequest, asked, run, judge, why, check, migrate, show, generate}
+use Rattle.cli_words.specs.Words.{generate_script}
+use Rattle.cli_words.specs.Words.{generate_topology}
 use Rattle.line_runs.specs.declared.ends.End.{End}
 use Rattle.line_runs.specs.declared.ends.End.TheVariants as end
 use Rattle.line_runs.specs.declared.ends.Fault.{Fault}
@@ -44,10 +27,11 @@ use Rattle.ide_cli.specs.Meaning.{script_text_due, topology_text_due}
 use Rattle.ide_cli.specs.Reads.{most_counted}
 use Rattle.ide_cli.specs.Seen.{CallSeen, outcome_of_status}
 
-pub asks_for : {request : Option Asked} {a : Asked} {s0 s1 : ShelfSeen} {o0 o1 : SinkSeen} {r : Result End Fault}
+pub asks_for : {request : Option CommandRequest} {a : CommandRequest} {s0 s1 : ShelfSeen} {o0 o1 : SinkSeen}
+    {r : Result End Fault}
     → request ≡ Some a → AnsweredFor (Some a) s0 s1 o0 o1 r → AnsweredFor request s0 s1 o0 o1 r
 asks_for {request} {a} {s0} {s1} {o0} {o1} {r} is answered =
-    subst (λ (o : Option Asked). AnsweredFor o s0 s1 o0 o1 r) (sym is) answered
+    subst (λ (o : Option CommandRequest). AnsweredFor o s0 s1 o0 o1 r) (sym is) answered
 
 pub answered_run : (topology script : Text) (s0 s1 : ShelfSeen) (o0 o1 : SinkSeen) (r : Result End Fault)
     → RanOn (λ contents. run_due (contents topology) (contents script)) s0 s1 o0 o1 r
@@ -84,12 +68,13 @@ always : (told : Option Contents) (due : Due) → IsDue told (λ contents. Some 
 always None due = tt
 always (Some contents) due = refl
 
-abbrev pub AsksAlone : Asked → Due → Type 0
+abbrev pub AsksAlone : CommandRequest → Due → Type 0
 AsksAlone a due = ((contents : Contents) → command_due [] (Some a) contents ≡ Some due)
     × ((told : Option Contents) (r : Result End Fault) → MigratesTo (Some a) told [] r)
 
 -- of generated events
-pub answered_alone : (a : Asked) (due : Due) (s : ShelfSeen) (o0 o1 : SinkSeen) (r : Result End Fault) → AsksAlone a due
+pub answered_alone : (a : CommandRequest) (due : Due) (s : ShelfSeen) (o0 o1 : SinkSeen) (r : Result End Fault)
+    → AsksAlone a due
     → Ran due o0 o1 r → AnsweredFor (Some a) s s o0 o1 r
 answered_alone a due s o0 o1 r asks ran = record {
   migrated = [];
@@ -111,10 +96,10 @@ answered_nothing s o0 o1 r ran = record {
       o0.faults o1.faults (Gained o0.held o1.held) r (always s.contents (end.Usage, usage_line)) refl ran;
 }
 
-pub asks_nothing : {request : Option Asked} {s : ShelfSeen} {o0 o1 : SinkSeen} {r : Result End Fault}
+pub asks_nothing : {request : Option CommandRequest} {s : ShelfSeen} {o0 o1 : SinkSeen} {r : Result End Fault}
     → request ≡ None → Ran (end.Usage, usage_line) o0 o1 r → AnsweredFor request s s o0 o1 r
 asks_nothing {request} {s} {o0} {o1} {r} is ran =
-    subst (λ (o : Option Asked). AnsweredFor o s s o0 o1 r) (sym is) (answered_nothing s o0 o1 r ran)
+    subst (λ (o : Option CommandRequest). AnsweredFor o s s o0 o1 r) (sym is) (answered_nothing s o0 o1 r ran)
 
 -- ---- for want of memory
 
@@ -122,7 +107,7 @@ abbrev pub no_memory : Result End Fault
 no_memory = Err fault.Memory
 
 -- a run that failed before it read anything may give no text
-no_text : (request : Option Asked) (told : Option Contents) → MigratesTo request told [] no_memory
+no_text : (request : Option CommandRequest) (told : Option Contents) → MigratesTo request told [] no_memory
 no_text None told = tt
 no_text (Some (run topology script)) told = tt
 no_text (Some (judge topology script verdicts)) told = tt
@@ -134,7 +119,7 @@ no_text (Some (generate seed count)) told = tt
 no_text (Some (generate_script seed count)) told = tt
 no_text (Some (generate_topology seed count)) told = tt
 
-pub answered_without_memory : (request : Option Asked) (s : ShelfSeen) (o : SinkSeen)
+pub answered_without_memory : (request : Option CommandRequest) (s : ShelfSeen) (o : SinkSeen)
     → AnsweredFor request s s o o no_memory
 answered_without_memory request s o = record {
   migrated = [];
@@ -147,12 +132,13 @@ ran_without_memory due o = ([], (due.1, refl), gained_nothing o.held)
 
 -- ---- of generated events
 
-pub asks_alone : (call : CallSeen) (a : Option Asked) → asked call.words ≡ a
+pub asks_alone : (call : CallSeen) (a : Option CommandRequest) → asked call.words ≡ a
     → RanAlone a call.sink_before call.sink_after call.outcome → RanGenerated call
-asks_alone call a is ran = subst (λ (o : Option Asked). RanAlone o call.sink_before call.sink_after call.outcome)
+asks_alone call a is ran = subst
+    (λ (o : Option CommandRequest). RanAlone o call.sink_before call.sink_after call.outcome)
     (sym is) ran
 
-pub alone_without_memory : (a : Option Asked) (o : SinkSeen) → RanAlone a o o no_memory
+pub alone_without_memory : (a : Option CommandRequest) (o : SinkSeen) → RanAlone a o o no_memory
 alone_without_memory None o = tt
 alone_without_memory (Some (run topology script)) o = tt
 alone_without_memory (Some (judge topology script verdicts)) o = tt
@@ -167,13 +153,15 @@ alone_without_memory (Some (generate_topology seed count)) o = ran_without_memor
 -- ---- an end that comes to one command alone
 
 -- The run ended so: the words ask for it, and no more bytes were given than count.
-abbrev pub EndsFor : (Option Asked → Type 0) → End → Option Asked → Result End Fault → (before now : ℕ) → Type 0
+abbrev pub EndsFor : (Option CommandRequest → Type 0) → End → Option CommandRequest → Result End Fault
+    → (before now : ℕ) → Type 0
 EndsFor Asks to words r before now = IfOk r (λ e. e ≡ to → Asks words × (now ≤ before + most_counted words))
 
-pub ends_asked : (Asks : Option Asked → Type 0) (to : End) (words : Option Asked) (a : Asked) (r : Result End Fault)
+pub ends_asked : (Asks : Option CommandRequest → Type 0) (to : End) (words : Option CommandRequest) (a : CommandRequest)
+    (r : Result End Fault)
     (before now : ℕ) → words ≡ Some a → EndsFor Asks to (Some a) r before now → EndsFor Asks to words r before now
 ends_asked Asks to words a r before now is ended =
-    subst (λ (o : Option Asked). EndsFor Asks to o r before now) (sym is) ended
+    subst (λ (o : Option CommandRequest). EndsFor Asks to o r before now) (sym is) ended
 
 pub said : (to : End) (r : Result End Fault) (A : Type 0) → IfOk r (λ e. e ≡ to → A)
     → IfOk r (λ e. e ≡ to → Unit {0} × A)
@@ -181,7 +169,8 @@ said to (Ok e) A holds = λ is. (tt, holds is)
 said to (Err f) A holds = tt
 
 -- the run did not end so
-pub never_ends : (Asks : Option Asked → Type 0) (to : End) (words : Option Asked) (r : Result End Fault)
+pub never_ends : (Asks : Option CommandRequest → Type 0) (to : End) (words : Option CommandRequest)
+    (r : Result End Fault)
     (before now : ℕ) → IfOk r (λ e. e ≢ to) → EndsFor Asks to words r before now
 never_ends Asks to words (Ok e) before now other = λ is. absurd (other is)
 never_ends Asks to words (Err f) before now other = tt

@@ -1,9 +1,9 @@
 -- What was written if a fault ends a run, by the words.
 use Rattle.std.proofs.Common.{◌≡◌, [], Option, Some, None, refl, sym, subst, arith}
 use Rattle.std.specs.Prelude.{IfErr}
-use Rattle.ide_base.specs.Outside.{Contents, ShelfSeen}
-use Rattle.ide_words.specs.Words.{Asked, run, judge, why, check, migrate, show, generate, generate_script}
-use Rattle.ide_words.specs.Words.{asked, generate_topology}
+use Rattle.cli_files.specs.Outside.{Contents, ShelfSeen}
+use Rattle.cli_words.specs.Words.{CommandRequest, run, judge, why, check, migrate, show, generate, generate_script}
+use Rattle.cli_words.specs.Words.{asked, generate_topology}
 use Rattle.line_runs.specs.Outcome.{Due, Ran}
 use Rattle.ide_cli.specs.Seen.{CallSeen}
 use Rattle.ide_cli.specs.SoFar.{WroteSoFar, asked_so_far, lines_given}
@@ -11,15 +11,16 @@ use Rattle.ide_runs.specs.SoFar.{WroteBy, script_so_far}
 use Rattle.ide_runs.specs.Why.{told_so_far}
 use Rattle.ide_runs.proofs.Loads.{NoLineOf, no_line_at_first, no_line_wrote, none_so_far}
 
-pub asked_wrote : (call : CallSeen) (a : Asked) → asked call.words ≡ Some a
+pub asked_wrote : (call : CallSeen) (a : CommandRequest) → asked call.words ≡ Some a
     → IfErr call.outcome (λ e. WroteBy e (asked_so_far (Some a)) (lines_given (Some a)) call.shelf_before
     call.shelf_after call.sink_before call.sink_after) → WroteSoFar call
 asked_wrote call a is wrote = subst
-    (λ (o : Option Asked). IfErr call.outcome (λ e. WroteBy e (asked_so_far o) (lines_given o) call.shelf_before
+    (λ (o : Option CommandRequest). IfErr call.outcome
+    (λ e. WroteBy e (asked_so_far o) (lines_given o) call.shelf_before
     call.shelf_after call.sink_before call.sink_after)) (sym is) wrote
 
 -- before the first byte no line is due
-none_at_first : (a : Option Asked) (contents : Contents) → (asked_so_far a contents 0 ≡ [])
+none_at_first : (a : Option CommandRequest) (contents : Contents) → (asked_so_far a contents 0 ≡ [])
     × (lines_given a contents 0 ≡ [])
 none_at_first None contents = (refl, refl)
 none_at_first (Some (run topology script)) contents =

@@ -3,15 +3,15 @@
 use Rattle.std.proofs.Common.{◌≡◌, ◌∙◌, ◌++◌, ℕ, [], Some, option_map, refl}
 use Rattle.std.proofs.Common.{sym, ap, subst, inl, arith, drop, length-take, take}
 use Rattle.std.proofs.lemmas.List.{take-append-drop}
-use Rattle.ide_plan.specs.declared.plan.Plan.{Plan}
+use Rattle.ide_types.specs.declared.plan.Plan.{Plan}
 use Rattle.line_runs.specs.Gain.{Text, Gained}
 use Rattle.line_runs.specs.Outcome.{Due}
 use Rattle.ide_runs.specs.declared.topologies.Loaded.TheVariants.{Sound}
 use Rattle.ide_runs.specs.Script.{Script, events_on, script_of}
 use Rattle.ide_runs.specs.Topologies.{loaded}
-use Rattle.ide_runs.specs.Why.{told_after, why_due}
+use Rattle.ide_runs.specs.Why.{told_event_due, why_due}
 use Rattle.ide_runs.proofs.Whys.{told_event, told_none}
-use Rattle.ide_words.specs.Words.{asked}
+use Rattle.cli_words.specs.Words.{asked}
 use Rattle.ide_cli.specs.Headline.{AllTold}
 use Rattle.ide_cli.specs.Meaning.{Answered, command_due}
 use Rattle.ide_cli.specs.Seen.{CallSeen}
@@ -20,7 +20,7 @@ use Rattle.ide_cli.proofs.Judging.{at_this_end, ends_told, there}
 use Rattle.ide_cli.proofs.Written.{at_end}
 
 why_is : (n : ℕ) (topology bytes : Text) (plan : Plan) (script : Script) → loaded topology ≡ Sound plan
-    → script ≡ script_of bytes → why_due n (Some topology) (Some bytes) ≡ Some (told_after n plan [] script)
+    → script ≡ script_of bytes → why_due n (Some topology) (Some bytes) ≡ Some (told_event_due n plan [] script)
 why_is n topology bytes plan script plan_is read = rw (plan_is, read) refl
 
 asked_is : (migrated : Text) (call : CallSeen) (plan : Plan) (script : Script) (n : ℕ) (a : AsksWhy call plan script n)
@@ -29,7 +29,7 @@ asked_is migrated call plan script n a = rw (a.asks, a.topology_is, a.script_is)
 
 pub is_explained : (call : CallSeen) → Answered call → Explained call
 is_explained call answered = at_this_end call.outcome (λ e ended plan script n held a held_before.
-    let due = told_after n plan [] script in
+    let due = told_event_due n plan [] script in
     let is = asked_is answered.migrated call plan script n a
     ∙ why_is n a.topology a.bytes plan script a.plan_is a.read in
     let came = there _ _ _ (Gained call.sink_before.held call.sink_after.held) call.outcome e due ended

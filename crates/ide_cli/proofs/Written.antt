@@ -3,22 +3,22 @@ use Rattle.std.proofs.Common.{◌≡◌, ◌≤◌, List, [], ◌++◌, length, 
 use Rattle.std.proofs.Common.{option_map, refl, sym, ap, subst, ◌∙◌, ℕ, ◌+◌, ◌∷◌, inl, inr, arith}
 use Rattle.std.specs.Prelude.{IfOk}
 use Rattle.std.proofs.lemmas.List.{append-nil}
-use Rattle.ide_base.specs.Outside.{Contents}
-use Rattle.ide_plan.specs.declared.plan.Plan.{Plan}
-use Rattle.ide_plan.specs.Fits.{FitsPlan}
-use Rattle.ide_words.specs.Words.{Asked, asked}
-use Rattle.ide_words.proofs.Rounds.{few_rounds}
-use Rattle.generated_events.specs.Events.{generated}
-use Rattle.generated_events.specs.Topology.{the_plan}
-use Rattle.generated_events.proofs.Allowed.{few_events}
-use Rattle.generated_events.proofs.PlanFits.{the_plan_fits}
+use Rattle.cli_files.specs.Outside.{Contents}
+use Rattle.ide_types.specs.declared.plan.Plan.{Plan}
+use Rattle.ide_types.specs.Fits.{FitsPlan}
+use Rattle.cli_words.specs.Words.{CommandRequest, asked}
+use Rattle.cli_words.proofs.Rounds.{few_rounds}
+use Rattle.script_events.specs.GeneratedEvents.{generated}
+use Rattle.script_events.specs.GeneratedTopology.{the_plan}
+use Rattle.script_events.proofs.GeneratedAllowed.{few_events}
+use Rattle.script_events.proofs.PlanFits.{the_plan_fits}
 use Rattle.link_events.specs.declared.event.Event.{Event}
-use Rattle.key_laws.specs.History.{History}
-use Rattle.link_history.specs.Cause.{CauseLaw}
-use Rattle.text_laws.specs.Runs.{history_on, history_with, text_on}
-use Rattle.text_laws.specs.Telling.{events_told, lines_told, AreAllowed}
-use Rattle.text_laws.specs.Statements.{LinesTell, AreTold}
-use Rattle.text_laws.proofs.Reading.{length-events}
+use Rattle.spec_keys.specs.History.{History}
+use Rattle.spec_links.specs.Cause.{CauseLaw}
+use Rattle.law_text.specs.Runs.{history_on, history_with, text_on}
+use Rattle.law_text.specs.Telling.{events_told, lines_told, AreAllowed}
+use Rattle.law_text.specs.Statements.{LinesTell, AreTold}
+use Rattle.law_text.proofs.Reading.{length-events}
 use Rattle.line_runs.specs.Gain.{Text, Gained}
 use Rattle.line_runs.specs.Outcome.{Due, EndsBy, EndsDue, EndsOn}
 use Rattle.line_runs.specs.declared.ends.End.{End}
@@ -201,7 +201,7 @@ all_counted call ran = at_end call.outcome (λ e ended seed count held asks held
     let line = generated_line (generated_history seed count) in
     let whole = whole_gain (generated_due seed count) _ _ _ (Gained call.sink_before.held call.sink_after.held)
     call.outcome e ended
-    (subst (λ (a : Option Asked). RanAlone a call.sink_before call.sink_after call.outcome) asks ran) in
+    (subst (λ (a : Option CommandRequest). RanAlone a call.sink_before call.sink_after call.outcome) asks ran) in
     record {
       seed = seed;
       count = count;

@@ -1,13 +1,13 @@
 -- A run of the script of generated events on their topology.
 use Rattle.std.specs.Prelude.{ℕ, ◌≡◌, ◌≤◌, ◌++◌, [], Some}
-use Rattle.ide_base.specs.Outside.{Contents}
-use Rattle.ide_words.specs.Words.{asked, run}
-use Rattle.generated_events.specs.Events.{generated}
-use Rattle.generated_events.specs.Topology.{the_plan}
-use Rattle.generated_texts.specs.Script.{generated_script}
-use Rattle.generated_texts.specs.Topology.{generated_topology}
+use Rattle.cli_files.specs.Outside.{Contents}
+use Rattle.cli_words.specs.Words.{asked, run}
+use Rattle.script_events.specs.GeneratedEvents.{generated}
+use Rattle.script_events.specs.GeneratedTopology.{the_plan}
+use Rattle.script_events.specs.ScriptText.{generated_script}
+use Rattle.script_events.specs.TopologyText.{generated_topology}
 use Rattle.link_verdicts.specs.Lines.{totals_line_of}
-use Rattle.text_laws.specs.Runs.{text_on, totals_of}
+use Rattle.law_text.specs.Runs.{text_on, totals_of}
 use Rattle.line_runs.specs.declared.ends.End.TheVariants as end
 use Rattle.line_runs.specs.Gain.{Text}
 use Rattle.line_runs.specs.Outcome.{Due, RanOn}

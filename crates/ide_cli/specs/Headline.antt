@@ -1,13 +1,13 @@
 -- The histories that a run writes.
 use Rattle.std.specs.Prelude.{ℕ, ◌≡◌, ◌⊎◌, List, [], ◌++◌, Some, IfOk, take}
-use Rattle.ide_base.specs.Outside.{Contents}
-use Rattle.ide_words.specs.Words.{run, generate, asked}
-use Rattle.generated_events.specs.Topology.{the_plan}
-use Rattle.ide_plan.specs.declared.plan.Plan.{Plan}
+use Rattle.cli_files.specs.Outside.{Contents}
+use Rattle.cli_words.specs.Words.{run, generate, asked}
+use Rattle.script_events.specs.GeneratedTopology.{the_plan}
+use Rattle.ide_types.specs.declared.plan.Plan.{Plan}
 use Rattle.link_events.specs.declared.event.Event.{Event}
-use Rattle.key_laws.specs.History.{History}
-use Rattle.text_laws.specs.Runs.{history_on}
-use Rattle.text_laws.specs.Telling.{VerdictsFit, events_told, lines_told}
+use Rattle.spec_keys.specs.History.{History}
+use Rattle.law_text.specs.Runs.{history_on}
+use Rattle.law_text.specs.Telling.{VerdictsFit, events_told, lines_told}
 use Rattle.line_runs.specs.Gain.{Text, IsFront}
 use Rattle.ide_runs.specs.declared.topologies.Loaded.TheVariants.{Sound}
 use Rattle.ide_runs.specs.Generated.{generated_history}
@@ -51,6 +51,10 @@ pub record Written (call : CallSeen) (plan : Plan) (h : History) : Type 0 where
 abbrev pub InEvery : (Plan → History → Type 0) → CallSeen → Type 0
 InEvery law call = (plan : Plan) (h : History)
     → Written call plan h ⊎ (WentOver call plan h ⊎ (WentThrough call plan h ⊎ WentUpTo call plan h)) → law plan h
+
+-- the same of a law that asks nothing of the topology
+abbrev pub InEveryHistory : (History → Type 0) → CallSeen → Type 0
+InEveryHistory law call = InEvery (λ p. law) call
 
 -- if the call comes to an end of its own, the history of all events of the script was written, each with the verdict
 -- that is due

@@ -1,32 +1,32 @@
 -- The laws of every history in which each verdict is the one that is due.
 use Rattle.std.specs.Prelude.{◌≡◌, ◌≤◌, Some, length}
-use Rattle.byte_laws.specs.{AnswerLaw, AnswersLaw, Attested, ByteOriginLaw, EffectLaw, FailedLaw, KeyStreamFresh}
-use Rattle.byte_laws.specs.{LockLaw, MmioOriginLaw, NamedLaw, OneLockPerKey, Scrubbed, TrustLaw, ViewsAreTrue}
-use Rattle.delivery_laws.specs.PostedCounts.{CountLaw}
-use Rattle.ide_plan.specs.declared.plan.Plan.{Plan}
-use Rattle.ide_plan.specs.Fits.{FitsPlan}
-use Rattle.interface_states.specs.Laws.{BindLaw, RunLaw, ViewHolds}
-use Rattle.interface_states.specs.Sites.{Site, site_at}
-use Rattle.key_laws.specs.History.{History}
-use Rattle.key_laws.specs.Laws.{GosFindKeys, NeverAgain, Settled, StaysSecure, StreamFacts}
-use Rattle.link_history.specs.Cause.{CauseLaw}
-use Rattle.link_history.specs.Delivered.{DeliveryLaw}
-use Rattle.link_history.specs.HopLaws.{HopLaw, ThroughLaw}
-use Rattle.link_history.specs.Laws.{DrawsNeverFall, NoForgery, OrderIsNoForgery, PrefixLaw, WholeLaw}
-use Rattle.link_history.specs.Numbers.{NumbersFresh}
-use Rattle.link_history.specs.Ordered.{OrderLaw}
-use Rattle.mmio_laws.specs.Mmio.{MmioLaw}
-use Rattle.origin_laws.specs.Bindings.{BindOriginLaw}
-use Rattle.origin_laws.specs.Origin.{MemoryLaw, OriginLaw}
-use Rattle.origin_laws.specs.ReadLaws.{ReadLaw, ReadOriginLaw}
+use Rattle.law_bytes.specs.{AnswerLaw, AnswersLaw, Attested, ByteOriginLaw, EffectLaw, FailedLaw, KeyStreamFresh}
+use Rattle.law_bytes.specs.{LockLaw, MmioOriginLaw, NamedLaw, OneLockPerKey, Scrubbed, TrustLaw, ViewsAreTrue}
+use Rattle.law_delivery.specs.PostedCounts.{CountLaw}
+use Rattle.ide_types.specs.declared.plan.Plan.{Plan}
+use Rattle.ide_types.specs.Fits.{FitsPlan}
+use Rattle.spec_interfaces.specs.Laws.{BindLaw, RunLaw, ViewHolds}
+use Rattle.spec_interfaces.specs.Sites.{Site, site_at}
+use Rattle.spec_keys.specs.History.{History}
+use Rattle.spec_keys.specs.Laws.{SetGoFindsKey, NeverAgain, OperationsSettle, StaysSecure, KeysFollowOperations}
+use Rattle.spec_links.specs.Cause.{CauseLaw}
+use Rattle.spec_links.specs.Delivered.{DeliveryLaw}
+use Rattle.spec_links.specs.HopLaws.{HopLaw, ThroughLaw}
+use Rattle.spec_links.specs.Laws.{DrawsNeverFall, NoForgery, OrderIsNoForgery, PrefixLaw, WholeLaw}
+use Rattle.spec_links.specs.Numbers.{NumbersFresh}
+use Rattle.spec_links.specs.Ordered.{OrderLaw}
+use Rattle.law_mmio.specs.Mmio.{MmioLaw}
+use Rattle.law_memory.specs.Bindings.{BindOriginLaw}
+use Rattle.law_memory.specs.Origin.{MemoryLaw, OriginLaw}
+use Rattle.law_memory.specs.ReadLaws.{ReadLaw, ReadOriginLaw}
 
 -- the law holds provided that no tag verified on a unit that its partner had not sealed
 abbrev pub Unforged : (Plan → History → Type 0) → Plan → History → Type 0
 Unforged law plan h = NoForgery plan h → law plan h
 
 -- of every interface of the plan, what the manager's view says of it holds
-abbrev pub ViewFacts : Plan → History → Type 0
-ViewFacts plan h = (x : Site) → site_at plan x.number ≡ Some x → ViewHolds plan h x
+abbrev pub TrustedPacketsFitView : Plan → History → Type 0
+TrustedPacketsFitView plan h = (x : Site) → site_at plan x.number ≡ Some x → ViewHolds plan h x
 
 -- what the laws suppose of a history
 pub record IsDue (plan : Plan) (h : History) : Type 0 where
@@ -40,10 +40,10 @@ pub record Laws (plan : Plan) (h : History) : Type 0 where
   pub whole_law : WholeLaw plan h
   pub order_is_no_forgery : OrderIsNoForgery plan h
   pub count_law : CountLaw plan h
-  pub settled : Settled h
+  pub operations_settle : OperationsSettle h
   pub stays_secure : StaysSecure h
-  pub stream_facts : StreamFacts h
-  pub gos_find_keys : GosFindKeys h
+  pub keys_follow_operations : KeysFollowOperations h
+  pub set_go_finds_key : SetGoFindsKey h
   pub never_again : NeverAgain h
   pub failed_law : FailedLaw plan h
   pub numbers_fresh : NumbersFresh plan h
@@ -53,7 +53,7 @@ pub record Laws (plan : Plan) (h : History) : Type 0 where
   pub lock_law : LockLaw plan h
   pub scrubbed : Scrubbed plan h
   pub bind_law : BindLaw plan h
-  pub view_facts : ViewFacts plan h
+  pub trusted_packets_fit_view : TrustedPacketsFitView plan h
   pub views_are_true : ViewsAreTrue plan h
   pub one_lock_per_key : OneLockPerKey plan h
   pub answers_law : AnswersLaw plan h

@@ -1,10 +1,10 @@
 -- What the program should write and answer, by its words and the contents of its files.
 use Rattle.std.specs.Prelude.{ℕ, ◌++◌, Option, Some, None, Result, option_map, codes}
-use Rattle.ide_base.specs.Outside.{Contents, ShelfSeen, SinkSeen}
-use Rattle.ide_words.specs.Words.{Asked, run, judge, why, check, migrate, show, generate, generate_script}
-use Rattle.ide_words.specs.Words.{asked, generate_topology}
-use Rattle.generated_texts.specs.Script.{generated_script}
-use Rattle.generated_texts.specs.Topology.{generated_topology}
+use Rattle.cli_files.specs.Outside.{Contents, ShelfSeen, SinkSeen}
+use Rattle.cli_words.specs.Words.{CommandRequest, run, judge, why, check, migrate, show, generate, generate_script}
+use Rattle.cli_words.specs.Words.{asked, generate_topology}
+use Rattle.script_events.specs.ScriptText.{generated_script}
+use Rattle.script_events.specs.TopologyText.{generated_topology}
 use Rattle.line_runs.specs.declared.ends.End.{End}
 use Rattle.line_runs.specs.declared.ends.End.TheVariants as end
 use Rattle.line_runs.specs.declared.ends.Fault.{Fault}
@@ -36,7 +36,7 @@ topology_text_due = (end.Done, generated_topology)
 
 -- What is asked for and the contents call for: an end and a text, or nothing if a file is not there. `migrated` is the
 -- text that a migration writes.
-abbrev pub command_due : (migrated : Text) → Option Asked → Contents → Option Due
+abbrev pub command_due : (migrated : Text) → Option CommandRequest → Contents → Option Due
 command_due migrated None contents = Some (end.Usage, usage_line)
 command_due migrated (Some (run topology script)) contents = run_due (contents topology) (contents script)
 command_due migrated (Some (judge topology script verdicts)) contents =
@@ -51,13 +51,13 @@ command_due migrated (Some (generate_topology seed count)) contents = Some topol
 
 -- If a migration is asked for, and the topology's file is told and sound, the text is that topology in version 2. A run
 -- that failed may have given no text.
-abbrev pub MigratesTo : Option Asked → Option Contents → Text → Result End Fault → Type 0
+abbrev pub MigratesTo : Option CommandRequest → Option Contents → Text → Result End Fault → Type 0
 MigratesTo (Some (migrate topology)) told text r = MigratesFile told topology text r
 MigratesTo asked told text r = Unit {0}
 
 -- The run ends as what is asked for and the contents call for; the text of a migration is one of those that it may
 -- write.
-pub record AnsweredFor (request : Option Asked) (shelf shelf_now : ShelfSeen) (sink sink_now : SinkSeen)
+pub record AnsweredFor (request : Option CommandRequest) (shelf shelf_now : ShelfSeen) (sink sink_now : SinkSeen)
     (r : Result End Fault) : Type 0 where
   pub migrated : Text
   pub migrates : MigratesTo request shelf.contents migrated r
@@ -69,7 +69,7 @@ Answered call =
 
 -- Of generated events the due text was written, whatever the shelf tells: their totals, their script, or their
 -- topology.
-abbrev pub RanAlone : Option Asked → SinkSeen → SinkSeen → Result End Fault → Type 0
+abbrev pub RanAlone : Option CommandRequest → SinkSeen → SinkSeen → Result End Fault → Type 0
 RanAlone (Some (generate seed count)) sink sink_now r = Ran (generated_due seed count) sink sink_now r
 RanAlone (Some (generate_script seed count)) sink sink_now r = Ran (script_text_due seed count) sink sink_now r
 RanAlone (Some (generate_topology seed count)) sink sink_now r = Ran topology_text_due sink sink_now r

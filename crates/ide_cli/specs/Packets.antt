@@ -4,8 +4,8 @@ use Rattle.std.proofs.Common.{inl}
 use Rattle.link_events.specs.declared.fault.LineFault.{LineFault}
 use Rattle.link_events.specs.declared.fault.LineFault.TheVariants.{TooLong}
 use Rattle.link_events.specs.Words.{line_limit}
-use Rattle.packet_lines.specs.Reading.{packet_meaning}
-use Rattle.packet_lines.specs.Showing.{line_shown}
+use Rattle.line_runs.specs.Reading.{packet_meaning}
+use Rattle.line_runs.specs.Showing.{line_shown}
 use Rattle.line_runs.specs.declared.ends.End.TheVariants as end
 use Rattle.line_runs.specs.Gain.{Text}
 use Rattle.line_runs.specs.Outcome.{Due, IsWholeLines}

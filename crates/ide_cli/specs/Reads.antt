@@ -1,8 +1,8 @@
 -- How much of the files is read.
 use Rattle.std.specs.Prelude.{ℕ, ◌+◌, ◌≤◌, ◌≡◌, ◌⊎◌, length, Option, Some, None, IfOk}
-use Rattle.ide_base.specs.Outside.{Contents}
-use Rattle.ide_words.specs.Words.{Asked, run, judge, why, check, migrate, show, generate, generate_script}
-use Rattle.ide_words.specs.Words.{asked, generate_topology}
+use Rattle.cli_files.specs.Outside.{Contents}
+use Rattle.cli_words.specs.Words.{CommandRequest, run, judge, why, check, migrate, show, generate, generate_script}
+use Rattle.cli_words.specs.Words.{asked, generate_topology}
 use Rattle.line_runs.specs.Front.{Gave, bytes_of}
 use Rattle.line_runs.specs.Gain.{Text}
 use Rattle.line_runs.specs.Gathering.{GoesOn, NoFurther, ReadAsFar}
@@ -15,7 +15,7 @@ use Rattle.ide_cli.specs.Packets.{nothing_due, shown_line}
 use Rattle.ide_cli.specs.Seen.{CallSeen}
 
 -- the names of the files that the words give
-abbrev pub Names : Option Asked → Text → Type 0
+abbrev pub Names : Option CommandRequest → Text → Type 0
 Names None name = ⊥
 Names (Some (run topology script)) name = (name ≡ topology) ⊎ (name ≡ script)
 Names (Some (judge topology script verdicts)) name = IsOneOf topology script verdicts name
@@ -28,7 +28,7 @@ Names (Some (generate_script seed count)) name = ⊥
 Names (Some (generate_topology seed count)) name = ⊥
 
 -- how many bytes are given at most: of each file one more than those that count
-abbrev pub most_read : Option Asked → ℕ
+abbrev pub most_read : Option CommandRequest → ℕ
 most_read None = 0
 most_read (Some (run topology script)) = topology_limit + 1 + (file_limit + 1)
 most_read (Some (judge topology script verdicts)) = topology_limit + 1 + (file_limit + 1) + (verdicts_limit + 1)
@@ -41,7 +41,7 @@ most_read (Some (generate_script seed count)) = 0
 most_read (Some (generate_topology seed count)) = 0
 
 -- how many bytes count at most
-abbrev pub most_counted : Option Asked → ℕ
+abbrev pub most_counted : Option CommandRequest → ℕ
 most_counted None = 0
 most_counted (Some (run topology script)) = topology_limit + file_limit
 most_counted (Some (judge topology script verdicts)) = topology_limit + file_limit + verdicts_limit
@@ -54,7 +54,7 @@ most_counted (Some (generate_script seed count)) = 0
 most_counted (Some (generate_topology seed count)) = 0
 
 -- one byte more was given than those that count
-abbrev pub ReadPast : Option Asked → ℕ → ℕ → Type 0
+abbrev pub ReadPast : Option CommandRequest → ℕ → ℕ → Type 0
 ReadPast None before now = ⊥
 ReadPast (Some (run topology script)) before now = RanPast before now
 ReadPast (Some (judge topology script verdicts)) before now = JudgedPast before now
@@ -67,19 +67,19 @@ ReadPast (Some (generate_script seed count)) before now = ⊥
 ReadPast (Some (generate_topology seed count)) before now = ⊥
 
 -- a text is judged
-abbrev pub AsksToJudge : Option Asked → Type 0
+abbrev pub AsksToJudge : Option CommandRequest → Type 0
 AsksToJudge (Some (judge topology script verdicts)) = Unit {0}
 AsksToJudge asked = ⊥
 
 -- an event is told
-abbrev pub AsksToTell : Option Asked → Type 0
+abbrev pub AsksToTell : Option CommandRequest → Type 0
 AsksToTell (Some (why topology script n)) = Unit {0}
 AsksToTell asked = ⊥
 
 -- ---- how far is read if the run ends by itself: of the bytes that were given, and those before the last read
 
 -- nothing is read for words that ask for nothing, nor for generated events
-abbrev pub AskedNoFurther : Option Asked → Contents → (given ahead : ℕ) → Type 0
+abbrev pub AskedNoFurther : Option CommandRequest → Contents → (given ahead : ℕ) → Type 0
 AskedNoFurther None contents given ahead = given ≡ 0
 AskedNoFurther (Some (run topology script)) contents given ahead =
     RunNoFurther (contents topology) (contents script) given ahead

@@ -1,7 +1,7 @@
 -- What is seen of a call from outside: its words, what its shelf and its sink show before and after, and how it ends.
 use Rattle.std.specs.Prelude.{List, map, Result, Ok, Err, String, Vec, string_bytes}
 use Rattle.std.proofs.Common.{Global}
-use Rattle.ide_base.specs.Outside.{ShelfSeen, SinkSeen}
+use Rattle.cli_files.specs.Outside.{ShelfSeen, SinkSeen}
 use Rattle.line_runs.specs.Gain.{Text}
 use Rattle.line_runs.specs.declared.ends.End.{End}
 use Rattle.line_runs.specs.declared.ends.End.TheVariants as end

@@ -1,8 +1,8 @@
 -- What the program has written if a fault ends it.
 use Rattle.std.specs.Prelude.{ℕ, [], take, Option, Some, None, IfErr}
-use Rattle.ide_base.specs.Outside.{Contents}
-use Rattle.ide_words.specs.Words.{Asked, run, judge, why, check, migrate, show, generate, generate_script}
-use Rattle.ide_words.specs.Words.{asked, generate_topology}
+use Rattle.cli_files.specs.Outside.{Contents}
+use Rattle.cli_words.specs.Words.{CommandRequest, run, judge, why, check, migrate, show, generate, generate_script}
+use Rattle.cli_words.specs.Words.{asked, generate_topology}
 use Rattle.line_runs.specs.Front.{bytes_of}
 use Rattle.line_runs.specs.Gain.{Text}
 use Rattle.line_runs.specs.Gathering.{ended_text}
@@ -16,7 +16,7 @@ abbrev pub shown_so_far : Text → Text
 shown_so_far bytes = ended_text shown_line nothing_due tt bytes
 
 -- a text is judged when all is read
-abbrev pub asked_so_far : Option Asked → Contents → ℕ → Text
+abbrev pub asked_so_far : Option CommandRequest → Contents → ℕ → Text
 asked_so_far None contents n = []
 asked_so_far (Some (run topology script)) contents n = run_so_far (contents topology) (contents script) n
 asked_so_far (Some (judge topology script verdicts)) contents n = []
@@ -30,7 +30,7 @@ asked_so_far (Some (generate_script seed count)) contents n = []
 asked_so_far (Some (generate_topology seed count)) contents n = []
 
 -- of n bytes that were given, those of the script or of the packet file for which lines are written
-abbrev pub lines_given : Option Asked → Contents → ℕ → Text
+abbrev pub lines_given : Option CommandRequest → Contents → ℕ → Text
 lines_given None contents n = []
 lines_given (Some (run topology script)) contents n = script_given (contents topology) (contents script) n
 lines_given (Some (judge topology script verdicts)) contents n = []

@@ -1,14 +1,14 @@
 -- The histories that a call goes over and does not write.
 use Rattle.std.specs.Prelude.{ℕ, ◌≡◌, ◌≢◌, ◌⊎◌, ◌+◌, ◌<◌, ◌≤◌, List, [], ◌∷◌, ◌++◌, length, Some, Result, Ok, Err}
 use Rattle.std.specs.Prelude.{IfOk}
-use Rattle.ide_base.specs.Outside.{Contents}
-use Rattle.ide_words.specs.Words.{asked, generate, judge, why}
-use Rattle.ide_plan.specs.declared.plan.Plan.{Plan}
-use Rattle.generated_events.specs.Events.{generated}
-use Rattle.generated_events.specs.Topology.{the_plan}
+use Rattle.cli_files.specs.Outside.{Contents}
+use Rattle.cli_words.specs.Words.{asked, generate, judge, why}
+use Rattle.ide_types.specs.declared.plan.Plan.{Plan}
+use Rattle.script_events.specs.GeneratedEvents.{generated}
+use Rattle.script_events.specs.GeneratedTopology.{the_plan}
 use Rattle.link_events.specs.declared.event.Event.{Event}
-use Rattle.key_laws.specs.History.{History}
-use Rattle.text_laws.specs.Runs.{history_on}
+use Rattle.spec_keys.specs.History.{History}
+use Rattle.law_text.specs.Runs.{history_on}
 use Rattle.line_runs.specs.declared.ends.End.{End}
 use Rattle.line_runs.specs.declared.ends.End.TheVariants as end
 use Rattle.line_runs.specs.declared.ends.Fault.{Fault}
@@ -90,8 +90,8 @@ pub record Said (due claimed held : Text) (call : CallSeen) (e : End) : Type 0 w
   pub tells : Tells due claimed e told
 
 -- if a call that judges a text comes to an end of its own, on a script that was read to its end
-abbrev pub Judged : CallSeen → Type 0
-Judged call = IfOk call.outcome (λ e. (plan : Plan) (script : Script) (a : AsksJudge call plan script)
+abbrev pub JudgedCall : CallSeen → Type 0
+JudgedCall call = IfOk call.outcome (λ e. (plan : Plan) (script : Script) (a : AsksJudge call plan script)
     (claimed held : Text) → script.stop ≡ AtEnd → a.contents a.verdicts_name ≡ Some claimed
     → call.sink_before.held ≡ Some held → Said (due_after plan [] script).1 claimed held call e)
 

@@ -2,24 +2,26 @@
 
 ghost use Rattle.ide_cli.specs.Laws.{LawsHold};
 
-use byte_laws::{
+use law_bytes::{
     answer_law, answers_law, attested, byte_origin, effect_law, failed_law, keystream_fresh,
     lock_law, mmio_origin_law, named_law, one_lock_per_key, scrubbed, trust_law, views_are_true,
 };
-use delivery_laws::{
+use law_delivery::{
     count_law, delivery_law, draws_never_fall, order_is_no_forgery, order_law, prefix_law,
     whole_law,
 };
-use hop_laws::{hop_law, through_law};
-use interface_states::{bind_law, views_hold};
-use key_states::{gos_find_keys, never_again, settled, stays_secure, stream_facts};
-use link_keys::keys_have_causes;
-use mmio_laws::mmio_law;
-use origin_laws::{
+use law_hops::{hop_law, through_law};
+use law_key_facts::keys_have_causes;
+use law_keys::{
+    keys_follow_operations, never_again, operations_settle, set_go_finds_key, stays_secure,
+};
+use law_memory::{
     bind_origin_law, interfaces_have_causes, memory_law, origin_law, read_law, read_origin_law,
     run_law,
 };
-use sealing_laws::{numbers_fresh, totals_fit};
+use law_mmio::mmio_law;
+use law_sealing::{numbers_fresh, totals_fit};
+use spec_interfaces::{bind_law, views_hold};
 
 /// All laws hold of every history in which each verdict is the one that is due.
 pub(crate) fn laws_hold()
@@ -35,10 +37,10 @@ pub(crate) fn laws_hold()
     order_law();
     order_is_no_forgery();
     count_law();
-    settled();
+    operations_settle();
     stays_secure();
-    stream_facts();
-    gos_find_keys();
+    keys_follow_operations();
+    set_go_finds_key();
     never_again();
     failed_law();
     numbers_fresh();

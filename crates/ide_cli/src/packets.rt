@@ -1,7 +1,7 @@
 //! The command `show`: the lines of a packet file.
 
 ghost use Rattle.std.specs.Prelude.{◌≡◌, ◌≢◌, ◌+◌, ◌≤◌, IfErr, IfOk, option_map, take};
-ghost use Rattle.ide_base.specs.Outside.{AsksFor};
+ghost use Rattle.cli_files.specs.Outside.{AsksFor};
 ghost use Rattle.line_runs.specs.Front.{AskedPieces, Gave, bytes_of};
 ghost use Rattle.line_runs.specs.Gathering.{GoesOn, NoFurther, ReadAsFar};
 ghost use Rattle.line_runs.specs.Lines.{file_limit};
@@ -11,11 +11,10 @@ ghost use Rattle.ide_cli.specs.Packets.{long_packet, nothing_due, shown_line, wh
 ghost use Rattle.ide_cli.specs.SoFar.{shown_so_far};
 ghost use Rattle.ide_runs.specs.SoFar.{WroteBy};
 
-use ide_base::{Shelf, Sink};
-use ide_types::{Bytes, Memory};
-use line_runs::{End, Fault, LineWork, run_file};
+use cli_files::{Shelf, Sink};
+use ide_types::{Bytes, OutOfMemory};
+use line_runs::{End, Fault, LineWork, parse_packet, run_file, show};
 use link_events::LineError;
-use packet_lines::{parse_packet, show};
 use std::alloc::Global;
 use std::marker::Model;
 
@@ -69,7 +68,7 @@ impl LineWork for PacketWork {
         End::Done
     }
 
-    fn closing(&self) -> Result<Bytes, Memory> {
+    fn closing(&self) -> Result<Bytes, OutOfMemory> {
         Ok(Bytes::new(Vec::new(self.alloc)))
     }
 }
@@ -94,7 +93,7 @@ pub(crate) fn show_packets<S: Shelf, O: Sink>(
         (bytes_of (contents packets.now))) (S.seen shelf.old) (S.seen shelf.new)) }
     ensures names { AsksFor packets.now (S.seen shelf.old).asked (S.seen shelf.new).asked }
     ensures cap { (S.seen shelf.new).given ≤ (S.seen shelf.old).given + (file_limit + 1) }
-    ensures pieces { AskedPieces (S.seen shelf.old).longest (S.seen shelf.new).longest }
+    ensures read_pieces { AskedPieces (S.seen shelf.old).longest (S.seen shelf.new).longest }
     ensures too_long { IfOk result (λ e. e ≡ End.TooLong → Gave (S.seen shelf.old).given (file_limit + 1)
         (S.seen shelf.new).given) }
     ensures whole { IfOk result (λ e. e ≡ End.Done → (S.seen shelf.new).given ≤ (S.seen shelf.old).given + file_limit) }

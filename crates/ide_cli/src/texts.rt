@@ -4,9 +4,9 @@ ghost use Rattle.std.specs.Prelude.{◌≡◌, ◌≤◌, IfOk};
 ghost use Rattle.line_runs.specs.Outcome.{Ran};
 ghost use Rattle.ide_cli.specs.Meaning.{script_text_due, topology_text_due};
 
-use generated_texts::{script_text, topology_text};
-use ide_base::Sink;
+use cli_files::Sink;
 use line_runs::{End, Fault, finish};
+use script_events::{script_text, topology_text};
 use std::alloc::Global;
 
 /// `generate SEED COUNT --script`: the script of the events of a seed and a number of rounds.

@@ -1,45 +1,45 @@
 //! The whole program.
 
 ghost use Rattle.std.specs.Prelude.{◌≡◌, ◌+◌, ◌≤◌, IfOk, None, map, string_bytes};
-ghost use Rattle.byte_laws.specs.{AnswerLaw, AnswersLaw, Attested, ByteOriginLaw, EffectLaw, FailedLaw, KeyStreamFresh};
-ghost use Rattle.byte_laws.specs.{LockLaw, MmioOriginLaw, NamedLaw, OneLockPerKey, Scrubbed, TrustLaw, ViewsAreTrue};
-ghost use Rattle.delivery_laws.specs.PostedCounts.{CountLaw};
-ghost use Rattle.ide_base.specs.Outside.{AsksOnly};
-ghost use Rattle.ide_words.specs.Words.{asked};
-ghost use Rattle.interface_states.specs.Laws.{BindLaw, RunLaw};
-ghost use Rattle.key_laws.specs.Laws.{GosFindKeys, NeverAgain, Settled, StaysSecure, StreamFacts};
-ghost use Rattle.link_history.specs.Cause.{CauseLaw};
-ghost use Rattle.link_history.specs.Delivered.{DeliveryLaw};
-ghost use Rattle.link_history.specs.HopLaws.{HopLaw, ThroughLaw};
-ghost use Rattle.link_history.specs.Laws.{DrawsNeverFall, OrderIsNoForgery, PrefixLaw, WholeLaw};
-ghost use Rattle.link_history.specs.Numbers.{NumbersFresh};
-ghost use Rattle.link_history.specs.Ordered.{OrderLaw};
+ghost use Rattle.law_bytes.specs.{AnswerLaw, AnswersLaw, Attested, ByteOriginLaw, EffectLaw, FailedLaw, KeyStreamFresh};
+ghost use Rattle.law_bytes.specs.{LockLaw, MmioOriginLaw, NamedLaw, OneLockPerKey, Scrubbed, TrustLaw, ViewsAreTrue};
+ghost use Rattle.law_delivery.specs.PostedCounts.{CountLaw};
+ghost use Rattle.cli_files.specs.Outside.{AsksOnly};
+ghost use Rattle.cli_words.specs.Words.{asked};
+ghost use Rattle.spec_interfaces.specs.Laws.{BindLaw, RunLaw};
+ghost use Rattle.spec_keys.specs.Laws.{SetGoFindsKey, NeverAgain, OperationsSettle, StaysSecure, KeysFollowOperations};
+ghost use Rattle.spec_links.specs.Cause.{CauseLaw};
+ghost use Rattle.spec_links.specs.Delivered.{DeliveryLaw};
+ghost use Rattle.spec_links.specs.HopLaws.{HopLaw, ThroughLaw};
+ghost use Rattle.spec_links.specs.Laws.{DrawsNeverFall, OrderIsNoForgery, PrefixLaw, WholeLaw};
+ghost use Rattle.spec_links.specs.Numbers.{NumbersFresh};
+ghost use Rattle.spec_links.specs.Ordered.{OrderLaw};
 ghost use Rattle.line_runs.specs.Front.{AskedPieces};
 ghost use Rattle.line_runs.specs.Outcome.{Ran};
-ghost use Rattle.mmio_laws.specs.Mmio.{MmioLaw};
-ghost use Rattle.origin_laws.specs.Bindings.{BindOriginLaw};
-ghost use Rattle.origin_laws.specs.Origin.{MemoryLaw, OriginLaw};
-ghost use Rattle.origin_laws.specs.ReadLaws.{ReadLaw, ReadOriginLaw};
-ghost use Rattle.ide_cli.specs.Headline.{AllCounted, AllJudged, AllTold, AllWritten, InEvery};
-ghost use Rattle.ide_cli.specs.Laws.{Unforged, ViewFacts};
+ghost use Rattle.law_mmio.specs.Mmio.{MmioLaw};
+ghost use Rattle.law_memory.specs.Bindings.{BindOriginLaw};
+ghost use Rattle.law_memory.specs.Origin.{MemoryLaw, OriginLaw};
+ghost use Rattle.law_memory.specs.ReadLaws.{ReadLaw, ReadOriginLaw};
+ghost use Rattle.ide_cli.specs.Headline.{AllCounted, AllJudged, AllTold, AllWritten, InEvery, InEveryHistory};
+ghost use Rattle.ide_cli.specs.Laws.{Unforged, TrustedPacketsFitView};
 ghost use Rattle.ide_cli.specs.GeneratedRuns.{RunsGenerated};
 ghost use Rattle.ide_cli.specs.Meaning.{Answered, RanGenerated, usage_line};
 ghost use Rattle.ide_cli.specs.SoFar.{WroteSoFar};
 ghost use Rattle.ide_cli.specs.Reads.{AsksToJudge, AsksToTell, Names, ReadNoFurther, ReadPast, most_counted};
 ghost use Rattle.ide_cli.specs.Reads.{most_read};
 ghost use Rattle.ide_cli.specs.Seen.{call_seen, outcome_of_status, run_seen, said_words};
-ghost use Rattle.ide_cli.specs.Went.{Explained, Judged};
+ghost use Rattle.ide_cli.specs.Went.{Explained, JudgedCall};
 
 use crate::laws::laws_hold;
 use crate::packets::show_packets;
 use crate::status::Status;
 use crate::texts::{generate_script, generate_topology};
-use ide_base::{Shelf, Sink};
+use cli_files::{Shelf, Sink};
+use cli_words::{Request, WordsError, read_words};
 use ide_runs::{check_topology, generate, judge, migrate_topology, run_files, why};
-use ide_words::{Request, WordsError, read_words};
+use law_text::lines_tell;
 use line_runs::{End, Fault, finish};
 use std::alloc::Global;
-use text_laws::lines_tell;
 
 // Does what the words ask for.
 fn perform<S: Shelf, O: Sink>(
@@ -58,7 +58,7 @@ fn perform<S: Shelf, O: Sink>(
     ensures names { AsksOnly (Names (asked (map string_bytes words.now))) (S.seen shelf.old).asked
         (S.seen shelf.new).asked }
     ensures cap { (S.seen shelf.new).given ≤ (S.seen shelf.old).given + most_read (asked (map string_bytes words.now)) }
-    ensures pieces { AskedPieces (S.seen shelf.old).longest (S.seen shelf.new).longest }
+    ensures read_pieces { AskedPieces (S.seen shelf.old).longest (S.seen shelf.new).longest }
     ensures too_long { IfOk result (λ e. e ≡ End.TooLong → ReadPast (asked (map string_bytes words.now))
         (S.seen shelf.old).given (S.seen shelf.new).given) }
     ensures whole { IfOk result (λ e. e ≡ End.Done → (S.seen shelf.new).given ≤ (S.seen shelf.old).given + most_counted
@@ -153,7 +153,7 @@ pub fn run<S: Shelf, O: Sink>(
     // given, and a file that was read to its end has no more than count.
     ensures names { AsksOnly (Names (asked (said_words words.now))) (S.seen shelf.old).asked (S.seen shelf.new).asked }
     ensures cap { (S.seen shelf.new).given ≤ (S.seen shelf.old).given + most_read (asked (said_words words.now)) }
-    ensures pieces { AskedPieces (S.seen shelf.old).longest (S.seen shelf.new).longest }
+    ensures read_pieces { AskedPieces (S.seen shelf.old).longest (S.seen shelf.new).longest }
     ensures too_long { result ≡ Status.TooLong → ReadPast (asked (said_words words.now)) (S.seen shelf.old).given
         (S.seen shelf.new).given }
     ensures whole { result ≡ Status.Done → (S.seen shelf.new).given ≤ (S.seen shelf.old).given + most_counted
@@ -165,7 +165,7 @@ pub fn run<S: Shelf, O: Sink>(
     // If the words ask to judge a text, and the script is read to its end, the text is said to be the same exactly if
     // the contents of its file are the text that is due, whole; else the first line that differs is named, with the
     // line that is due there, if any is.
-    ensures judged { Judged (run_seen S.seen O.seen words.now shelf.old shelf.new out.old out.new result) }
+    ensures judged { JudgedCall (run_seen S.seen O.seen words.now shelf.old shelf.new out.old out.new result) }
 
     // A script is said to lack an event only if the words ask why an event got its verdict; it was read to its end
     // then.
@@ -201,25 +201,25 @@ pub fn run<S: Shelf, O: Sink>(
     // established, never pass the posted packets that were got. An operation on keys ends in the key state of one
     // without losses, and no move of a refresh takes a port out of Secure.
     ensures cause_law { InEvery CauseLaw (run_seen S.seen O.seen words.now shelf.old shelf.new out.old out.new result) }
-    ensures draws_never_fall { InEvery (λ p. DrawsNeverFall)
+    ensures draws_never_fall { InEveryHistory DrawsNeverFall
         (run_seen S.seen O.seen words.now shelf.old shelf.new out.old out.new result) }
     ensures whole_law { InEvery WholeLaw (run_seen S.seen O.seen words.now shelf.old shelf.new out.old out.new result) }
     ensures order_is_no_forgery { InEvery OrderIsNoForgery
         (run_seen S.seen O.seen words.now shelf.old shelf.new out.old out.new result) }
     ensures count_law { InEvery CountLaw (run_seen S.seen O.seen words.now shelf.old shelf.new out.old out.new result) }
-    ensures settled { InEvery (λ p. Settled)
+    ensures operations_settle { InEveryHistory OperationsSettle
         (run_seen S.seen O.seen words.now shelf.old shelf.new out.old out.new result) }
-    ensures stays_secure { InEvery (λ p. StaysSecure)
+    ensures stays_secure { InEveryHistory StaysSecure
         (run_seen S.seen O.seen words.now shelf.old shelf.new out.old out.new result) }
     // A draw is kept in one key set of a place at most and on one stream, an unfinished operation has made its draw On
     // if its GO came, and each GO that reaches a place finds its draw kept there. A draw that was On at a place and
     // then kept in neither set is never kept there again. While a stream is failed at a port, nothing of it is sealed,
     // held, accepted or failed there.
-    ensures stream_facts { InEvery (λ p. StreamFacts)
+    ensures keys_follow_operations { InEveryHistory KeysFollowOperations
         (run_seen S.seen O.seen words.now shelf.old shelf.new out.old out.new result) }
-    ensures gos_find_keys { InEvery (λ p. GosFindKeys)
+    ensures set_go_finds_key { InEveryHistory SetGoFindsKey
         (run_seen S.seen O.seen words.now shelf.old shelf.new out.old out.new result) }
-    ensures never_again { InEvery (λ p. NeverAgain)
+    ensures never_again { InEveryHistory NeverAgain
         (run_seen S.seen O.seen words.now shelf.old shelf.new out.old out.new result) }
     ensures failed_law { InEvery FailedLaw
         (run_seen S.seen O.seen words.now shelf.old shelf.new out.old out.new result) }
@@ -247,7 +247,7 @@ pub fn run<S: Shelf, O: Sink>(
     // manager needs; if the view is running, each such packet of a key from the view's floor on was sealed in RUN under
     // the present lock. The view unlocked means that the interface is in CONFIG_UNLOCKED at its device, locked that it
     // is in CONFIG_LOCKED or ERROR, running that it is in RUN or ERROR.
-    ensures view_facts { InEvery ViewFacts
+    ensures trusted_packets_fit_view { InEvery TrustedPacketsFitView
         (run_seen S.seen O.seen words.now shelf.old shelf.new out.old out.new result) }
     ensures views_are_true { InEvery ViewsAreTrue
         (run_seen S.seen O.seen words.now shelf.old shelf.new out.old out.new result) }

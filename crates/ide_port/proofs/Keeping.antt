@@ -3,15 +3,15 @@ use Rattle.ide_types.specs.declared.direction.Direction.{Direction}
 use Rattle.ide_port.proofs.Terms.{◌≡◌, ℕ, suc, zero, ◌+◌, ◌<◌, ◌≤◌, List, [], ◌∷◌, length, map, get_or, Option, Some}
 use Rattle.ide_port.proofs.Terms.{None, Result, refl, ap, ◌∙◌, arith, slice_set, slice_get, vec_capacity, nat_tests}
 use Rattle.ide_port.proofs.Terms.{Side, SubKind, StreamPlan, Packet}
-use Rattle.ide_port.proofs.Terms.{StreamState, Sending, KeyCall, StreamEnd, joined_packets, packets_sent, taken_in}
-use Rattle.ide_port.proofs.Terms.{end_taken, called_end, SendRefusal, Inside, PortEnd, Found, found, NoneWaits}
+use Rattle.ide_port.proofs.Terms.{StreamState, Sending, KeyCall, StreamEnd, joined_packets, packets_sent, end_outcome}
+use Rattle.ide_port.proofs.Terms.{end_taken, called_end, SendRefusal, Inside, PortEnd, Found, found_stream, NoneWaits}
 use Rattle.ide_port.proofs.Terms.{AreStreamsOf, IsKept, packets_lent}
 use Rattle.ide_port.proofs.Terms.{delivered_at}
 use Rattle.std.proofs.lemmas.List.{length-set}
 use Rattle.sub_stream.specs.declared.answer.MeasuredPacket.{MeasuredPacket}
 use Rattle.ide_stream.specs.{IsSent}
 use Rattle.ide_port.specs.Kept.{plan_place}
-use Rattle.ide_port.proofs.Waiting.{none-unless, none-taken, none-called}
+use Rattle.ide_port.proofs.Waiting.{none-unless, none-taken, none-stream_after_call}
 use Rattle.ide_port.proofs.Streams.{state_of, later, IsPlaced, placed, within}
 use Rattle.ide_port.proofs.Lengths.{sent-length}
 
@@ -86,15 +86,16 @@ module _ (p : Inside) (kept : Keeps p) (id place : ℕ) (x : StreamEnd) (at : pl
       let lends : (q : ℕ) → Some place ≡ Some q → q < length p.streams.items =
       λ q e. (let same : place ≡ q = cc in rw (← same) (inside p id place kept at)) in
       kept-with (p.calls + 1) (x.calls + 1) y _ _ (Some place) _ _ (omega arith) after
-      (none-taken x.state packet (taken_in x packet) there.of_plan.receivers)
+      (none-taken x.state packet (end_outcome x packet) there.of_plan.receivers)
       (omega (arith, there.of_plan.few)) lends kept.short kept.room
 
-  pub kept-called : (y : StreamEnd) (d : Direction) (u : SubKind) (c : KeyCall)
+  pub kept-stream_after_call : (y : StreamEnd) (d : Direction) (u : SubKind) (c : KeyCall)
       → y ≡ called_end x d u c
       → IsKept p.name.side p.limit p.calls p.plans (slice_set p.streams.items place y) None p.sealed.items
       (vec_capacity p.sealed)
-  kept-called y d u c after =
-      kept-with p.calls x.calls y _ [] None _ _ (omega arith) after (none-called _ u c x.state there.of_plan.receivers)
+  kept-stream_after_call y d u c after =
+      kept-with p.calls x.calls y _ [] None _ _ (omega arith) after
+      (none-stream_after_call _ u c x.state there.of_plan.receivers)
       there.of_plan.few
       (lends-none _) kept.short kept.room
 
@@ -132,11 +133,11 @@ kept-later p lent sealed capacity kept lends short room =
 
 -- ---- no receiver waits
 
-pub none-found : (side : Side) (limit calls : ℕ) (ss : List StreamPlan) (xs : List StreamEnd)
+pub none-found_stream : (side : Side) (limit calls : ℕ) (ss : List StreamPlan) (xs : List StreamEnd)
     → AreStreamsOf side limit calls ss xs
-    → (id : ℕ) (f : Found) → found ss (map state_of xs) id ≡ Some f → NoneWaits f.state
-none-found side limit calls [] [] h id f e u = absurd cc
-none-found side limit calls [] (x ∷ xs) h id f e u = absurd h
-none-found side limit calls (s ∷ ss) [] h id f e u = absurd h
-none-found side limit calls (s ∷ ss) (x ∷ xs) h id f e u = grind
-    (arith, nat_tests, none-found side limit calls ss xs h.1 id f, h.0.receivers u)
+    → (id : ℕ) (f : Found) → found_stream ss (map state_of xs) id ≡ Some f → NoneWaits f.state
+none-found_stream side limit calls [] [] h id f e u = absurd cc
+none-found_stream side limit calls [] (x ∷ xs) h id f e u = absurd h
+none-found_stream side limit calls (s ∷ ss) [] h id f e u = absurd h
+none-found_stream side limit calls (s ∷ ss) (x ∷ xs) h id f e u = grind
+    (arith, nat_tests, none-found_stream side limit calls ss xs h.1 id f, h.0.receivers u)

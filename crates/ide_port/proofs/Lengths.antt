@@ -1,17 +1,18 @@
 -- What one send seals has at most 4,184 bytes.
 use Rattle.ide_port.proofs.Terms.{◌≡◌, ℕ, ◌+◌, ◌≤◌, true, false, List, [], ◌∷◌, ◌++◌, length, Option, Some, None, arith}
 use Rattle.ide_port.proofs.Terms.{length-append, if◌then◌else◌, SubKind, Packet, packet_bytes, sync_head, Verdict}
-use Rattle.ide_port.proofs.Terms.{Sending, Lanes, described}
-use Rattle.ide_port.proofs.Terms.{needs_sync, sync_before, ends_unit, sets_trusted, ahead_with, sealed_by, LiveKey}
+use Rattle.ide_port.proofs.Terms.{Sending, Lanes, described_seal}
+use Rattle.ide_port.proofs.Terms.{needs_sync, sync_before, ends_unit, sets_trusted, total_ahead, sealed_with_syncs}
+use Rattle.ide_port.proofs.Terms.{LiveKey}
 use Rattle.ide_port.proofs.Terms.{Three, TxSub, at_sub, live_sender, untagged_under, tagged_under, packet_under}
 use Rattle.ide_port.proofs.Terms.{sealed_one, sealed_all, StreamEnd}
-use Rattle.ide_port.proofs.Terms.{joined_packets, packets_sent, lanes_in, unless_verdict, sealing, refused}
+use Rattle.ide_port.proofs.Terms.{joined_packets, packets_sent, lanes_in, unless_verdict, sealing, sending_refusal}
 use Rattle.std.proofs.Common.{Bool}
-use Rattle.gcm_seal.specs.Gcm.{masked, tag_of}
-use Rattle.gcm_seal.proofs.Sealing.{length-masked, length-tag_of}
+use Rattle.gcm_seal.specs.Gcm.{masked_bytes, tag_of}
+use Rattle.gcm_seal.proofs.Sealing.{length-masked_bytes, length-tag_of}
 use Rattle.ide_types.specs.declared.sub.SubKind.TheVariants.{Npr, Cpl}
 use Rattle.ide_prefix.specs.Iv.{iv_of}
-use Rattle.ide_prefix.specs.Units.{authenticated, encrypted}
+use Rattle.ide_prefix.specs.Units.{authenticated_bytes, encrypted_bytes}
 use Rattle.link_verdicts.specs.declared.verdict.SealedPacket.{SealedPacket}
 
 tag_length : (m : Bool) (key iv a c : List ℕ) → length (if m then tag_of key iv a c else []) ≤ 12
@@ -26,10 +27,10 @@ bytes_length p = omega (arith, length-append p.head (p.body ++ p.tag), length-ap
 
 parts_length : (sync : Bool) (key iv : List ℕ) (n : ℕ) (head payload : List ℕ) → length head ≤ 16
     → length payload ≤ 4096
-    → length (if sync then sync_head else head) + length (masked key iv n (if sync then [] else payload)) + 16 ≤
+    → length (if sync then sync_head else head) + length (masked_bytes key iv n (if sync then [] else payload)) + 16 ≤
     (if sync then 28 else 4128)
-parts_length true key iv n head payload h b = omega (arith, length-masked key iv n [])
-parts_length false key iv n head payload h b = omega (arith, length-masked key iv n payload, h, b)
+parts_length true key iv n head payload h b = omega (arith, length-masked_bytes key iv n [])
+parts_length false key iv n head payload h b = omega (arith, length-masked_bytes key iv n payload, h, b)
 
 packet_length : (ahead : List ℕ) (o : Option (Bool × LiveKey)) (d : SealedPacket) (head payload : List ℕ)
     → length head ≤ 16 → length payload ≤ 4096
@@ -39,16 +40,16 @@ packet_length ahead None d head payload h b =
       arith,
       bytes_length (untagged_under [] [] d head payload),
       parts_length d.sync [] (iv_of d.sub d.unit)
-          (length (encrypted [])) head payload h b,
+          (length (encrypted_bytes [])) head payload h b,
     )
 packet_length ahead (Some x) d head payload h b =
     let p = untagged_under x.1.key x.1.packets d head payload in
     omega (
       arith,
       bytes_length (tagged_under ahead x.1.key x.1.packets d p),
-      parts_length d.sync x.1.key (iv_of d.sub d.unit) (length (encrypted x.1.packets)) head payload h b,
-      tag_length d.m x.1.key (iv_of d.sub d.unit) (ahead ++ authenticated (x.1.packets ++ p ∷ []))
-          (encrypted (x.1.packets ++ p ∷ [])),
+      parts_length d.sync x.1.key (iv_of d.sub d.unit) (length (encrypted_bytes x.1.packets)) head payload h b,
+      tag_length d.m x.1.key (iv_of d.sub d.unit) (ahead ++ authenticated_bytes (x.1.packets ++ p ∷ []))
+          (encrypted_bytes (x.1.packets ++ p ∷ [])),
     )
 
 room_all : List SealedPacket → ℕ
@@ -68,7 +69,7 @@ all_length closed head payload (d ∷ ds) tx h b =
       arith,
       length-append (packet_bytes one.0) (joined_packets (sealed_all closed head payload ds one.1).0),
       rest,
-      packet_length (ahead_with closed d.unit x.total) (live_sender x.slots) d head payload h b,
+      packet_length (total_ahead closed d.unit x.total) (live_sender x.slots) d head payload h b,
     )
 
 room_append : (xs ys : List SealedPacket) → room_all (xs ++ ys) ≡ room_all xs + room_all ys
@@ -77,16 +78,16 @@ room_append [] ys = omega arith
 room_append (x ∷ xs) ys = omega (arith, room_append xs ys)
 
 sync_room : (b : Bool) (x : Lanes) (s : Sending) (u : SubKind) (number : ℕ)
-    → room_all (if b then described x s u number true false true ∷ [] else []) ≤ 28
+    → room_all (if b then described_seal x s u number true false true ∷ [] else []) ≤ 28
 unfolding room_all
 sync_room b x s u number = grind arith
 
-sealed_room : (x : Lanes) (s : Sending) (number : ℕ) → room_all (sealed_by x s number) ≤ 4184
+sealed_room : (x : Lanes) (s : Sending) (number : ℕ) → room_all (sealed_with_syncs x s number) ≤ 4184
 unfolding room_all
 sealed_room x s number =
     let first = sync_before x s Npr number in
     let second = sync_before x s Cpl (number + length first) in
-    let last = described x s s.class (number + length first + length second) (ends_unit x s)
+    let last = described_seal x s s.class (number + length first + length second) (ends_unit x s)
     (sets_trusted s.port s.trusted) false in
     omega (
       arith,
@@ -104,10 +105,10 @@ pub sent-length : (e : StreamEnd) (head payload : List ℕ) (s : Sending) (numbe
     → length payload ≤ 4096
     → length (joined_packets (packets_sent e head payload s number)) ≤ 4184
 sent-length e head payload s number h b =
-    unless_length (refused e s) (sealing e head payload s number).0 4184
+    unless_length (sending_refusal e s) (sealing e head payload s number).0 4184
     (omega (
       arith,
-      all_length e.closed head payload (sealed_by (lanes_in e) s number) e.state.tx h b,
+      all_length e.closed head payload (sealed_with_syncs (lanes_in e) s number) e.state.tx h b,
       sealed_room
           (lanes_in e) s number,
     ))

@@ -1,20 +1,9 @@
 -- What a call makes of slots is what key management says of them.
-use Rattle.ide_port.proofs.Terms.{
-  ◌≡◌,
-  true,
-  false,
-  ◌&&◌,
-  ◌||◌,
-  arith,
-  nat_tests,
-  SubKind,
-  LaneSlots,
-  Three,
-  TxSub,
-  RxSub,
-}
+use Rattle.ide_port.proofs.Terms.{◌≡◌, true, false, ◌&&◌, ◌||◌, arith, nat_tests, SubKind, LaneSlots, Three, TxSub}
+use Rattle.ide_port.proofs.Terms.{RxSub}
 use Rattle.ide_port.proofs.Terms.{StreamState, at_sub, set_sub, rested_stream, slot_pair, KeyCall, slots_at, pair_at}
-use Rattle.ide_port.proofs.Terms.{called, slots_called_out, slots_called_into, slots_by, has_open_unit, is_waiting}
+use Rattle.ide_port.proofs.Terms.{stream_after_call, slots_called_out, slots_called_into, slots_by, has_open_unit}
+use Rattle.ide_port.proofs.Terms.{is_waiting}
 use Rattle.ide_port.proofs.Terms.{NoneWaits}
 use Rattle.std.proofs.Common.{Bool}
 
@@ -43,7 +32,7 @@ set_other : {A : Type 0} (t : Three A) (u w : SubKind) (x : A) → (w ≡ u → 
 set_other t u w x ne = grind arith
 
 pub moved-pair : (sends : Bool) (u : SubKind) (c : KeyCall) (st : StreamState) → NoneWaits st
-    → pair_at sends u (called sends u c st) ≡ slots_by c (sends && has_open_unit (at_sub st.tx u).slots)
+    → pair_at sends u (stream_after_call sends u c st) ≡ slots_by c (sends && has_open_unit (at_sub st.tx u).slots)
     (pair_at sends u st)
 moved-pair true u c st h = simp (settled_out, set_same, slots_out)
 moved-pair false u c st h = simp (settled_in, set_same) (slots_into c false (at_sub st.rx u).slots (h u))
@@ -51,5 +40,5 @@ moved-pair false u c st h = simp (settled_in, set_same) (slots_into c false (at_
 -- ---- other places
 
 pub other-pair : (b sends : Bool) (w u : SubKind) (c : KeyCall) (st : StreamState) → (b ≡ sends → w ≡ u → ⊥)
-    → pair_at b w (called sends u c st) ≡ pair_at b w st
+    → pair_at b w (stream_after_call sends u c st) ≡ pair_at b w st
 other-pair b sends w u c st ne = grind (arith, settled_out, settled_in, set_other)

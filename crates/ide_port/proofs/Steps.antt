@@ -7,18 +7,20 @@ use Rattle.ide_port.proofs.Terms.{Err, refl, sym, ap, ◌∙◌, subst, arith, s
 use Rattle.std.proofs.Common.{Bool}
 use Rattle.ide_port.proofs.Terms.{nat_tests, SubKind, StreamPlan}
 use Rattle.ide_port.proofs.Terms.{Packet, Tlp, class_of, head_bytes, header, body, SlotPair, program_answer}
-use Rattle.ide_port.proofs.Terms.{PlaceCall, SlotsAfter, shown_at, program_answer_at, answer_of, StreamEnd, sending}
-use Rattle.ide_port.proofs.Terms.{answer_as}
-use Rattle.ide_port.proofs.Terms.{taken_in, end_taken, called_end}
-use Rattle.ide_port.proofs.Terms.{pair_in, lengths_said, Inside, SendRefusal, PortEnd, Found, found, changed, sub_from}
-use Rattle.ide_port.proofs.Terms.{stream_at, shown, unfinished_at, called_states, called_port, stream_of}
+use Rattle.ide_port.proofs.Terms.{PlaceCall, SlotsAfter, shown_pair, program_answer_at, answer_taken, StreamEnd}
+use Rattle.ide_port.proofs.Terms.{sending}
+use Rattle.ide_port.proofs.Terms.{numbered_answer}
+use Rattle.ide_port.proofs.Terms.{end_outcome, end_taken, called_end}
+use Rattle.ide_port.proofs.Terms.{pair_in, lengths_said, Inside, SendRefusal, PortEnd, Found, found_stream}
+use Rattle.ide_port.proofs.Terms.{changed_states, sub_from}
+use Rattle.ide_port.proofs.Terms.{stream_at, slot_pair_at, unfinished_at, called_states, called_port, stream_of}
 use Rattle.ide_port.proofs.Terms.{place_and_sub, arrival_said}
 use Rattle.std.proofs.Common.{Bool, Ok}
 use Rattle.ide_types.specs.declared.port.PortName.{PortName}
 use Rattle.key_slots.specs.declared.slots.OnlyLive.{OnlyLive}
-use Rattle.ide_km.specs.declared.port.ProgramFault.{ProgramFault}
-use Rattle.ide_km.specs.declared.port.ProgramFault.TheVariants as km
-use Rattle.stream_rules.specs.Stream.{Taken as Answer}
+use Rattle.key_messages.specs.declared.port.ProgramFault.{ProgramFault}
+use Rattle.key_messages.specs.declared.port.ProgramFault.TheVariants as km
+use Rattle.spec_stream.specs.Stream.{Taken as Answer}
 use Rattle.sub_stream.specs.declared.answer.MeasuredPacket.{MeasuredPacket}
 use Rattle.sub_stream.specs.declared.answer.Taken.{Taken}
 use Rattle.ide_stream.specs.Sends.{IsSent}
@@ -30,7 +32,7 @@ use Rattle.ide_port.specs.Sends.{as_verdict, sent_verdict, lengths_sent, stream_
 use Rattle.ide_port.specs.Arrivals.{TakeStep, port_arrival, packet_step}
 use Rattle.ide_port.specs.Kept.{plan_place}
 use Rattle.ide_port.proofs.Streams.{state_of, absent}
-use Rattle.ide_port.proofs.Keeping.{Keeps, seen, now, inside, there, lends-there, lends-still, none-found}
+use Rattle.ide_port.proofs.Keeping.{Keeps, seen, now, inside, there, lends-there, lends-still, none-found_stream}
 use Rattle.ide_port.proofs.Shown.{slots-after}
 
 abbrev pub sent_as : Result (List MeasuredPacket) SendRefusal → Sent
@@ -38,13 +40,13 @@ sent_as (Ok packets) = Sealed packets
 sent_as (Err refusal) = Refused refusal
 
 verdict_of : (name : PortName) (number : ℕ) (answer : Result (List MeasuredPacket) SendRefusal)
-    → sent_verdict name number (sent_as answer) ≡ as_verdict (answer_as name number answer)
+    → sent_verdict name number (sent_as answer) ≡ as_verdict (numbered_answer name number answer)
 verdict_of name number answer = grind arith
 
 lengths_of : (answer : Result (List MeasuredPacket) SendRefusal) → lengths_sent (sent_as answer) ≡ lengths_said answer
 lengths_of answer = grind arith
 
-said_of : (p : Packet) (t : Answer) → arrival_said p.prefix.stream p.prefix.sub (answer_of t) ≡ port_arrival p t
+said_of : (p : Packet) (t : Answer) → arrival_said p.prefix.stream p.prefix.sub (answer_taken t) ≡ port_arrival p t
 said_of p t = grind arith
 
 pub record IsTaken (r : Arrival) (new : PortEnd) (step : TakeStep) : Type 0 where
@@ -54,12 +56,12 @@ pub record IsTaken (r : Arrival) (new : PortEnd) (step : TakeStep) : Type 0 wher
 -- ---- the port has no such stream
 
 module _ (p : Inside) (e : PortEnd) (view : now p ≡ e) (id : ℕ) (at : plan_place p.plans id ≡ None) where
-  pub gone : found e.plans e.states id ≡ None
+  pub gone : found_stream e.plans e.states id ≡ None
   gone = rw (← view) (absent p.plans _ id at)
 
   pub plain-step : (new : PortEnd) (t : Tlp) (more trusted : Bool) (number : ℕ) → new
       ≡ record e { sealed = []; calls = e.calls + 1 }
-      → IsSendStep e.name number Plain new (stream_step e t more trusted number (found e.plans e.states id))
+      → IsSendStep e.name number Plain new (stream_step e t more trusted number (found_stream e.plans e.states id))
   plain-step new t more trusted number is = rw gone (record { answered = refl; lengths = refl; port = is })
 
 -- ---- a call of a stream
@@ -69,7 +71,7 @@ module _ (p : Inside) (e : PortEnd) (view : now p ≡ e) (kept : Keeps p) (id pl
     (is : x ≡ get_or p.streams.items place x) where
   -- what is read of it
   pub reads : {A : Type 0} (read : Option Found → A)
-      → read (found e.plans e.states id) ≡ read
+      → read (found_stream e.plans e.states id) ≡ read
       (Some (record { plan = (there p kept id place x at is).plan; state = x.state }))
   reads read = rw (← view) (ap read (there p kept id place x at is).is_found)
 
@@ -79,7 +81,7 @@ module _ (p : Inside) (e : PortEnd) (view : now p ≡ e) (kept : Keeps p) (id pl
       → IsSent x (head_bytes (header t)) (body t) (sending p.name x.id (class_of (header t)) more trusted) number answer
       before out y → r ≡ sent_as answer
       → IsSendStep e.name number r (seen p (slice_set p.streams.items place y) out p.lent (p.calls + 1))
-      (stream_step e t more trusted number (found e.plans e.states id))
+      (stream_step e t more trusted number (found_stream e.plans e.states id))
   sent-step y t more trusted number answer r before out none sent said =
       let k = there p kept id place x at is in
       let z = stream_of p.name.side p.limit k.plan x in
@@ -94,7 +96,8 @@ module _ (p : Inside) (e : PortEnd) (view : now p ≡ e) (kept : Keeps p) (id pl
         lengths = ap lengths_sent said ∙ lengths_of answer ∙ mine.lengths;
         port = (λ i. record (now p) {
           states = (k.change y ∙ ap
-              (λ (w : StreamEnd). changed p.plans (map state_of p.streams.items) k.plan.id w.state) mine.stream) i;
+              (λ (w : StreamEnd). changed_states p.plans (map state_of p.streams.items) k.plan.id w.state) mine.stream)
+              i;
           sealed = (rw none at mine.bytes) i;
           delivered = lends-still p.streams.items place p.lent x y (inside p id place kept at) is
               (ap (λ (w : StreamEnd). w.delivered) sent.stream) i;
@@ -107,21 +110,22 @@ module _ (p : Inside) (e : PortEnd) (view : now p ≡ e) (kept : Keeps p) (id pl
 module _ (p : Inside) (e : PortEnd) (view : now p ≡ e) (packet : Packet) where
   pub taken-step : (kept : Keeps p) (place : ℕ) (x y : StreamEnd) (taken : Option Taken) (r : Arrival)
       → plan_place p.plans packet.prefix.stream ≡ Some place
-      → x ≡ get_or p.streams.items place x → taken ≡ answer_of (taken_in x packet) → y ≡ end_taken x packet
+      → x ≡ get_or p.streams.items place x → taken ≡ answer_taken (end_outcome x packet) → y ≡ end_taken x packet
       → r ≡ arrival_said packet.prefix.stream packet.prefix.sub taken
       → IsTaken r (seen p (slice_set p.streams.items place y) p.sealed.items (Some place) (p.calls + 1))
-      (packet_step e packet (found e.plans e.states packet.prefix.stream))
+      (packet_step e packet (found_stream e.plans e.states packet.prefix.stream))
   taken-step kept place x y taken r at is answered after said =
       let k = there p kept packet.prefix.stream place x at is in
       let z = stream_of p.name.side p.limit k.plan x in
-      let same : taken_in x packet ≡ taken_in z packet = ap (λ (w : StreamEnd). taken_in w packet) k.of_plan.plan in
+      let same : end_outcome x packet ≡ end_outcome z packet = ap (λ (w : StreamEnd). end_outcome w packet)
+      k.of_plan.plan in
       let mine : y ≡ end_taken z packet = after ∙ ap (λ (w : StreamEnd). end_taken w packet) k.of_plan.plan in
       rw (← view, k.is_found) (record {
-        answer = said ∙ ap (arrival_said packet.prefix.stream packet.prefix.sub) (answered ∙ ap answer_of same) ∙
-            said_of packet (taken_in z packet);
+        answer = said ∙ ap (arrival_said packet.prefix.stream packet.prefix.sub) (answered ∙ ap answer_taken same) ∙
+            said_of packet (end_outcome z packet);
         port = (λ i. record (now p) {
           states = (k.change y ∙ ap
-              (λ (w : StreamEnd). changed p.plans (map state_of p.streams.items) k.plan.id w.state) mine) i;
+              (λ (w : StreamEnd). changed_states p.plans (map state_of p.streams.items) k.plan.id w.state) mine) i;
           delivered = (lends-there p.streams.items place y (inside p packet.prefix.stream place kept at) ∙ ap
               (λ (w : StreamEnd). w.delivered) mine) i;
           calls = p.calls + 1;
@@ -130,7 +134,8 @@ module _ (p : Inside) (e : PortEnd) (view : now p ≡ e) (packet : Packet) where
 
   pub unknown-step : (new : PortEnd) → plan_place p.plans packet.prefix.stream ≡ None → new
       ≡ record e { delivered = []; calls = e.calls + 1 }
-      → IsTaken (Unknown packet.prefix.stream) new (packet_step e packet (found e.plans e.states packet.prefix.stream))
+      → IsTaken (Unknown packet.prefix.stream) new
+      (packet_step e packet (found_stream e.plans e.states packet.prefix.stream))
   unknown-step new at is = rw (gone p e view packet.prefix.stream at) (record { answer = refl; port = is })
 
 -- ---- a call of key management
@@ -164,21 +169,22 @@ lane-inside p id sub place u kept at = inside p id place kept (lane-some p.plans
 
 -- the slots that key management sees of the place, and what the call makes of the port
 pub record IsCalled (e new : PortEnd) (c : PlaceCall) (o : Option SlotPair) : Type 0 where
-  pub shows : shown_at (shown e) c.place ≡ o
+  pub shows : shown_pair (slot_pair_at e) c.place ≡ o
   pub moves : new ≡ called_port c e
-  pub slots : SlotsAfter (shown e) (unfinished_at e) c (shown new)
+  pub slots : SlotsAfter (slot_pair_at e) (unfinished_at e) c (slot_pair_at new)
 
 module _ (p : Inside) (e : PortEnd) (view : now p ≡ e) (kept : Keeps p) (c : PlaceCall) where
-  slots-step : (new : PortEnd) → new ≡ called_port c e → SlotsAfter (shown e) (unfinished_at e) c (shown new)
+  slots-step : (new : PortEnd) → new ≡ called_port c e → SlotsAfter (slot_pair_at e) (unfinished_at e) c
+      (slot_pair_at new)
   slots-step new is = rw is
       (slots-after e c (rw (← view)
-      (record { none = none-found p.name.side p.limit p.calls p.plans p.streams.items kept.each })))
+      (record { none = none-found_stream p.name.side p.limit p.calls p.plans p.streams.items kept.each })))
 
   pub nowhere-step : place_and_sub p.plans c.place.stream c.place.sub ≡ None
       → IsCalled e (seen p p.streams.items p.sealed.items None p.calls) c None
   nowhere-step at =
       let q = c.place in
-      let none : nat_lt q.sub 3 ≡ true → found e.plans e.states q.stream ≡ None =
+      let none : nat_lt q.sub 3 ≡ true → found_stream e.plans e.states q.stream ≡ None =
       λ t. gone p e view q.stream (none_in (nat_lt q.sub 3) (plan_place p.plans q.stream) (sub_from q.sub) at t) in
       let out : stream_at e q ≡ None = grind (arith, nat_tests, none) in
       let moves : seen p p.streams.items p.sealed.items None p.calls ≡ called_port c e =
@@ -186,31 +192,32 @@ module _ (p : Inside) (e : PortEnd) (view : now p ≡ e) (kept : Keeps p) (c : P
       (λ o. record e { states = called_states e c o; delivered = [] }) (sym out) in
       record { shows = grind (arith, nat_tests, out); moves = moves; slots = slots-step _ moves }
 
-  pub called-step : (place : ℕ) (u : SubKind) (x y : StreamEnd)
+  pub stream_after_call-step : (place : ℕ) (u : SubKind) (x y : StreamEnd)
       → IsLane p.plans c.place.stream c.place.sub place u
       → x ≡ get_or p.streams.items place x → y ≡ called_end x c.place.direction u c.call
       → IsCalled e (seen p (slice_set p.streams.items place y) p.sealed.items None p.calls) c
       (Some (pair_in x c.place.direction u))
-  called-step place u x y lane is after =
+  stream_after_call-step place u x y lane is after =
       let q = c.place in
       let k = there p kept q.stream place x lane.place_is is in
       let at : stream_at (now p) q ≡ Some (record { plan = k.plan; state = x.state }) = rw lane.three k.is_found
       in
       let mine : y ≡ called_end (stream_of p.name.side p.limit k.plan x) q.direction (sub_from q.sub) c.call =
       after ∙ (λ i. called_end (k.of_plan.plan i) q.direction (lane.sub_is i) c.call) in
-      let was : shown (now p) q ≡ Some (pair_in x q.direction u) =
+      let was : slot_pair_at (now p) q ≡ Some (pair_in x q.direction u) =
       ap (option_map _) at ∙ ap Some (sym (λ i. pair_in (k.of_plan.plan i) q.direction (lane.sub_is i))) in
       let moves : seen p (slice_set p.streams.items place y) p.sealed.items None p.calls ≡ called_port c e =
       (λ i. record (now p) {
         states =
-            (k.change y ∙ ap (λ (w : StreamEnd). changed p.plans (map state_of p.streams.items) k.plan.id w.state) mine)
+            (k.change y ∙ ap (λ (w : StreamEnd). changed_states p.plans (map state_of p.streams.items) k.plan.id
+            w.state) mine)
             i;
         delivered = [];
       })
       ∙ ap (λ o. record (now p) { states = called_states (now p) c o; delivered = [] }) (sym at) ∙ ap (called_port c)
       view in
       record {
-        shows = ap (λ b. if b then shown e q else None) lane.three ∙ rw (← view) was;
+        shows = ap (λ b. if b then slot_pair_at e q else None) lane.three ∙ rw (← view) was;
         moves = moves;
         slots = slots-step _ moves;
       }

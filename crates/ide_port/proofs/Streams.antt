@@ -2,7 +2,7 @@
 use Rattle.ide_port.proofs.Terms.{◌≡◌, ◌≢◌, ℕ, suc, zero, ◌<◌, ◌≤◌, true, false, ◌==◌, List, [], ◌∷◌, length, map}
 use Rattle.ide_port.proofs.Terms.{get_or, Some, None, refl, sym, ap, subst, arith, slice_set, nat_tests, Side}
 use Rattle.ide_port.proofs.Terms.{StreamPlan, StreamState, no_stream}
-use Rattle.ide_port.proofs.Terms.{StreamEnd, reset_end, Found, found, changed, IsStreamOf, AreStreamsOf}
+use Rattle.ide_port.proofs.Terms.{StreamEnd, reset_end, Found, found_stream, changed_states, IsStreamOf, AreStreamsOf}
 use Rattle.ide_port.proofs.Terms.{new_stream_ends}
 use Rattle.std.specs.List.{position_or_len}
 use Rattle.std.proofs.lemmas.List.Quantifiers.{position-Some}
@@ -14,30 +14,32 @@ state_of x = x.state
 
 -- ---- found among states
 
-pub found-id : (ss : List StreamPlan) (xs : List StreamState) (id : ℕ) (f : Found) → found ss xs id ≡ Some f → f.plan.id
+pub found_stream-id : (ss : List StreamPlan) (xs : List StreamState) (id : ℕ) (f : Found) → found_stream ss xs id
+    ≡ Some f → f.plan.id
     ≡ id
-found-id [] xs id f e = absurd cc
-found-id (s ∷ ss) [] id f e = absurd cc
-found-id (s ∷ ss) (x ∷ xs) id f e = grind (arith, nat_tests, found-id ss xs id f)
+found_stream-id [] xs id f e = absurd cc
+found_stream-id (s ∷ ss) [] id f e = absurd cc
+found_stream-id (s ∷ ss) (x ∷ xs) id f e = grind (arith, nat_tests, found_stream-id ss xs id f)
 
-pub found-changed : (ss : List StreamPlan) (xs : List StreamState) (id : ℕ) (f : Found) (y : StreamState)
-    → found ss xs id ≡ Some f
-    → found ss (changed ss xs id y) id ≡ Some (record { plan = f.plan; state = y })
-found-changed [] xs id f y e = absurd cc
-found-changed (s ∷ ss) [] id f y e = absurd cc
-found-changed (s ∷ ss) (x ∷ xs) id f y e = grind (arith, nat_tests, found-changed ss xs id f y)
+pub found_stream-changed_states : (ss : List StreamPlan) (xs : List StreamState) (id : ℕ) (f : Found) (y : StreamState)
+    → found_stream ss xs id ≡ Some f
+    → found_stream ss (changed_states ss xs id y) id ≡ Some (record { plan = f.plan; state = y })
+found_stream-changed_states [] xs id f y e = absurd cc
+found_stream-changed_states (s ∷ ss) [] id f y e = absurd cc
+found_stream-changed_states (s ∷ ss) (x ∷ xs) id f y e = grind
+    (arith, nat_tests, found_stream-changed_states ss xs id f y)
 
-pub found-other : (ss : List StreamPlan) (xs : List StreamState) (id w : ℕ) (y : StreamState) → id ≢ w
-    → found ss (changed ss xs id y) w ≡ found ss xs w
-found-other [] xs id w y ne = refl
-found-other (s ∷ ss) [] id w y ne = refl
-found-other (s ∷ ss) (x ∷ xs) id w y ne = grind (arith, nat_tests, found-other ss xs id w y ne)
+pub found_stream-other : (ss : List StreamPlan) (xs : List StreamState) (id w : ℕ) (y : StreamState) → id ≢ w
+    → found_stream ss (changed_states ss xs id y) w ≡ found_stream ss xs w
+found_stream-other [] xs id w y ne = refl
+found_stream-other (s ∷ ss) [] id w y ne = refl
+found_stream-other (s ∷ ss) (x ∷ xs) id w y ne = grind (arith, nat_tests, found_stream-other ss xs id w y ne)
 
 -- ---- no place
 
 absent_from : (ss : List StreamPlan) (xs : List StreamState) (id : ℕ)
     → length ss ≤ position_or_len (λ (s : StreamPlan). s.id == id) ss
-    → found ss xs id ≡ None
+    → found_stream ss xs id ≡ None
 absent_from [] xs id le = refl
 absent_from (s ∷ ss) [] id le = refl
 absent_from (s ∷ ss) (x ∷ xs) id le = grind (arith, nat_tests, absent_from ss xs id)
@@ -46,7 +48,8 @@ none_within : (ss : List StreamPlan) (id : ℕ) → plan_place ss id ≡ None
     → length ss ≤ position_or_len (λ (s : StreamPlan). s.id == id) ss
 none_within ss id e = grind arith
 
-pub absent : (ss : List StreamPlan) (xs : List StreamState) (id : ℕ) → plan_place ss id ≡ None → found ss xs id ≡ None
+pub absent : (ss : List StreamPlan) (xs : List StreamState) (id : ℕ) → plan_place ss id ≡ None → found_stream ss xs id
+    ≡ None
 absent ss xs id e = absent_from ss xs id (none_within ss id e)
 
 -- ---- all streams
@@ -102,8 +105,9 @@ pub record IsPlaced (side : Side) (limit calls : ℕ) (ss : List StreamPlan) (xs
     (x : StreamEnd) : Type 0 where
   pub plan : StreamPlan
   pub of_plan : IsStreamOf side limit calls plan x
-  pub is_found : found ss (map state_of xs) id ≡ Some (record { plan = plan; state = x.state })
-  pub change : (y : StreamEnd) → map state_of (slice_set xs place y) ≡ changed ss (map state_of xs) plan.id y.state
+  pub is_found : found_stream ss (map state_of xs) id ≡ Some (record { plan = plan; state = x.state })
+  pub change : (y : StreamEnd) → map state_of (slice_set xs place y)
+      ≡ changed_states ss (map state_of xs) plan.id y.state
   pub keeps : (more : ℕ) (y : StreamEnd) → calls ≤ more → IsStreamOf side limit more plan y
       → AreStreamsOf side limit more ss (slice_set xs place y)
 
@@ -127,7 +131,7 @@ placed_at side limit calls (s ∷ ss) (z ∷ xs) id (suc place) x d h lt at befo
     let no : (s.id == id) ≡ false = before 0 (omega arith) in
     let r = placed_at side limit calls ss xs id place x d h.1 (omega (arith, lt)) at
     (λ k l. before (suc k) (omega (arith, l))) is in
-    let named : r.plan.id ≡ id = found-id ss (map state_of xs) id _ r.is_found in
+    let named : r.plan.id ≡ id = found_stream-id ss (map state_of xs) id _ r.is_found in
     record {
       plan = r.plan;
       of_plan = r.of_plan;

@@ -2,10 +2,10 @@
 use Rattle.ide_port.proofs.Terms.{◌≡◌, ℕ, true, false, ◌||◌, List, Option, arith, nat_tests, SubKind, Packet, Verdict}
 use Rattle.ide_port.proofs.Terms.{LaneSlots, Three, TxSub, RxSub, StreamState, at_sub, set_sub, dropped_held, held_sub}
 use Rattle.ide_port.proofs.Terms.{accepted_sub, Insecure, NotKeyed}
-use Rattle.ide_port.proofs.Terms.{Failed, Held, Accepted, state_after, rested_stream, KeyCall, called}
+use Rattle.ide_port.proofs.Terms.{Failed, Held, Accepted, state_after, rested_stream, KeyCall, stream_after_call}
 use Rattle.ide_port.proofs.Terms.{slots_called_out, slots_called_into, no_stream, unless_verdict, is_waiting, NoneWaits}
 use Rattle.std.proofs.Common.{Bool}
-use Rattle.stream_rules.specs.Stream.{Taken}
+use Rattle.spec_stream.specs.Stream.{Taken}
 
 -- neither slot has a key that waits
 abbrev pub neither : LaneSlots → Type 0
@@ -54,12 +54,12 @@ none-settled : (tx : Three TxSub) (rx : Three RxSub) (failed : Bool) → NoneIn 
     → NoneWaits (rested_stream tx rx failed)
 none-settled tx rx failed h u = grind (arith, h u)
 
-pub none-called : (sends : Bool) (u : SubKind) (call : KeyCall) (st : StreamState) → NoneWaits st
-    → NoneWaits (called sends u call st)
-none-called true u call st h =
+pub none-stream_after_call : (sends : Bool) (u : SubKind) (call : KeyCall) (st : StreamState) → NoneWaits st
+    → NoneWaits (stream_after_call sends u call st)
+none-stream_after_call true u call st h =
     none-settled (set_sub st.tx u (record (at_sub st.tx u) { slots = slots_called_out call (at_sub st.tx u).slots }))
     st.rx st.failed h
-none-called false u call st h =
+none-stream_after_call false u call st h =
     let y : RxSub = record (at_sub st.rx u) { slots = slots_called_into call (at_sub st.rx u).slots } in
     none-settled st.tx (set_sub st.rx u y) st.failed
     (none-set st.rx u y h (none-into call (at_sub st.rx u).slots (h u)))

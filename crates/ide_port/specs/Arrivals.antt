@@ -3,13 +3,13 @@ use Rattle.std.specs.Prelude.{◌+◌, [], length, Option, Some, None, Result, O
 use Rattle.ide_prefix.specs.declared.fault.PacketFault.{PacketFault}
 use Rattle.ide_prefix.specs.Packet.{Packet}
 use Rattle.ide_prefix.specs.Reading.{CutValue, PlainTlp, IdePacket}
-use Rattle.stream_rules.specs.Stream.{Taken, Insecure as IsInsecure, NotKeyed as IsKeyless, Failed, Held as IsHeld}
-use Rattle.stream_rules.specs.Stream.{Accepted as IsAccepted, taken_by, state_after, unit_name}
-use Rattle.ide_stream.specs.{opened_after}
+use Rattle.spec_stream.specs.Stream.{Taken, Insecure as IsInsecure, NotKeyed as IsKeyless, Failed, Held as IsHeld}
+use Rattle.spec_stream.specs.Stream.{Accepted as IsAccepted, stream_outcome, state_after, unit_name}
+use Rattle.ide_stream.specs.{opened_if_accepted}
 use Rattle.ide_port.specs.declared.answer.Arrival.{Arrival}
 use Rattle.ide_port.specs.declared.answer.Arrival.TheVariants.{Malformed, Plain, Unknown, Insecure, NotKeyed, Fail}
 use Rattle.ide_port.specs.declared.answer.Arrival.TheVariants.{Held, Accepted}
-use Rattle.ide_port.specs.Ends.{PortEnd, Found, found, changed}
+use Rattle.ide_port.specs.Ends.{PortEnd, Found, found_stream, changed_states}
 
 -- the answer, and the port after it
 pub record TakeStep : Type 0 where
@@ -32,13 +32,13 @@ port_arrival p (IsAccepted draw unit packets) = Accepted (unit_name p draw unit)
 abbrev pub packet_step : PortEnd → Packet → Option Found → TakeStep
 packet_step e p None = untaken e (Unknown p.prefix.stream)
 packet_step e p (Some f) =
-    let taken = taken_by f.plan.mode f.plan.closed f.state p in
+    let taken = stream_outcome f.plan.aggregation f.plan.closed f.state p in
     record {
       answer = port_arrival p taken;
       port =
           record e {
-            states = changed e.plans e.states f.plan.id (state_after f.state p taken);
-            delivered = opened_after f.state p taken;
+            states = changed_states e.plans e.states f.plan.id (state_after f.state p taken);
+            delivered = opened_if_accepted f.state p taken;
             calls = e.calls + 1;
           };
     }
@@ -47,4 +47,4 @@ packet_step e p (Some f) =
 abbrev pub take_step : PortEnd → Result CutValue PacketFault → TakeStep
 take_step e (Err fault) = untaken e (Malformed fault)
 take_step e (Ok PlainTlp) = untaken e Plain
-take_step e (Ok (IdePacket p)) = packet_step e p (found e.plans e.states p.prefix.stream)
+take_step e (Ok (IdePacket p)) = packet_step e p (found_stream e.plans e.states p.prefix.stream)

@@ -1,13 +1,13 @@
--- A port of a link with all its streams: what is kept (PCI Express Base 6.0 section 6.33, in this profile).
+-- A port at an end of a line with all its streams: what is kept (PCI Express Base 6.0 section 6.33, in this profile).
 use Rattle.std.specs.Prelude.{ℕ, ◌==◌, List, [], ◌∷◌, map, Option, Some, None, if◌then◌else◌}
 use Rattle.ide_types.specs.declared.port.PortName.{PortName}
-use Rattle.ide_plan.specs.declared.stream.StreamPlan.{StreamPlan}
+use Rattle.ide_types.specs.declared.stream.StreamPlan.{StreamPlan}
 use Rattle.ide_prefix.specs.Packet.{Packet}
-use Rattle.stream_rules.specs.Stream.{StreamState}
+use Rattle.spec_stream.specs.Stream.{StreamState}
 use Rattle.sub_stream.specs.Calls.{no_stream}
 use Rattle.ide_stream.specs.{StreamEnd}
 
--- The streams are those of its link, in order, with their states; a key seals at most `limit` units. `sealed` are the
+-- The streams are those of its line, in order, with their states; a key seals at most `limit` units. `sealed` are the
 -- bytes of the packets of the last send, joined; `delivered` the packets of the last accepted unit, decrypted, until
 -- the next packet or call of key management; `calls` counts sends and packets that came.
 pub record PortEnd : Type 0 where
@@ -37,21 +37,21 @@ pub record Found : Type 0 where
   pub plan : StreamPlan
   pub state : StreamState
 
-abbrev pub found : List StreamPlan → List StreamState → ℕ → Option Found
-found (s ∷ ss) (x ∷ xs) id = if s.id == id then Some (record { plan = s; state = x }) else found ss xs id
-found ss xs id = None
+abbrev pub found_stream : List StreamPlan → List StreamState → ℕ → Option Found
+found_stream (s ∷ ss) (x ∷ xs) id = if s.id == id then Some (record { plan = s; state = x }) else found_stream ss xs id
+found_stream ss xs id = None
 
 -- with another state of the stream
-abbrev pub changed : List StreamPlan → List StreamState → ℕ → StreamState → List StreamState
-changed (s ∷ ss) (x ∷ xs) id y = if s.id == id then y ∷ xs else x ∷ changed ss xs id y
-changed ss xs id y = xs
+abbrev pub changed_states : List StreamPlan → List StreamState → ℕ → StreamState → List StreamState
+changed_states (s ∷ ss) (x ∷ xs) id y = if s.id == id then y ∷ xs else x ∷ changed_states ss xs id y
+changed_states ss xs id y = xs
 
 -- as a stream at a port
 abbrev pub stream_end_at : PortEnd → Found → StreamEnd
 stream_end_at e f = record {
   side = e.name.side;
   id = f.plan.id;
-  mode = f.plan.mode;
+  aggregation = f.plan.aggregation;
   closed = f.plan.closed;
   limit = e.limit;
   state = f.state;

@@ -3,16 +3,16 @@ use Rattle.std.specs.Prelude.{ℕ, Bool, List, [], Option}
 use Rattle.std.specs.Option.{option_map, option_map_or}
 use Rattle.ide_types.specs.declared.sub.SubKind.{SubKind}
 use Rattle.ide_prefix.specs.Packet.{Packet}
-use Rattle.stream_rules.specs.Stream.{StreamState, at_sub, slot_in_set}
+use Rattle.spec_stream.specs.Stream.{StreamState, at_sub, slot_in_set}
 use Rattle.sub_stream.specs.declared.facts.StreamFacts.{StreamFacts}
 use Rattle.sub_stream.specs.Facts.{held_packets, stream_facts}
-use Rattle.ide_port.specs.Ends.{PortEnd, Found, found}
+use Rattle.ide_port.specs.Ends.{PortEnd, Found, found_stream}
 
 abbrev pub found_facts : Found → StreamFacts
 found_facts f = stream_facts f.plan.closed f.state
 
 abbrev pub stream_facts_in : PortEnd → ℕ → Option StreamFacts
-stream_facts_in e id = option_map found_facts (found e.plans e.states id)
+stream_facts_in e id = option_map found_facts (found_stream e.plans e.states id)
 
 -- the packets of a sub-stream's next unit that its receiver holds in a key set
 abbrev pub held_by : SubKind → Bool → StreamState → List Packet
@@ -23,4 +23,4 @@ held_of u k f = held_by u k f.state
 
 -- none if the port has no such stream
 abbrev pub held_in_port : PortEnd → ℕ → SubKind → Bool → List Packet
-held_in_port e id u k = option_map_or (held_of u k) (found e.plans e.states id) []
+held_in_port e id u k = option_map_or (held_of u k) (found_stream e.plans e.states id) []

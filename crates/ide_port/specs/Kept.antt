@@ -4,10 +4,10 @@ use Rattle.std.specs.Prelude.{slice_get, position, Option, Some, None, if◌then
 use Rattle.std.specs.Option.{option_map}
 use Rattle.ide_types.specs.declared.port.Side.{Side}
 use Rattle.ide_types.specs.declared.sub.SubKind.{SubKind}
-use Rattle.ide_plan.specs.declared.stream.StreamPlan.{StreamPlan}
+use Rattle.ide_types.specs.declared.stream.StreamPlan.{StreamPlan}
 use Rattle.ide_prefix.specs.Packet.{Packet}
 use Rattle.ide_prefix.specs.{sub_from}
-use Rattle.stream_rules.specs.Stream.{LaneSlot, Armed, StreamState, at_sub}
+use Rattle.spec_stream.specs.Stream.{LaneSlot, Armed, StreamState, at_sub}
 use Rattle.sub_stream.specs.declared.answer.Taken.{Taken}
 use Rattle.sub_stream.specs.declared.answer.Taken.TheVariants as taken
 use Rattle.link_verdicts.specs.declared.verdict.UnitName.{UnitName}
@@ -31,7 +31,7 @@ abbrev pub stream_of : Side → ℕ → StreamPlan → StreamEnd → StreamEnd
 stream_of side limit s x = record {
   side = side;
   id = s.id;
-  mode = s.mode;
+  aggregation = s.aggregation;
   closed = s.closed;
   limit = limit;
   state = x.state;
@@ -51,7 +51,7 @@ AreStreamsOf side limit calls (s ∷ ss) (x ∷ xs) = IsStreamOf side limit call
 AreStreamsOf side limit calls ss xs = ⊥
 
 abbrev pub new_stream_ends : Side → ℕ → List StreamPlan → List StreamEnd
-new_stream_ends side limit plans = map (λ (s : StreamPlan). new_end side s.id s.mode s.closed limit) plans
+new_stream_ends side limit plans = map (λ (s : StreamPlan). new_end side s.id s.aggregation s.closed limit) plans
 
 -- ---- what is lent
 

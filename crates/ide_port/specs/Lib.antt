@@ -5,9 +5,9 @@ pub mod Calls
 pub mod Kept
 pub mod Facts
 -- what clauses and crates above cite
-pub use Rattle.ide_port.specs.Ends.{PortEnd, Found, found, changed, stream_end_at, new_port, reset_port}
+pub use Rattle.ide_port.specs.Ends.{PortEnd, Found, found_stream, changed_states, stream_end_at, new_port, reset_port}
 pub use Rattle.ide_port.specs.Sends.{Trusting, SendStep, send_step, sent_verdict, lengths_sent, IsSentAtPort}
 pub use Rattle.ide_port.specs.Arrivals.{TakeStep, take_step}
-pub use Rattle.ide_port.specs.Calls.{shown, unfinished_at, called_port, status_in, live_in_port}
+pub use Rattle.ide_port.specs.Calls.{slot_pair_at, unfinished_at, called_port, port_stream_status, live_in_port}
 pub use Rattle.ide_port.specs.Calls.{sealing_draw_in, receiving_draw_in}
 pub use Rattle.ide_port.specs.Facts.{found_facts, held_in_port, stream_facts_in}

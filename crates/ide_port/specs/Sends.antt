@@ -11,14 +11,14 @@ use Rattle.tlp_layout.specs.Faults.{place_in}
 use Rattle.tlp_layout.specs.Head.{head_bytes}
 use Rattle.tlp_layout.specs.Tlp.{header, body}
 use Rattle.ide_prefix.specs.Packet.{Packet}
-use Rattle.fault_words.specs.FaultWords.{tlp_word}
+use Rattle.ide_prefix.specs.FaultWords.{tlp_word}
 use Rattle.association.specs.Outgoing.{Outgoing, NoTlp, OnNone, OnStream, outgoing_of}
 use Rattle.sub_stream.specs.declared.answer.MeasuredPacket.{MeasuredPacket}
 use Rattle.ide_stream.specs.{refusal_verdict, numbered_from, sending, sent_descriptions, packets_sent, end_sent}
 use Rattle.ide_stream.specs.{joined_packets, packet_lengths}
 use Rattle.ide_port.specs.declared.answer.Sent.{Sent}
 use Rattle.ide_port.specs.declared.answer.Sent.TheVariants.{Malformed, Plain, Refused, Sealed}
-use Rattle.ide_port.specs.Ends.{PortEnd, Found, found, changed, stream_end_at}
+use Rattle.ide_port.specs.Ends.{PortEnd, Found, found_stream, changed_states, stream_end_at}
 
 -- T of a TLP with this header on a stream
 abbrev pub Trusting : Type 0
@@ -50,7 +50,8 @@ stream_step e t more trusted number (Some f) =
       packets = packets;
       port =
           record e {
-            states = changed e.plans e.states f.plan.id (end_sent x (head_bytes (header t)) (body t) s number).state;
+            states = changed_states e.plans e.states f.plan.id
+                (end_sent x (head_bytes (header t)) (body t) s number).state;
             sealed = joined_packets packets;
             calls = e.calls + 1;
           };
@@ -61,7 +62,7 @@ abbrev pub send_step : PortEnd → Outgoing → Bool → Trusting → ℕ → Se
 send_step e (NoTlp fault) more sets number = unsealed e (v.Malformed e.name (tlp_word fault) (place_in fault))
 send_step e OnNone more sets number = unsealed e (v.Plain e.name)
 send_step e (OnStream t id) more sets number = stream_step e t more (sets (header t) id) number
-    (found e.plans e.states id)
+    (found_stream e.plans e.states id)
 
 -- ---- the answer
 

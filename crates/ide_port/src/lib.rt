@@ -1,6 +1,6 @@
-//! A port of a link, over all its streams: which stream a TLP takes, what is sealed, what becomes of the bytes that
-//! arrive, and the calls of key management (PCI Express Base 6.0 section 6.33, in this profile). Only `make` takes
-//! memory.
+//! A port at an end of a line, over all its streams: which stream a TLP takes, what is sealed, what becomes of the
+//! bytes that arrive, and the calls of key management (PCI Express Base 6.0 section 6.33, in this profile). Only `make`
+//! takes memory.
 #![tactic(auto)]
 
 mod answer;
@@ -10,4 +10,4 @@ mod trusting;
 
 pub use answer::{Arrival, Sent};
 pub use port::Port;
-pub use trusting::{Asked, Trusting};
+pub use trusting::{FixedTrust, Trusting};

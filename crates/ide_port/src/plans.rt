@@ -1,16 +1,15 @@
 //! Plans of streams: copies, and the places of streams among them.
 
 ghost use Rattle.std.specs.Prelude.{◌≡◌, IfOk, map, All};
-ghost use Rattle.ide_plan.specs.Fits.{FitsStream};
+ghost use Rattle.ide_types.specs.Fits.{FitsStream};
 ghost use Rattle.ide_prefix.specs.{sub_from};
 ghost use Rattle.ide_port.specs.Kept.{plan_place, place_and_sub, new_stream_ends};
 
-use ide_plan::{Selector, StreamPlan};
 use ide_stream::Stream;
-use ide_types::{Items, Memory, Side, SubKind};
+use ide_types::{Items, OutOfMemory, Selector, Side, StreamPlan, SubKind};
 use std::alloc::Global;
 
-fn copied_selector(alloc: Global, selector: &Selector) -> Result<Selector, Memory>
+fn copied_selector(alloc: Global, selector: &Selector) -> Result<Selector, OutOfMemory>
     ensures { IfOk result (λ s. s ≡ selector.now) }
 {
     match selector {
@@ -29,20 +28,20 @@ fn copied_selector(alloc: Global, selector: &Selector) -> Result<Selector, Memor
     }
 }
 
-fn copied_plan(alloc: Global, plan: &StreamPlan) -> Result<StreamPlan, Memory>
+fn copied_plan(alloc: Global, plan: &StreamPlan) -> Result<StreamPlan, OutOfMemory>
     ensures { IfOk result (λ s. s ≡ plan.now) }
 {
     let selector = copied_selector(alloc, &plan.selector)?;
     Ok(StreamPlan {
         id: plan.id,
-        mode: plan.mode,
+        aggregation: plan.aggregation,
         closed: plan.closed,
         selector,
     })
 }
 
 /// A copy of plans.
-pub fn copied(alloc: Global, plans: &[StreamPlan]) -> Result<Items<StreamPlan>, Memory>
+pub fn copied(alloc: Global, plans: &[StreamPlan]) -> Result<Items<StreamPlan>, OutOfMemory>
     ensures { IfOk result (λ p. p ≡ plans.now) }
 {
     let mut copies = Vec::new(alloc);
@@ -58,13 +57,13 @@ pub fn planned(
     side: Side,
     plans: &[StreamPlan],
     limit: u64,
-) -> Result<Vec<Stream>, Memory>
+) -> Result<Vec<Stream>, OutOfMemory>
     requires { All FitsStream plans.now }
     ensures { IfOk result (λ v. v.items ≡ new_stream_ends side limit plans.now) }
 {
     let mut streams = Vec::new(alloc);
     for plan in plans {
-        streams.push(Stream::make(alloc, side, plan.id, plan.mode, plan.closed, limit)?)?;
+        streams.push(Stream::make(alloc, side, plan.id, plan.aggregation, plan.closed, limit)?)?;
     }
     Ok(streams)
 }

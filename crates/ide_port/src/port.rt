@@ -4,8 +4,8 @@ ghost use Rattle.std.specs.Prelude.{◌≡◌, ◌+◌, ◌<◌, ◌≤◌, ◌^
 ghost use Rattle.tlp_layout.specs.Head.{head_bytes};
 ghost use Rattle.tlp_layout.specs.Tlp.{header, body, viewed_tlp};
 ghost use Rattle.tlp_layout.specs.Reading.{read_of};
-ghost use Rattle.association.specs.Choice.{chosen};
-ghost use Rattle.ide_plan.specs.Fits.{FitsStream};
+ghost use Rattle.association.specs.Choice.{chosen_stream};
+ghost use Rattle.ide_types.specs.Fits.{FitsStream};
 ghost use Rattle.ide_prefix.specs.Cut.{packet_of_view, IsView};
 ghost use Rattle.ide_stream.specs.{reset_end};
 ghost use Rattle.ide_port.specs.Kept.{arrival_said};
@@ -14,11 +14,10 @@ use crate::answer::{Arrival, Sent};
 use crate::plans::{copied, lane, place, planned};
 use crate::trusting::Trusting;
 use association::{Choice, choose};
-use ide_km::{Place, ProgramFault, SlotPort};
-use ide_plan::StreamPlan;
 use ide_prefix::{Cut, PacketView, cut};
 use ide_stream::{SEND_ROOM, Stream};
-use ide_types::{Items, KeySet, Memory, PortName, Side, StreamStatus, SubKind};
+use ide_types::{Items, KeySet, OutOfMemory, PortName, Side, StreamPlan, StreamStatus, SubKind};
+use key_messages::{Place, ProgramFault, SlotPort};
 use key_slots::{Key, OnlyLive};
 use link_verdicts::UnitName;
 use std::alloc::Global;
@@ -27,7 +26,7 @@ use sub_stream::{Delivered, StreamFacts, Taken};
 use tlp_layout::{TlpView, read};
 use tsm_host::HostPort;
 
-/// A port of a link with the link's streams (PCI Express Base 6.0 section 6.33, in this profile).
+/// A port at an end of a line with the line's streams (PCI Express Base 6.0 section 6.33, in this profile).
 #[derive(Drop)]
 pub struct Port {
     name: PortName,
@@ -66,7 +65,7 @@ impl Model for Port {
 
 // The stream that a choice names.
 fn named(choice: Choice) -> Option<u8>
-    ensures { result ≡ chosen choice }
+    ensures { result ≡ chosen_stream choice }
 {
     match choice {
         Choice::Selective(id) | Choice::Default(id) | Choice::Link(id) => Some(id),
@@ -121,21 +120,21 @@ fn reset_streams(streams: &mut Vec<Stream>)
 }
 
 impl Port {
-    ghost use Rattle.ide_port.specs.Ends.{new_port, found, reset_port};
+    ghost use Rattle.ide_port.specs.Ends.{new_port, found_stream, reset_port};
     ghost use Rattle.ide_prefix.specs.Reading.{cut_of};
     ghost use Rattle.association.specs.Outgoing.{outgoing_on, outgoing_of, stream_taken};
     ghost use Rattle.ide_port.specs.Sends.{IsSendStep, IsSentAtPort, send_step, stream_step, sent_verdict, unsealed};
     ghost use Rattle.ide_port.specs.Arrivals.{take_step, packet_step};
-    ghost use Rattle.ide_port.specs.Calls.{status_in, live_in_port};
+    ghost use Rattle.ide_port.specs.Calls.{port_stream_status, live_in_port};
     ghost use Rattle.ide_port.specs.Calls.{sealing_draw_in, receiving_draw_in};
 
-    /// The port of this name with these streams of its link, without keys; a key seals at most `limit` units.
+    /// The port of this name with these streams of its line, without keys; a key seals at most `limit` units.
     pub fn make(
         alloc: Global,
         name: PortName,
         plans: &[StreamPlan],
         limit: u64,
-    ) -> Result<Port, Memory>
+    ) -> Result<Port, OutOfMemory>
         requires { All FitsStream plans.now }
         ensures { IfOk result (λ p. p ≡ new_port name plans.now limit) }
     {
@@ -213,7 +212,7 @@ impl Port {
     fn send_on(&mut self, id: u8, bytes: &[u8], tlp: &TlpView, more: bool, trusted: bool) -> Sent
         requires few { self.old.calls < 2 ^ 40 }
         requires read { read_of bytes.now ≡ Ok (viewed_tlp tlp.now) }
-        ensures { (number : ℕ) → let f = found self.old.plans self.old.states id in
+        ensures { (number : ℕ) → let f = found_stream self.old.plans self.old.states id in
             IsSendStep self.old.name number result self.new
             (stream_step self.old (viewed_tlp tlp.now) more trusted number f) }
     {
@@ -272,9 +271,9 @@ impl Port {
     fn take_packet(&mut self, packet: &PacketView) -> Arrival
         requires few { self.old.calls < 2 ^ 40 }
         requires view { IsView packet.now }
-        ensures answer { let f = found self.old.plans self.old.states packet.now.prefix.stream in
+        ensures answer { let f = found_stream self.old.plans self.old.states packet.now.prefix.stream in
             result ≡ (packet_step self.old (packet_of_view packet.now) f).answer }
-        ensures port { let f = found self.old.plans self.old.states packet.now.prefix.stream in
+        ensures port { let f = found_stream self.old.plans self.old.states packet.now.prefix.stream in
             self.new ≡ (packet_step self.old (packet_of_view packet.now) f).port }
     {
         let id = packet.prefix.stream;
@@ -300,7 +299,7 @@ impl Port {
 
     /// The status of a stream; `None` if the port has no such stream.
     pub fn status(&self, stream: u8) -> Option<StreamStatus>
-        ensures { result ≡ status_in self.now stream }
+        ensures { result ≡ port_stream_status self.now stream }
     {
         match place(self.plans.as_slice(), stream) {
             None => None,
@@ -360,9 +359,9 @@ impl Port {
 
 impl SlotPort for Port {
     ghost use Rattle.std.specs.Prelude.{◌≡◌};
-    ghost use Rattle.ide_port.specs.Calls.{shown, unfinished_at, called_port};
+    ghost use Rattle.ide_port.specs.Calls.{slot_pair_at, unfinished_at, called_port};
 
-    ghost slots = { λ port place. shown port place };
+    ghost slots = { λ port place. slot_pair_at port place };
 
     ghost unfinished = { λ port place. unfinished_at port place };
 
@@ -399,13 +398,13 @@ impl SlotPort for Port {
         }
     }
 
-    fn halt(&mut self, place: Place, set: KeySet) -> bool {
+    fn stop(&mut self, place: Place, set: KeySet) -> bool {
         self.lent = None;
         match lane(self.plans.as_slice(), place.stream, place.sub) {
             None => false,
             Some((index, sub)) => {
                 let stream = &mut self.streams[index];
-                stream.halt(set, place.direction, sub);
+                stream.stop(set, place.direction, sub);
                 true
             }
         }
@@ -413,9 +412,9 @@ impl SlotPort for Port {
 }
 
 impl HostPort for Port {
-    ghost use Rattle.ide_port.specs.Calls.{status_in, live_in_port};
+    ghost use Rattle.ide_port.specs.Calls.{port_stream_status, live_in_port};
 
-    ghost status_of = { λ port stream. status_in port stream };
+    ghost status_of = { λ port stream. port_stream_status port stream };
 
     ghost live_of = { λ port stream sub. live_in_port port stream sub };
 

@@ -17,9 +17,9 @@ pub trait Trusting {
 
 /// T as it is asked, whatever the TLP and its stream.
 #[derive(Clone, Copy, PartialEq, Eq)]
-pub struct Asked(pub bool);
+pub struct FixedTrust(pub bool);
 
-impl Trusting for Asked {
+impl Trusting for FixedTrust {
     ghost trusting = { λ asked head stream. asked.0 };
 
     fn is_trusted(&self, _: &HeadView, _: u8) -> bool {

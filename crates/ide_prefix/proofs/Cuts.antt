@@ -1,18 +1,23 @@
 -- The reading of packets is that of the grammar: the lengths of a packet's parts are read from its prefix and its
--- header, and cutting by them gives the parts back, so first_fault's law of readings holds.
+-- header, and cutting by them gives the parts back, so the law of readings of `ide_types` holds.
 use Rattle.std.proofs.Common.{◌≡◌, ℕ, ◌≤◌, Bool, true, false, cond, List, ◌++◌, length, get_or, take, drop, Result, Ok}
 use Rattle.std.proofs.Common.{Err, refl, sym, ap, subst, ◌∙◌, inl, inr, arith, true≢false}
 use Rattle.std.specs.Prelude.{◌↔◌, IfOk, IfErr, MatchResult}
 use Rattle.std.proofs.Math.Seq.{drop-append_seam, take-append_seam}
 use Rattle.std.proofs.lemmas.Bool.{cases_Bool}
 use Rattle.std.proofs.lemmas.List.{get_or_append_left}
-use Rattle.first_fault.specs.Walks.{reading}
-use Rattle.first_fault.proofs.Walks.{reads_iff, refuses_iff as refused}
+use Rattle.ide_types.specs.Walks.{reading}
+use Rattle.ide_types.proofs.Walks.{reads_iff, refuses_iff as refused}
 use Rattle.tlp_layout.specs.{class_of, body_size, head_size, head_of, rest_size, layout_of}
-use Rattle.ide_prefix.specs.{Prefix, PacketFault, packet_bytes, begins_sync, is_sync_packet, IsCarried, IsSync}
-use Rattle.ide_prefix.specs.{FitsPacket, SpellsPacket, IsPacket, is_plain, packet_fault_at, IsPacketFault, sync_at}
-use Rattle.ide_prefix.specs.{packet_read, wants_packet, packet_may_follow, CutValue, PlainTlp, IdePacket}
-use Rattle.ide_prefix.specs.{packet_of_view, cut_value, cut_values, IsCut}
+use Rattle.ide_prefix.specs.declared.packet.Prefix.{Prefix}
+use Rattle.ide_prefix.specs.declared.fault.PacketFault.{PacketFault}
+use Rattle.ide_prefix.specs.Packet.{packet_bytes, begins_sync, is_sync_packet, IsCarried, IsSync}
+use Rattle.ide_prefix.specs.Packet.{FitsPacket, SpellsPacket, IsPacket}
+use Rattle.ide_prefix.specs.Causes.{is_plain, packet_fault_at}
+use Rattle.ide_prefix.specs.Faults.{IsPacketFault}
+use Rattle.ide_prefix.specs.Reading.{sync_at}
+use Rattle.ide_prefix.specs.Reading.{packet_read, wants_packet, packet_may_follow, CutValue, PlainTlp, IdePacket}
+use Rattle.ide_prefix.specs.Cut.{packet_of_view, cut_value, cut_values, IsCut}
 use Rattle.tlp_layout.specs.Reading.{read_head_of}
 use Rattle.tlp_layout.proofs.Readings.{read_head_spells}
 use Rattle.ide_prefix.specs.declared.packet.Cut.{Cut}

@@ -8,20 +8,28 @@ use Rattle.std.specs.Prelude.{MatchOption}
 use Rattle.std.specs.Array.{IsWholeChunk}
 use Rattle.tlp_layout.specs.{kind_at, head_size, has_data, layout_at, fault_at, cause_at, head_of, rest_size}
 use Rattle.tlp_layout.specs.{may_follow, body_size, layout_of, head_bytes}
-use Rattle.ide_prefix.specs.{prefix_read, clear_size, fits_early, packet_fault_at, lent_tag, GoesOff, FitsPacket}
-use Rattle.ide_prefix.specs.{is_sync_packet, SpellsPacket, begins_sync, sync_at, tag_part, packet_size}
-use Rattle.ide_prefix.specs.{packet_may_follow, PacketFault, Prefix}
-use Rattle.ide_prefix.specs.Inside.{StopsEarly, StopsSync, StopsInHead, HasHeader, SizesAre, head_slice, shifted}
-use Rattle.first_fault.proofs.Cells.{IsBytes}
+use Rattle.ide_prefix.specs.Causes.{prefix_read, clear_size, fits_early, packet_fault_at}
+use Rattle.ide_prefix.specs.Cut.{lent_tag}
+use Rattle.ide_prefix.specs.Faults.{GoesOff}
+use Rattle.ide_prefix.specs.Packet.{FitsPacket}
+use Rattle.ide_prefix.specs.Packet.{is_sync_packet, SpellsPacket, begins_sync}
+use Rattle.ide_prefix.specs.Reading.{sync_at, tag_part, packet_size}
+use Rattle.ide_prefix.specs.Reading.{packet_may_follow}
+use Rattle.ide_prefix.specs.declared.fault.PacketFault.{PacketFault}
+use Rattle.ide_prefix.specs.declared.packet.Prefix.{Prefix}
+use Rattle.ide_prefix.specs.Inside.{StopsEarly, StopsSync, StopsInHead, HasHeader, SizesAre, head_slice}
+use Rattle.ide_prefix.specs.Inside.{packet_fault_of}
+use Rattle.ide_types.proofs.Cells.{IsBytes}
 use Rattle.ide_prefix.proofs.Grammar.{IsWalkedPacket, walks_from, walked_early, walked_late, size_at_least}
 use Rattle.ide_prefix.proofs.Grammar.{size_carried, size_sync, packets, packet_of, sync_spells, carried_spells}
 use denote.Ref.{Bor}
 use Rattle.std.proofs.lemmas.Bool.{cases_lt, cases_eq, cases_Bool, lt-ltb, le-ltb, eq-eqb, eqb-true, ne_eqb, and_from}
 use Rattle.std.proofs.lemmas.Bool.{true≢false}
 use Rattle.std.proofs.lemmas.List.{nil_from_length}
-use Rattle.first_fault.proofs.Fronts.{Fitting, EndsAt, place_of, ends_of}
+use Rattle.ide_types.proofs.Fronts.{Fitting, EndsAt, place_of, ends_of}
 use Rattle.ide_prefix.specs.declared.fault.PacketFault.TheVariants.{Short, Trailing, Tlp}
-use Rattle.ide_prefix.proofs.Terms.{Layout, HeadView, belongs, moved, kind_among, Packet, IsRight, kept, again}
+use Rattle.ide_prefix.proofs.Terms.{Layout, HeadView, belongs, fault_after_prefix, kind_among, Packet, IsRight, kept}
+use Rattle.ide_prefix.proofs.Terms.{again}
 use Rattle.ide_prefix.proofs.Terms.{body_at_most, IsWalked, fits_from, head_size_at_least, rest_front, SubKind, heads}
 use Rattle.ide_prefix.proofs.Terms.{is_right, walked_of}
 
@@ -97,7 +105,7 @@ begins_head s fit long early plain =
     and_from _ _ (lt-ltb _ _ (fit 4))
     (some_kind (prefix_read s).sub (has_data (get_or s 4 0)) (layout_at (get_or s 4 0)) c)
 
-shifted_cause : (p b : ℕ) → shifted (cause_at p b) ≡ Tlp (moved (cause_at p b))
+shifted_cause : (p b : ℕ) → packet_fault_of (cause_at p b) ≡ Tlp (fault_after_prefix (cause_at p b))
 shifted_cause p b = elim (cases_eq p 2) [
   | inl two ↦ elim (cases_lt b 64) [
     | inl lt ↦ rw (eq-eqb p 2 two, lt-ltb b 64 lt) refl
@@ -142,7 +150,7 @@ header_fault s f fit long early plain h =
     (take-take p size (drop 4 s) le, get_or-take size (drop 4 s) p 0 less, get_or-drop 4 s p 0) (rw four at there)
     in
     ends.0.off (inside lt) needs here in
-    let shift : shifted (fault_at front p) ≡ packet_fault_at s (4 + p) = elim (cases_eq p (length front)) [
+    let shift : packet_fault_of (fault_at front p) ≡ packet_fault_at s (4 + p) = elim (cases_eq p (length front)) [
       | inl all ↦
           let end : 4 + p ≡ length s = omega arith in
           rw (eq-eqb p (length front) all, eq-eqb (4 + p) (length s) end, add_comm 4 p) refl
@@ -167,7 +175,7 @@ header_fault s f fit long early plain h =
     ] in
     let end = halt s (4 + p) (omega arith) (omega arith) (head_walked s p fit long early plain within ends.0.fitting)
     off in
-    (4 + p, place_of packets s (4 + p) end (λ _. whole), h.2 ∙ ap shifted h.1.2 ∙ shift)
+    (4 + p, place_of packets s (4 + p) end (λ _. whole), h.2 ∙ ap packet_fault_of h.1.2 ∙ shift)
 
 -- ---- the whole packet
 

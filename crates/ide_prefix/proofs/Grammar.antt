@@ -12,14 +12,18 @@ use Rattle.std.proofs.lemmas.List.{get_or-append_right}
 use Rattle.std.proofs.lemmas.List.Elements.{All-from_get_or}
 use Rattle.tlp_layout.specs.{bit, head_size, has_data, layout_at, class_of, kind_class, kind_with, kind_at, head_of}
 use Rattle.tlp_layout.specs.{rest_size, may_follow, whole_size, body_size, layout_of}
-use Rattle.ide_prefix.specs.{sub_bits, sync_at, tag_part, packet_size, packet_may_follow, sub_from, prefix_read}
-use Rattle.ide_prefix.specs.{fits_first, fits_early, prefix_bytes, packet_bytes, IsCarried, IsSync, FitsPrefix}
-use Rattle.ide_prefix.specs.{FitsPacket, SpellsPacket, IsPacket, sync_head, begins_sync, Prefix}
+use Rattle.ide_types.specs.Sub.{sub_bits}
+use Rattle.ide_prefix.specs.Reading.{sync_at, tag_part, packet_size, packet_may_follow}
+use Rattle.ide_prefix.specs.Causes.{sub_from, prefix_read}
+use Rattle.ide_prefix.specs.Causes.{fits_first, fits_early}
+use Rattle.ide_prefix.specs.Packet.{prefix_bytes, packet_bytes, IsCarried, IsSync, FitsPrefix}
+use Rattle.ide_prefix.specs.Packet.{FitsPacket, SpellsPacket, IsPacket, sync_head, begins_sync}
+use Rattle.ide_prefix.specs.declared.packet.Prefix.{Prefix}
 use Rattle.tlp_layout.specs.declared.layout.Layout.TheVariants as layouts
 use Rattle.ide_prefix.specs.Reading.{fits_late}
-use Rattle.first_fault.proofs.Cells.{IsBytes, cells, drop_cells, all_bytes}
+use Rattle.ide_types.proofs.Cells.{IsBytes, cells, drop_cells, all_bytes}
 use Rattle.ide_prefix.proofs.Units.{Prefix-of, flags, parts_of, bit_small, sub_small, sub_again, low_flags, not_sync}
-use Rattle.first_fault.proofs.Fronts.{Fitting, IsGrammar}
+use Rattle.ide_types.proofs.Fronts.{Fitting, IsGrammar}
 use Rattle.ide_prefix.proofs.Terms.{Layout, HeadView, SubKind, Pr, Npr, Cpl, belongs, Packet, kind_among, IsRight, kept}
 use Rattle.ide_prefix.proofs.Terms.{again, back, IsWalked, fits_from, agrees_there, head_size_at_least, next_fits}
 use Rattle.ide_prefix.proofs.Terms.{rest_front, take_right, walked_of}

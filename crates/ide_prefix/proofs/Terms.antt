@@ -9,4 +9,4 @@ pub use Rattle.tlp_layout.proofs.Walk.{IsWalked, fits_from, agrees_there, head_s
 pub use Rattle.tlp_layout.proofs.Walk.{body_at_most, next_fits, rest_front}
 pub use Rattle.tlp_layout.proofs.Grammar.{heads, is_right, take_right, walked_of}
 pub use Rattle.ide_prefix.specs.Packet.{Packet}
-pub use Rattle.ide_prefix.specs.Causes.{belongs, moved}
+pub use Rattle.ide_prefix.specs.Causes.{belongs, fault_after_prefix}

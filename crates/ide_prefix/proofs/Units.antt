@@ -9,8 +9,11 @@ use Rattle.std.proofs.lemmas.List.{get_or_append_left}
 use Rattle.std.proofs.lemmas.List.Concat.{flat_map-cons}
 use Rattle.tlp_layout.specs.{head_bytes, bit, layout_at, class_of, kind_with, kind_class, head_of, rest_size, body_size}
 use Rattle.tlp_layout.specs.{layout_of}
-use Rattle.ide_prefix.specs.{sub_bits, clear_size, sub_from, begins_sync, prefix_bytes, IsCarried, IsSync, FitsPacket}
-use Rattle.ide_prefix.specs.{clear_bytes, authenticated, encrypted, untagged, Prefix}
+use Rattle.ide_types.specs.Sub.{sub_bits}
+use Rattle.ide_prefix.specs.Causes.{clear_size, sub_from}
+use Rattle.ide_prefix.specs.Packet.{begins_sync, prefix_bytes, IsCarried, IsSync, FitsPacket}
+use Rattle.ide_prefix.specs.Units.{clear_bytes, authenticated_bytes, encrypted_bytes, packet_without_tag}
+use Rattle.ide_prefix.specs.declared.packet.Prefix.{Prefix}
 use Rattle.tlp_layout.specs.declared.layout.Layout.TheVariants as layouts
 use Rattle.ide_prefix.proofs.Terms.{Layout, HeadView, SubKind, Pr, Npr, Cpl, Packet, IsRight, kept, again}
 use Rattle.ide_prefix.proofs.Terms.{head_size_at_least}
@@ -140,29 +143,35 @@ sync_is_sized p s = record {
 sized : (p : Packet) → FitsPacket p → IsSized p
 sized p f = elim f.carries [ inl c ↦ carried_sized p c | inr s ↦ sync_is_sized p s ]
 
-packet_is : (p q : Packet) → p.prefix ≡ q.prefix → p.head ≡ q.head → p.body ≡ q.body → untagged p ≡ untagged q
+packet_is : (p q : Packet) → p.prefix ≡ q.prefix → p.head ≡ q.head → p.body ≡ q.body → packet_without_tag p
+    ≡ packet_without_tag q
 packet_is p q e1 e2 e3 = cc
 
-same_packets : (ps qs : List Packet) → AllByRecursion FitsPacket ps → AllByRecursion FitsPacket qs → authenticated ps
-    ≡ authenticated qs → encrypted ps ≡ encrypted qs → map untagged ps ≡ map untagged qs
+same_packets : (ps qs : List Packet) → AllByRecursion FitsPacket ps → AllByRecursion FitsPacket qs
+    → authenticated_bytes ps
+    ≡ authenticated_bytes qs → encrypted_bytes ps ≡ encrypted_bytes qs → map packet_without_tag ps
+    ≡ map packet_without_tag qs
 same_packets [] [] fp fq a c = refl
 same_packets [] (q ∷ qs) fp fq a c = absurd cc
 same_packets (p ∷ ps) [] fp fq a c = absurd cc
 same_packets (p ∷ ps) (q ∷ qs) fp fq a c =
     let sp = sized p fp.0 in
     let sq = sized q fq.0 in
-    let clear : prefix_bytes p.prefix ++ (p.head ++ authenticated ps) ≡ prefix_bytes q.prefix
-    ++ (q.head ++ authenticated qs) = sym (flat_map-cons clear_bytes p ps) ∙ a ∙ flat_map-cons clear_bytes q qs in
-    let e1 = same_prefix p.prefix q.prefix (p.head ++ authenticated ps) (q.head ++ authenticated qs) clear in
-    let first : get_or p.head 0 0 ≡ get_or q.head 0 0 = sym (get_or_append_left p.head (authenticated ps) 0 0 sp.some) ∙
-    ap (λ (s : List ℕ). get_or s 0 0) e1.1 ∙ get_or_append_left q.head (authenticated qs) 0 0 sq.some in
+    let clear : prefix_bytes p.prefix ++ (p.head ++ authenticated_bytes ps) ≡ prefix_bytes q.prefix
+    ++ (q.head ++ authenticated_bytes qs) = sym (flat_map-cons clear_bytes p ps) ∙ a ∙ flat_map-cons clear_bytes q qs in
+    let e1 = same_prefix p.prefix q.prefix (p.head ++ authenticated_bytes ps) (q.head ++ authenticated_bytes qs) clear
+    in
+    let first : get_or p.head 0 0 ≡ get_or q.head 0 0 = sym
+    (get_or_append_left p.head (authenticated_bytes ps) 0 0 sp.some) ∙
+    ap (λ (s : List ℕ). get_or s 0 0) e1.1 ∙ get_or_append_left q.head (authenticated_bytes qs) 0 0 sq.some in
     let long : length p.head ≡ length q.head = sp.head ∙ ap (λ (x : Prefix). clear_size x.sub (get_or p.head 0 0)) e1.0
     ∙ ap (clear_size q.prefix.sub) first ∙ sym sq.head in
-    let e2 = same_ahead p.head q.head (authenticated ps) (authenticated qs) long e1.1 in
-    let cipher : p.body ++ encrypted ps ≡ q.body ++ encrypted qs = sym (flat_map-cons (λ (x : Packet). x.body) p ps) ∙ c
+    let e2 = same_ahead p.head q.head (authenticated_bytes ps) (authenticated_bytes qs) long e1.1 in
+    let cipher : p.body ++ encrypted_bytes ps ≡ q.body ++ encrypted_bytes qs = sym
+    (flat_map-cons (λ (x : Packet). x.body) p ps) ∙ c
     ∙ flat_map-cons (λ (x : Packet). x.body) q qs in
     let wide : length p.body ≡ length q.body = sp.body ∙ ap rest_size e2.0 ∙ sym sq.body in
-    let e3 = same_ahead p.body q.body (encrypted ps) (encrypted qs) wide cipher in
+    let e3 = same_ahead p.body q.body (encrypted_bytes ps) (encrypted_bytes qs) wide cipher in
     let rest = same_packets ps qs fp.1 fq.1 e2.1 e3.1 in
     let one = packet_is p q e1.0 e2.0 e3.0 in
     cc
@@ -171,6 +180,7 @@ by_recursion : (ps : List Packet) → All FitsPacket ps → AllByRecursion FitsP
 by_recursion [] h = tt
 by_recursion (p ∷ ps) h = (h 0 p (omega arith), by_recursion ps (λ i d lt. h (suc i) d (omega arith)))
 
-pub one_list : (ps qs : List Packet) → All FitsPacket ps → All FitsPacket qs → authenticated ps ≡ authenticated qs
-    → encrypted ps ≡ encrypted qs → map untagged ps ≡ map untagged qs
+pub one_list : (ps qs : List Packet) → All FitsPacket ps → All FitsPacket qs → authenticated_bytes ps
+    ≡ authenticated_bytes qs
+    → encrypted_bytes ps ≡ encrypted_bytes qs → map packet_without_tag ps ≡ map packet_without_tag qs
 one_list ps qs fp fq = same_packets ps qs (by_recursion ps fp) (by_recursion qs fq)

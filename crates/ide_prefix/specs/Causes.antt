@@ -70,12 +70,12 @@ early_cause place s b =
     else Reserved place
 
 -- a header's fault, its place after the prefix
-abbrev pub moved : TlpFault → TlpFault
-moved (tlps.Short place) = tlps.Short (place + 4)
-moved (tlps.Kind place) = tlps.Kind (place + 4)
-moved (tlps.Bit place) = tlps.Bit (place + 4)
-moved (tlps.Length place) = tlps.Length (place + 4)
-moved (tlps.Trailing place) = tlps.Trailing (place + 4)
+abbrev pub fault_after_prefix : TlpFault → TlpFault
+fault_after_prefix (tlps.Short place) = tlps.Short (place + 4)
+fault_after_prefix (tlps.Kind place) = tlps.Kind (place + 4)
+fault_after_prefix (tlps.Bit place) = tlps.Bit (place + 4)
+fault_after_prefix (tlps.Length place) = tlps.Length (place + 4)
+fault_after_prefix (tlps.Trailing place) = tlps.Trailing (place + 4)
 
 -- the length of what stands in clear after the prefix, by its first byte
 abbrev pub clear_size : SubKind → ℕ → ℕ
@@ -87,7 +87,7 @@ late_cause s place =
     if nat_lt place (4 + clear_size (prefix_read s).sub (slice_index s 4))
     then
     (if begins_sync (prefix_read s).sub (slice_index s 4) then Sync place
-    else Tlp (moved (cause_at (place - 4) (slice_index s place))))
+    else Tlp (fault_after_prefix (cause_at (place - 4) (slice_index s place))))
     else Trailing place
 
 abbrev pub packet_fault_at : List ℕ → ℕ → PacketFault

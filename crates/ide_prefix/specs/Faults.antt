@@ -1,6 +1,6 @@
 -- Where bytes first go off the grammar of packets, and why.
 use Rattle.std.specs.Prelude.{◌≡◌, ℕ, false, List}
-use Rattle.first_fault.specs.Fronts.{IsFaultPlace}
+use Rattle.ide_types.specs.Fronts.{IsFaultPlace}
 use Rattle.tlp_layout.specs.Faults.{place_in}
 use Rattle.ide_prefix.specs.declared.fault.PacketFault.{PacketFault}
 use Rattle.ide_prefix.specs.declared.fault.PacketFault.TheVariants.{Short, Reserved, SubStream, Class, Tlp, Sync}

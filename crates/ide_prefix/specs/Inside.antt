@@ -11,7 +11,7 @@ use Rattle.tlp_layout.specs.Reading.{rest_size}
 use Rattle.ide_prefix.specs.declared.fault.PacketFault.{PacketFault}
 use Rattle.ide_prefix.specs.declared.fault.PacketFault.TheVariants.{Short, Tlp}
 use Rattle.ide_prefix.specs.Packet.{begins_sync}
-use Rattle.ide_prefix.specs.Causes.{prefix_read, fits_early, clear_size, moved, packet_fault_at}
+use Rattle.ide_prefix.specs.Causes.{prefix_read, fits_early, clear_size, fault_after_prefix, packet_fault_at}
 
 -- the bytes go off among the first five
 pub record StopsEarly (s : List ℕ) (fault : PacketFault) (place : ℕ) : Type 0 where
@@ -30,9 +30,9 @@ pub record StopsSync (s : List ℕ) (fault : PacketFault) (place : ℕ) : Type 0
   pub off : place < length s → slice_index s place ≡ 0 → ⊥
 
 -- a header's fault, as a packet's
-abbrev pub shifted : TlpFault → PacketFault
-shifted (tlps.Short place) = Short (place + 4)
-shifted f = Tlp (moved f)
+abbrev pub packet_fault_of : TlpFault → PacketFault
+packet_fault_of (tlps.Short place) = Short (place + 4)
+packet_fault_of f = Tlp (fault_after_prefix f)
 
 -- what stands in the header's place
 abbrev pub head_slice : List ℕ → List ℕ
@@ -45,7 +45,7 @@ pub record HasHeader (s : List ℕ) (wanted : ℕ) : Type 0 where
   pub wanted_is : wanted ≡ body_size head.has_payload head.lead.length
 
 abbrev pub StopsInHead : List ℕ → PacketFault → Type 0
-StopsInHead s fault = (f : TlpFault) × IsHeadFault (head_slice s) f × (fault ≡ shifted f)
+StopsInHead s fault = (f : TlpFault) × IsHeadFault (head_slice s) f × (fault ≡ packet_fault_of f)
 
 -- the bytes after the prefix begin a sync packet, or with a header: its length, and that of the payload
 pub record SizesAre (s : List ℕ) (size wanted : ℕ) : Type 0 where

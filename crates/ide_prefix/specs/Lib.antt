@@ -6,9 +6,10 @@ pub mod Reading
 pub mod Cut
 pub mod Inside
 pub mod Iv
+pub mod FaultWords
 -- what clauses and crates above cite
 pub use Rattle.ide_types.specs.Sub.{sub_bits}
-pub use Rattle.first_fault.specs.Fronts.{Begins, IsFaultPlace}
+pub use Rattle.ide_types.specs.Fronts.{Begins, IsFaultPlace}
 pub use Rattle.tlp_layout.specs.Head.{SpellsHead}
 pub use Rattle.tlp_layout.specs.Class.{class_of}
 pub use Rattle.tlp_layout.specs.Tlp.{body_size}
@@ -19,7 +20,7 @@ pub use Rattle.ide_prefix.specs.declared.packet.PacketView.{PacketView}
 pub use Rattle.ide_prefix.specs.Packet.{packet_first, sync_first, prefix_bytes, packet_bytes, sync_head, begins_sync}
 pub use Rattle.ide_prefix.specs.Packet.{is_sync_packet, IsCarried, IsSync, FitsPrefix, FitsPacket, SpellsPacket}
 pub use Rattle.ide_prefix.specs.Packet.{IsPacket}
-pub use Rattle.ide_prefix.specs.Units.{clear_bytes, authenticated, encrypted, untagged}
+pub use Rattle.ide_prefix.specs.Units.{clear_bytes, authenticated_bytes, encrypted_bytes, packet_without_tag}
 pub use Rattle.ide_prefix.specs.Causes.{is_plain, sub_from, prefix_read, fits_first, fits_early, clear_size}
 pub use Rattle.ide_prefix.specs.Causes.{packet_fault_at}
 pub use Rattle.ide_prefix.specs.Faults.{GoesOff, IsPacketFault, packet_place}
@@ -28,3 +29,4 @@ pub use Rattle.ide_prefix.specs.Reading.{wants_packet, packet_may_follow}
 pub use Rattle.ide_prefix.specs.Cut.{packet_of_view, cut_value, cut_values, lent_tag, IsView, IsCut, view_header}
 pub use Rattle.ide_prefix.specs.Iv.{iv_of}
 unfoldable pub use Rattle.ide_prefix.specs.Reading.{cut_of}
+pub use Rattle.ide_prefix.specs.FaultWords.{tlp_word, packet_word}

@@ -1,7 +1,7 @@
 -- Reading a packet from left to right: its parts, or the first fault, as a function.
 use Rattle.std.specs.Prelude.{ℕ, ◌+◌, Bool, true, List, length, take, drop, slice_index, Result, Ok, nat_lt, ◌==◌, ◌&&◌}
 use Rattle.std.specs.Prelude.{if◌then◌else◌}
-use Rattle.first_fault.specs.Walks.{reading}
+use Rattle.ide_types.specs.Walks.{reading}
 use Rattle.tlp_layout.specs.Causes.{head_size}
 use Rattle.tlp_layout.specs.Reading.{may_follow, rest_size}
 use Rattle.ide_prefix.specs.declared.fault.PacketFault.{PacketFault}

@@ -8,13 +8,13 @@ abbrev pub clear_bytes : Packet → List ℕ
 clear_bytes p = prefix_bytes p.prefix ++ p.head
 
 -- what it covers in clear
-abbrev pub authenticated : List Packet → List ℕ
-authenticated ps = flat_map clear_bytes ps
+abbrev pub authenticated_bytes : List Packet → List ℕ
+authenticated_bytes ps = flat_map clear_bytes ps
 
 -- what it covers encrypted
-abbrev pub encrypted : List Packet → List ℕ
-encrypted ps = flat_map (λ p. p.body) ps
+abbrev pub encrypted_bytes : List Packet → List ℕ
+encrypted_bytes ps = flat_map (λ p. p.body) ps
 
 -- a packet without its tag
-abbrev pub untagged : Packet → Packet
-untagged p = record { prefix = p.prefix; head = p.head; body = p.body; tag = [] }
+abbrev pub packet_without_tag : Packet → Packet
+packet_without_tag p = record { prefix = p.prefix; head = p.head; body = p.body; tag = [] }

@@ -10,7 +10,8 @@ ghost use Rattle.ide_prefix.specs.Faults.{GoesOff, IsPacketFault};
 ghost use Rattle.ide_prefix.specs.Reading.{cut_of, IdePacket};
 ghost use Rattle.ide_prefix.specs.Cut.{IsCut, cut_value, cut_values};
 ghost use Rattle.ide_prefix.specs.declared.packet.Cut.TheVariants.{Ide};
-ghost use Rattle.ide_prefix.specs.Inside.{StopsEarly, StopsSync, StopsInHead, HasHeader, SizesAre, head_slice, shifted};
+ghost use Rattle.ide_prefix.specs.Inside.{StopsEarly, StopsSync, StopsInHead, HasHeader, SizesAre, head_slice};
+ghost use Rattle.ide_prefix.specs.Inside.{packet_fault_of};
 
 use crate::fault::PacketFault;
 use crate::packet::{Cut, PACKET_FIRST, PacketView, Prefix, SYNC_FIRST};
@@ -153,7 +154,7 @@ fn sync_zeros(bytes: &[u8]) -> Result<(), PacketFault>
 /// The same fault, four bytes on.
 fn behind_prefix(fault: TlpFault) -> PacketFault
     requires { place_in fault < 2 ^ 32 }
-    ensures { result ≡ shifted fault }
+    ensures { result ≡ packet_fault_of fault }
 {
     match fault {
         TlpFault::Short(place) => PacketFault::Short(place + 4),

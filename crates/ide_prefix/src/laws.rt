@@ -7,7 +7,7 @@ ghost use Rattle.tlp_layout.specs.Tlp.{body_size};
 ghost use Rattle.tlp_layout.specs.Reading.{read_head_of};
 ghost use Rattle.ide_prefix.specs.declared.fault.PacketFault.{PacketFault};
 ghost use Rattle.ide_prefix.specs.Packet.{Packet, FitsPacket, SpellsPacket, IsSync, is_sync_packet};
-ghost use Rattle.ide_prefix.specs.Units.{authenticated, encrypted, untagged};
+ghost use Rattle.ide_prefix.specs.Units.{authenticated_bytes, encrypted_bytes, packet_without_tag};
 ghost use Rattle.ide_prefix.specs.Causes.{is_plain};
 ghost use Rattle.ide_prefix.specs.Faults.{IsPacketFault};
 ghost use Rattle.ide_prefix.specs.Reading.{cut_of, PlainTlp, IdePacket};
@@ -43,6 +43,6 @@ pub fn carried_head()
 /// The authenticated bytes and the ciphertext of a unit fix its packets, but for the tag.
 pub fn one_unit()
     ensures { (x y : List Packet) → All FitsPacket x → All FitsPacket y
-        → authenticated x ≡ authenticated y → encrypted x ≡ encrypted y
-        → map untagged x ≡ map untagged y }
+        → authenticated_bytes x ≡ authenticated_bytes y → encrypted_bytes x ≡ encrypted_bytes y
+        → map packet_without_tag x ≡ map packet_without_tag y }
 {}

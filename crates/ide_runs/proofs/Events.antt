@@ -7,8 +7,8 @@ use Rattle.std.proofs.lemmas.List.{length-map}
 use Rattle.std.proofs.lemmas.List.Sums.{count_by-le-length}
 use Rattle.std.proofs.lemmas.List.Splits.{length-slice_split}
 use Rattle.line_runs.specs.Pieces.{pieces}
-use Rattle.ide_plan.specs.declared.plan.Plan.{Plan}
-use Rattle.ide_plan.specs.Fits.{FitsPlan}
+use Rattle.ide_types.specs.declared.plan.Plan.{Plan}
+use Rattle.ide_types.specs.Fits.{FitsPlan}
 use Rattle.link_events.specs.declared.script.ScriptEvent.{ScriptEvent}
 use Rattle.link_events.specs.declared.fault.LineFault.{LineFault}
 use Rattle.link_events.specs.declared.fault.LineError.{LineError}
@@ -18,7 +18,7 @@ use Rattle.link_events.proofs.Meanings.{meaning_is_spelling}
 use Rattle.link_events.proofs.Sizes.{spelled_are_allowed}
 use Rattle.script_events.specs.{event_of}
 use Rattle.script_events.proofs.Allowed.{events_are_allowed}
-use Rattle.text_laws.specs.Telling.{AreAllowed}
+use Rattle.law_text.specs.Telling.{AreAllowed}
 use Rattle.line_runs.specs.Gain.{Text}
 use Rattle.line_runs.specs.Lines.{bytes_for_lines, cut_text, file_limit, is_over}
 use Rattle.ide_runs.specs.Works.{MayAsk}

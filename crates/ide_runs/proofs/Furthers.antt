@@ -1,11 +1,10 @@
 -- How far is read if a run ends by itself. After a sound topology, which was wholly read, the bytes that were given are
--- its
--- own and then the script's, so what holds of the script holds of both; after any other topology no more bytes were
+-- its own and then the script's, so what holds of the script holds of both; after any other topology no more bytes were
 -- given than it has.
 use Rattle.std.proofs.Common.{◌≡◌, ◌≤◌, ◌+◌, ◌-◌, ℕ, length, Option, Some, None, Result, Ok, Err, subst, arith}
 use Rattle.std.specs.Prelude.{IfOk}
-use Rattle.ide_base.specs.Outside.{Contents, ShelfSeen}
-use Rattle.ide_plan.specs.declared.plan.Plan.{Plan}
+use Rattle.cli_files.specs.Outside.{Contents, ShelfSeen}
+use Rattle.ide_types.specs.declared.plan.Plan.{Plan}
 use Rattle.line_runs.specs.declared.ends.End.{End}
 use Rattle.line_runs.specs.declared.ends.Fault.{Fault}
 use Rattle.line_runs.specs.Front.{GaveOf, bytes_of}

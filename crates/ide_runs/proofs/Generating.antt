@@ -2,13 +2,13 @@
 use Rattle.std.proofs.Common.{◌≡◌, ◌∙◌, ◌≤◌, ◌+◌, ℕ, List, [], ◌∷◌, length, Option, Some, Ok, sym, ap, subst}
 use Rattle.std.proofs.Common.{arith}
 use Rattle.std.specs.List.{AllByRecursion}
-use Rattle.generated_events.specs.Left.{Takes}
-use Rattle.generated_events.specs.Topology.{the_plan}
-use Rattle.key_laws.specs.History.{History}
+use Rattle.script_events.specs.Left.{Takes}
+use Rattle.script_events.specs.GeneratedTopology.{the_plan}
+use Rattle.spec_keys.specs.History.{History}
 use Rattle.link_events.specs.declared.event.Event.{Event}
 use Rattle.link_events.specs.Spells.{IsAllowed}
-use Rattle.text_laws.specs.Runs.{history_on, history_with}
-use Rattle.ide_plan.specs.declared.plan.Plan.{Plan}
+use Rattle.law_text.specs.Runs.{history_on, history_with}
+use Rattle.ide_types.specs.declared.plan.Plan.{Plan}
 use Rattle.ide_why.specs.{WorldView, IsNewWorld}
 use Rattle.ide_runs.specs.Works.{Follows, RunningView, ScriptPast}
 use Rattle.ide_runs.proofs.Scripts.{follows_nothing}

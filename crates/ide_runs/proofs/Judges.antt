@@ -1,25 +1,9 @@
 -- A text that is judged by a run into a sink in memory: what the sink holds is what is due of the run.
-use Rattle.std.proofs.Common.{
-  ◌≡◌,
-  ◌≢◌,
-  ◌≤◌,
-  ◌+◌,
-  ◌++◌,
-  ◌⊎◌,
-  ℕ,
-  [],
-  length,
-  Option,
-  Some,
-  None,
-  Result,
-  Ok,
-  Err,
-  option_map,
-}
+use Rattle.std.proofs.Common.{◌≡◌, ◌≢◌, ◌≤◌, ◌+◌, ◌++◌, ◌⊎◌, ℕ, [], length, Option, Some, None, Result, Ok, Err}
+use Rattle.std.proofs.Common.{option_map}
 use Rattle.std.proofs.Common.{List, refl, sym, ap, inl, inr, subst, ◌∙◌, arith}
 use Rattle.std.specs.Prelude.{IfErr, IfOk}
-use Rattle.ide_base.specs.Outside.{AsksFor, AsksOnly, Contents, Rose, ShelfSeen, SinkSeen}
+use Rattle.cli_files.specs.Outside.{AsksFor, AsksOnly, Contents, Rose, ShelfSeen, SinkSeen}
 use Rattle.line_runs.specs.declared.ends.End.{End}
 use Rattle.line_runs.specs.declared.ends.End.TheVariants as end
 use Rattle.line_runs.specs.declared.ends.Fault.{Fault}
@@ -29,13 +13,13 @@ use Rattle.line_runs.specs.Gain.{Text, Gained}
 use Rattle.line_runs.specs.Gathering.{GainedAt, NoFurther, ReadAsFar, ReadAsFarOf}
 use Rattle.line_runs.specs.Outcome.{Due, EndsDue, EndsOn}
 use Rattle.line_runs.proofs.Joins.{joined}
-use Rattle.line_runs.proofs.Names.{asks_as, asks_more}
+use Rattle.line_runs.proofs.FileNames.{asks_as, asks_more}
 use Rattle.line_runs.proofs.WholeFiles.{IsDue, SameDue, gained_nothing}
-use Rattle.ide_judge.specs.Judging.{judged}
+use Rattle.line_runs.specs.Judging.{judged}
 use Rattle.ide_runs.specs.declared.topologies.Loaded.{Loaded}
 use Rattle.ide_runs.specs.declared.topologies.Loaded.TheVariants.{Sound, Faulty, Long}
-use Rattle.ide_runs.specs.Judge.{FurtherAt, FurtherBy, IsOneOf, JudgeNoFurther, judge_due, judged_by}
-use Rattle.ide_runs.specs.Judge.{judged_run, left_of}
+use Rattle.ide_runs.specs.Judge.{FurtherAt, FurtherBy, IsOneOf, JudgeNoFurther, judge_due, judged_script_run}
+use Rattle.ide_runs.specs.Judge.{judged_run, text_left}
 use Rattle.ide_runs.specs.Reads.{LoadedNoFurther, RunNoFurther}
 use Rattle.ide_runs.specs.Script.{run_due}
 use Rattle.ide_runs.specs.SoFar.{WroteBy, WroteByOf}
@@ -119,7 +103,7 @@ judged_same None topology script verdicts text is = tt
 judged_same (Some contents) topology script verdicts text is = sym (ap (judged_run (contents verdicts)) is)
 
 left_due : (verdicts : Option Text) (e : End) (text : Text) → e ≢ end.Done
-    → judged_by verdicts e text ≡ Some (e, left_of e text)
+    → judged_script_run verdicts e text ≡ Some (e, text_left e text)
 left_due verdicts end.Done text other = absurd (other refl)
 left_due verdicts end.Differs text other = refl
 left_due verdicts end.Usage text other = refl
@@ -131,7 +115,7 @@ left_due verdicts end.TooLong text other = refl
 -- of any other
 pub left_is_due : (told : Option Contents) (topology script verdicts : Text) (e : End) (text : Text)
     → IsDue told (run_on topology script) (e, text) → e ≢ end.Done
-    → IsDue told (judge_on topology script verdicts) (e, left_of e text)
+    → IsDue told (judge_on topology script verdicts) (e, text_left e text)
 left_is_due None topology script verdicts e text is other = tt
 left_is_due (Some contents) topology script verdicts e text is other =
     ap (judged_run (contents verdicts)) is ∙ left_due (contents verdicts) e text other

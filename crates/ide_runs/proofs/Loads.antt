@@ -7,8 +7,8 @@ use Rattle.std.proofs.Common.{Some, None, Result, Ok, Err, refl, sym, ap, inr, s
 use Rattle.std.specs.Prelude.{IfErr, IfOk, nat_lt}
 use Rattle.std.proofs.lemmas.Bool.Decides.{nat_tests}
 use Rattle.std.proofs.lemmas.List.{length-take-le, take_all}
-use Rattle.ide_base.specs.Outside.{Contents, Rose, ShelfSeen, SinkSeen}
-use Rattle.ide_plan.specs.declared.plan.Plan.{Plan}
+use Rattle.cli_files.specs.Outside.{Contents, Rose, ShelfSeen, SinkSeen}
+use Rattle.ide_types.specs.declared.plan.Plan.{Plan}
 use Rattle.line_runs.specs.Gain.{Text, Gained}
 use Rattle.line_runs.specs.Front.{FrontIn, FrontOf, Gave, GaveAtMost, GaveOf, bytes_of}
 use Rattle.line_runs.specs.Gathering.{GainedAt, WroteEnded, WroteEndedIn, WroteEndedOf, open_line}

@@ -4,8 +4,8 @@ use Rattle.std.proofs.Common.{Result, Ok, Err, refl, ap, inr, subst, ◌∙◌, 
 use Rattle.std.specs.Prelude.{IfOk, nat_lt, if◌then◌else◌}
 use Rattle.std.proofs.lemmas.Bool.Decides.{nat_tests}
 use Rattle.std.proofs.lemmas.List.{take_all}
-use Rattle.ide_base.specs.Outside.{Contents, ShelfSeen, SinkSeen}
-use Rattle.ide_plan.specs.declared.plan.Plan.{Plan}
+use Rattle.cli_files.specs.Outside.{Contents, ShelfSeen, SinkSeen}
+use Rattle.ide_types.specs.declared.plan.Plan.{Plan}
 use Rattle.topology.specs.Meaning.{plan_of}
 use Rattle.topology.specs.Migration.{IsMigrated}
 use Rattle.line_runs.specs.declared.ends.End.{End}

@@ -2,8 +2,8 @@
 use Rattle.std.proofs.Common.{◌≡◌, length, Bool, true, false, Option, Some, None, Result, Ok, Err}
 use Rattle.std.specs.Prelude.{nat_lt, if◌then◌else◌}
 use Rattle.toml.specs.Data.{Members}
-use Rattle.ide_plan.specs.declared.plan.Plan.{Plan}
-use Rattle.ide_plan.specs.Fits.{FitsPlan}
+use Rattle.ide_types.specs.declared.plan.Plan.{Plan}
+use Rattle.ide_types.specs.Fits.{FitsPlan}
 use Rattle.toml_walk.specs.declared.fault.PlanFault.{PlanFault}
 use Rattle.topology.specs.Meaning.{document, plan_of, plan_of_document}
 use Rattle.topology.proofs.PlanFits.{given_fits}

@@ -5,7 +5,7 @@ use Rattle.std.proofs.Common.{◌≡◌, ℕ, ◌+◌, ◌==◌, Bool, true, fal
 use Rattle.std.proofs.Common.{Ok, Err, refl, sym, ap, ◌∙◌, subst, arith, append_assoc}
 use Rattle.std.specs.Prelude.{nat_lt, sum_by}
 use Rattle.std.proofs.lemmas.List.Sums.{sum_by-cons}
-use Rattle.ide_plan.specs.declared.plan.Plan.{Plan}
+use Rattle.ide_types.specs.declared.plan.Plan.{Plan}
 use Rattle.link_events.specs.declared.event.Event.{Event}
 use Rattle.link_events.specs.declared.script.ScriptEvent.{ScriptEvent}
 use Rattle.link_verdicts.specs.declared.verdict.Verdict.{Verdict}
@@ -14,12 +14,12 @@ use Rattle.link_events.specs.declared.fault.LineFault.{LineFault}
 use Rattle.link_events.specs.Parse.{line_meaning}
 use Rattle.link_verdicts.specs.Lines.{line_of}
 use Rattle.link_verdicts.specs.Shown.{shown}
-use Rattle.key_laws.specs.History.{History}
-use Rattle.link_history.specs.Due.{due}
+use Rattle.spec_keys.specs.History.{History}
+use Rattle.spec_links.specs.Due.{due}
 use Rattle.script_events.specs.{event_of}
-use Rattle.text_laws.specs.Runs.{history_with, history_on, text_on, totals_of, sealed_count, accepted_in, failed_in}
-use Rattle.text_laws.specs.Runs.{blocked_in}
-use Rattle.ide_why.specs.{WorldView, Stands, IsNewWorld, IsStep}
+use Rattle.law_text.specs.Runs.{history_with, history_on, text_on, totals_of, sealed_count, accepted_in, failed_in}
+use Rattle.law_text.specs.Runs.{blocked_in}
+use Rattle.ide_why.specs.{WorldView, WorldStandsFor, IsNewWorld, IsStep}
 use Rattle.line_runs.specs.Gain.{Text}
 use Rattle.line_runs.specs.Outcome.{Due}
 use Rattle.line_runs.specs.Pieces.{pieces}
@@ -70,7 +70,7 @@ event_due past t e old new v follows step is =
       verdict_is = is;
       follows = record {
         plan_is = step.plan_is ∙ follows.plan_is;
-        stands = subst (λ (w : Verdict). Stands new ((e, w) ∷ h)) is (step.stood h follows.stands).stands;
+        stands = subst (λ (w : Verdict). WorldStandsFor new ((e, w) ∷ h)) is (step.stood h follows.stands).stands;
         steps_are = omega (arith, steps);
         totals_are = totals_more t h e v follows.totals_are ∙ ap (λ (w : Verdict). totals_of ((e, w) ∷ h)) is;
       };

@@ -5,7 +5,7 @@ use Rattle.std.specs.Prelude.{nat_lt, if◌then◌else◌}
 use Rattle.std.proofs.lemmas.Bool.{lt-ltb, le-ltb}
 use Rattle.std.proofs.lemmas.List.{length-map}
 use Rattle.std.proofs.lemmas.Bool.Decides.{nat_tests}
-use Rattle.ide_plan.specs.declared.plan.Plan.{Plan}
+use Rattle.ide_types.specs.declared.plan.Plan.{Plan}
 use Rattle.link_events.specs.declared.event.Event.{Event}
 use Rattle.link_events.specs.declared.script.ScriptEvent.{ScriptEvent}
 use Rattle.link_events.specs.declared.fault.LineFault.{LineFault}
@@ -13,11 +13,11 @@ use Rattle.link_events.specs.Parse.{line_meaning}
 use Rattle.link_verdicts.specs.declared.verdict.Verdict.{Verdict}
 use Rattle.link_verdicts.specs.Lines.{line_of}
 use Rattle.link_verdicts.specs.Shown.{shown}
-use Rattle.key_laws.specs.History.{History}
-use Rattle.link_history.specs.Due.{due}
+use Rattle.spec_keys.specs.History.{History}
+use Rattle.spec_links.specs.Due.{due}
 use Rattle.script_events.specs.{event_of}
-use Rattle.text_laws.specs.Runs.{history_on, history_with}
-use Rattle.ide_why.specs.{IsNewWorld, Stands, WorldView, facts_due}
+use Rattle.law_text.specs.Runs.{history_on, history_with}
+use Rattle.ide_why.specs.{IsNewWorld, WorldStandsFor, WorldView, facts_due}
 use Rattle.why_lines.specs.declared.fact.Fact.{Fact}
 use Rattle.why_lines.specs.{why_text_of}
 use Rattle.line_runs.specs.declared.ends.End.TheVariants as end
@@ -29,17 +29,9 @@ use Rattle.line_runs.specs.Pieces.{pieces}
 use Rattle.ide_runs.specs.Reads.{ScriptGoesOn}
 use Rattle.ide_runs.specs.Script.{AtEnd, AtLimit, Refused, Script, Stop, end_of_stop, events_on, script_in, stops}
 use Rattle.ide_runs.specs.Script.{unended_line, with_line}
-use Rattle.ide_runs.specs.Why.{FollowsWhy, WhyCame, WhyPast, WhyView, event_told, ran_why, told_after, told_due}
-use Rattle.ide_runs.specs.Why.{
-  EventIsTold,
-  no_event_line,
-  left_line,
-  told_last,
-  told_on,
-  told_so_far,
-  why_by_meaning,
-  why_closing,
-}
+use Rattle.ide_runs.specs.Why.{FollowsWhy, WhyCame, WhyPast, WhyView, event_told, ran_why, told_event_due, told_due}
+use Rattle.ide_runs.specs.Why.{EventIsTold, no_event_line, left_line, told_last, numbered_event_text, told_so_far}
+use Rattle.ide_runs.specs.Why.{why_by_meaning, why_closing}
 use Rattle.ide_runs.specs.Why.{why_line, why_past_with}
 use Rattle.ide_runs.specs.Works.{Follows, RunningView, ScriptPast, VerdictCame}
 use Rattle.ide_runs.proofs.Scripts.{event_comes, follows_nothing}
@@ -88,7 +80,7 @@ comes_told past e w now text was same least most told =
 
 -- the text of the event that is told: what it came from is what the history gives before it
 pub event_tells : (past : ScriptPast) (e : Event) (old r : RunningView) (v : Verdict) (xs : List Fact) (text : Text)
-    → Follows old past → ((h : History) → Stands old.world h → xs ≡ facts_due old.world.plan h e)
+    → Follows old past → ((h : History) → WorldStandsFor old.world h → xs ≡ facts_due old.world.plan h e)
     → VerdictCame past e r v
     → text ≡ line_of r.world.steps (shown r.world.plan.peers v) ++ why_text_of e v xs → EventIsTold past e r text
 event_tells past e old r v xs text was facts came is =
@@ -135,7 +127,8 @@ past_of : ℕ → Plan → History → WhyPast
 past_of n plan h = record { number = n; script = record { plan = plan; history = h } }
 
 -- no event after the one that is told gives a text
-none_behind : (n : ℕ) (plan : Plan) (h : History) (events : List Event) → n ≤ length h → told_on n plan h events ≡ []
+none_behind : (n : ℕ) (plan : Plan) (h : History) (events : List Event) → n ≤ length h
+    → numbered_event_text n plan h events ≡ []
 none_behind n plan h [] le = refl
 none_behind n plan h (e ∷ events) le =
     let before : nat_lt (length h + 1) n ≡ false = le-ltb (length h + 1) n (omega (arith, le)) in
@@ -153,16 +146,17 @@ same_last n AtLimit a b first second = refl
 
 -- an event before what comes later
 one_event : (n m : ℕ) (plan : Plan) (h : History) (e : ScriptEvent) (later : WhyPast → Due) (script : Script)
-    → ((g : History) → later (past_of n plan g) ≡ told_after n plan g script) → (before behind : Bool)
+    → ((g : History) → later (past_of n plan g) ≡ told_event_due n plan g script) → (before behind : Bool)
     → nat_lt (length h + 1) n ≡ before → nat_lt n (length h + 1) ≡ behind
     → go_on m (why_by_meaning (past_of n plan h) (Ok (Some e))) later
-    ≡ told_after n plan h (with_line m (Ok (Some e)) script)
+    ≡ told_event_due n plan h (with_line m (Ok (Some e)) script)
 unfolding past_of
 one_event n m plan h e later script rest true behind is other =
     let x = event_of plan e in
     let g = history_with plan h x in
     let count : length g + length script.events ≡ length h + length (e ∷ script.events) = omega arith in
-    rw (is, rest g) (ap (λ (k : ℕ). after (told_on n plan g (events_on plan script)) (told_last n script.stop k)) count)
+    rw (is, rest g) (ap (λ (k : ℕ). after (numbered_event_text n plan g (events_on plan script))
+    (told_last n script.stop k)) count)
 one_event n m plan h e later script rest false true is other =
     let le : n ≤ length h = grind (arith, nat_tests) in
     let none = none_behind n plan h (events_on plan script) le in
@@ -182,8 +176,8 @@ one_event n m plan h e later script rest false false is other =
 -- a line before what comes later
 one_line : (n m : ℕ) (plan : Plan) (h : History) (meaning : Result (Option ScriptEvent) LineFault)
     (later : WhyPast → Due) (script : Script)
-    → ((g : History) → later (past_of n plan g) ≡ told_after n plan g script)
-    → go_on m (why_by_meaning (past_of n plan h) meaning) later ≡ told_after n plan h (with_line m meaning script)
+    → ((g : History) → later (past_of n plan g) ≡ told_event_due n plan g script)
+    → go_on m (why_by_meaning (past_of n plan h) meaning) later ≡ told_event_due n plan h (with_line m meaning script)
 unfolding past_of
 one_line n m plan h (Err fault) later script rest = refl
 one_line n m plan h (Ok None) later script rest = rest h
@@ -191,11 +185,11 @@ one_line n m plan h (Ok (Some e)) later script rest =
     one_event n m plan h e later script rest (nat_lt (length h + 1) n) (nat_lt n (length h + 1)) refl refl
 
 unended_is : (n m : ℕ) (plan : Plan) (piece : Text) (h : History) (b : Bool) → nat_lt 20000 (length piece) ≡ b
-    → unended m piece ≡ told_after n plan h (unended_line m piece)
+    → unended m piece ≡ told_event_due n plan h (unended_line m piece)
 unended_is n m plan piece h true is = rw is refl
 unended_is n m plan piece h false is = rw is refl
 
-at_end : (n : ℕ) (plan : Plan) (h : History) → why_closing (past_of n plan h) ≡ told_after n plan h (stops AtEnd)
+at_end : (n : ℕ) (plan : Plan) (h : History) → why_closing (past_of n plan h) ≡ told_event_due n plan h (stops AtEnd)
 unfolding past_of
 at_end n plan h =
     let count : length h ≡ length h + 0 = omega arith in
@@ -204,7 +198,7 @@ at_end n plan h =
 last_piece : (n : ℕ) (plan : Plan) (over : Bool) (m : ℕ) (h : History) (piece : Text) (b : Bool)
     → (length piece == 0) ≡ b
     → process why_line why_closing over m (past_of n plan h) (piece ∷ [])
-    ≡ told_after n plan h (script_in over m (piece ∷ []))
+    ≡ told_event_due n plan h (script_in over m (piece ∷ []))
 unfolding past_of
 last_piece n plan true m h piece b is = unended_is n m plan piece h (nat_lt 20000 (length piece)) refl
 last_piece n plan false m h piece true is = rw is (at_end n plan h)
@@ -212,7 +206,7 @@ last_piece n plan false m h piece false is =
     rw is (one_line n m plan h (line_meaning piece) why_closing (stops AtEnd) (λ g. at_end n plan g))
 
 lines_told : (n : ℕ) (plan : Plan) (over : Bool) (m : ℕ) (h : History) (pieces : List Text)
-    → process why_line why_closing over m (past_of n plan h) pieces ≡ told_after n plan h (script_in over m pieces)
+    → process why_line why_closing over m (past_of n plan h) pieces ≡ told_event_due n plan h (script_in over m pieces)
 unfolding past_of
 lines_told n plan over m h [] = at_end n plan h
 lines_told n plan over m h (piece ∷ []) = last_piece n plan over m h piece (length piece == 0) refl
@@ -262,7 +256,7 @@ told_goes_on n plan bytes goes_on =
 -- of the events after a history it is the one at its number
 told_at : (n : ℕ) (plan : Plan) (h : History) (before later : List Event) (e : Event)
     → n ≡ length h + length before + 1
-    → told_on n plan h (before ++ e ∷ later) ≡ event_told plan (history_on plan h before) e
+    → numbered_event_text n plan h (before ++ e ∷ later) ≡ event_told plan (history_on plan h before) e
 told_at n plan h [] later e is =
     let before : nat_lt (length h + 1) n ≡ false = le-ltb (length h + 1) n (omega (arith, is)) in
     let behind : nat_lt n (length h + 1) ≡ false = le-ltb n (length h + 1) (omega (arith, is)) in
@@ -273,7 +267,7 @@ told_at n plan h (x ∷ before) later e is =
 
 -- of fewer events it is none
 told_nowhere : (n : ℕ) (plan : Plan) (h : History) (events : List Event) → length h + length events < n
-    → told_on n plan h events ≡ []
+    → numbered_event_text n plan h events ≡ []
 told_nowhere n plan h [] few = refl
 told_nowhere n plan h (e ∷ events) few =
     let less : nat_lt (length h + 1) n ≡ true = lt-ltb (length h + 1) n (omega (arith, few)) in
@@ -291,20 +285,21 @@ so_many plan script = length-map script.events (event_of plan)
 -- the end and the text of a script that has the event
 pub told_event : (n : ℕ) (plan : Plan) (script : Script) (h : History) (e : Event) (before later : List Event)
     → before ++ e ∷ later ≡ events_on plan script → n ≡ length before + 1 → h ≡ history_on plan [] before
-    → told_after n plan [] script ≡ (end_of_stop script.stop, event_told plan h e ++ left_line script.stop)
+    → told_event_due n plan [] script ≡ (end_of_stop script.stop, event_told plan h e ++ left_line script.stop)
 told_event n plan script h e before later events_are number_is history_is =
     let many : n ≤ 0 + length script.events = omega
     (arith, number_is, so_many plan script, ap length events_are, length-append before (e ∷ later)) in
-    let text : told_on n plan [] (events_on plan script) ≡ event_told plan h e =
-    ap (told_on n plan []) (sym events_are)
+    let text : numbered_event_text n plan [] (events_on plan script) ≡ event_told plan h e =
+    ap (numbered_event_text n plan []) (sym events_are)
     ∙ told_at n plan [] before later e (omega (arith, number_is))
     ∙ ap (λ (g : History). event_told plan g e) (sym history_is) in
-    ap (after (told_on n plan [] (events_on plan script))) (last_there n script.stop (0 + length script.events) many)
+    ap (after (numbered_event_text n plan [] (events_on plan script)))
+    (last_there n script.stop (0 + length script.events) many)
     ∙ ap (λ (t : Text). (end_of_stop script.stop, t ++ left_line script.stop)) text
 
 -- and of one that was read to its end and has not
 pub told_none : (n : ℕ) (plan : Plan) (script : Script) → length (events_on plan script) < n → script.stop ≡ AtEnd
-    → told_after n plan [] script ≡ (end.NoEvent, no_event_line n (length (events_on plan script)))
+    → told_event_due n plan [] script ≡ (end.NoEvent, no_event_line n (length (events_on plan script)))
 told_none n plan script few stop =
     let none = told_nowhere n plan [] (events_on plan script) (omega (arith, few)) in
     let count : 0 + length script.events ≡ length (events_on plan script) = omega (arith, so_many plan script) in

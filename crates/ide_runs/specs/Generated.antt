@@ -1,10 +1,10 @@
 -- What a run over generated events writes: the totals of their history, in which each verdict is the one that is due.
 use Rattle.std.specs.Prelude.{ℕ, ◌++◌, [], length, codes}
 use Rattle.std.specs.Fmt.{decimal}
-use Rattle.generated_events.specs.Events.{generated}
-use Rattle.generated_events.specs.Topology.{the_plan}
-use Rattle.key_laws.specs.History.{History}
-use Rattle.text_laws.specs.Runs.{history_on, totals_of}
+use Rattle.script_events.specs.GeneratedEvents.{generated}
+use Rattle.script_events.specs.GeneratedTopology.{the_plan}
+use Rattle.spec_keys.specs.History.{History}
+use Rattle.law_text.specs.Runs.{history_on, totals_of}
 use Rattle.link_verdicts.specs.Lines.{totals_line_of}
 use Rattle.line_runs.specs.declared.ends.End.TheVariants as end
 use Rattle.line_runs.specs.Gain.{Text}

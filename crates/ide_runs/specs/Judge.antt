@@ -6,38 +6,38 @@ use Rattle.line_runs.specs.Front.{Gave, bytes_of}
 use Rattle.line_runs.specs.Gain.{Text}
 use Rattle.line_runs.specs.Lines.{file_limit}
 use Rattle.line_runs.specs.Outcome.{Due}
-use Rattle.ide_judge.specs.Judging.{judged, last_line_of, verdicts_limit}
+use Rattle.line_runs.specs.Judging.{judged, last_line_of, verdicts_limit}
 use Rattle.ide_runs.specs.Loading.{topology_limit}
 use Rattle.ide_runs.specs.Reads.{RanPast, RunNoFurther}
 use Rattle.ide_runs.specs.Script.{run_due}
 
 -- Of a run that did not come to the end of its script: the last line of its text, or the line of a faulty topology.
-abbrev pub left_of : End → Text → Text
-left_of end.Done text = []
-left_of end.Differs text = []
-left_of end.Usage text = []
-left_of end.Topology text = text
-left_of end.Script text = last_line_of text
-left_of end.NoEvent text = []
-left_of end.TooLong text = []
+abbrev pub text_left : End → Text → Text
+text_left end.Done text = []
+text_left end.Differs text = []
+text_left end.Usage text = []
+text_left end.Topology text = text
+text_left end.Script text = last_line_of text
+text_left end.NoEvent text = []
+text_left end.TooLong text = []
 
 -- it did not, and this is left to write
 abbrev pub IsLeft : End → (text left : Text) → Type 0
-IsLeft e text left = (e ≢ end.Done) × (left ≡ left_of e text)
+IsLeft e text left = (e ≢ end.Done) × (left ≡ text_left e text)
 
 -- by the end and the text of the run
-abbrev pub judged_by : Option Text → End → Text → Option Due
-judged_by verdicts end.Done text = option_map (judged text) verdicts
-judged_by verdicts end.Differs text = Some (end.Differs, [])
-judged_by verdicts end.Usage text = Some (end.Usage, [])
-judged_by verdicts end.Topology text = Some (end.Topology, text)
-judged_by verdicts end.Script text = Some (end.Script, last_line_of text)
-judged_by verdicts end.NoEvent text = Some (end.NoEvent, [])
-judged_by verdicts end.TooLong text = Some (end.TooLong, [])
+abbrev pub judged_script_run : Option Text → End → Text → Option Due
+judged_script_run verdicts end.Done text = option_map (judged text) verdicts
+judged_script_run verdicts end.Differs text = Some (end.Differs, [])
+judged_script_run verdicts end.Usage text = Some (end.Usage, [])
+judged_script_run verdicts end.Topology text = Some (end.Topology, text)
+judged_script_run verdicts end.Script text = Some (end.Script, last_line_of text)
+judged_script_run verdicts end.NoEvent text = Some (end.NoEvent, [])
+judged_script_run verdicts end.TooLong text = Some (end.TooLong, [])
 
 abbrev pub judged_run : Option Text → Option Due → Option Due
 judged_run verdicts None = None
-judged_run verdicts (Some due) = judged_by verdicts due.0 due.1
+judged_run verdicts (Some due) = judged_script_run verdicts due.0 due.1
 
 -- the end and the text that are due, or nothing if a file is not there
 abbrev pub judge_due : (topology script verdicts : Option Text) → Option Due
@@ -54,8 +54,7 @@ JudgedPast before now = RanPast before now
     ⊎ ((n : ℕ) × (n ≤ topology_limit + file_limit) × Gave before (n + (verdicts_limit + 1)) now)
 
 -- A run that comes to the end of its script reads all of it, and then no more than the text that is judged; of any
--- other
--- the text that is judged is not read.
+-- other the text that is judged is not read.
 abbrev pub FurtherAt : End → (topology script verdicts : Option Text) → (given ahead : ℕ) → Type 0
 FurtherAt end.Done topology script verdicts given ahead =
     given ≤ length (bytes_of topology) + length (bytes_of script) + length (bytes_of verdicts)

@@ -1,6 +1,5 @@
 -- A line of a script that is too long gives nothing, and what is written for a line is whole lines: if all events are
--- run,
--- and if one is told.
+-- run, and if one is told.
 use Rattle.std.specs.Prelude.{ℕ, ◌≡◌, nat_lt, true, List, [], ◌∷◌, ◌++◌, length, Option, Some, None, Result, Ok, Err}
 use Rattle.std.specs.Prelude.{◌+◌, Bool, IfOk, codes, false, if◌then◌else◌, refl}
 use Rattle.std.proofs.Common.{inl, inr, ap, ◌∙◌, sym, subst, append_assoc}
@@ -8,13 +7,13 @@ use Rattle.std.proofs.lemmas.List.{append-nil}
 use Rattle.ide_types.specs.Names.{joined}
 use Rattle.ide_types.specs.declared.port.PortName.{PortName}
 use Rattle.ide_types.specs.declared.sub.SubKind.{SubKind}
-use Rattle.ide_plan.specs.declared.plan.Plan.{Plan}
+use Rattle.ide_types.specs.declared.plan.Plan.{Plan}
 use Rattle.why_lines.specs.declared.fact.Fact.{Fact}
 use Rattle.why_lines.specs.{effect_rule_of, fact_line, fact_word, rule_of, why_text_of}
 use Rattle.why_lines.specs.Lines.{effect_lines, facts_text, rule_line, rules_text}
 use Rattle.ide_why.specs.{facts_due}
-use Rattle.key_laws.specs.History.{History}
-use Rattle.link_history.specs.Due.{due}
+use Rattle.spec_keys.specs.History.{History}
+use Rattle.spec_links.specs.Due.{due}
 use Rattle.link_verdicts.specs.Lines.{line_of}
 use Rattle.link_verdicts.specs.Shown.{shown}
 use Rattle.script_events.specs.{event_of}

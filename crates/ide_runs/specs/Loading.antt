@@ -1,6 +1,6 @@
 -- A topology's file that is read, of which so many bytes count.
 use Rattle.std.specs.Prelude.{ℕ, ◌≡◌, ◌⊎◌, ◌≤◌, nat_lt, if◌then◌else◌, Result, Ok, Err, length, Option, Some, None}
-use Rattle.ide_base.specs.Outside.{Contents, Rose, Lacks}
+use Rattle.cli_files.specs.Outside.{Contents, Rose, Lacks}
 use Rattle.line_runs.specs.declared.ends.Fault.{Fault}
 use Rattle.line_runs.specs.declared.ends.Fault.TheVariants as fault
 use Rattle.line_runs.specs.Front.{Gave, bytes_of}

@@ -1,7 +1,7 @@
 -- A topology that is written in version 2.
 use Rattle.std.specs.Prelude.{◌≡◌, ◌⊎◌, [], Option, Some, None, Result, Ok, Err, option_map}
-use Rattle.ide_base.specs.Outside.{Contents, ShelfSeen, SinkSeen}
-use Rattle.ide_plan.specs.declared.plan.Plan.{Plan}
+use Rattle.cli_files.specs.Outside.{Contents, ShelfSeen, SinkSeen}
+use Rattle.ide_types.specs.declared.plan.Plan.{Plan}
 use Rattle.topology.specs.Migration.{IsMigrated}
 use Rattle.line_runs.specs.declared.ends.End.{End}
 use Rattle.line_runs.specs.declared.ends.Fault.{Fault}

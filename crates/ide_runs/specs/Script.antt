@@ -2,7 +2,7 @@
 use Rattle.std.specs.Prelude.{ℕ, ◌+◌, ◌==◌, nat_lt, Bool, List, [], ◌∷◌, ◌++◌, length, map, Option, Some, None}
 use Rattle.std.specs.Prelude.{Result, Ok, Err, if◌then◌else◌, option_map}
 use Rattle.line_runs.specs.Pieces.{pieces}
-use Rattle.ide_plan.specs.declared.plan.Plan.{Plan}
+use Rattle.ide_types.specs.declared.plan.Plan.{Plan}
 use Rattle.link_events.specs.declared.event.Event.{Event}
 use Rattle.link_events.specs.declared.script.ScriptEvent.{ScriptEvent}
 use Rattle.link_events.specs.declared.fault.LineFault.{LineFault}
@@ -10,9 +10,9 @@ use Rattle.link_events.specs.declared.fault.LineFault.TheVariants as line
 use Rattle.link_events.specs.Words.{fault_line_of, line_limit}
 use Rattle.link_events.specs.Parse.{line_meaning}
 use Rattle.link_verdicts.specs.Lines.{totals_line_of}
-use Rattle.key_laws.specs.History.{History}
+use Rattle.spec_keys.specs.History.{History}
 use Rattle.script_events.specs.{event_of}
-use Rattle.text_laws.specs.Runs.{history_on, text_on, totals_of}
+use Rattle.law_text.specs.Runs.{history_on, text_on, totals_of}
 use Rattle.line_runs.specs.declared.ends.End.{End}
 use Rattle.line_runs.specs.declared.ends.End.TheVariants as end
 use Rattle.line_runs.specs.Gain.{Text}

@@ -1,7 +1,7 @@
 -- What a run of a script has written if a fault ends it.
 use Rattle.std.specs.Prelude.{ℕ, ◌+◌, ◌-◌, ◌≤◌, true, [], length, take, Option, Some, None}
-use Rattle.ide_base.specs.Outside.{Contents, ShelfSeen, SinkSeen}
-use Rattle.ide_plan.specs.declared.plan.Plan.{Plan}
+use Rattle.cli_files.specs.Outside.{Contents, ShelfSeen, SinkSeen}
+use Rattle.ide_types.specs.declared.plan.Plan.{Plan}
 use Rattle.line_runs.specs.Pieces.{pieces}
 use Rattle.link_events.specs.Words.{line_limit}
 use Rattle.line_runs.specs.Front.{Gave, bytes_of}

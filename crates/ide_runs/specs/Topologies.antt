@@ -1,7 +1,7 @@
 -- What a topology's bytes give, and what is written for them.
 use Rattle.std.specs.Prelude.{[], ◌++◌, Result, Ok, Err, codes}
-use Rattle.ide_plan.specs.declared.plan.Plan.{Plan}
-use Rattle.ide_plan.specs.Fits.{FitsPlan}
+use Rattle.ide_types.specs.declared.plan.Plan.{Plan}
+use Rattle.ide_types.specs.Fits.{FitsPlan}
 use Rattle.toml_walk.specs.declared.fault.PlanFault.{PlanFault}
 use Rattle.topology.specs.Meaning.{plan_of}
 use Rattle.topology.specs.Lines.{fault_line}

@@ -1,26 +1,9 @@
 -- One event of a script, told with what its verdict came from.
-use Rattle.std.specs.Prelude.{
-  ℕ,
-  ◌+◌,
-  ◌≡◌,
-  nat_lt,
-  true,
-  List,
-  [],
-  ◌∷◌,
-  ◌++◌,
-  length,
-  Option,
-  Some,
-  None,
-  Result,
-  Ok,
-  Err,
-  codes,
-}
+use Rattle.std.specs.Prelude.{ℕ, ◌+◌, ◌≡◌, nat_lt, true, List, [], ◌∷◌, ◌++◌, length, Option, Some, None, Result, Ok}
+use Rattle.std.specs.Prelude.{Err, codes}
 use Rattle.std.specs.Prelude.{if◌then◌else◌}
 use Rattle.std.specs.Fmt.{decimal}
-use Rattle.ide_plan.specs.declared.plan.Plan.{Plan}
+use Rattle.ide_types.specs.declared.plan.Plan.{Plan}
 use Rattle.link_events.specs.declared.event.Event.{Event}
 use Rattle.link_events.specs.declared.script.ScriptEvent.{ScriptEvent}
 use Rattle.link_events.specs.declared.fault.LineFault.{LineFault}
@@ -28,10 +11,10 @@ use Rattle.link_events.specs.Words.{fault_line_of}
 use Rattle.link_events.specs.Parse.{line_meaning}
 use Rattle.link_verdicts.specs.Lines.{line_of}
 use Rattle.link_verdicts.specs.Shown.{shown}
-use Rattle.key_laws.specs.History.{History}
-use Rattle.link_history.specs.Due.{due}
+use Rattle.spec_keys.specs.History.{History}
+use Rattle.spec_links.specs.Due.{due}
 use Rattle.script_events.specs.{event_of}
-use Rattle.text_laws.specs.Runs.{history_with}
+use Rattle.law_text.specs.Runs.{history_with}
 use Rattle.ide_why.specs.{facts_due}
 use Rattle.why_lines.specs.{why_text_of}
 use Rattle.line_runs.specs.declared.ends.End.TheVariants as end
@@ -48,10 +31,10 @@ event_told plan h e =
     line_of (length h + 1) (shown plan.peers (due plan h e)) ++ why_text_of e (due plan h e) (facts_due plan h e)
 
 -- of events that come after a history, the text of the one of this number, if there are so many
-abbrev pub told_on : ℕ → Plan → History → List Event → Text
-told_on n plan h [] = []
-told_on n plan h (e ∷ events) =
-    if nat_lt (length h + 1) n then told_on n plan (history_with plan h e) events
+abbrev pub numbered_event_text : ℕ → Plan → History → List Event → Text
+numbered_event_text n plan h [] = []
+numbered_event_text n plan h (e ∷ events) =
+    if nat_lt (length h + 1) n then numbered_event_text n plan (history_with plan h e) events
     else if nat_lt n (length h + 1) then [] else event_told plan h e
 
 -- a script of so many events has none of this number
@@ -72,13 +55,13 @@ left_line (Refused line fault) = fault_line_of line fault
 left_line AtLimit = []
 
 -- after a history, the end and the text of a script of which the event of this number is told
-abbrev pub told_after : ℕ → Plan → History → Script → Due
-told_after n plan h script = after (told_on n plan h (events_on plan script))
+abbrev pub told_event_due : ℕ → Plan → History → Script → Due
+told_event_due n plan h script = after (numbered_event_text n plan h (events_on plan script))
     (told_last n script.stop (length h + length script.events))
 
 -- the end and the text of a script's file
 abbrev pub told_due : ℕ → Plan → Text → Due
-told_due n plan file = told_after n plan [] (script_of file)
+told_due n plan file = told_event_due n plan [] (script_of file)
 
 -- of two files, or nothing if one that is wanted is not there
 abbrev pub why_due : ℕ → (topology script : Option Text) → Option Due
@@ -86,7 +69,7 @@ why_due n topology script = due_of_files (told_due n) topology script
 
 -- the text that is due of some bytes of a script that goes on after them
 abbrev pub told_so_far : ℕ → Plan → Text → Text
-told_so_far n plan bytes = (told_after n plan [] (script_in true 1 (pieces bytes))).1
+told_so_far n plan bytes = (told_event_due n plan [] (script_in true 1 (pieces bytes))).1
 
 -- ---- line by line
 

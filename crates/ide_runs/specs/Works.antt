@@ -1,6 +1,6 @@
 -- What a line of a script gives by what is kept.
 use Rattle.std.specs.Prelude.{ℕ, ◌≡◌, ◌+◌, ◌*◌, ◌<◌, ◌≤◌, [], length, Option, Some, None, Result, Ok, Err}
-use Rattle.ide_plan.specs.declared.plan.Plan.{Plan}
+use Rattle.ide_types.specs.declared.plan.Plan.{Plan}
 use Rattle.link_events.specs.declared.event.Event.{Event}
 use Rattle.link_events.specs.declared.script.ScriptEvent.{ScriptEvent}
 use Rattle.link_events.specs.declared.fault.LineFault.{LineFault}
@@ -11,11 +11,11 @@ use Rattle.link_verdicts.specs.declared.verdict.Totals.{Totals}
 use Rattle.link_verdicts.specs.Lines.{line_of}
 use Rattle.link_verdicts.specs.Lines.{totals_line_of}
 use Rattle.link_verdicts.specs.Shown.{shown}
-use Rattle.key_laws.specs.History.{History}
-use Rattle.link_history.specs.Due.{due}
+use Rattle.spec_keys.specs.History.{History}
+use Rattle.spec_links.specs.Due.{due}
 use Rattle.script_events.specs.{event_of}
-use Rattle.text_laws.specs.Runs.{history_with, totals_of, sealed_count, accepted_in, failed_in, blocked_in}
-use Rattle.ide_why.specs.{WorldView, Stands}
+use Rattle.law_text.specs.Runs.{history_with, totals_of, sealed_count, accepted_in, failed_in, blocked_in}
+use Rattle.ide_why.specs.{WorldView, WorldStandsFor}
 use Rattle.line_runs.specs.declared.ends.End.TheVariants as end
 use Rattle.line_runs.specs.Gain.{Text}
 use Rattle.line_runs.specs.Outcome.{Due}
@@ -42,7 +42,7 @@ pub record ScriptPast : Type 0 where
 -- the world stands for that history, so many events came, and the totals are its totals
 pub record Follows (r : RunningView) (past : ScriptPast) : Type 0 where
   pub plan_is : r.world.plan ≡ past.plan
-  pub stands : Stands r.world past.history
+  pub stands : WorldStandsFor r.world past.history
   pub steps_are : r.world.steps ≡ length past.history
   pub totals_are : r.totals ≡ totals_of past.history
 

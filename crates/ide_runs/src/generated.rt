@@ -3,26 +3,26 @@
 ghost use Rattle.std.specs.Prelude.{◌≡◌, ◌≤◌, ◌++◌, [], IfOk, codes, length};
 ghost use Rattle.std.specs.Fmt.{decimal};
 ghost use Rattle.std.specs.List.{AllByRecursion};
-ghost use Rattle.generated_events.specs.Events.{generated};
-ghost use Rattle.generated_events.specs.Topology.{the_plan};
+ghost use Rattle.script_events.specs.GeneratedEvents.{generated};
+ghost use Rattle.script_events.specs.GeneratedTopology.{the_plan};
 ghost use Rattle.line_runs.specs.Outcome.{Ran};
 ghost use Rattle.link_events.specs.Spells.{IsAllowed};
-ghost use Rattle.text_laws.specs.Runs.{history_on};
+ghost use Rattle.law_text.specs.Runs.{history_on};
 ghost use Rattle.link_verdicts.specs.Lines.{totals_line_of};
 ghost use Rattle.ide_runs.specs.Generated.{generated_due, generated_history, generated_line};
 ghost use Rattle.ide_runs.specs.Works.{Follows, IsEarly};
 
 use crate::script::Running;
-use generated_events::{Generator, events_are_allowed, topology};
-use ide_base::Sink;
-use ide_types::Memory;
+use cli_files::Sink;
+use ide_types::OutOfMemory;
 use ide_why::World;
 use line_runs::{End, Fault, finish};
 use link_verdicts::totals_line;
+use script_events::{Generator, generated_are_allowed, topology};
 use std::alloc::Global;
 
 // The world of the generated topology, before the first event.
-fn first_world(alloc: Global) -> Result<Running, Memory>
+fn first_world(alloc: Global) -> Result<Running, OutOfMemory>
     ensures follows { IfOk result (λ r. Follows r (record { plan = the_plan; history = [] })) }
     ensures early { IfOk result (λ r. IsEarly r 1) }
 {
@@ -32,7 +32,7 @@ fn first_world(alloc: Global) -> Result<Running, Memory>
 }
 
 // Gives each event that is left to the world as it is made.
-fn run_left(alloc: Global, left: Generator, running: Running) -> Result<Running, Memory>
+fn run_left(alloc: Global, left: Generator, running: Running) -> Result<Running, OutOfMemory>
     requires follows { Follows running (record { plan = the_plan; history = [] }) }
     requires early { IsEarly running 1 }
     requires few { length left ≤ 1000000 }
@@ -50,17 +50,17 @@ fn run_left(alloc: Global, left: Generator, running: Running) -> Result<Running,
 }
 
 // The world after all events of a seed and a number of rounds.
-fn last_world(alloc: Global, seed: u32, count: u32) -> Result<Running, Memory>
+fn last_world(alloc: Global, seed: u32, count: u32) -> Result<Running, OutOfMemory>
     requires { count ≤ 100000 }
     ensures { IfOk result (λ r. Follows r (record { plan = the_plan; history = generated_history seed count })) }
 {
-    events_are_allowed();
+    generated_are_allowed();
     let running = first_world(alloc)?;
     run_left(alloc, Generator::new(seed, count), running)
 }
 
 // The line of how many events came, and of their totals.
-fn line_of(alloc: Global, running: &Running) -> Result<Vec<u8>, Memory>
+fn line_of(alloc: Global, running: &Running) -> Result<Vec<u8>, OutOfMemory>
     ensures { IfOk result (λ text. text.items ≡ codes "generated " ++ decimal running.now.world.steps ++ codes " "
         ++ totals_line_of running.now.totals) }
 {
@@ -72,7 +72,7 @@ fn line_of(alloc: Global, running: &Running) -> Result<Vec<u8>, Memory>
 }
 
 // The line of all events of a seed and a number of rounds.
-fn generated_text(alloc: Global, seed: u32, count: u32) -> Result<Vec<u8>, Memory>
+fn generated_text(alloc: Global, seed: u32, count: u32) -> Result<Vec<u8>, OutOfMemory>
     requires { count ≤ 100000 }
     ensures { IfOk result (λ text. text.items ≡ generated_line (generated_history seed count)) }
 {

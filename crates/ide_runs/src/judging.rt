@@ -1,8 +1,8 @@
 //! The command `judge`: a text is judged by what `run` writes.
 
 ghost use Rattle.std.specs.Prelude.{◌≡◌, ◌≢◌, ◌≤◌, ◌+◌, [], IfErr, IfOk, MatchOption};
-ghost use Rattle.ide_base.specs.Outside.{AsksOnly};
-ghost use Rattle.ide_judge.specs.Judging.{verdicts_limit};
+ghost use Rattle.cli_files.specs.Outside.{AsksOnly};
+ghost use Rattle.line_runs.specs.Judging.{verdicts_limit};
 ghost use Rattle.line_runs.specs.Front.{AskedPieces};
 ghost use Rattle.line_runs.specs.Gathering.{ReadAsFar};
 ghost use Rattle.line_runs.specs.Lines.{file_limit};
@@ -12,9 +12,8 @@ ghost use Rattle.ide_runs.specs.Loading.{topology_limit};
 ghost use Rattle.ide_runs.specs.SoFar.{WroteBy};
 
 use crate::script::run_files;
-use ide_base::{Shelf, Sink, TrueSink};
-use ide_judge::{judge_file, last_line};
-use line_runs::{End, Fault, finish};
+use cli_files::{Shelf, Sink, TrueSink};
+use line_runs::{End, Fault, finish, judge_file, last_line};
 use std::alloc::Global;
 
 // What is left to write of a run that did not come to the end of its script; `None` if it did.
@@ -52,7 +51,7 @@ pub fn judge<S: Shelf, O: Sink>(
         (S.seen shelf.new).asked }
     ensures cap { (S.seen shelf.new).given ≤ (S.seen shelf.old).given + (topology_limit + 1 + (file_limit + 1)
         + (verdicts_limit + 1)) }
-    ensures pieces { AskedPieces (S.seen shelf.old).longest (S.seen shelf.new).longest }
+    ensures read_pieces { AskedPieces (S.seen shelf.old).longest (S.seen shelf.new).longest }
     ensures too_long { IfOk result (λ e. e ≡ End.TooLong → JudgedPast (S.seen shelf.old).given
         (S.seen shelf.new).given) }
     ensures whole { IfOk result (λ e. e ≡ End.Done → (S.seen shelf.new).given

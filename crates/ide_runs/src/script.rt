@@ -1,8 +1,8 @@
 //! Events that are run on the world of a topology, and the command `run`: those of the lines of a script.
 
 ghost use Rattle.std.specs.Prelude.{◌≡◌, ◌≢◌, ◌<◌, ◌≤◌, ◌+◌, ◌^◌, ◌⊎◌, IfErr, IfOk, OnOk, option_map, length, count_by};
-ghost use Rattle.ide_base.specs.Outside.{AsksFor, AsksOnly};
-ghost use Rattle.ide_plan.specs.Fits.{FitsPlan};
+ghost use Rattle.cli_files.specs.Outside.{AsksFor, AsksOnly};
+ghost use Rattle.ide_types.specs.Fits.{FitsPlan};
 ghost use Rattle.line_runs.specs.Front.{AskedPieces, Gave, GaveAtMost, bytes_of};
 ghost use Rattle.line_runs.specs.Gathering.{NoFurther, ReadAsFar, WroteEnded};
 ghost use Rattle.line_runs.specs.Lines.{file_limit};
@@ -18,12 +18,11 @@ ghost use Rattle.ide_runs.specs.Script.{run_due, script_due};
 ghost use Rattle.ide_runs.specs.SoFar.{WroteBy, run_so_far, script_given, script_so_far};
 ghost use Rattle.ide_runs.specs.Works.{EventCame, Follows, IsEarly, MayAsk, ScriptPast, closing_due, ran_event};
 ghost use Rattle.ide_runs.specs.Works.{ran_line, ran_script_event, VerdictCame, totals_with};
-ghost use Rattle.text_laws.specs.Runs.{is_blocked, sealed_count, accepted_in, failed_in, blocked_in};
+ghost use Rattle.law_text.specs.Runs.{is_blocked, sealed_count, accepted_in, failed_in, blocked_in};
 
 use crate::topologies::{Loaded, load, refuse};
-use ide_base::{Shelf, Sink};
-use ide_plan::Plan;
-use ide_types::{Bytes, Memory};
+use cli_files::{Shelf, Sink};
+use ide_types::{Bytes, OutOfMemory, Plan, ValidPlan};
 use ide_why::World;
 use line_runs::{End, Fault, LineWork, run_file};
 use link_events::{Event, LineError, ScriptEvent, lines_spell, parse_line};
@@ -31,7 +30,6 @@ use link_verdicts::{Effect, Totals, Verdict, line, shown, totals_line};
 use script_events::{event_of, events_are_allowed};
 use std::alloc::Global;
 use std::marker::Model;
-use valid_plan::ValidPlan;
 
 /// The world, and the totals of its verdicts so far.
 #[derive(Drop)]
@@ -141,7 +139,7 @@ impl Running {
     }
 
     /// The verdict of an event, which is the `number`th at the most.
-    pub(crate) fn step(&mut self, event: &Event, number: u64) -> Result<Verdict, Memory>
+    pub(crate) fn step(&mut self, event: &Event, number: u64) -> Result<Verdict, OutOfMemory>
         requires number { number < 2 ^ 26 }
         requires early { IsEarly self.old number }
         requires allowed { IsAllowed event.now }
@@ -155,7 +153,11 @@ impl Running {
     }
 
     /// The line of the last event's verdict as it is shown: ports stand in place of ends.
-    pub(crate) fn verdict_line(&self, alloc: Global, verdict: Verdict) -> Result<Vec<u8>, Memory>
+    pub(crate) fn verdict_line(
+        &self,
+        alloc: Global,
+        verdict: Verdict,
+    ) -> Result<Vec<u8>, OutOfMemory>
         ensures { IfOk result (λ text. text.items ≡ line_of self.now.world.steps
             (shown_of self.now.world.plan.peers verdict)) }
     {
@@ -208,7 +210,7 @@ impl ScriptWork {
     }
 
     // The line of the last event's verdict.
-    fn verdict_line(&self, verdict: Verdict) -> Result<Vec<u8>, Memory>
+    fn verdict_line(&self, verdict: Verdict) -> Result<Vec<u8>, OutOfMemory>
         ensures { IfOk result (λ text. text.items ≡ line_of self.now.world.steps
             (shown_of self.now.world.plan.peers verdict)) }
     {
@@ -279,7 +281,7 @@ impl LineWork for ScriptWork {
         End::Done
     }
 
-    fn closing(&self) -> Result<Bytes, Memory> {
+    fn closing(&self) -> Result<Bytes, OutOfMemory> {
         let text = totals_line(self.alloc, &self.running.totals())?;
         Ok(Bytes::new(text))
     }
@@ -306,7 +308,7 @@ fn run_script<S: Shelf, O: Sink>(
         (bytes_of (contents script.now))) (S.seen shelf.old) (S.seen shelf.new)) }
     ensures names { AsksFor script.now (S.seen shelf.old).asked (S.seen shelf.new).asked }
     ensures cap { (S.seen shelf.new).given ≤ (S.seen shelf.old).given + (file_limit + 1) }
-    ensures pieces { AskedPieces (S.seen shelf.old).longest (S.seen shelf.new).longest }
+    ensures read_pieces { AskedPieces (S.seen shelf.old).longest (S.seen shelf.new).longest }
     ensures too_long { IfOk result (λ e. e ≡ End.TooLong → Gave (S.seen shelf.old).given (file_limit + 1)
         (S.seen shelf.new).given) }
     ensures whole { IfOk result (λ e. e ≡ End.Done → (S.seen shelf.new).given ≤ (S.seen shelf.old).given + file_limit) }
@@ -345,7 +347,7 @@ pub fn run_files<S: Shelf, O: Sink>(
     ensures names { AsksOnly (λ name. (name ≡ topology.now) ⊎ (name ≡ script.now)) (S.seen shelf.old).asked
         (S.seen shelf.new).asked }
     ensures cap { (S.seen shelf.new).given ≤ (S.seen shelf.old).given + (topology_limit + 1 + (file_limit + 1)) }
-    ensures pieces { AskedPieces (S.seen shelf.old).longest (S.seen shelf.new).longest }
+    ensures read_pieces { AskedPieces (S.seen shelf.old).longest (S.seen shelf.new).longest }
     ensures too_long { IfOk result (λ e. e ≡ End.TooLong → RanPast (S.seen shelf.old).given (S.seen shelf.new).given) }
     ensures whole { IfOk result (λ e. e ≡ End.Done → (S.seen shelf.new).given
         ≤ (S.seen shelf.old).given + (topology_limit + file_limit)) }

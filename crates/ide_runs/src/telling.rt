@@ -1,8 +1,8 @@
 //! The command `why`: one event of a script, told with what its verdict came from.
 
 ghost use Rattle.std.specs.Prelude.{◌≡◌, ◌≢◌, ◌+◌, ◌<◌, ◌≤◌, ◌^◌, ◌⊎◌, [], IfErr, IfOk, OnOk, option_map};
-ghost use Rattle.ide_base.specs.Outside.{AsksFor, AsksOnly};
-ghost use Rattle.ide_plan.specs.Fits.{FitsPlan};
+ghost use Rattle.cli_files.specs.Outside.{AsksFor, AsksOnly};
+ghost use Rattle.ide_types.specs.Fits.{FitsPlan};
 ghost use Rattle.line_runs.specs.Front.{AskedPieces, Gave, GaveAtMost, bytes_of};
 ghost use Rattle.line_runs.specs.Gathering.{NoFurther, ReadAsFar, WroteEnded};
 ghost use Rattle.line_runs.specs.Lines.{file_limit};
@@ -19,9 +19,8 @@ ghost use Rattle.ide_runs.specs.Works.{Follows, IsEarly, ScriptPast};
 
 use crate::script::{Running, asked};
 use crate::topologies::{Loaded, load, refuse};
-use ide_base::{Shelf, Sink};
-use ide_plan::Plan;
-use ide_types::{Bytes, Memory};
+use cli_files::{Shelf, Sink};
+use ide_types::{Bytes, OutOfMemory, Plan};
 use ide_why::{World, facts, why_text};
 use line_runs::{End, Fault, LineWork, run_file};
 use link_events::{Event, LineError, ScriptEvent};
@@ -46,7 +45,7 @@ impl Model for WhyWork {
 }
 
 // The line for a script that has no event of a number.
-fn no_event(alloc: Global, number: u64, events: u64) -> Result<Bytes, Memory>
+fn no_event(alloc: Global, number: u64, events: u64) -> Result<Bytes, OutOfMemory>
     ensures { IfOk result (λ text. text ≡ no_event_line number events) }
 {
     let text = format!(in alloc; "no event {number}: the script has {events}\n")?;
@@ -85,7 +84,7 @@ impl WhyWork {
 
     // The text of the next event, which is the one that is told: what its verdict comes from is looked up before it is
     // run.
-    fn tell(&mut self, event: &Event, line: u64) -> Result<Bytes, Memory>
+    fn tell(&mut self, event: &Event, line: u64) -> Result<Bytes, OutOfMemory>
         requires number { line < 2 ^ 26 }
         requires early { IsEarly self.old.running line }
         requires allowed { IsAllowed event.now }
@@ -103,7 +102,7 @@ impl WhyWork {
     }
 
     // The text of an event of a history: none but if it is the one that is told. One after it is not run.
-    fn run_event(&mut self, event: &Event, line: u64) -> Result<Bytes, Memory>
+    fn run_event(&mut self, event: &Event, line: u64) -> Result<Bytes, OutOfMemory>
         requires number { line < 2 ^ 26 }
         requires early { IsEarly self.old.running line }
         requires allowed { IsAllowed event.now }
@@ -174,7 +173,7 @@ impl LineWork for WhyWork {
         }
     }
 
-    fn closing(&self) -> Result<Bytes, Memory> {
+    fn closing(&self) -> Result<Bytes, OutOfMemory> {
         if self.running.events() < self.number {
             no_event(self.alloc, self.number, self.running.events())
         } else {
@@ -203,7 +202,7 @@ fn why_script<S: Shelf, O: Sink>(
         (bytes_of (contents script.now))) (S.seen shelf.old) (S.seen shelf.new)) }
     ensures names { AsksFor script.now (S.seen shelf.old).asked (S.seen shelf.new).asked }
     ensures cap { (S.seen shelf.new).given ≤ (S.seen shelf.old).given + (file_limit + 1) }
-    ensures pieces { AskedPieces (S.seen shelf.old).longest (S.seen shelf.new).longest }
+    ensures read_pieces { AskedPieces (S.seen shelf.old).longest (S.seen shelf.new).longest }
     ensures too_long { IfOk result (λ e. e ≡ End.TooLong → Gave (S.seen shelf.old).given (file_limit + 1)
         (S.seen shelf.new).given) }
     ensures whole { IfOk result (λ e. e ≡ End.Done → (S.seen shelf.new).given ≤ (S.seen shelf.old).given + file_limit) }
@@ -243,7 +242,7 @@ pub fn why<S: Shelf, O: Sink>(
     ensures names { AsksOnly (λ name. (name ≡ topology.now) ⊎ (name ≡ script.now)) (S.seen shelf.old).asked
         (S.seen shelf.new).asked }
     ensures cap { (S.seen shelf.new).given ≤ (S.seen shelf.old).given + (topology_limit + 1 + (file_limit + 1)) }
-    ensures pieces { AskedPieces (S.seen shelf.old).longest (S.seen shelf.new).longest }
+    ensures read_pieces { AskedPieces (S.seen shelf.old).longest (S.seen shelf.new).longest }
     ensures too_long { IfOk result (λ e. e ≡ End.TooLong → RanPast (S.seen shelf.old).given (S.seen shelf.new).given) }
     ensures whole { IfOk result (λ e. e ≡ End.Done → (S.seen shelf.new).given
         ≤ (S.seen shelf.old).given + (topology_limit + file_limit)) }

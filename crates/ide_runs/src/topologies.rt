@@ -1,24 +1,18 @@
 //! A topology that is read and checked, or migrated.
 
 ghost use Rattle.std.specs.Prelude.{◌≡◌, ◌≢◌, ◌+◌, ◌<◌, ◌≤◌, IfOk, IfErr, length, option_map, []};
-ghost use Rattle.ide_base.specs.Outside.{AsksFor};
+ghost use Rattle.cli_files.specs.Outside.{AsksFor};
 ghost use Rattle.line_runs.specs.Front.{AskedPieces, Gave, GaveAtMost, GaveOf, bytes_of};
 ghost use Rattle.line_runs.specs.Gathering.{ReadAsFar};
 ghost use Rattle.line_runs.specs.Outcome.{Ran, RanOn};
 ghost use Rattle.ide_runs.specs.Loading.{GaveAllOf, LoadCause, Loads, topology_limit};
 ghost use Rattle.ide_runs.specs.Migrating.{MigratedFor, WritesMigrated};
 ghost use Rattle.ide_runs.specs.SoFar.{WroteBy};
-ghost use Rattle.ide_runs.specs.Topologies.{
-  check_due,
-  loaded,
-  plan_refusal as refusal_of,
-  report as report_of,
-  HasFitting,
-};
+ghost use Rattle.ide_runs.specs.Topologies.{check_due, loaded, plan_refusal as refusal_of, report as report_of};
+ghost use Rattle.ide_runs.specs.Topologies.{HasFitting};
 
-use ide_base::{Shelf, Sink};
-use ide_plan::Plan;
-use ide_types::Memory;
+use cli_files::{Shelf, Sink};
+use ide_types::{OutOfMemory, Plan};
 use line_runs::{End, Fault, Stop, finish, read_front};
 use std::alloc::Global;
 use topology::{PlanError, PlanFault};
@@ -67,7 +61,7 @@ pub(crate) fn load<S: Shelf>(alloc: Global, shelf: &mut S, name: &str) -> Result
         (S.seen shelf.old).given (S.seen shelf.new).given) }
     ensures names { AsksFor name.now (S.seen shelf.old).asked (S.seen shelf.new).asked }
     ensures cap { (S.seen shelf.new).given ≤ (S.seen shelf.old).given + (topology_limit + 1) }
-    ensures pieces { AskedPieces (S.seen shelf.old).longest (S.seen shelf.new).longest }
+    ensures read_pieces { AskedPieces (S.seen shelf.old).longest (S.seen shelf.new).longest }
     ensures long { IfOk result (λ l. l ≡ Loaded.Long → Gave (S.seen shelf.old).given (topology_limit + 1)
         (S.seen shelf.new).given) }
     ensures few { IfOk result (λ l. l ≢ Loaded.Long → GaveAtMost (S.seen shelf.old).given topology_limit
@@ -81,7 +75,7 @@ pub(crate) fn load<S: Shelf>(alloc: Global, shelf: &mut S, name: &str) -> Result
 }
 
 /// The line of a topology's first fault, with its line feed (this profile).
-pub fn refusal(alloc: Global, fault: &PlanFault) -> Result<Vec<u8>, Memory>
+pub fn refusal(alloc: Global, fault: &PlanFault) -> Result<Vec<u8>, OutOfMemory>
     ensures { IfOk result (λ line. line.items ≡ refusal_of fault.now) }
 {
     let mut line = topology::fault_line(alloc, fault)?.into_vec();
@@ -135,7 +129,7 @@ pub fn check_topology<S: Shelf, O: Sink>(
         ≤ length (bytes_of (contents topology.now))) (S.seen shelf.old) (S.seen shelf.new)) }
     ensures names { AsksFor topology.now (S.seen shelf.old).asked (S.seen shelf.new).asked }
     ensures cap { (S.seen shelf.new).given ≤ (S.seen shelf.old).given + (topology_limit + 1) }
-    ensures pieces { AskedPieces (S.seen shelf.old).longest (S.seen shelf.new).longest }
+    ensures read_pieces { AskedPieces (S.seen shelf.old).longest (S.seen shelf.new).longest }
     ensures too_long { IfOk result (λ e. e ≡ End.TooLong → Gave (S.seen shelf.old).given (topology_limit + 1)
         (S.seen shelf.new).given) }
     ensures whole { IfOk result (λ e. e ≡ End.Done → (S.seen shelf.new).given
@@ -185,7 +179,7 @@ pub fn migrate_topology<S: Shelf, O: Sink>(
         ≤ length (bytes_of (contents topology.now))) (S.seen shelf.old) (S.seen shelf.new)) }
     ensures names { AsksFor topology.now (S.seen shelf.old).asked (S.seen shelf.new).asked }
     ensures cap { (S.seen shelf.new).given ≤ (S.seen shelf.old).given + (topology_limit + 1) }
-    ensures pieces { AskedPieces (S.seen shelf.old).longest (S.seen shelf.new).longest }
+    ensures read_pieces { AskedPieces (S.seen shelf.old).longest (S.seen shelf.new).longest }
     ensures too_long { IfOk result (λ e. e ≡ End.TooLong → Gave (S.seen shelf.old).given (topology_limit + 1)
         (S.seen shelf.new).given) }
     ensures whole { IfOk result (λ e. e ≡ End.Done → (S.seen shelf.new).given

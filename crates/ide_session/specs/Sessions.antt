@@ -4,7 +4,7 @@ use Rattle.link_events.specs.declared.fault.LineFault.{LineFault}
 use Rattle.link_events.specs.declared.script.ScriptEvent.{ScriptEvent}
 use Rattle.link_events.specs.Parse.{line_meaning}
 use Rattle.link_events.specs.Words.{fault_line_of}
-use Rattle.ide_plan.specs.declared.plan.Plan.{Plan}
+use Rattle.ide_types.specs.declared.plan.Plan.{Plan}
 use Rattle.line_runs.specs.declared.ends.End.TheVariants as end
 use Rattle.line_runs.specs.Gain.{Text}
 use Rattle.ide_runs.specs.declared.topologies.Loaded.TheVariants.{Sound}
@@ -32,14 +32,14 @@ abbrev pub going_of : Session → Option Going
 going_of s = going_with s.text s.slot
 
 -- of what a handle keeps: a session that goes on, or none
-abbrev pub going : Option Session → Option Going
-going None = None
-going (Some s) = going_of s
+abbrev pub kept_session : Option Session → Option Going
+kept_session None = None
+kept_session (Some s) = going_of s
 
 -- ---- a line
 
 -- the past and the text that are due were given: this text, and the state follows that past
-pub record Gave (due : Result (ScriptPast × Text) LineFault) (new : RunningView) (text : Text) : Type 0 where
+pub record GaveText (due : Result (ScriptPast × Text) LineFault) (new : RunningView) (text : Text) : Type 0 where
   pub past : ScriptPast
   pub is : due ≡ Ok (past, text)
   pub follows : Follows new past
@@ -48,14 +48,14 @@ pub record Gave (due : Result (ScriptPast × Text) LineFault) (new : RunningView
 -- past with it
 abbrev pub MeaningGave : RunningView → Option ScriptEvent → RunningView → Text → Type 0
 MeaningGave old asked new text =
-    (past : ScriptPast) → Follows old past → Gave (by_meaning past (Ok asked)) new text
+    (past : ScriptPast) → Follows old past → GaveText (by_meaning past (Ok asked)) new text
 
 -- The line was taken: after whatever past the session follows, its text is the one that is due, it is kept, and the
 -- session follows the past with it.
 pub record TookLine (old : Going) (line : Text) (new : Going) : Type 0 where
   pub lines_are : new.lines ≡ old.lines + 1
   pub gave : (past : ScriptPast) → Follows old.running past
-      → Gave (ran_line past (old.lines + 1) line) new.running new.text
+      → GaveText (ran_line past (old.lines + 1) line) new.running new.text
 
 abbrev pub KeptGave : Option Going → Text → Option Going → Type 0
 KeptGave (Some old) line (Some new) = TookLine old line new
@@ -87,11 +87,11 @@ abbrev pub IsFull : Option Going → Type 0
 IsFull None = ⊥
 IsFull (Some s) = most_lines ≤ s.lines
 
-abbrev pub EventCame : Option Going → Option ScriptEvent → Option Going → Result (Unit {0}) NotRun → Type 0
-EventCame old asked new (Ok u) = KeptMade old asked new
-EventCame old asked new (Err (not_run.Fault fault)) = ⊥
-EventCame old asked new (Err not_run.Full) = (new ≡ old) × IsFull old
-EventCame old asked new (Err not_run.Memory) = (new ≡ old) ⊎ (new ≡ None)
+abbrev pub SessionEventCame : Option Going → Option ScriptEvent → Option Going → Result (Unit {0}) NotRun → Type 0
+SessionEventCame old asked new (Ok u) = KeptMade old asked new
+SessionEventCame old asked new (Err (not_run.Fault fault)) = ⊥
+SessionEventCame old asked new (Err not_run.Full) = (new ≡ old) × IsFull old
+SessionEventCame old asked new (Err not_run.Memory) = (new ≡ old) ⊎ (new ≡ None)
 
 -- what a session makes of a line
 abbrev pub LineCame : Option Going → Text → Option Going → Result (Unit {0}) NotRun → Type 0
@@ -103,7 +103,7 @@ LineCame old line new (Err not_run.Memory) = (new ≡ old) ⊎ (new ≡ None)
 -- ---- a text in the buffer
 
 -- so many bytes the text has, and it is in the buffer if that has room
-pub record Wrote (text : Text) (written : ℕ) (buf : Text) : Type 0 where
+pub record WroteBuffer (text : Text) (written : ℕ) (buf : Text) : Type 0 where
   pub length_is : written ≡ length text
   pub copied : written ≤ length buf → take written buf ≡ text
 
@@ -145,16 +145,16 @@ BeginCame Memory plan new = new ≡ None
 BeginCame _ plan new = ⊥
 
 -- the session of the plan that a topology's bytes mean
-pub record Begun (topology : Text) (new : Option Going) : Type 0 where
+pub record BegunSession (topology : Text) (new : Option Going) : Type 0 where
   pub plan : Plan
   pub plan_is : loaded topology ≡ Sound plan
   pub session : IsSessionOf plan new
 
 -- of a handle with no session
 abbrev pub EmptyCame : Answer → Text → Option Going → ℕ → Text → Type 0
-EmptyCame Done topology new written buf = Begun topology new × (written ≡ 0)
+EmptyCame Done topology new written buf = BegunSession topology new × (written ≡ 0)
 EmptyCame Topology topology new written buf =
-    (new ≡ None) × ((check_due topology).0 ≡ end.Topology) × Wrote (check_due topology).1 written buf
+    (new ≡ None) × ((check_due topology).0 ≡ end.Topology) × WroteBuffer (check_due topology).1 written buf
 EmptyCame TooLong topology new written buf = (new ≡ None) × ((check_due topology).0 ≡ end.TooLong) × (written ≡ 0)
 EmptyCame Memory topology new written buf = (new ≡ None) × (written ≡ 0)
 EmptyCame _ topology new written buf = ⊥
@@ -166,7 +166,7 @@ OpenCame answer (Some s) topology new written buf = (answer ≡ Open) × (new �
 abbrev pub StepCame : Answer → Option Going → Text → Option Going → ℕ → Text → Type 0
 StepCame Done old line new written buf = KeptGave old line new × WroteWhole (last_text new) written buf
 StepCame Room old line new written buf = KeptGave old line new × NoRoom (last_text new) written buf
-StepCame Script old line new written buf = (new ≡ old) × IsRefused old line (λ text. Wrote text written buf)
+StepCame Script old line new written buf = (new ≡ old) × IsRefused old line (λ text. WroteBuffer text written buf)
 StepCame TooLong old line new written buf = (new ≡ old) × IsFull old × (written ≡ 0)
 StepCame Memory old line new written buf = ((new ≡ old) ⊎ (new ≡ None)) × (written ≡ 0)
 StepCame Closed old line new written buf = (old ≡ None) × (new ≡ None) × (written ≡ 0)
@@ -178,7 +178,7 @@ IsNotFull cause = Unit {0}
 
 -- of a line that was not run
 abbrev pub RefusalCame : Answer → ℕ → NotRun → ℕ → Text → Type 0
-RefusalCame Script n (not_run.Fault fault) written buf = Wrote (fault_line_of n fault) written buf
+RefusalCame Script n (not_run.Fault fault) written buf = WroteBuffer (fault_line_of n fault) written buf
 RefusalCame Memory n cause written buf = (written ≡ 0) × IsNotFull cause
 RefusalCame TooLong n not_run.Full written buf = written ≡ 0
 RefusalCame _ n cause written buf = ⊥

@@ -24,11 +24,11 @@ pub enum Answer {
 }
 
 impl Answer {
-    ghost use Rattle.ide_session.specs.Answers.{code_of};
+    ghost use Rattle.ide_session.specs.Answers.{answer_code_of};
 
     /// The number of the answer, by this profile's table of answers.
     pub fn code(self) -> u32
-        ensures { result ≡ code_of self }
+        ensures { result ≡ answer_code_of self }
     {
         self as u32
     }

@@ -6,7 +6,7 @@ ghost use Rattle.std.specs.Coded.{coded_option};
 ghost use Rattle.ide_session.specs.declared.session.Session.{Session};
 ghost use Rattle.ide_session.specs.contracts.session.Session.{the_row};
 ghost use Rattle.ide_session.specs.Holding.{heap_token, holding_owns};
-ghost use Rattle.ide_session.specs.Sessions.{going};
+ghost use Rattle.ide_session.specs.Sessions.{kept_session};
 
 use crate::loose::Loose;
 use crate::session::Session;
@@ -62,14 +62,14 @@ impl Held {
 pub struct Handle {
     pub(crate) held: Held,
     pub(crate) live: bool,
-    pub ghost goes_on: { IsTrue live → IsSome (going held.kept) },
+    pub ghost goes_on: { IsTrue live → IsSome (kept_session held.kept) },
     pub ghost is_empty: { live ≡ false → held.kept ≡ None },
 }
 
 /// Takes the session out of its handle.
 pub(crate) fn unhold(s: &mut Handle, alloc: Global) -> Option<Box<Session>>
     ensures kept { IfSome result (λ b. s.old.held.kept ≡ Some b.value) }
-    ensures goes_on { IsSome result → IsSome (going s.old.held.kept) }
+    ensures goes_on { IsSome result → IsSome (kept_session s.old.held.kept) }
     ensures none { IsNone result → s.old.held.kept ≡ None }
     ensures empty { s.new.held.kept ≡ None }
 {
@@ -84,7 +84,7 @@ pub(crate) fn unhold(s: &mut Handle, alloc: Global) -> Option<Box<Session>>
 /// Puts a session that goes on into an empty handle; one that is over is freed.
 pub(crate) fn hold(s: &mut Handle, b: Box<Session>)
     requires { s.old.held.kept ≡ None }
-    ensures { going s.new.held.kept ≡ going (Some b.value) }
+    ensures { kept_session s.new.held.kept ≡ kept_session (Some b.value) }
 {
     if b.as_ref().goes_on() {
         s.held = Held::of(Loose::of(b));

@@ -3,10 +3,10 @@
 #![tactic(auto)]
 
 ghost use Rattle.std.specs.Prelude.{◌≡◌, IfSome, IsSome, None};
-ghost use Rattle.ide_plan.specs.Fits.{FitsPlan};
-ghost use Rattle.ide_session.specs.Answers.{Answered};
+ghost use Rattle.ide_types.specs.Fits.{FitsPlan};
+ghost use Rattle.ide_session.specs.Answers.{AnswersWithCode};
 ghost use Rattle.ide_session.specs.Sessions.{BeginCame, CloseCame, LastCame, OpenCame, RefusalCame, StepCame, TextCame};
-ghost use Rattle.ide_session.specs.Sessions.{TotalsCame, TotalsSaid, going, going_of};
+ghost use Rattle.ide_session.specs.Sessions.{TotalsCame, TotalsSaid, kept_session, going_of};
 
 pub mod answer;
 pub mod held;
@@ -15,8 +15,8 @@ pub mod session;
 
 use answer::Answer;
 use held::{Handle, hold, unhold};
-use ide_plan::Plan;
 use ide_runs::{Loaded, World, load_bytes, refusal};
+use ide_types::Plan;
 use link_events::fault_line;
 use session::{NotRun, Session};
 use std::alloc::Global;
@@ -43,7 +43,7 @@ fn give(text: &[u8], buf: &mut [u8], written: &mut usize) -> Answer
 fn begin(alloc: Global, plan: Plan, s: &mut Handle) -> Answer
     requires fits { FitsPlan plan }
     requires empty { s.old.held.kept ≡ None }
-    ensures { BeginCame result plan (going s.new.held.kept) }
+    ensures { BeginCame result plan (kept_session s.new.held.kept) }
 {
     let Ok(world) = World::make(alloc, plan) else {
         return Answer::Memory;
@@ -65,7 +65,8 @@ fn begin_on(
     buf: &mut [u8],
     written: &mut usize,
 ) -> Answer
-    ensures { OpenCame result (going s.old.held.kept) topology.now (going s.new.held.kept) written.new buf.new }
+    ensures { OpenCame result (kept_session s.old.held.kept) topology.now (kept_session s.new.held.kept) written.new
+        buf.new }
 {
     *written = 0;
     if s.live {
@@ -95,7 +96,8 @@ pub extern "C" fn ide_open(
     buf: &mut [u8],
     written: &mut usize,
 ) -> u32
-    ensures { Answered (λ a. OpenCame a (going s.old.held.kept) topology.now (going s.new.held.kept) written.new
+    ensures { AnswersWithCode (λ a. OpenCame a (kept_session s.old.held.kept) topology.now
+        (kept_session s.new.held.kept) written.new
         buf.new) result }
 {
     begin_on(alloc, s, topology, buf, written).code()
@@ -148,7 +150,7 @@ fn step_on(
     buf: &mut [u8],
     written: &mut usize,
 ) -> Answer
-    ensures { StepCame result (going s.old.held.kept) line.now (going s.new.held.kept) written.new buf.new }
+    ensures { StepCame result (kept_session s.old.held.kept) line.now (kept_session s.new.held.kept) written.new buf.new }
 {
     *written = 0;
     match unhold(s, alloc) {
@@ -171,7 +173,8 @@ pub extern "C" fn ide_step(
     buf: &mut [u8],
     written: &mut usize,
 ) -> u32
-    ensures { Answered (λ a. StepCame a (going s.old.held.kept) line.now (going s.new.held.kept) written.new buf.new)
+    ensures { AnswersWithCode (λ a. StepCame a (kept_session s.old.held.kept) line.now (kept_session s.new.held.kept)
+        written.new buf.new)
         result }
 {
     step_on(alloc, s, line, buf, written).code()
@@ -181,7 +184,7 @@ pub extern "C" fn ide_step(
 
 // The text of the line that was taken last, of a handle that may have a session.
 fn last_of(alloc: Global, s: &mut Handle, buf: &mut [u8], written: &mut usize) -> Answer
-    ensures { LastCame result (going s.old.held.kept) (going s.new.held.kept) written.new buf.new }
+    ensures { LastCame result (kept_session s.old.held.kept) (kept_session s.new.held.kept) written.new buf.new }
 {
     *written = 0;
     match unhold(s, alloc) {
@@ -202,7 +205,8 @@ pub extern "C" fn ide_text(
     buf: &mut [u8],
     written: &mut usize,
 ) -> u32
-    ensures { Answered (λ a. LastCame a (going s.old.held.kept) (going s.new.held.kept) written.new buf.new) result }
+    ensures { AnswersWithCode (λ a. LastCame a (kept_session s.old.held.kept) (kept_session s.new.held.kept) written.new
+        buf.new) result }
 {
     last_of(alloc, s, buf, written).code()
 }
@@ -220,7 +224,7 @@ fn totals(session: &Session, buf: &mut [u8], written: &mut usize) -> Answer
 
 // The same of a handle that may have a session.
 fn totals_of(alloc: Global, s: &mut Handle, buf: &mut [u8], written: &mut usize) -> Answer
-    ensures { TotalsCame result (going s.old.held.kept) (going s.new.held.kept) written.new buf.new }
+    ensures { TotalsCame result (kept_session s.old.held.kept) (kept_session s.new.held.kept) written.new buf.new }
 {
     *written = 0;
     match unhold(s, alloc) {
@@ -241,7 +245,8 @@ pub extern "C" fn ide_totals(
     buf: &mut [u8],
     written: &mut usize,
 ) -> u32
-    ensures { Answered (λ a. TotalsCame a (going s.old.held.kept) (going s.new.held.kept) written.new buf.new) result }
+    ensures { AnswersWithCode (λ a. TotalsCame a (kept_session s.old.held.kept) (kept_session s.new.held.kept)
+        written.new buf.new) result }
 {
     totals_of(alloc, s, buf, written).code()
 }
@@ -250,7 +255,7 @@ pub extern "C" fn ide_totals(
 
 // Frees the session of a handle, if it has one.
 fn end_of(alloc: Global, s: &mut Handle) -> Answer
-    ensures { CloseCame result (going s.old.held.kept) (going s.new.held.kept) }
+    ensures { CloseCame result (kept_session s.old.held.kept) (kept_session s.new.held.kept) }
 {
     match unhold(s, alloc) {
         None => Answer::Closed,
@@ -261,7 +266,7 @@ fn end_of(alloc: Global, s: &mut Handle) -> Answer
 /// Ends a session and frees its memory.
 #[unsafe(no_mangle)]
 pub extern "C" fn ide_close(alloc: Global, s: &mut Handle) -> u32
-    ensures { Answered (λ a. CloseCame a (going s.old.held.kept) (going s.new.held.kept)) result }
+    ensures { AnswersWithCode (λ a. CloseCame a (kept_session s.old.held.kept) (kept_session s.new.held.kept)) result }
 {
     end_of(alloc, s).code()
 }

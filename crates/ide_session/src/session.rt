@@ -4,7 +4,7 @@ ghost use Rattle.std.specs.Prelude.{◌≡◌, ◌<◌, ◌+◌, ◌^◌, ◌↔
 ghost use Rattle.ide_runs.specs.Works.{IsEarly, MayAsk};
 
 use ide_runs::{ScriptWork, World, asked};
-use ide_types::{Bytes, Memory};
+use ide_types::{Bytes, OutOfMemory};
 use line_runs::LineWork;
 use link_events::{LineError, LineFault, ScriptEvent};
 use std::alloc::Global;
@@ -56,7 +56,7 @@ impl Live {
     }
 
     // The text of a line that asks for this event, or for none. The session is over if there is no memory.
-    fn run(self, alloc: Global, event: Option<ScriptEvent>) -> Result<(Live, Bytes), Memory>
+    fn run(self, alloc: Global, event: Option<ScriptEvent>) -> Result<(Live, Bytes), OutOfMemory>
         requires few { self.lines < 67108862 }
         requires allowed { MayAsk event }
         ensures gave { IfOk result (λ p. MeaningGave self.work event p.0.work p.1) }
@@ -68,14 +68,14 @@ impl Live {
         match event {
             None => Ok((Live { work, lines }, Bytes::new(Vec::new(alloc)))),
             Some(event) => match work.run_script_event(event, lines) {
-                Err(_) => Err(Memory),
+                Err(_) => Err(OutOfMemory),
                 Ok(text) => Ok((Live { work, lines }, text)),
             },
         }
     }
 
     // The line of the totals.
-    fn totals(&self) -> Result<Bytes, Memory>
+    fn totals(&self) -> Result<Bytes, OutOfMemory>
         ensures { IfOk result (λ text. IsTotals self.now.work text) }
     {
         self.work.closing()
@@ -83,7 +83,7 @@ impl Live {
 }
 
 impl Session {
-    ghost use Rattle.ide_session.specs.Sessions.{EventCame, LineCame, IsTotals, going_of};
+    ghost use Rattle.ide_session.specs.Sessions.{SessionEventCame, LineCame, IsTotals, going_of};
 
     /// The session of a world before the first event.
     pub(crate) fn new(alloc: Global, world: World) -> Session
@@ -118,7 +118,7 @@ impl Session {
     // Runs what a line asks for: an event, or none.
     fn run(&mut self, alloc: Global, event: Option<ScriptEvent>) -> Result<(), NotRun>
         requires allowed { MayAsk event }
-        ensures { EventCame (going_of self.old) event (going_of self.new) result }
+        ensures { SessionEventCame (going_of self.old) event (going_of self.new) result }
     {
         match self.slot.take() {
             None => Err(NotRun::Memory),
@@ -163,12 +163,12 @@ impl Session {
     }
 
     /// The line of the totals.
-    pub(crate) fn totals(&self) -> Result<Bytes, Memory>
+    pub(crate) fn totals(&self) -> Result<Bytes, OutOfMemory>
         ensures { IfSome (going_of self.now) (λ s. IfOk result (λ text. IsTotals s.running text)) }
     {
         match &self.slot {
             Some(live) => live.totals(),
-            None => Err(Memory),
+            None => Err(OutOfMemory),
         }
     }
 }

@@ -5,35 +5,26 @@ use Rattle.ide_types.specs.declared.sub.SubKind.{SubKind}
 use Rattle.ide_types.specs.declared.sub.SubKind.TheVariants.{Pr, Npr, Cpl}
 use Rattle.ide_types.specs.declared.port.Side.{Side}
 use Rattle.ide_prefix.specs.Packet.{Packet}
-use Rattle.stream_rules.specs.Sending.{Sending, sealed_by, refusals, first_that_holds}
-use Rattle.stream_rules.specs.Stream.{
-  LaneSlots,
-  TxSub,
-  RxSub,
-  Three,
-  StreamState,
-  at_sub,
-  set_sub,
-  slot_in_set,
-  live_in,
-}
-use Rattle.stream_rules.specs.Stream.{Taken}
-use Rattle.stream_rules.specs.Stream.{Insecure, NotKeyed, Failed, Held, Accepted, dropped_held, taken_under}
-use Rattle.stream_rules.specs.Stream.{state_after}
-use Rattle.sub_stream.specs.{answer_of}
+use Rattle.spec_stream.specs.Sending.{Sending, sealed_with_syncs, refusals, first_that_holds}
+use Rattle.spec_stream.specs.Stream.{LaneSlots, TxSub, RxSub, Three, StreamState, at_sub, set_sub, slot_in_set, live_in}
+use Rattle.spec_stream.specs.Stream.{Taken}
+use Rattle.spec_stream.specs.Stream.{Insecure, NotKeyed, Failed, Held, Accepted, dropped_held, stream_outcome_by_keys}
+use Rattle.spec_stream.specs.Stream.{state_after}
+use Rattle.sub_stream.specs.{answer_taken}
 use Rattle.sub_stream.specs.declared.answer.MeasuredPacket.{MeasuredPacket}
 use Rattle.sub_stream.specs.declared.answer.Taken.{Taken as Answer}
 use Rattle.sub_stream.specs.declared.answer.Taken.TheVariants as answers
 use Rattle.key_slots.specs.{KeyCall}
 use Rattle.ide_stream.specs.declared.directions.Directions.{Directions}
-use Rattle.ide_stream.specs.Ends.{StreamEnd, lanes_in, taken_in, end_taken}
-use Rattle.ide_stream.specs.Sends.{ok_unless_verdict, refused, unless_verdict, IsSent, sealing}
+use Rattle.ide_stream.specs.Ends.{StreamEnd, lanes_in, end_outcome, end_taken}
+use Rattle.ide_stream.specs.Sends.{ok_unless_verdict, sending_refusal, unless_verdict, IsSent, sealing}
 use Rattle.stream_lanes.specs.declared.refusal.SendRefusal.{SendRefusal}
 use Rattle.stream_lanes.specs.declared.refusal.SendRefusal.TheVariants.{Insecure as InsecureStream}
-use Rattle.stream_lanes.specs.{SendEnds, any_out, settled_out, IsSealed, packet_lengths, joined_packets, ReceiveEnds}
+use Rattle.stream_lanes.specs.{SendEnds, any_out, settled_senders, IsSealed, packet_lengths, joined_packets}
+use Rattle.stream_lanes.specs.{ReceiveEnds}
 use Rattle.stream_lanes.specs.{sealing_lanes, refusal_verdict, IsSealedOrRefused}
-use Rattle.stream_lanes.specs.{receiving_state, taken_among, opened_after, ends_after, is_fail}
-use Rattle.ide_stream.specs.Both.{called_directions, rested_directions, end_of, AtMost, IsStream}
+use Rattle.stream_lanes.specs.{receiving_state, lanes_outcome, opened_if_accepted, receive_ends_after, is_fail}
+use Rattle.ide_stream.specs.Both.{called_directions, rested_directions, end_of_directions, AtMost, IsStream}
 
 -- ---- calls of key management
 
@@ -41,7 +32,7 @@ if_less : (b : Bool) (n calls : ℕ) → n ≤ calls → (if b then n else 0) �
 if_less true n calls le = le
 if_less false n calls le = omega arith
 
-settled_few : (tx : Three TxSub) (calls : ℕ) → AtMost tx calls → AtMost (settled_out tx) calls
+settled_few : (tx : Three TxSub) (calls : ℕ) → AtMost tx calls → AtMost (settled_senders tx) calls
 settled_few tx calls few = record {
   pr = if_less (any_out tx) tx.pr.total calls few.pr;
   npr = if_less (any_out tx) tx.npr.total calls few.npr;
@@ -57,13 +48,13 @@ slots_few Cpl tx slots calls few = record { pr = few.pr; npr = few.npr; cpl = fe
 pub call-kept : (sends : Bool) (u : SubKind) (call : KeyCall) (d : Directions) (calls : ℕ) → IsStream d calls
     → IsStream (rested_directions (called_directions sends u call d)) calls
 call-kept true u call d calls inv = record {
-  same_mode = inv.same_mode;
+  same_aggregation = inv.same_aggregation;
   same_closed = inv.same_closed;
   few_totals = settled_few (called_directions true u call d).tx.tx calls (slots_few u d.tx.tx _ calls inv.few_totals);
   few_takes = inv.few_takes;
 }
 call-kept false u call d calls inv = record {
-  same_mode = inv.same_mode;
+  same_aggregation = inv.same_aggregation;
   same_closed = inv.same_closed;
   few_totals = settled_few d.tx.tx calls inv.few_totals;
   few_takes = inv.few_takes;
@@ -75,7 +66,7 @@ pub send-kept : (d : Directions) (calls : ℕ) (new : SendEnds) → IsStream d c
     → ((u : SubKind) → (at_sub new.tx u).total ≤ (at_sub d.tx.tx u).total + 1)
     → IsStream (record d { tx = new }) (calls + 1)
 send-kept d calls new inv same totals = record {
-  same_mode = inv.same_mode ∙ ap (λ (x : SendEnds). x.fixed.mode) (sym same);
+  same_aggregation = inv.same_aggregation ∙ ap (λ (x : SendEnds). x.fixed.aggregation) (sym same);
   same_closed = inv.same_closed ∙ ap (λ (x : SendEnds). x.fixed.closed) (sym same);
   few_totals = record {
     pr = omega (arith, totals Pr, inv.few_totals.pr);
@@ -87,31 +78,34 @@ send-kept d calls new inv same totals = record {
 
 sent-so : (side : Side) (d : Directions) (calls : ℕ) (head payload : List ℕ) (s : Sending) (number : ℕ)
     (sealed : List MeasuredPacket) (before after : List ℕ) (new : SendEnds)
-    → refused (end_of side d calls) s ≡ None → IsSealed d.tx head payload s number sealed before after new
-    → IsSent (end_of side d calls) head payload s number (Ok sealed) before after
-    (end_of side (record d { tx = new }) (calls + 1))
+    → sending_refusal (end_of_directions side d calls) s ≡ None
+    → IsSealed d.tx head payload s number sealed before after new
+    → IsSent (end_of_directions side d calls) head payload s number (Ok sealed) before after
+    (end_of_directions side (record d { tx = new }) (calls + 1))
 sent-so side d calls head payload s number sealed before after new clear is =
-    let e : StreamEnd = end_of side d calls in
+    let e : StreamEnd = end_of_directions side d calls in
     let all = sealing e head payload s number in
     record {
-      answered = ap Ok is.answered ∙ ap (λ o. ok_unless_verdict o (sealed_by (lanes_in e) s number)) (sym clear);
+      answered = ap Ok is.answered ∙ ap (λ o. ok_unless_verdict o (sealed_with_syncs (lanes_in e) s number))
+          (sym clear);
       lengths = is.lengths ∙ ap (λ o. packet_lengths (unless_verdict o [] all.0)) (sym clear);
       bytes = is.bytes ∙ ap (λ o. before ++ joined_packets (unless_verdict o [] all.0)) (sym clear);
       stream =
-          ap (λ (x : SendEnds). end_of side (record d { tx = x }) (calls + 1)) is.senders
+          ap (λ (x : SendEnds). end_of_directions side (record d { tx = x }) (calls + 1)) is.senders
           ∙ ap (λ o. record e { state = unless_verdict o e.state (record e.state { tx = all.1 }); calls = calls + 1 })
           (sym clear);
     }
 
-refused-so : (side : Side) (d : Directions) (calls : ℕ) (head payload : List ℕ) (s : Sending) (number : ℕ)
+sending_refusal-so : (side : Side) (d : Directions) (calls : ℕ) (head payload : List ℕ) (s : Sending) (number : ℕ)
     (refusal : SendRefusal) (before : List ℕ)
-    → refused (end_of side d calls) s ≡ Some (refusal_verdict refusal)
-    → IsSent (end_of side d calls) head payload s number (Err refusal) before before (end_of side d (calls + 1))
-refused-so side d calls head payload s number refusal before is =
-    let e : StreamEnd = end_of side d calls in
+    → sending_refusal (end_of_directions side d calls) s ≡ Some (refusal_verdict refusal)
+    → IsSent (end_of_directions side d calls) head payload s number (Err refusal) before before
+    (end_of_directions side d (calls + 1))
+sending_refusal-so side d calls head payload s number refusal before is =
+    let e : StreamEnd = end_of_directions side d calls in
     let all = sealing e head payload s number in
     record {
-      answered = ap (λ o. ok_unless_verdict o (sealed_by (lanes_in e) s number)) (sym is);
+      answered = ap (λ o. ok_unless_verdict o (sealed_with_syncs (lanes_in e) s number)) (sym is);
       lengths = ap (λ o. packet_lengths (unless_verdict o [] all.0)) (sym is);
       bytes = sym (append-nil before) ∙ ap (λ o. before ++ joined_packets (unless_verdict o [] all.0)) (sym is);
       stream =
@@ -122,18 +116,20 @@ refused-so side d calls head payload s number refusal before is =
 pub insecure-so : (side : Side) (d : Directions) (calls : ℕ) (head payload : List ℕ) (s : Sending) (number : ℕ)
     (before : List ℕ)
     → d.failed ≡ true
-    → IsSent (end_of side d calls) head payload s number (Err InsecureStream) before before (end_of side d (calls + 1))
+    → IsSent (end_of_directions side d calls) head payload s number (Err InsecureStream) before before
+    (end_of_directions side d (calls + 1))
 insecure-so side d calls head payload s number before failed =
-    refused-so side d calls head payload s number InsecureStream before
-    (ap (λ (b : Bool). first_that_holds (refusals (record (lanes_in (end_of side d calls)) { failed = b }) s.class))
+    sending_refusal-so side d calls head payload s number InsecureStream before
+    (ap (λ (b : Bool). first_that_holds
+    (refusals (record (lanes_in (end_of_directions side d calls)) { failed = b }) s.class))
     failed)
 
 -- of a stream that has not failed, what its senders make of it
 pub sent-among : (side : Side) (d : Directions) (calls : ℕ) (head payload : List ℕ) (s : Sending) (number : ℕ)
     (answer : Result (List MeasuredPacket) SendRefusal) (before after : List ℕ) (new : SendEnds)
     → d.failed ≡ false → IsSealedOrRefused d.tx head payload s number answer before after new
-    → IsSent (end_of side d calls) head payload s number answer before after
-    (end_of side (record d { tx = new }) (calls + 1))
+    → IsSent (end_of_directions side d calls) head payload s number answer before after
+    (end_of_directions side (record d { tx = new }) (calls + 1))
 sent-among side d calls head payload s number (Ok sealed) before after new clear is =
     let first = ap (λ (b : Bool). first_that_holds (refusals (record (sealing_lanes d.tx) { failed = b }) s.class))
     clear in
@@ -141,9 +137,10 @@ sent-among side d calls head payload s number (Ok sealed) before after new clear
 sent-among side d calls head payload s number (Err refusal) before after new clear is =
     let first = ap (λ (b : Bool). first_that_holds (refusals (record (sealing_lanes d.tx) { failed = b }) s.class))
     clear in
-    subst (λ (y : List ℕ × SendEnds). IsSent (end_of side d calls) head payload s number (Err refusal) before y.0
-    (end_of side (record d { tx = y.1 }) (calls + 1))) (λ i. (sym is.1 i, sym is.2 i))
-    (refused-so side d calls head payload s number refusal before (first ∙ is.0))
+    subst (λ (y : List ℕ × SendEnds). IsSent (end_of_directions side d calls) head payload s number (Err refusal) before
+    y.0
+    (end_of_directions side (record d { tx = y.1 }) (calls + 1))) (λ i. (sym is.1 i, sym is.2 i))
+    (sending_refusal-so side d calls head payload s number refusal before (first ∙ is.0))
 
 -- only the three senders change
 pub senders-alone : (old : SendEnds) (head payload : List ℕ) (s : Sending) (number : ℕ)
@@ -160,9 +157,9 @@ abbrev all_dropped : Three RxSub → Three RxSub
 all_dropped rx = record { pr = dropped_held rx.pr; npr = dropped_held rx.npr; cpl = dropped_held rx.cpl }
 
 pub take-kept : (d : Directions) (calls : ℕ) (p : Packet) (failed : Bool) → IsStream d calls
-    → IsStream (record d { rx = ends_after d.rx p (taken_among d.rx p); failed = failed }) (calls + 1)
+    → IsStream (record d { rx = receive_ends_after d.rx p (lanes_outcome d.rx p); failed = failed }) (calls + 1)
 take-kept d calls p failed inv = record {
-  same_mode = inv.same_mode;
+  same_aggregation = inv.same_aggregation;
   same_closed = inv.same_closed;
   few_totals = record {
     pr = omega (arith, inv.few_totals.pr);
@@ -174,16 +171,18 @@ take-kept d calls p failed inv = record {
 
 -- the answer is that of the stream
 pub taken-among : (side : Side) (d : Directions) (calls : ℕ) (p : Packet) → IsStream d calls → d.failed ≡ false
-    → taken_among d.rx p ≡ taken_in (end_of side d calls) p
+    → lanes_outcome d.rx p ≡ end_outcome (end_of_directions side d calls) p
 taken-among side d calls p inv clear =
     let slots = (at_sub d.rx.rx p.prefix.sub).slots in
-    (λ i. taken_under (inv.same_mode i) (inv.same_closed i) d.rx.rx p (live_in (slot_in_set slots p.prefix.k))
+    (λ i. stream_outcome_by_keys (inv.same_aggregation i) (inv.same_closed i) d.rx.rx p
+    (live_in (slot_in_set slots p.prefix.k))
     (live_in (slot_in_set slots (not p.prefix.k))))
-    ∙ ap (λ (b : Bool). if b then Insecure else taken_under d.tx.fixed.mode d.tx.fixed.closed d.rx.rx p
+    ∙ ap (λ (b : Bool). if b then Insecure else stream_outcome_by_keys d.tx.fixed.aggregation d.tx.fixed.closed d.rx.rx
+    p
     (live_in (slot_in_set slots p.prefix.k)) (live_in (slot_in_set slots (not p.prefix.k)))) (sym clear)
 
 state_is : (tx : Three TxSub) (rx : Three RxSub) (failed : Bool) (p : Packet) (t : Taken) (a : Answer) → failed ≡ false
-    → Some a ≡ answer_of t
+    → Some a ≡ answer_taken t
     → ◌≡◌ {A = StreamState}
     (record {
       tx = tx;
@@ -220,7 +219,8 @@ rx_alone x tx failed p (Held j n) = refl
 rx_alone x tx failed p (Accepted j n unit) = refl
 
 lent_alone : (x : ReceiveEnds) (tx : Three TxSub) (failed : Bool) (p : Packet) (t : Taken)
-    → opened_after (receiving_state x) p t ≡ opened_after (record { tx = tx; rx = x.rx; failed = failed }) p t
+    → opened_if_accepted (receiving_state x) p t ≡ opened_if_accepted (record { tx = tx; rx = x.rx; failed = failed }) p
+    t
 lent_alone x tx failed p Insecure = refl
 lent_alone x tx failed p NotKeyed = refl
 lent_alone x tx failed p (Failed cause) = refl
@@ -228,21 +228,26 @@ lent_alone x tx failed p (Held j n) = refl
 lent_alone x tx failed p (Accepted j n unit) = refl
 
 pub end-taken : (side : Side) (d : Directions) (calls : ℕ) (p : Packet) (a : Answer) → IsStream d calls → d.failed
-    ≡ false → Some a ≡ answer_of (taken_among d.rx p)
-    → end_of side (record d { rx = ends_after d.rx p (taken_among d.rx p); failed = is_fail a }) (calls + 1)
-    ≡ end_taken (end_of side d calls) p
+    ≡ false → Some a ≡ answer_taken (lanes_outcome d.rx p)
+    → end_of_directions side (record d { rx = receive_ends_after d.rx p (lanes_outcome d.rx p); failed = is_fail a })
+    (calls + 1)
+    ≡ end_taken (end_of_directions side d calls) p
 end-taken side d calls p a inv clear e =
-    let old : StreamEnd = end_of side d calls in
+    let old : StreamEnd = end_of_directions side d calls in
     (λ i. record old {
-      state = record { tx = d.tx.tx; rx = rx_alone d.rx d.tx.tx d.failed p (taken_among d.rx p) i; failed = is_fail a };
-      delivered = lent_alone d.rx d.tx.tx d.failed p (taken_among d.rx p) i;
+      state = record {
+        tx = d.tx.tx;
+        rx = rx_alone d.rx d.tx.tx d.failed p (lanes_outcome d.rx p) i;
+        failed = is_fail a;
+      };
+      delivered = lent_alone d.rx d.tx.tx d.failed p (lanes_outcome d.rx p) i;
       calls = calls + 1;
     })
     ∙ (λ i. record old {
-      state = state_is d.tx.tx d.rx.rx d.failed p (taken_among d.rx p) a clear e i;
-      delivered = opened_after old.state p (taken_among d.rx p);
+      state = state_is d.tx.tx d.rx.rx d.failed p (lanes_outcome d.rx p) a clear e i;
+      delivered = opened_if_accepted old.state p (lanes_outcome d.rx p);
       calls = calls + 1;
     })
     ∙ ap (λ (t : Taken). record old
-    { state = state_after old.state p t; delivered = opened_after old.state p t; calls = calls + 1 })
+    { state = state_after old.state p t; delivered = opened_if_accepted old.state p t; calls = calls + 1 })
     (taken-among side d calls p inv clear)

@@ -3,11 +3,11 @@ use Rattle.std.specs.Prelude.{◌≡◌, ℕ, ◌≤◌, ◌&&◌, ◌||◌, Boo
 use Rattle.ide_types.specs.declared.sub.SubKind.{SubKind}
 use Rattle.ide_types.specs.declared.port.Side.{Side}
 use Rattle.key_slots.specs.{SlotPair, KeyCall}
-use Rattle.stream_rules.specs.Stream.{TxSub, Three, at_sub}
+use Rattle.spec_stream.specs.Stream.{TxSub, Three, at_sub}
 use Rattle.sub_stream.specs.{slot_pair}
 use Rattle.ide_stream.specs.declared.directions.Directions.{Directions}
 use Rattle.ide_stream.specs.Ends.{StreamEnd}
-use Rattle.stream_lanes.specs.{any_out, settled_out, called_ends, any_into, rested_into, called_receivers}
+use Rattle.stream_lanes.specs.{any_out, settled_senders, called_ends, any_into, rested_into, called_receivers}
 
 -- the slots of a sender, or of a receiver
 abbrev pub pair_of : Bool → SubKind → Directions → SlotPair
@@ -20,17 +20,17 @@ called_directions false u call d = record d { rx = called_receivers d.rx u call 
 
 abbrev pub rested_directions : Directions → Directions
 rested_directions d = record {
-  tx = record d.tx { tx = settled_out d.tx.tx };
+  tx = record d.tx { tx = settled_senders d.tx.tx };
   rx = record d.rx { rx = rested_into d.rx.rx; delivered = [] };
   failed = d.failed && (any_out d.tx.tx || any_into d.rx.rx);
 }
 
 -- a stream of these directions
-abbrev pub end_of : Side → Directions → ℕ → StreamEnd
-end_of side d calls = record {
+abbrev pub end_of_directions : Side → Directions → ℕ → StreamEnd
+end_of_directions side d calls = record {
   side = side;
   id = d.tx.fixed.stream;
-  mode = d.tx.fixed.mode;
+  aggregation = d.tx.fixed.aggregation;
   closed = d.tx.fixed.closed;
   limit = d.tx.fixed.limit;
   state = record { tx = d.tx.tx; rx = d.rx.rx; failed = d.failed };
@@ -45,7 +45,7 @@ pub record AtMost (tx : Three TxSub) (calls : ℕ) : Type 0 where
 
 -- both directions are of one stream, and no more units and packets were counted than there were calls
 pub record IsStream (d : Directions) (calls : ℕ) : Type 0 where
-  pub same_mode : d.rx.mode ≡ d.tx.fixed.mode
+  pub same_aggregation : d.rx.aggregation ≡ d.tx.fixed.aggregation
   pub same_closed : d.rx.closed ≡ d.tx.fixed.closed
   pub few_totals : AtMost d.tx.tx calls
   pub few_takes : d.rx.takes ≤ calls

@@ -6,17 +6,18 @@ use Rattle.ide_types.specs.declared.direction.Direction.{Direction}
 use Rattle.ide_types.specs.declared.port.Side.{Side}
 use Rattle.ide_prefix.specs.Packet.{Packet}
 use Rattle.key_slots.specs.{SlotPair, KeyCall}
-use Rattle.stream_rules.specs.Sending.{Lanes}
-use Rattle.stream_rules.specs.Stream.{StreamState, Taken, lanes_of, taken_by, state_after}
-use Rattle.stream_lanes.specs.{opened_after}
-use Rattle.sub_stream.specs.Calls.{sends_in, pair_at, called, no_stream}
+use Rattle.spec_stream.specs.Sending.{Lanes}
+use Rattle.spec_stream.specs.Stream.{StreamState, Taken, lanes_of, stream_outcome, state_after}
+use Rattle.stream_lanes.specs.{opened_if_accepted}
+use Rattle.sub_stream.specs.Calls.{sends_in, pair_at, stream_after_call, no_stream}
 
--- Units of at most `mode` packets, and at most `limit` under one key; `delivered` are the packets of the last accepted
--- unit, decrypted, until the next packet or call of key management; `calls` counts sends and packets that came.
+-- Units of at most `aggregation` packets, and at most `limit` under one key; `delivered` are the packets of the last
+-- accepted unit, decrypted, until the next packet or call of key management; `calls` counts sends and packets that
+-- came.
 pub record StreamEnd : Type 0 where
   pub side : Side
   pub id : ℕ
-  pub mode : ℕ
+  pub aggregation : ℕ
   pub closed : Bool
   pub limit : ℕ
   pub state : StreamState
@@ -24,11 +25,11 @@ pub record StreamEnd : Type 0 where
   pub calls : ℕ
 
 abbrev pub new_end : Side → ℕ → ℕ → Bool → ℕ → StreamEnd
-new_end side id mode closed limit =
+new_end side id aggregation closed limit =
     record {
       side = side;
       id = id;
-      mode = mode;
+      aggregation = aggregation;
       closed = closed;
       limit = limit;
       state = no_stream;
@@ -38,17 +39,21 @@ new_end side id mode closed limit =
 
 -- what the rules of sealing see of it
 abbrev pub lanes_in : StreamEnd → Lanes
-lanes_in e = lanes_of e.mode e.limit e.state
+lanes_in e = lanes_of e.aggregation e.limit e.state
 
 -- ---- arrivals
 
-abbrev pub taken_in : StreamEnd → Packet → Taken
-taken_in e p = taken_by e.mode e.closed e.state p
+abbrev pub end_outcome : StreamEnd → Packet → Taken
+end_outcome e p = stream_outcome e.aggregation e.closed e.state p
 
 abbrev pub end_taken : StreamEnd → Packet → StreamEnd
 end_taken e p =
-    let taken = taken_in e p in
-    record e { state = state_after e.state p taken; delivered = opened_after e.state p taken; calls = e.calls + 1 }
+    let taken = end_outcome e p in
+    record e {
+      state = state_after e.state p taken;
+      delivered = opened_if_accepted e.state p taken;
+      calls = e.calls + 1;
+    }
 
 -- ---- keys
 
@@ -57,7 +62,8 @@ abbrev pub pair_in : StreamEnd → Direction → SubKind → SlotPair
 pair_in e direction u = pair_at (sends_in e.side direction) u e.state
 
 abbrev pub called_end : StreamEnd → Direction → SubKind → KeyCall → StreamEnd
-called_end e direction u call = record e { state = called (sends_in e.side direction) u call e.state; delivered = [] }
+called_end e direction u call = record e
+    { state = stream_after_call (sends_in e.side direction) u call e.state; delivered = [] }
 
 -- without keys, counts and failure
 abbrev pub reset_end : StreamEnd → StreamEnd

@@ -6,8 +6,8 @@ use Rattle.ide_types.specs.declared.port.PortName.{PortName}
 use Rattle.link_verdicts.specs.declared.verdict.Verdict.{Verdict}
 use Rattle.link_verdicts.specs.declared.verdict.SealedPacket.{SealedPacket as Described}
 use Rattle.ide_prefix.specs.Packet.{Packet}
-use Rattle.stream_rules.specs.Sending.{Sending, refusals, first_that_holds, sealed_by}
-use Rattle.stream_rules.specs.Stream.{sealed_all, Three, TxSub}
+use Rattle.spec_stream.specs.Sending.{Sending, refusals, first_that_holds, sealed_with_syncs}
+use Rattle.spec_stream.specs.Stream.{sealed_all, Three, TxSub}
 use Rattle.sub_stream.specs.declared.answer.MeasuredPacket.{MeasuredPacket}
 use Rattle.stream_lanes.specs.declared.refusal.SendRefusal.{SendRefusal}
 use Rattle.stream_lanes.specs.{refusal_verdict, numbered_from, joined_packets, packet_lengths}
@@ -16,8 +16,8 @@ use Rattle.ide_stream.specs.Ends.{StreamEnd, lanes_in}
 -- ---- the answer
 
 -- an answer as a port says it, whose next sealed packet has this number
-abbrev pub answer_as : PortName → ℕ → Result (List MeasuredPacket) SendRefusal → Result (List Described) Verdict
-answer_as port number answer = result_map_both (numbered_from port number) refusal_verdict answer
+abbrev pub numbered_answer : PortName → ℕ → Result (List MeasuredPacket) SendRefusal → Result (List Described) Verdict
+numbered_answer port number answer = result_map_both (numbered_from port number) refusal_verdict answer
 
 -- a TLP on its way out at this port, on this stream
 abbrev pub sending : PortName → ℕ → SubKind → Bool → Bool → Sending
@@ -29,29 +29,30 @@ abbrev pub ok_unless_verdict : {A : Type 0} → Option Verdict → A → Result 
 ok_unless_verdict None a = Ok a
 ok_unless_verdict (Some verdict) a = Err verdict
 
-abbrev pub refused : StreamEnd → Sending → Option Verdict
-refused e s = first_that_holds (refusals (lanes_in e) s.class)
+abbrev pub sending_refusal : StreamEnd → Sending → Option Verdict
+sending_refusal e s = first_that_holds (refusals (lanes_in e) s.class)
 
 abbrev pub sent_descriptions : StreamEnd → Sending → ℕ → Result (List Described) Verdict
-sent_descriptions e s number = ok_unless_verdict (refused e s) (sealed_by (lanes_in e) s number)
+sent_descriptions e s number = ok_unless_verdict (sending_refusal e s) (sealed_with_syncs (lanes_in e) s number)
 
 -- ---- packets, and the stream after them
 
 -- what is sealed of a TLP with this header and payload
 abbrev pub sealing : StreamEnd → List ℕ → List ℕ → Sending → ℕ → List Packet × Three TxSub
-sealing e head payload s number = sealed_all e.closed head payload (sealed_by (lanes_in e) s number) e.state.tx
+sealing e head payload s number = sealed_all e.closed head payload (sealed_with_syncs (lanes_in e) s number) e.state.tx
 
 abbrev pub unless_verdict : {A : Type 0} → Option Verdict → A → A → A
 unless_verdict None none a = a
 unless_verdict (Some verdict) none a = none
 
 abbrev pub packets_sent : StreamEnd → List ℕ → List ℕ → Sending → ℕ → List Packet
-packets_sent e head payload s number = unless_verdict (refused e s) [] (sealing e head payload s number).0
+packets_sent e head payload s number = unless_verdict (sending_refusal e s) [] (sealing e head payload s number).0
 
 abbrev pub end_sent : StreamEnd → List ℕ → List ℕ → Sending → ℕ → StreamEnd
 end_sent e head payload s number =
     record e {
-      state = unless_verdict (refused e s) e.state (record e.state { tx = (sealing e head payload s number).1 });
+      state = unless_verdict (sending_refusal e s) e.state
+          (record e.state { tx = (sealing e head payload s number).1 });
       calls = e.calls + 1;
     }
 
@@ -64,7 +65,7 @@ lengths_said (Err refusal) = []
 -- appended, and the stream after it.
 pub record IsSent (old : StreamEnd) (head payload : List ℕ) (s : Sending) (number : ℕ)
     (answer : Result (List MeasuredPacket) SendRefusal) (before after : List ℕ) (new : StreamEnd) : Type 0 where
-  pub answered : answer_as s.port number answer ≡ sent_descriptions old s number
+  pub answered : numbered_answer s.port number answer ≡ sent_descriptions old s number
   pub lengths : lengths_said answer ≡ packet_lengths (packets_sent old head payload s number)
   pub bytes : after ≡ before ++ joined_packets (packets_sent old head payload s number)
   pub stream : new ≡ end_sent old head payload s number

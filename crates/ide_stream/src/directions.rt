@@ -1,7 +1,7 @@
 //! Both directions of a stream.
 
 ghost use Rattle.std.specs.Prelude.{◌≡◌, not, is_ok, if◌then◌else◌};
-ghost use Rattle.key_slots.specs.{is_one, is_empty, program_answer, slot_in, Program, Go, Halt};
+ghost use Rattle.key_slots.specs.{is_one, is_empty, program_answer, slot_in, Program, Go, Stop};
 
 use ide_types::{KeySet, SubKind};
 use key_slots::{Key, OnlyLive, SlotEmpty};
@@ -52,13 +52,13 @@ impl Directions {
     }
 
     /// STOP: empties a slot, with the open unit or the held packets under its key.
-    pub fn halt(&mut self, sends: bool, sub: SubKind, set: KeySet)
-        ensures { self.new ≡ called_directions sends sub (Halt (is_one set)) self.old }
+    pub fn stop(&mut self, sends: bool, sub: SubKind, set: KeySet)
+        ensures { self.new ≡ called_directions sends sub (Stop (is_one set)) self.old }
     {
         if sends {
-            self.tx.halt(sub, set);
+            self.tx.stop(sub, set);
         } else {
-            self.rx.halt(sub, set);
+            self.rx.stop(sub, set);
         }
     }
 

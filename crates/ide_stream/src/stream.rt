@@ -2,20 +2,20 @@
 
 ghost use Rattle.std.specs.Prelude.{◌≡◌, ◌==◌, ◌&&◌, ◌||◌, ◌+◌, ◌<◌, ◌≤◌, ◌^◌, ℕ, Bool, Some, IfOk, true, false, not};
 ghost use Rattle.std.specs.Prelude.{length, is_ok, vec_len, vec_capacity};
-ghost use Rattle.ide_plan.specs.Fits.{is_mode};
+ghost use Rattle.ide_types.specs.Fits.{is_aggregation};
 ghost use Rattle.ide_types.specs.declared.port.PortName.{PortName};
 ghost use Rattle.ide_prefix.specs.Cut.{packet_of_view, IsView};
-ghost use Rattle.key_slots.specs.{slot_in, is_one, is_empty, program_answer, live_set, Program, Go, Halt};
-ghost use Rattle.stream_rules.specs.Sending.{sets_trusted};
-ghost use Rattle.stream_rules.specs.Slots.{sealing_draw, receiving_draw};
-ghost use Rattle.stream_rules.specs.Stream.{at_sub, slot_in_set};
-ghost use Rattle.sub_stream.specs.Calls.{pair_at, sends_in, status_by, stream_status};
-ghost use Rattle.sub_stream.specs.{answer_of};
+ghost use Rattle.key_slots.specs.{slot_in, is_one, is_empty, program_answer, live_set, Program, Go, Stop};
+ghost use Rattle.spec_stream.specs.Sending.{sets_trusted};
+ghost use Rattle.spec_stream.specs.Slots.{sealing_draw, receiving_draw};
+ghost use Rattle.spec_stream.specs.Stream.{at_sub, slot_in_set};
+ghost use Rattle.sub_stream.specs.Calls.{pair_at, sends_in, keyed_status, stream_status};
+ghost use Rattle.sub_stream.specs.{answer_taken};
 ghost use Rattle.sub_stream.specs.Facts.{held_packets, lane_facts, stream_facts};
 
 use crate::directions::Directions;
 use ide_prefix::PacketView;
-use ide_types::{Direction, KeySet, Memory, Side, StreamStatus, SubKind};
+use ide_types::{Direction, KeySet, OutOfMemory, Side, StreamStatus, SubKind};
 use key_slots::{Key, OnlyLive, SlotEmpty};
 use std::alloc::Global;
 use std::marker::Model;
@@ -36,11 +36,11 @@ pub struct Stream {
 
 impl Model for Stream {
     ghost use Rattle.ide_stream.specs.Ends.{StreamEnd};
-    ghost use Rattle.ide_stream.specs.Both.{end_of, IsStream};
+    ghost use Rattle.ide_stream.specs.Both.{end_of_directions, IsStream};
 
     ghost Value = { StreamEnd };
 
-    ghost view = { λ s. end_of s.side s.directions s.calls };
+    ghost view = { λ s. end_of_directions s.side s.directions s.calls };
 
     ghost invariant = { λ s. IsStream s.directions s.calls };
 }
@@ -57,7 +57,7 @@ fn sends(side: Side, direction: Direction) -> bool
 
 // The status of a stream, by whether it failed, and whether some or all of its sub-streams have a Live key.
 fn status_of(failed: bool, some: bool, all: bool) -> StreamStatus
-    ensures { result ≡ status_by failed some all }
+    ensures { result ≡ keyed_status failed some all }
 {
     match (failed, some, all) {
         (true, _, _) => StreamStatus::Insecure,
@@ -68,26 +68,26 @@ fn status_of(failed: bool, some: bool, all: bool) -> StreamStatus
 }
 
 impl Stream {
-    ghost use Rattle.ide_stream.specs.Ends.{new_end, pair_in, taken_in, end_taken, called_end, reset_end};
+    ghost use Rattle.ide_stream.specs.Ends.{new_end, pair_in, end_outcome, end_taken, called_end, reset_end};
     ghost use Rattle.ide_stream.specs.Sends.{IsSent, sending};
 
-    /// The stream `id` of a port of this side, without keys: its units have at most `mode` packets, 1, 2, 4 or 8, and a
-    /// key seals at most `limit` units. If it is closed, the total of units finished before is authenticated before the
-    /// packets of a key's first unit.
+    /// The stream `id` of a port of this side, without keys: its units have at most `aggregation` packets, 1, 2, 4 or
+    /// 8, and a key seals at most `limit` units. If it is closed, the total of units finished before is authenticated
+    /// before the packets of a key's first unit.
     pub fn make(
         alloc: Global,
         side: Side,
         id: u8,
-        mode: u8,
+        aggregation: u8,
         closed: bool,
         limit: u64,
-    ) -> Result<Stream, Memory>
-        requires { is_mode mode ≡ true }
-        ensures { IfOk result (λ s. s ≡ new_end side id mode closed limit) }
+    ) -> Result<Stream, OutOfMemory>
+        requires { is_aggregation aggregation ≡ true }
+        ensures { IfOk result (λ s. s ≡ new_end side id aggregation closed limit) }
     {
         let fixed = Fixed {
             stream: id,
-            mode,
+            aggregation,
             limit,
             closed,
         };
@@ -149,7 +149,7 @@ impl Stream {
     pub fn take(&mut self, packet: &PacketView) -> Option<Taken>
         requires view { IsView packet.now }
         requires few { self.old.calls < 2 ^ 40 }
-        ensures answer { result ≡ answer_of (taken_in self.old (packet_of_view packet.now)) }
+        ensures answer { result ≡ answer_taken (end_outcome self.old (packet_of_view packet.now)) }
         ensures stream { self.new ≡ end_taken self.old (packet_of_view packet.now) }
     {
         self.calls += 1;
@@ -201,10 +201,10 @@ impl Stream {
     }
 
     /// STOP: empties a slot, with the open unit or the held packets under its key.
-    pub fn halt(&mut self, set: KeySet, direction: Direction, sub: SubKind)
-        ensures { self.new ≡ called_end self.old direction sub (Halt (is_one set)) }
+    pub fn stop(&mut self, set: KeySet, direction: Direction, sub: SubKind)
+        ensures { self.new ≡ called_end self.old direction sub (Stop (is_one set)) }
     {
-        self.directions.halt(sends(self.side, direction), sub, set);
+        self.directions.stop(sends(self.side, direction), sub, set);
         self.directions.settle();
     }
 

@@ -1,6 +1,5 @@
 -- Lines, by their number. A line is a pair of ends between which the packets of certain streams go. Lines 0 to 7 are
--- the
--- links; 8 to 15 and 16 to 23 are the two segments of each link's hop, that towards the host and that towards the
+-- the links; 8 to 15 and 16 to 23 are the two segments of each link's hop, that towards the host and that towards the
 -- device; 24 to 31 are the streams between two devices.
 use Rattle.std.specs.Prelude.{ℕ, ◌+◌, ◌&&◌, ◌||◌, nat_le, nat_lt, Bool, if◌then◌else◌}
 use Rattle.ide_types.specs.declared.line.LineKind.{LineKind}
@@ -45,12 +44,12 @@ is_switch_side Host line = is_far_hop_line line
 is_switch_side Device line = is_near_hop_line line
 
 abbrev pub is_switch_port : PortName → Bool
-is_switch_port p = is_switch_side p.side p.link
+is_switch_port p = is_switch_side p.side p.line
 
 -- of a host, of a device or of a switch
 abbrev pub is_port : PortName → Bool
-is_port p = is_link_line p.link || is_switch_port p
+is_port p = is_link_line p.line || is_switch_port p
 
 -- at which TLPs are sent: of a host or a device, and at a device also on a stream between devices
-abbrev pub is_sender : PortName → Bool
-is_sender p = is_link_line p.link || is_peer_line p.link
+abbrev pub is_sending_port : PortName → Bool
+is_sending_port p = is_link_line p.line || is_peer_line p.line

@@ -37,9 +37,9 @@ side_word Device = codes "d"
 -- are at ports that have names already.
 abbrev pub port_word : PortName → Text
 port_word p =
-    if is_near_hop_line p.link then codes "u" ++ decimal (p.link - 8)
-    else if is_far_hop_line p.link then codes "w" ++ decimal (p.link - 16)
-    else side_word p.side ++ decimal p.link
+    if is_near_hop_line p.line then codes "u" ++ decimal (p.line - 8)
+    else if is_far_hop_line p.line then codes "w" ++ decimal (p.line - 16)
+    else side_word p.side ++ decimal p.line
 
 -- the letter before the word of an operation on a stream of such a line
 abbrev pub kind_word : LineKind → Text

@@ -6,14 +6,14 @@ use Rattle.ide_types.specs.declared.status.StreamStatus.{StreamStatus}
 use Rattle.ide_types.specs.declared.status.StreamStatus.TheVariants.{Idle, Partial, Secure, Insecure}
 
 abbrev pub host_port : ℕ → PortName
-host_port link = record { side = Host; link = link }
+host_port link = record { side = Host; line = link }
 
 abbrev pub device_port : ℕ → PortName
-device_port link = record { side = Device; link = link }
+device_port link = record { side = Device; line = link }
 
 -- failed; or keyed throughout, in part, or not at all
-abbrev pub status_by : Bool → Bool → Bool → StreamStatus
-status_by true some all = Insecure
-status_by false some true = Secure
-status_by false true false = Partial
-status_by false false false = Idle
+abbrev pub keyed_status : Bool → Bool → Bool → StreamStatus
+keyed_status true some all = Insecure
+keyed_status false some true = Secure
+keyed_status false true false = Partial
+keyed_status false false false = Idle

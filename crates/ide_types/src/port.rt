@@ -1,4 +1,4 @@
-//! The ports of links.
+//! Ends of lines, by which ports are named.
 
 ghost use Rattle.std.specs.Prelude.{Some};
 ghost use Rattle.ide_types.specs.Names.{side_word, port_word};
@@ -20,7 +20,7 @@ pub enum Side {
 #[derive(Clone, Copy, Default, PartialEq, Eq)]
 pub struct PortName {
     pub side: Side,
-    pub link: u8,
+    pub line: u8,
 }
 
 impl fmt::Display for Side {
@@ -38,10 +38,10 @@ impl fmt::Display for PortName {
     ghost output = { λ p. Some (port_word p) };
 
     fn fmt<W: fmt::Write>(&self, f: &mut fmt::Formatter<W>) -> fmt::Result {
-        match self.link {
-            8..=15 => write!(f, "u{}", self.link - 8),
-            16..=23 => write!(f, "w{}", self.link - 16),
-            _ => write!(f, "{}{}", self.side, self.link),
+        match self.line {
+            8..=15 => write!(f, "u{}", self.line - 8),
+            16..=23 => write!(f, "w{}", self.line - 16),
+            _ => write!(f, "{}{}", self.side, self.line),
         }
     }
 }

@@ -4,26 +4,27 @@ use Rattle.std.proofs.Common.{Option, Some, Result, Ok, Err, append_assoc}
 use Rattle.std.proofs.lemmas.Option.{none-some, same_Some}
 use Rattle.std.specs.Option.{option_and_then}
 use Rattle.std.specs.Prelude.{IfOk, bit_xor, if◌then◌else◌, nat_le, nat_lt, slice_get, slice_index, slice_set, take}
-use Rattle.ide_types.specs.declared.memory.Memory.{Memory}
+use Rattle.ide_types.specs.declared.memory.OutOfMemory.{OutOfMemory}
 use Rattle.ide_types.specs.declared.port.PortName.{PortName}
-use Rattle.ide_plan.specs.declared.plan.Plan.{Plan}
+use Rattle.ide_types.specs.declared.plan.Plan.{Plan}
 use Rattle.link_events.specs.declared.event.Event.{Event}
 use Rattle.link_events.specs.declared.event.Event.TheVariants as event
-use Rattle.link_history.specs.Packets.{arrival_at}
-use Rattle.link_history.specs.Plan.{has_link, partner}
-use Rattle.link_ports.specs.Machine.{LinkPacket, altered_to, cut_short, packet_numbered, passed}
-use Rattle.waiting_reads.specs.declared.queue.WaitingRead.{WaitingRead}
-use Rattle.whole_machine.specs.Machine.{arrival_of}
+use Rattle.spec_links.specs.Packets.{arrival_at}
+use Rattle.spec_links.specs.Plan.{has_link, partner}
+use Rattle.machine_ports.specs.Machine.{LinkPacket, altered_to, cut_short, packet_numbered, passed}
+use Rattle.trusted_memory.specs.declared.queue.WaitingRead.{WaitingRead}
+use Rattle.machine_whole.specs.Machine.{arrival_of}
 use Rattle.why_lines.specs.declared.fact.Fact.{Fact}
 use Rattle.why_facts.specs.Forms.{waiting_fact}
 use Rattle.world.specs.{WholeLinks, reads_at}
-use Rattle.ide_why.specs.Facts.{answer_read, arrival_facts, brought_facts, oldest_read, sealed_facts, state_of}
+use Rattle.ide_why.specs.Facts.{answer_read, arrival_facts, brought_facts, oldest_read, sealed_facts, state_of_whole}
 
 module _ (plan : Plan) (s : WholeLinks) where
   -- ---- packets by their numbers
 
   pub brought_from : (e : Event) (end : PortName) (bytes : List ℕ) (old new : List Fact)
-      (result : Result (Unit {0}) Memory) → arrival_of plan (state_of plan s) e ≡ Some (arrival_at plan end bytes)
+      (result : Result (Unit {0}) OutOfMemory) → arrival_of plan (state_of_whole plan s) e
+      ≡ Some (arrival_at plan end bytes)
       → ((unnamed : List Fact) → IfOk result (λ u. new ≡ old ++ arrival_facts plan s unnamed
       (Some (arrival_at plan end bytes))))
       → IfOk result (λ u. new ≡ old ++ brought_facts plan s e)
@@ -32,19 +33,20 @@ module _ (plan : Plan) (s : WholeLinks) where
       (ends (sealed_facts plan s))
 
   module _ (n : ℕ) (port : PortName) (bytes : List ℕ)
-      (is : Some (record { port = port; bytes = bytes }) ≡ packet_numbered (state_of plan s).packets n)
+      (is : Some (record { port = port; bytes = bytes }) ≡ packet_numbered (state_of_whole plan s).packets n)
     where
-      pub whole_arrives : arrival_of plan (state_of plan s) (event.Pass n) ≡ Some (arrival_at plan (partner port) bytes)
+      pub whole_arrives : arrival_of plan (state_of_whole plan s) (event.Pass n)
+          ≡ Some (arrival_at plan (partner port) bytes)
       whole_arrives = ap (λ (o : Option LinkPacket). option_and_then (passed plan) o) (sym is)
 
       pub altered_arrives : (at mask : ℕ) → nat_lt at (length bytes) ≡ true
-          → arrival_of plan (state_of plan s) (event.Alter n at mask)
+          → arrival_of plan (state_of_whole plan s) (event.Alter n at mask)
           ≡ Some (arrival_at plan (partner port) (slice_set bytes at (bit_xor (slice_index bytes at) mask)))
       altered_arrives at mask fits =
           ap (λ (o : Option LinkPacket). option_and_then (altered_to plan at mask) o) (sym is) ∙ rw fits refl
 
       pub cut_arrives : (len : ℕ) → nat_le len (length bytes) ≡ true
-          → arrival_of plan (state_of plan s) (event.Cut n len)
+          → arrival_of plan (state_of_whole plan s) (event.Cut n len)
           ≡ Some (arrival_at plan (partner port) (take len bytes))
       cut_arrives len fits =
           ap (λ (o : Option LinkPacket). option_and_then (cut_short plan len) o) (sym is) ∙ rw fits refl
@@ -72,7 +74,7 @@ module _ (plan : Plan) (s : WholeLinks) where
           ∙ ap (λ (rs : List WaitingRead). old ++ waiting_fact count ∷ oldest_read plan s link rs) (sym are)
           ∙ ap (λ (fs : List Fact). old ++ fs) (sym answer_is)
 
-      pub answer_from : (result : Result (Unit {0}) Memory) → Some r ≡ slice_get reads 0
+      pub answer_from : (result : Result (Unit {0}) OutOfMemory) → Some r ≡ slice_get reads 0
           → ((xs : List WaitingRead) → IfOk result (λ u. new ≡ middle ++ oldest_read plan s link (r ∷ xs)))
           → IfOk result (λ u. new ≡ old ++ answer_read plan s link)
       answer_from (Ok u) first ends = added reads refl first ends

@@ -3,69 +3,73 @@ use Rattle.std.proofs.Common.{◌≡◌, ℕ, List, [], ◌∷◌, length, refl,
 use Rattle.std.specs.Prelude.{if◌then◌else◌}
 use Rattle.ide_types.specs.{is_link_line}
 use Rattle.ide_types.specs.declared.port.Side.TheVariants.{Host}
-use Rattle.ide_plan.specs.declared.plan.Plan.{Plan}
-use Rattle.key_laws.specs.Operations.{Op}
+use Rattle.ide_types.specs.declared.plan.Plan.{Plan}
+use Rattle.spec_keys.specs.Operations.{StreamStage}
 use Rattle.link_events.specs.declared.event.Event.{Event}
 use Rattle.link_events.specs.declared.event.Event.TheVariants as event
 use Rattle.link_events.specs.declared.event.AccessEvent.TheVariants as ae
-use Rattle.link_history.specs.Ports.{may_send, outgoing_at, sealing_end}
+use Rattle.spec_links.specs.Ports.{may_send, outgoing_at, sealing_end}
 use Rattle.link_verdicts.specs.declared.verdict.Operation.TheVariants as op
-use Rattle.port_operations.specs.{LinkState, find_op, ports_of, status_at}
-use Rattle.whole_machine.specs.Machine.{arrival_of}
+use Rattle.machine_operations.specs.{LinkState, find_op, ports_of, machine_status}
+use Rattle.machine_whole.specs.Machine.{arrival_of}
 use Rattle.why_lines.specs.declared.fact.Fact.{Fact}
 use Rattle.why_facts.specs.Forms.{draws_fact, establish_facts, manager_fact, packets_fact, pool_of}
 use Rattle.why_facts.specs.Forms.{refresh_facts, state_fact, stop_facts}
-use Rattle.why_facts.specs.Kept.{arrival_facts_in, if_found, sealed_in}
+use Rattle.why_facts.specs.Kept.{arrival_facts_in, if_found, packet_count_facts}
 unfoldable use Rattle.why_facts.specs.Kept.{facts_in}
-use Rattle.world.specs.{AreLinks, Stands, WholeLinks, world_of}
-use Rattle.key_laws.specs.History.{History}
-use Rattle.ide_why.specs.Facts.{brought_facts, exchanges_read, facts_read, sealed_facts, state_of}
+use Rattle.world.specs.{AreLinks, WorldStandsFor, WholeLinks, world_of}
+use Rattle.spec_keys.specs.History.{History}
+use Rattle.ide_why.specs.Facts.{brought_facts, exchanges_read, facts_read, sealed_facts, state_of_whole}
 use Rattle.ide_why.proofs.SeenFaces.{known}
 use Rattle.ide_why.proofs.SeenInterfaces.{answer_is, asked_is, forward_is}
 use Rattle.ide_why.proofs.SeenOperations.{exchanges_are}
 use Rattle.ide_why.proofs.Packets.{arrival_is, sending_is, state_is}
 
 module _ (plan : Plan) (s : WholeLinks) (links : AreLinks plan s.links.ends s.links.keeper.keys)
-    (h : History) (stood : Stands (world_of plan s) h) where
-  st_is : state_of plan s ≡ stood.whole.links
+    (h : History) (stood : WorldStandsFor (world_of plan s) h) where
+  st_is : state_of_whole plan s ≡ stood.whole.links
   st_is = state_is plan s h stood (known plan s links h stood)
 
-  sealed_is : sealed_facts plan s ≡ sealed_in stood.whole
+  sealed_is : sealed_facts plan s ≡ packet_count_facts stood.whole
   sealed_is = ap (λ (st : LinkState). packets_fact (length st.packets)) st_is
 
   brought_is : (e : Event) → brought_facts plan s e
-      ≡ arrival_facts_in plan stood.whole (sealed_in stood.whole) (arrival_of plan stood.whole.links e)
+      ≡ arrival_facts_in plan stood.whole (packet_count_facts stood.whole) (arrival_of plan stood.whole.links e)
   brought_is e =
-      arrival_is plan s h stood (known plan s links h stood) (sealed_facts plan s) (arrival_of plan (state_of plan s) e)
+      arrival_is plan s h stood (known plan s links h stood) (sealed_facts plan s)
+      (arrival_of plan (state_of_whole plan s) e)
       ∙ (λ j. arrival_facts_in plan stood.whole (sealed_is j) (arrival_of plan (st_is j) e))
 
-  establish_by : (line stream : ℕ) (q : Option Op)
-      → if_found q (λ q. manager_fact q ∷ draws_fact (state_of plan s).draws (pool_of plan)
+  establish_by : (line stream : ℕ) (q : Option StreamStage)
+      → if_found q (λ q. manager_fact q ∷ draws_fact (state_of_whole plan s).draws (pool_of plan)
       ∷ exchanges_read plan s op.Establish line stream q)
-      ≡ if_found q (λ q. establish_facts plan (ports_of plan (state_of plan s)) line stream q (state_of plan s).draws)
+      ≡ if_found q (λ q. establish_facts plan (ports_of plan (state_of_whole plan s)) line stream q
+      (state_of_whole plan s).draws)
   establish_by line stream None = refl
   establish_by line stream (Some q) =
-      ap (λ (fs : List Fact). manager_fact q ∷ draws_fact (state_of plan s).draws (pool_of plan) ∷ fs)
-      (exchanges_are plan s line stream (state_of plan s).draws op.Establish q)
+      ap (λ (fs : List Fact). manager_fact q ∷ draws_fact (state_of_whole plan s).draws (pool_of plan) ∷ fs)
+      (exchanges_are plan s line stream (state_of_whole plan s).draws op.Establish q)
 
-  refresh_by : (line stream : ℕ) (q : Option Op)
-      → if_found q (λ q. manager_fact q ∷ state_fact (status_at plan (state_of plan s) Host line stream)
-      ∷ draws_fact (state_of plan s).draws (pool_of plan) ∷ exchanges_read plan s op.Refresh line stream q)
-      ≡ if_found q (λ q. refresh_facts plan (ports_of plan (state_of plan s)) line stream q (state_of plan s).draws
-      (status_at plan (state_of plan s) Host line stream))
+  refresh_by : (line stream : ℕ) (q : Option StreamStage)
+      → if_found q (λ q. manager_fact q ∷ state_fact (machine_status plan (state_of_whole plan s) Host line stream)
+      ∷ draws_fact (state_of_whole plan s).draws (pool_of plan) ∷ exchanges_read plan s op.Refresh line stream q)
+      ≡ if_found q (λ q. refresh_facts plan (ports_of plan (state_of_whole plan s)) line stream q
+      (state_of_whole plan s).draws
+      (machine_status plan (state_of_whole plan s) Host line stream))
   refresh_by line stream None = refl
   refresh_by line stream (Some q) =
-      ap (λ (fs : List Fact). manager_fact q ∷ state_fact (status_at plan (state_of plan s) Host line stream)
-      ∷ draws_fact (state_of plan s).draws (pool_of plan) ∷ fs)
-      (exchanges_are plan s line stream (state_of plan s).draws op.Refresh q)
+      ap (λ (fs : List Fact). manager_fact q ∷ state_fact (machine_status plan (state_of_whole plan s) Host line stream)
+      ∷ draws_fact (state_of_whole plan s).draws (pool_of plan) ∷ fs)
+      (exchanges_are plan s line stream (state_of_whole plan s).draws op.Refresh q)
 
-  stop_by : (line stream : ℕ) (q : Option Op)
+  stop_by : (line stream : ℕ) (q : Option StreamStage)
       → if_found q (λ q. manager_fact q ∷ exchanges_read plan s op.Stop line stream q)
-      ≡ if_found q (λ q. stop_facts plan (ports_of plan (state_of plan s)) line stream q (state_of plan s).draws)
+      ≡ if_found q (λ q. stop_facts plan (ports_of plan (state_of_whole plan s)) line stream q
+      (state_of_whole plan s).draws)
   stop_by line stream None = refl
   stop_by line stream (Some q) =
       ap (λ (fs : List Fact). manager_fact q ∷ fs)
-      (exchanges_are plan s line stream (state_of plan s).draws op.Stop q)
+      (exchanges_are plan s line stream (state_of_whole plan s).draws op.Stop q)
 
   pub read_is : (e : Event) → facts_read plan s e ≡ facts_in plan stood.whole e
   unfolding facts_in
@@ -78,21 +82,22 @@ module _ (plan : Plan) (s : WholeLinks) (links : AreLinks plan s.links.ends s.li
   read_is (event.Cut n len) = brought_is (event.Cut n len)
   read_is (event.Arrive port bytes) =
       arrival_is plan s h stood (known plan s links h stood) []
-      (arrival_of plan (state_of plan s) (event.Arrive port bytes))
+      (arrival_of plan (state_of_whole plan s) (event.Arrive port bytes))
       ∙ ap (λ (st : LinkState). arrival_facts_in plan stood.whole [] (arrival_of plan st (event.Arrive port bytes)))
       st_is
   read_is (event.Dump n) = sealed_is
   read_is (event.Establish line stream loss) =
-      establish_by line stream (find_op plan (state_of plan s) line stream)
+      establish_by line stream (find_op plan (state_of_whole plan s) line stream)
       ∙ ap (λ (st : LinkState). if_found (find_op plan st line stream)
       (λ q. establish_facts plan (ports_of plan st) line stream q st.draws)) st_is
   read_is (event.Refresh line stream loss) =
       ap (λ (fs : List Fact). if is_link_line line then fs else [])
-      (refresh_by line stream (find_op plan (state_of plan s) line stream)
+      (refresh_by line stream (find_op plan (state_of_whole plan s) line stream)
       ∙ ap (λ (st : LinkState). if_found (find_op plan st line stream)
-      (λ q. refresh_facts plan (ports_of plan st) line stream q st.draws (status_at plan st Host line stream))) st_is)
+      (λ q. refresh_facts plan (ports_of plan st) line stream q st.draws (machine_status plan st Host line stream)))
+      st_is)
   read_is (event.Stop line stream loss) =
-      stop_by line stream (find_op plan (state_of plan s) line stream)
+      stop_by line stream (find_op plan (state_of_whole plan s) line stream)
       ∙ ap (λ (st : LinkState). if_found (find_op plan st line stream)
       (λ q. stop_facts plan (ports_of plan st) line stream q st.draws)) st_is
   read_is (event.Status line stream) =

@@ -6,23 +6,23 @@ use Rattle.std.proofs.lemmas.Option.{none-some, same_Some}
 use Rattle.std.specs.Option.{option_map}
 use Rattle.std.specs.Prelude.{IfSome, if◌then◌else◌, nat_le, nat_lt, slice_get}
 use Rattle.ide_types.specs.declared.port.PortName.{PortName}
-use Rattle.ide_plan.specs.declared.plan.Plan.{Plan}
-use Rattle.ide_port.specs.{PortEnd, Found, found, found_facts, stream_facts_in}
-use Rattle.link_history.specs.Plan.{is_closed}
-use Rattle.port_operations.specs.{find_op}
+use Rattle.ide_types.specs.declared.plan.Plan.{Plan}
+use Rattle.ide_port.specs.{PortEnd, Found, found_stream, found_facts, stream_facts_in}
+use Rattle.spec_links.specs.Plan.{is_closed}
+use Rattle.machine_operations.specs.{find_op}
 use Rattle.sub_stream.specs.Facts.{stream_facts}
-use Rattle.tdi_host.specs.declared.facts.InterfaceFacts.{InterfaceFacts}
-use Rattle.tdi_host.specs.Facts.{interface_facts}
-use Rattle.tdi_host.specs.Views.{HostTdi}
-use Rattle.tdi_state.specs.{Tdi, state_code}
+use Rattle.interface_host.specs.declared.facts.InterfaceFacts.{InterfaceFacts}
+use Rattle.interface_host.specs.Facts.{interface_facts}
+use Rattle.interface_host.specs.Views.{HostTdi}
+use Rattle.interface_state.specs.{Tdi, state_code}
 use Rattle.tsm_host.specs.Managers.{named, op_named}
-use Rattle.world.specs.{AreLinks, LinkEnds, WholeLinks, interface_named, located, port_on}
-use Rattle.world.specs.{tdi_of_ends}
+use Rattle.world.specs.{AreLinks, LinkEnds, WholeLinks, interface_named, place_on_links, port_on}
+use Rattle.world.specs.{interface_of_ends}
 use Rattle.world.proofs.{closed_at, port_is}
 use Rattle.world.proofs.{end_found, none_found, op_is, unnamed}
 use Rattle.world.proofs.{get_there}
 use Rattle.world.proofs.{IsLocated, located_read}
-use Rattle.ide_why.specs.Facts.{state_of}
+use Rattle.ide_why.specs.Facts.{state_of_whole}
 use Rattle.ide_why.specs.Reading.{face_located, face_of, face_read, stream_read}
 
 abbrev named_if : Bool → ℕ → ℕ → Option (ℕ × ℕ)
@@ -34,7 +34,7 @@ module _ (plan : Plan) (s : WholeLinks) (links : AreLinks plan s.links.ends s.li
   pub stream_none : (end : PortName) (stream : ℕ) → port_on s.links.ends end ≡ None
       → None ≡ stream_read plan s end stream
   stream_none end stream none =
-      sym (ap (option_map (stream_facts (is_closed plan end.link stream)))
+      sym (ap (option_map (stream_facts (is_closed plan end.line stream)))
       (none_found plan s.links.ends s.links.keeper.keys s.links.packets.packets end stream links none))
 
   found_by : (closed : Bool) (o : Option Found) → ((f : Found) → o ≡ Some f → closed ≡ f.plan.closed)
@@ -45,20 +45,20 @@ module _ (plan : Plan) (s : WholeLinks) (links : AreLinks plan s.links.ends s.li
   pub stream_some : (end : PortName) (stream : ℕ) (e : PortEnd) → port_on s.links.ends end ≡ Some e
       → stream_facts_in e stream ≡ stream_read plan s end stream
   stream_some end stream e there =
-      found_by (is_closed plan end.link stream) (found e.plans e.states stream)
+      found_by (is_closed plan end.line stream) (found_stream e.plans e.states stream)
       (λ f at. closed_at plan end e stream f (port_is plan s.links.ends s.links.keeper.keys links end e there) at)
-      ∙ sym (ap (option_map (stream_facts (is_closed plan end.link stream)))
+      ∙ sym (ap (option_map (stream_facts (is_closed plan end.line stream)))
       (end_found plan s.links.ends s.links.keeper.keys s.links.packets.packets end e stream links there))
 
   -- ---- operations
 
   pub stage_is : (line stream : ℕ)
-      → op_named (named s.links.keeper.keys.manager line stream) ≡ find_op plan (state_of plan s) line stream
+      → op_named (named s.links.keeper.keys.manager line stream) ≡ find_op plan (state_of_whole plan s) line stream
   stage_is line stream =
       sym (op_is plan s.links.ends s.links.keeper.keys s.links.packets.packets line stream links)
 
   pub stage_none : (line stream : ℕ) → (nat_lt line 32 && nat_le stream 255) ≡ false
-      → None ≡ find_op plan (state_of plan s) line stream
+      → None ≡ find_op plan (state_of_whole plan s) line stream
   stage_none line stream past =
       sym (unnamed plan s.links.ends s.links.keeper.keys s.links.packets.packets line stream links
       (by (nat_lt line 32) (nat_le stream 255) _ _ past))
@@ -95,7 +95,7 @@ named_face s number link place is =
     }
 
     by : (a b : Bool) → nat_lt number (length s.links.keeper.interfaces.interfaces) ≡ a → nat_le number 255 ≡ b
-        → (if a then (if b then located 0 number s.links.ends.links else None) else None) ≡ Some (link, place)
+        → (if a then (if b then place_on_links 0 number s.links.ends.links else None) else None) ≡ Some (link, place)
         → IsNamedFace s number link place
     by true true many few is = at many few (located_read 0 number s.links.ends.links (link, place) is)
     by true false many few is = absurd (none-some (link, place) is)
@@ -118,12 +118,12 @@ face_made s number link place state l facts is there state_is facts_are =
     subst (λ o. IfSome o (λ (t : Tdi). state ≡ state_code t.state)) t.1 state_is in
     let kept : facts ≡ interface_facts i.0 =
     subst (λ o. IfSome o (λ (i : HostTdi). facts ≡ interface_facts i)) i.1 facts_are in
-    let tdi : tdi_of_ends s.links.ends.links (link, place) ≡ Some t.0 =
-    tdi_at there t.1 in
+    let tdi : interface_of_ends s.links.ends.links (link, place) ≡ Some t.0 =
+    interface_at there t.1 in
     (λ j. Some (record { number = number; state = code j; manager = kept j }))
     ∙ sym (ap (face_located s number) is ∙ (λ j. face_of number (tdi j) (i.1 j)))
   where
-    tdi_at : {t : Tdi} → slice_get s.links.ends.links link ≡ Some l
+    interface_at : {t : Tdi} → slice_get s.links.ends.links link ≡ Some l
         → slice_get l.device.interfaces.interfaces place ≡ Some t
-        → tdi_of_ends s.links.ends.links (link, place) ≡ Some t
-    tdi_at there at = rw there at
+        → interface_of_ends s.links.ends.links (link, place) ≡ Some t
+    interface_at there at = rw there at

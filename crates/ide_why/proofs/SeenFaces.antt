@@ -5,35 +5,28 @@ use Rattle.std.proofs.lemmas.Bool.{cases_Bool, cases_lt, and_parts, and_from, eq
 use Rattle.std.proofs.lemmas.Option.{same_Some, slice_get_within}
 use Rattle.std.specs.Option.{option_and_then, option_map}
 use Rattle.std.specs.Prelude.{slice_get}
-use Rattle.ide_plan.specs.declared.plan.Plan.{Plan}
-use Rattle.interface_joins.specs.Faces.{SeenAs}
-use Rattle.interface_machine.specs.Machine.{Face, find_face, with_requester}
-use Rattle.interface_states.specs.Sites.{Site, sites}
-use Rattle.interface_states.specs.Views.{Managed, bound_if}
-use Rattle.tdi_host.specs.Facts.{interface_facts, reported_in}
-use Rattle.tdi_host.specs.Managers.{interface_of_requester}
-use Rattle.tdi_host.specs.Views.{HostTdi, Seen, IsUnlocked, IsLocked, IsRunning, IsDoubt, IsBroken, floor_of}
-use Rattle.tdi_host.specs.Views.{is_requester, view_of}
-use Rattle.tdi_state.specs.{Tdi, state_code}
-use Rattle.interface_words.specs.declared.view.View.{View}
+use Rattle.ide_types.specs.declared.plan.Plan.{Plan}
+use Rattle.join_interfaces.specs.Faces.{SeenAs}
+use Rattle.machine_interfaces.specs.Machine.{Face, find_face, with_requester}
+use Rattle.spec_interfaces.specs.Sites.{Site, sites}
+use Rattle.spec_interfaces.specs.Views.{Managed, bound_if}
+use Rattle.interface_host.specs.Facts.{interface_facts, reported_in}
+use Rattle.interface_host.specs.Managers.{interface_of_requester}
+use Rattle.interface_host.specs.Views.{HostTdi, Seen, IsUnlocked, IsLocked, IsRunning, IsDoubt, IsBroken, floor_of}
+use Rattle.interface_host.specs.Views.{is_requester, view_of}
+use Rattle.interface_state.specs.{Tdi, state_code}
+use Rattle.ide_types.specs.declared.view.View.{View}
 use Rattle.why_lines.specs.declared.fact.InterfaceFact.TheVariants as face
 use Rattle.why_lines.specs.declared.fact.Fact.TheVariants as fact
 use Rattle.why_facts.specs.Forms.{bound_facts, face_facts, interface_fact, reported_facts}
 use Rattle.why_facts.specs.Kept.{known_of}
-use Rattle.world.specs.{AreLinks, Stands, WholeLinks, world_of}
+use Rattle.world.specs.{AreLinks, WorldStandsFor, WholeLinks, world_of}
 use Rattle.world.specs.{IsPlaced}
-use Rattle.key_laws.specs.History.{History}
+use Rattle.spec_keys.specs.History.{History}
 use Rattle.world.proofs.{tdi_there}
 use Rattle.world.proofs.{requester_found, requester_nowhere, requester_true}
 use Rattle.world.proofs.{IsSomeSite, get_there, position_at, position_none, site_or_none}
-use Rattle.world.proofs.{
-  face_absent,
-  face_found,
-  interface_absent,
-  interface_there,
-  site_apart,
-  site_numbered,
-}
+use Rattle.world.proofs.{face_absent, face_found, interface_absent, interface_there, site_apart, site_numbered}
 use Rattle.ide_why.specs.declared.faces.FaceSeen.{FaceSeen}
 use Rattle.ide_why.specs.Facts.{known_read}
 use Rattle.ide_why.specs.Faces.{AreFacesSeen, IsFaceSeen, face_seen, reported_seen}
@@ -68,7 +61,7 @@ reported_is IsDoubt m is = ap (λ (v : View). reported_facts v m.reported) (sym 
 reported_is IsBroken m is = ap (λ (v : View). reported_facts v m.reported) (sym is)
 
 module _ (plan : Plan) (s : WholeLinks) (links : AreLinks plan s.links.ends s.links.keeper.keys)
-    (h : History) (stood : Stands (world_of plan s) h) where
+    (h : History) (stood : WorldStandsFor (world_of plan s) h) where
   abbrev Placed : ℕ → Site → Type 0
   Placed i x = IsPlaced plan s.links.ends.links s.links.keeper.interfaces stood.whole i x
 

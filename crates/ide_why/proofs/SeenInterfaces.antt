@@ -8,33 +8,33 @@ use Rattle.ide_types.specs.declared.port.PortName.{PortName}
 use Rattle.ide_types.specs.declared.port.Side.TheVariants.{Host}
 use Rattle.ide_types.specs.declared.sub.SubKind.TheVariants.{Cpl}
 use Rattle.ide_types.specs.Ports.{host_port}
-use Rattle.ide_plan.specs.declared.plan.Plan.{Plan}
-use Rattle.interface_machine.specs.Machine.{Face, face_standing, find_face, with_requester}
-use Rattle.interface_states.specs.Sites.{Site, sites}
-use Rattle.interface_states.specs.Views.{number_in}
+use Rattle.ide_types.specs.declared.plan.Plan.{Plan}
+use Rattle.machine_interfaces.specs.Machine.{Face, face_standing, find_face, with_requester}
+use Rattle.spec_interfaces.specs.Sites.{Site, sites}
+use Rattle.spec_interfaces.specs.Views.{number_in}
 use Rattle.link_events.specs.declared.event.InterfaceEvent.{InterfaceEvent}
 use Rattle.link_events.specs.declared.event.InterfaceEvent.TheVariants as ie
-use Rattle.link_history.specs.{HopTlp, has_hop, leaving_end}
-use Rattle.link_history.specs.Plan.{has_link, is_closed}
-use Rattle.link_history.specs.Ports.{outgoing_at}
-use Rattle.port_operations.specs.{LinkState, find, status_at}
-use Rattle.stream_rules.specs.Slots.{stream_status}
-use Rattle.stream_rules.specs.Stream.{StreamState}
+use Rattle.spec_links.specs.{HopTlp, has_hop, leaving_end}
+use Rattle.spec_links.specs.Plan.{has_link, is_closed}
+use Rattle.spec_links.specs.Ports.{outgoing_at}
+use Rattle.machine_operations.specs.{LinkState, find, machine_status}
+use Rattle.spec_stream.specs.Slots.{stream_status}
+use Rattle.spec_stream.specs.Stream.{StreamState}
 use Rattle.sub_stream.specs.Facts.{stream_facts}
-use Rattle.waiting_reads.specs.declared.queue.WaitingRead.{WaitingRead}
-use Rattle.whole_machine.specs.Machine.{whole_streams}
+use Rattle.trusted_memory.specs.declared.queue.WaitingRead.{WaitingRead}
+use Rattle.machine_whole.specs.Machine.{whole_streams}
 use Rattle.why_lines.specs.declared.fact.Fact.{Fact}
 use Rattle.why_lines.specs.declared.fact.InterfaceFact.TheVariants as face
 use Rattle.why_lines.specs.declared.fact.Fact.TheVariants as fact
 use Rattle.why_facts.specs.Forms.{asked_besides, draw_fact, draws_fact, face_facts, pool_of, read_fact, state_fact}
 use Rattle.why_facts.specs.Forms.{waiting_fact}
-use Rattle.why_facts.specs.Kept.{answer_facts_in, asked_face, asked_facts_in, completion_by, first_in}
-use Rattle.why_facts.specs.Kept.{forward_facts_in, oldest_in, reader_in}
-use Rattle.world.specs.{AreLinks, Stands, WholeLinks, carried_at, world_of}
-use Rattle.key_laws.specs.History.{History}
+use Rattle.why_facts.specs.Kept.{answer_facts_in, asked_face, asked_facts_in, completion_facts, first_tlp_facts}
+use Rattle.why_facts.specs.Kept.{forward_facts_in, oldest_read_facts, reader_in}
+use Rattle.world.specs.{AreLinks, WorldStandsFor, WholeLinks, carried_on_link, world_of}
+use Rattle.spec_keys.specs.History.{History}
 use Rattle.ide_why.specs.declared.faces.FaceSeen.{FaceSeen}
 use Rattle.ide_why.specs.Facts.{answer_read, asked_by_face, asked_by_number, besides_read, completion_read, first_read}
-use Rattle.ide_why.specs.Facts.{forward_read, oldest_read, reader_read, state_of}
+use Rattle.ide_why.specs.Facts.{forward_read, oldest_read, reader_read, state_of_whole}
 use Rattle.ide_why.specs.Faces.{AreFacesSeen, IsFaceSeen}
 use Rattle.ide_why.specs.Reading.{face_read, requester_read, stream_read}
 use Rattle.ide_why.proofs.SeenFaces.{face_is, face_read_is, known, requester_read_is}
@@ -42,8 +42,8 @@ use Rattle.ide_why.proofs.Packets.{sending_is, state_is}
 use Rattle.ide_why.proofs.SeenStreams.{sender_is}
 
 module _ (plan : Plan) (s : WholeLinks) (links : AreLinks plan s.links.ends s.links.keeper.keys)
-    (h : History) (stood : Stands (world_of plan s) h) where
-  st_is : state_of plan s ≡ stood.whole.links
+    (h : History) (stood : WorldStandsFor (world_of plan s) h) where
+  st_is : state_of_whole plan s ≡ stood.whole.links
   st_is = state_is plan s h stood (known plan s links h stood)
 
   -- ---- events on interfaces
@@ -52,9 +52,10 @@ module _ (plan : Plan) (s : WholeLinks) (links : AreLinks plan s.links.ends s.li
       → besides_read plan s f e
       ≡ asked_besides plan y.0 (face_standing plan (whole_streams plan stood.whole) stood.whole.faces.used y.0 y.1) e
   besides_are (ie.Lock i loss) y f seen =
-      (λ j. state_fact (status_at plan (st_is j) Host (seen.link j) (seen.stream j)) ∷ [])
+      (λ j. state_fact (machine_status plan (st_is j) Host (seen.link j) (seen.stream j)) ∷ [])
   besides_are (ie.Start i loss) y f seen =
-      (λ j. state_fact (status_at plan (st_is j) Host (seen.link j) (seen.stream j)) ∷ draw_fact (seen.draw_is j) ∷ [])
+      (λ j. state_fact (machine_status plan (st_is j) Host (seen.link j) (seen.stream j)) ∷ draw_fact (seen.draw_is j)
+      ∷ [])
   besides_are (ie.Halt i loss) y f seen =
       (λ j. fact.Interface (face.Started (seen.started j)) ∷ draws_fact (st_is j).draws (pool_of plan) ∷ [])
   besides_are (ie.Report i loss) y f seen = refl
@@ -89,7 +90,7 @@ module _ (plan : Plan) (s : WholeLinks) (links : AreLinks plan s.links.ends s.li
 
   completion_is : (link stream : ℕ) (o : Option StreamState)
       → completion_read (option_map (stream_facts (is_closed plan link stream)) o)
-      ≡ completion_by plan (host_port link) stream o
+      ≡ completion_facts plan (host_port link) stream o
   completion_is link stream None = refl
   completion_is link stream (Some x) =
       ap (λ (fs : List Fact). state_fact (stream_status x) ∷ fs) (sender_is (is_closed plan link stream) x Cpl)
@@ -104,11 +105,12 @@ module _ (plan : Plan) (s : WholeLinks) (links : AreLinks plan s.links.ends s.li
       ++ completion_read (stream_read plan s (host_port (are.link j)) (are.stream j)))
       ∙ ap (λ (fs : List Fact). face_facts y.0 y.1.tdi y.1.managed ++ fs)
       (completion_is y.0.link y.0.plan.stream
-      (find plan (state_of plan s) (host_port y.0.link) y.0.plan.stream)
-      ∙ ap (λ (st : LinkState). completion_by plan (host_port y.0.link) y.0.plan.stream
+      (find plan (state_of_whole plan s) (host_port y.0.link) y.0.plan.stream)
+      ∙ ap (λ (st : LinkState). completion_facts plan (host_port y.0.link) y.0.plan.stream
       (find plan st (host_port y.0.link) y.0.plan.stream)) st_is)
 
-  oldest_is : (link : ℕ) (rs : List WaitingRead) → oldest_read plan s link rs ≡ oldest_in plan stood.whole link rs
+  oldest_is : (link : ℕ) (rs : List WaitingRead) → oldest_read plan s link rs
+      ≡ oldest_read_facts plan stood.whole link rs
   oldest_is link [] = refl
   oldest_is link (r ∷ rs) =
       ap (λ (fs : List Fact). read_fact r.draw ∷ fs)
@@ -125,19 +127,19 @@ module _ (plan : Plan) (s : WholeLinks) (links : AreLinks plan s.links.ends s.li
 
   -- ---- forwards
 
-  first_is : (end : PortName) (xs : List HopTlp) → first_read plan s end xs ≡ first_in plan stood.whole end xs
+  first_is : (end : PortName) (xs : List HopTlp) → first_read plan s end xs ≡ first_tlp_facts plan stood.whole end xs
   first_is end [] = refl
   first_is end (x ∷ xs) = sending_is plan s h stood (known plan s links h stood) end (outgoing_at plan end x.bytes)
 
   abbrev waits : ℕ → Direction → List HopTlp → List Fact
-  waits link d xs = waiting_fact (length xs) ∷ first_in plan stood.whole (leaving_end link d) xs
+  waits link d xs = waiting_fact (length xs) ∷ first_tlp_facts plan stood.whole (leaving_end link d) xs
 
   forward_by : (link : ℕ) (d : Direction) (b : Bool) → has_hop plan link ≡ b
       → forward_read plan s link d ≡ forward_facts_in plan stood.whole link d
   forward_by link d false lacks = rw lacks refl
   forward_by link d true has = rw has
-      (ap (λ (fs : List Fact). waiting_fact (length (carried_at s.accesses link d)) ∷ fs)
-      (first_is (leaving_end link d) (carried_at s.accesses link d))
+      (ap (λ (fs : List Fact). waiting_fact (length (carried_on_link s.accesses link d)) ∷ fs)
+      (first_is (leaving_end link d) (carried_on_link s.accesses link d))
       ∙ ap (waits link d) (stood.is.accesses.carried link d (hop_low plan link has)))
     where
       hop_low : (plan : Plan) (link : ℕ) → has_hop plan link ≡ true → link < 8

@@ -8,19 +8,19 @@ use Rattle.ide_types.specs.declared.port.Side.{Side}
 use Rattle.ide_types.specs.declared.port.Side.TheVariants.{Host, Device}
 use Rattle.ide_types.specs.declared.sub.SubKind.{SubKind}
 use Rattle.ide_types.specs.declared.sub.SubKind.TheVariants.{Pr, Npr, Cpl}
-use Rattle.ide_plan.specs.declared.plan.Plan.{Plan}
-use Rattle.key_laws.specs.Due.{PortView}
-use Rattle.key_laws.specs.History.{program_at}
-use Rattle.key_laws.specs.Operations.{Op, Idle, Establishing, Up, Refreshing, Stopping, last_exchange_of}
-use Rattle.key_laws.specs.Keys.{refusal_if}
-use Rattle.key_laws.specs.Places.{KeyPlace, places_of, told_places}
-use Rattle.link_history.specs.Plan.{is_closed}
-use Rattle.link_ports.specs.Machine.{is_last_in, refuses_at, refuses_in}
+use Rattle.ide_types.specs.declared.plan.Plan.{Plan}
+use Rattle.spec_keys.specs.Due.{PortView}
+use Rattle.spec_keys.specs.History.{program_at}
+use Rattle.spec_keys.specs.Operations.{StreamStage, Idle, Establishing, Up, Refreshing, Stopping, last_exchange_of}
+use Rattle.spec_keys.specs.Keys.{refusal_if}
+use Rattle.spec_keys.specs.Places.{KeyPlace, places_of, told_places}
+use Rattle.spec_links.specs.Plan.{is_closed}
+use Rattle.machine_ports.specs.Machine.{is_last_in, refuses_at, refuses_in}
 use Rattle.link_verdicts.specs.declared.verdict.Operation.{Operation}
 use Rattle.link_verdicts.specs.declared.verdict.Operation.TheVariants as op
-use Rattle.port_operations.specs.{find, port_at, ports_of}
-use Rattle.stream_rules.specs.Slots.{slots_at}
-use Rattle.stream_rules.specs.Stream.{LaneSlot, Empty, Programmed, Armed, Live, LaneSlots, StreamState}
+use Rattle.machine_operations.specs.{find, port_at, ports_of}
+use Rattle.spec_stream.specs.Slots.{slots_at}
+use Rattle.spec_stream.specs.Stream.{LaneSlot, Empty, Programmed, Armed, Live, LaneSlots, StreamState}
 use Rattle.sub_stream.specs.Facts.{lane_seen, set_facts, slot_facts, stream_facts}
 use Rattle.why_lines.specs.declared.fact.Fact.{Fact}
 use Rattle.why_lines.specs.declared.fact.Fact.TheVariants as fact
@@ -28,7 +28,7 @@ use Rattle.why_lines.specs.declared.fact.OperationFact.TheVariants as of
 use Rattle.why_facts.specs.Forms.{exchange_facts, refuses_fact, refusing_facts}
 use Rattle.world.specs.{WholeLinks}
 use Rattle.ide_why.specs.declared.places.Place.{Place}
-use Rattle.ide_why.specs.Facts.{exchanges_read, refusal_facts, state_of}
+use Rattle.ide_why.specs.Facts.{exchanges_read, refusal_facts, state_of_whole}
 use Rattle.ide_why.specs.Places.{first_refusing, if_refusing, is_last_seen, is_refusing, key_place, place_or}
 use Rattle.ide_why.specs.Places.{refuses_seen, refusing_on, refusing_or, seen_place_at, sets_in}
 
@@ -81,7 +81,7 @@ refusing_found a p k closed (Some x) =
 
 module _ (plan : Plan) (s : WholeLinks) (o : Operation) (set : Bool) (first : ℕ) where
   abbrev ports : PortView
-  ports = ports_of plan (state_of plan s)
+  ports = ports_of plan (state_of_whole plan s)
 
   abbrev due : List KeyPlace → List Fact
   due ks = refusing_facts plan ports o set first ks
@@ -89,7 +89,7 @@ module _ (plan : Plan) (s : WholeLinks) (o : Operation) (set : Bool) (first : �
   test_is : (p : Place) → is_refusing plan s o set first p
       ≡ (nat_le first (program_at o (key_place p)) && is_some (ports.refusal (key_place p) set))
   test_is p = refusing_found (nat_le first (program_at o (key_place p))) p set (is_closed plan p.line p.stream)
-      (find plan (state_of plan s) (port_at p.side p.line) p.stream)
+      (find plan (state_of_whole plan s) (port_at p.side p.line) p.stream)
 
   one_by : (b : Bool) (p : Place) (next : Option Place) (ks : List KeyPlace) → refusal_facts plan o next ≡ due ks
       → refusal_facts plan o (if_refusing b p next)
@@ -184,13 +184,14 @@ module _ (plan : Plan) (s : WholeLinks) (line stream next : ℕ) where
 
   left_is : (o : Operation) (first : ℕ) (set : Bool)
       → left_as o first set ≡ fact.Operation (of.Exchanges first (last_exchange_of (is_hosted line) o))
-      ∷ refusing_facts plan (ports_of plan (state_of plan s)) o set first (told_places (is_hosted line) line stream)
+      ∷ refusing_facts plan (ports_of plan (state_of_whole plan s)) o set first
+      (told_places (is_hosted line) line stream)
   left_is o first set =
       ap (λ (fs : List Fact). fact.Operation (of.Exchanges first (last_exchange_of (is_hosted line) o)) ∷ fs)
       (told_is plan s o set first line stream)
 
-  pub exchanges_are : (o : Operation) (q : Op) → exchanges_read plan s o line stream q
-      ≡ exchange_facts plan (ports_of plan (state_of plan s)) o line stream q next
+  pub exchanges_are : (o : Operation) (q : StreamStage) → exchanges_read plan s o line stream q
+      ≡ exchange_facts plan (ports_of plan (state_of_whole plan s)) o line stream q next
   exchanges_are op.Establish Idle = left_is op.Establish 1 false
   exchanges_are op.Establish (Establishing draw n) = left_is op.Establish n false
   exchanges_are op.Establish (Up set draw) = refl

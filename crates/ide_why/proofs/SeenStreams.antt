@@ -2,25 +2,25 @@
 use Rattle.std.proofs.Common.{◌≡◌, Bool, List, ◌∷◌, ◌++◌, refl, ap}
 use Rattle.ide_types.specs.declared.sub.SubKind.{SubKind}
 use Rattle.ide_types.specs.declared.sub.SubKind.TheVariants.{Pr, Npr, Cpl}
-use Rattle.stream_rules.specs.Stream.{LaneSlot, Empty, Programmed, Armed, Live, StreamState, LaneSlots}
+use Rattle.spec_stream.specs.Stream.{LaneSlot, Empty, Programmed, Armed, Live, StreamState, LaneSlots}
 use Rattle.sub_stream.specs.Facts.{set_facts as sets_of, slot_facts, stream_facts}
 use Rattle.why_lines.specs.declared.fact.Fact.{Fact}
 use Rattle.why_facts.specs.Forms.{counts_facts, each_looked_at, posted_fact, set_facts, state_fact, total_facts}
-use Rattle.why_facts.specs.Kept.{receiver_facts, sender_facts_of, slot_state}
-use Rattle.stream_rules.specs.Slots.{stream_status}
+use Rattle.why_facts.specs.Kept.{receiver_fact_list, sender_facts_of, set_state_of_slot}
+use Rattle.spec_stream.specs.Slots.{stream_status}
 use Rattle.ide_why.specs.Streams.{receiver_seen, sender_seen, senders_seen, sets_seen, state_seen}
 
-slot_is : (s : LaneSlot) → state_seen (slot_facts s) ≡ slot_state s
+slot_is : (s : LaneSlot) → state_seen (slot_facts s) ≡ set_state_of_slot s
 slot_is Empty = refl
 slot_is (Programmed draw key) = refl
 slot_is (Armed draw key) = refl
 slot_is (Live x) = refl
 
-sets_are : (s : LaneSlots) → sets_seen (sets_of s) ≡ set_facts (slot_state s.first) (slot_state s.second)
+sets_are : (s : LaneSlots) → sets_seen (sets_of s) ≡ set_facts (set_state_of_slot s.first) (set_state_of_slot s.second)
 sets_are s = (λ i. set_facts (slot_is s.first i) (slot_is s.second i))
 
 pub receiver_is : (closed : Bool) (x : StreamState) (u : SubKind)
-    → receiver_seen (stream_facts closed x) u ≡ receiver_facts closed x u
+    → receiver_seen (stream_facts closed x) u ≡ receiver_fact_list closed x u
 receiver_is closed x Pr = ap (λ (fs : List Fact). fs ++ counts_facts Pr x.rx.pr.sum x.rx.pr.got
     ++ total_facts closed x.rx.pr.total) (sets_are x.rx.pr.slots)
 receiver_is closed x Npr = ap (λ (fs : List Fact). fs ++ counts_facts Npr x.rx.npr.sum x.rx.pr.got

@@ -4,13 +4,13 @@ use Rattle.std.proofs.lemmas.Option.{none-some, same_Some}
 use Rattle.std.specs.Prelude.{true, false, is_some}
 use Rattle.ide_types.specs.declared.port.PortName.{PortName}
 use Rattle.ide_types.specs.declared.port.Side.{Side}
-use Rattle.ide_plan.specs.declared.plan.Plan.{Plan}
-use Rattle.ide_plan.specs.declared.stream.StreamPlan.{StreamPlan}
-use Rattle.association.specs.Choice.{choice_of, chosen}
+use Rattle.ide_types.specs.declared.plan.Plan.{Plan}
+use Rattle.ide_types.specs.declared.stream.StreamPlan.{StreamPlan}
+use Rattle.association.specs.Choice.{choice_of, chosen_stream}
 use Rattle.association.specs.Outgoing.{Outgoing, NoTlp, OnNone, OnStream, outgoing_as, outgoing_on, stream_taken}
 unfoldable use Rattle.association.specs.Outgoing.{outgoing_of}
-use Rattle.link_history.specs.Plan.{has_port}
-use Rattle.link_history.specs.Ports.{outgoing_at}
+use Rattle.spec_links.specs.Plan.{has_port}
+use Rattle.spec_links.specs.Ports.{outgoing_at}
 use Rattle.tlp_layout.specs.Reading.{read_of}
 use Rattle.tlp_layout.specs.Tlp.{header}
 use Rattle.tlp_layout.specs.declared.fault.TlpFault.{TlpFault}
@@ -32,7 +32,7 @@ on_read : (streams : List StreamPlan) (side : Side) (r : Result Tlp TlpFault) (u
 on_read streams side (Err f) u stream ok is = absurd (none-some stream (sym is))
 on_read streams side (Ok t) u stream ok is =
     let same : t ≡ u = cc in
-    on_chosen t u (chosen (choice_of streams side (header t))) stream same is
+    on_chosen t u (chosen_stream (choice_of streams side (header t))) stream same is
 
 plain_lines : (plan : Plan) (s : WholeLinks) (end : PortName) (out : Outgoing) → None ≡ stream_taken out
     → at_port plan end ∷ [] ≡ sending_facts plan s end out

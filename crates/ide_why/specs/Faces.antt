@@ -1,10 +1,10 @@
 -- An interface, by what is seen of it at its device and at the manager.
 use Rattle.std.specs.Prelude.{ℕ, ◌≡◌, Bool, List, [], ◌∷◌, Option, Some, None}
 use Rattle.std.specs.Option.{option_map}
-use Rattle.interface_machine.specs.Machine.{Face}
-use Rattle.interface_states.specs.Sites.{Site}
-use Rattle.interface_states.specs.Views.{bound_if}
-use Rattle.tdi_state.specs.{state_code}
+use Rattle.machine_interfaces.specs.Machine.{Face}
+use Rattle.spec_interfaces.specs.Sites.{Site}
+use Rattle.spec_interfaces.specs.Views.{bound_if}
+use Rattle.interface_state.specs.{state_code}
 use Rattle.why_lines.specs.declared.fact.Fact.{Fact}
 use Rattle.why_lines.specs.declared.fact.InterfaceFact.TheVariants as face
 use Rattle.why_lines.specs.declared.fact.Fact.TheVariants as fact

@@ -7,7 +7,7 @@ use Rattle.ide_types.specs.declared.port.PortName.{PortName}
 use Rattle.ide_types.specs.declared.port.Side.TheVariants.{Host}
 use Rattle.ide_types.specs.declared.sub.SubKind.TheVariants.{Cpl}
 use Rattle.ide_types.specs.Ports.{host_port}
-use Rattle.ide_plan.specs.declared.plan.Plan.{Plan}
+use Rattle.ide_types.specs.declared.plan.Plan.{Plan}
 use Rattle.association.specs.Outgoing.{Outgoing, NoTlp, OnNone, OnStream}
 use Rattle.ide_prefix.specs.Packet.{Packet, is_sync_packet}
 use Rattle.ide_prefix.specs.Reading.{CutValue, PlainTlp, IdePacket, cut_of}
@@ -17,12 +17,12 @@ use Rattle.tlp_layout.specs.Reading.{read_head_of}
 use Rattle.tlp_layout.specs.Tlp.{header}
 use Rattle.tlp_layout.specs.declared.fault.TlpFault.{TlpFault}
 use Rattle.tlp_layout.specs.declared.head.HeadView.{HeadView}
-use Rattle.waiting_reads.specs.Requests.{memory_read}
-use Rattle.waiting_reads.specs.declared.queue.WaitingRead.{WaitingRead}
-use Rattle.interface_states.specs.Cause.{owners_link}
-use Rattle.interface_states.specs.Views.{number_in}
-use Rattle.key_laws.specs.History.{program_at}
-use Rattle.key_laws.specs.Operations.{Op, last_exchange_of, work_of}
+use Rattle.trusted_memory.specs.Requests.{memory_read}
+use Rattle.trusted_memory.specs.declared.queue.WaitingRead.{WaitingRead}
+use Rattle.spec_interfaces.specs.Cause.{owners_link}
+use Rattle.spec_interfaces.specs.Views.{number_in}
+use Rattle.spec_keys.specs.History.{program_at}
+use Rattle.spec_keys.specs.Operations.{StreamStage, last_exchange_of, work_of}
 use Rattle.link_verdicts.specs.declared.verdict.Operation.{Operation}
 use Rattle.link_verdicts.specs.declared.verdict.Operation.TheVariants as op
 use Rattle.link_events.specs.declared.event.Event.{Event}
@@ -30,33 +30,33 @@ use Rattle.link_events.specs.declared.event.Event.TheVariants as event
 use Rattle.link_events.specs.declared.event.AccessEvent.TheVariants as ae
 use Rattle.link_events.specs.declared.event.InterfaceEvent.{InterfaceEvent}
 use Rattle.link_events.specs.declared.event.InterfaceEvent.TheVariants as ie
-use Rattle.link_history.specs.{HopTlp, has_hop, leaving_end}
-use Rattle.link_history.specs.History.{Arrival}
-use Rattle.link_history.specs.Plan.{has_link}
-use Rattle.link_history.specs.Ports.{goes_through, is_host_port, may_send, outgoing_at, port_of, sealing_end}
-use Rattle.port_operations.specs.{LinkState, find_op, status_at}
+use Rattle.spec_links.specs.{HopTlp, has_hop, leaving_end}
+use Rattle.spec_links.specs.History.{Arrival}
+use Rattle.spec_links.specs.Plan.{has_link}
+use Rattle.spec_links.specs.Ports.{goes_through, is_host_port, may_send, outgoing_at, port_of, sealing_end}
+use Rattle.machine_operations.specs.{LinkState, find_op, machine_status}
 use Rattle.sub_stream.specs.declared.facts.StreamFacts.{StreamFacts}
 use Rattle.sub_stream.specs.Facts.{lane_seen}
-use Rattle.whole_machine.specs.Machine.{arrival_of}
+use Rattle.machine_whole.specs.Machine.{arrival_of}
 use Rattle.why_lines.specs.declared.fact.Fact.{Fact}
 use Rattle.why_lines.specs.declared.fact.InterfaceFact.TheVariants as face
 use Rattle.why_lines.specs.declared.fact.OperationFact.TheVariants as of
 use Rattle.why_lines.specs.declared.fact.Fact.TheVariants as fact
 use Rattle.why_facts.specs.Due.{sets_own_t}
-use Rattle.why_facts.specs.Forms.{arrives_fact, at_port, draw_fact, draws_fact, is_request, manager_fact, may_go}
+use Rattle.why_facts.specs.Forms.{arrives_fact, at_port, draw_fact, draws_fact, is_request_head, manager_fact, may_go}
 use Rattle.why_facts.specs.Forms.{packet_fact, packets_fact, pool_of, read_fact, refuses_fact, sends_fact, state_fact}
 use Rattle.why_facts.specs.Forms.{waiting_fact, waiting_facts}
 use Rattle.why_facts.specs.Kept.{if_found}
-use Rattle.world.specs.{WholeLinks, carried_at, links_state, reads_at}
+use Rattle.world.specs.{WholeLinks, carried_on_link, links_state, reads_at}
 use Rattle.ide_why.specs.declared.faces.FaceSeen.{FaceSeen}
 use Rattle.ide_why.specs.declared.places.Place.{Place}
 use Rattle.ide_why.specs.Faces.{face_seen, reported_seen}
 use Rattle.ide_why.specs.Places.{key_place, refusing_on}
-use Rattle.ide_why.specs.Reading.{face_read, owner_read, requester_read, stream_read}
+use Rattle.ide_why.specs.Reading.{face_read, owner_face, requester_read, stream_read}
 use Rattle.ide_why.specs.Streams.{live_count, receiver_seen, sender_seen, senders_seen}
 
-abbrev pub state_of : Plan → WholeLinks → LinkState
-state_of plan s = links_state plan s.links
+abbrev pub state_of_whole : Plan → WholeLinks → LinkState
+state_of_whole plan s = links_state plan s.links
 
 abbrev pub known_read : Option FaceSeen → List Fact
 known_read None = []
@@ -66,7 +66,7 @@ known_read (Some f) = face_seen f
 
 abbrev pub owner_facts : Plan → WholeLinks → PortName → HeadView → List Fact
 owner_facts plan s end head =
-    if sets_own_t plan end then known_read (owner_read s (owners_link plan end) head) else []
+    if sets_own_t plan end then known_read (owner_face s (owners_link plan end) head) else []
 
 abbrev pub stream_sends : Plan → WholeLinks → PortName → ℕ → HeadView → Option StreamFacts → List Fact
 stream_sends plan s end stream head None = []
@@ -91,31 +91,31 @@ sent_facts plan s port bytes =
 abbrev pub request_read : WholeLinks → ℕ → ℕ → Packet → Result HeadView TlpFault → List Fact
 request_read s link place p (Err f) = []
 request_read s link place p (Ok head) =
-    if is_request p.prefix.t head
-    then packet_fact place p ∷ (known_read (owner_read s link head)
+    if is_request_head p.prefix.t head
+    then packet_fact place p ∷ (known_read (owner_face s link head)
     ++ waiting_facts (is_some (memory_read head)) (length (reads_at s.accesses link)))
     else []
 
 -- at a host's port
-abbrev pub asks_at : Plan → WholeLinks → PortName → ℕ → Packet → List Fact
-asks_at plan s port place p =
+abbrev pub host_read_facts : Plan → WholeLinks → PortName → ℕ → Packet → List Fact
+host_read_facts plan s port place p =
     if is_sync_packet p || not (is_host_port plan port) then []
-    else request_read s port.link place p (read_head_of p.head)
+    else request_read s port.line place p (read_head_of p.head)
 
-abbrev pub asks_with : Plan → WholeLinks → PortName → Packet → Option ℕ → List Fact
-asks_with plan s end p None = []
-asks_with plan s end p (Some n) = asks_at plan s (port_of plan end) (n + 1) p
+abbrev pub keyed_read_facts : Plan → WholeLinks → PortName → Packet → Option ℕ → List Fact
+keyed_read_facts plan s end p None = []
+keyed_read_facts plan s end p (Some n) = host_read_facts plan s (port_of plan end) (n + 1) p
 
-abbrev pub asks_read : Plan → WholeLinks → PortName → StreamFacts → Packet → List Fact
-asks_read plan s end f p =
+abbrev pub asks_read_facts : Plan → WholeLinks → PortName → StreamFacts → Packet → List Fact
+asks_read_facts plan s end f p =
     if f.failed then []
-    else asks_with plan s end p (live_count (if p.prefix.k then (lane_seen f p.prefix.sub).receiver.sets.one
+    else keyed_read_facts plan s end p (live_count (if p.prefix.k then (lane_seen f p.prefix.sub).receiver.sets.one
     else (lane_seen f p.prefix.sub).receiver.sets.zero))
 
 abbrev pub received_read : Plan → WholeLinks → PortName → Packet → Option StreamFacts → List Fact
 received_read plan s end p None = []
 received_read plan s end p (Some f) =
-    state_fact f.status ∷ (receiver_seen f p.prefix.sub ++ asks_read plan s end f p)
+    state_fact f.status ∷ (receiver_seen f p.prefix.sub ++ asks_read_facts plan s end f p)
 
 abbrev pub met_facts : Plan → WholeLinks → PortName → Result CutValue PacketFault → List Fact
 met_facts plan s end (Err f) = at_port plan end ∷ []
@@ -129,15 +129,15 @@ arrival_facts plan s unnamed (Some a) =
     if goes_through plan a.port a.bytes then at_port plan a.port ∷ [] else met_facts plan s a.port (cut_of a.bytes)
 
 abbrev pub sealed_facts : Plan → WholeLinks → List Fact
-sealed_facts plan s = packets_fact (length (state_of plan s).packets)
+sealed_facts plan s = packets_fact (length (state_of_whole plan s).packets)
 
 -- of bytes that an event brings
 abbrev pub brought_facts : Plan → WholeLinks → Event → List Fact
-brought_facts plan s e = arrival_facts plan s (sealed_facts plan s) (arrival_of plan (state_of plan s) e)
+brought_facts plan s e = arrival_facts plan s (sealed_facts plan s) (arrival_of plan (state_of_whole plan s) e)
 
 abbrev pub arrived_facts : Plan → WholeLinks → PortName → List ℕ → List Fact
 arrived_facts plan s port bytes =
-    arrival_facts plan s [] (arrival_of plan (state_of plan s) (event.Arrive port bytes))
+    arrival_facts plan s [] (arrival_of plan (state_of_whole plan s) (event.Arrive port bytes))
 
 -- ---- operations on streams
 
@@ -150,7 +150,7 @@ abbrev pub refusing_read : Plan → WholeLinks → Operation → Bool → ℕ �
 refusing_read plan s op.Stop set first line stream = []
 refusing_read plan s o set first line stream = refusal_facts plan o (refusing_on plan s o set first line stream)
 
-abbrev pub exchanges_read : Plan → WholeLinks → Operation → ℕ → ℕ → Op → List Fact
+abbrev pub exchanges_read : Plan → WholeLinks → Operation → ℕ → ℕ → StreamStage → List Fact
 exchanges_read plan s o line stream q =
     if may_go o q
     then fact.Operation (of.Exchanges (work_of o q 0).first (last_exchange_of (is_hosted line) o))
@@ -159,40 +159,40 @@ exchanges_read plan s o line stream q =
 
 abbrev pub establish_read : Plan → WholeLinks → ℕ → ℕ → List Fact
 establish_read plan s line stream =
-    let st = state_of plan s in
+    let st = state_of_whole plan s in
     if_found (find_op plan st line stream) (λ q. manager_fact q ∷ draws_fact st.draws (pool_of plan)
     ∷ exchanges_read plan s op.Establish line stream q)
 
 abbrev pub refresh_read : Plan → WholeLinks → ℕ → ℕ → List Fact
 refresh_read plan s line stream =
-    let st = state_of plan s in
+    let st = state_of_whole plan s in
     if is_link_line line
     then if_found (find_op plan st line stream) (λ q. manager_fact q
-    ∷ state_fact (status_at plan st Host line stream)
+    ∷ state_fact (machine_status plan st Host line stream)
     ∷ draws_fact st.draws (pool_of plan)
     ∷ exchanges_read plan s op.Refresh line stream q)
     else []
 
 abbrev pub stop_read : Plan → WholeLinks → ℕ → ℕ → List Fact
 stop_read plan s line stream =
-    let st = state_of plan s in
+    let st = state_of_whole plan s in
     if_found (find_op plan st line stream) (λ q. manager_fact q ∷ exchanges_read plan s op.Stop line stream q)
 
 abbrev pub status_read : Plan → WholeLinks → ℕ → ℕ → List Fact
 status_read plan s line stream =
-    let st = state_of plan s in
+    let st = state_of_whole plan s in
     if_found (find_op plan st line stream) (λ q. manager_fact q ∷ [])
 
 -- ---- events on interfaces
 
 abbrev pub host_fact : Plan → WholeLinks → FaceSeen → Fact
-host_fact plan s f = state_fact (status_at plan (state_of plan s) Host f.manager.link f.manager.stream)
+host_fact plan s f = state_fact (machine_status plan (state_of_whole plan s) Host f.manager.link f.manager.stream)
 
 abbrev pub besides_read : Plan → WholeLinks → FaceSeen → InterfaceEvent → List Fact
 besides_read plan s f (ie.Lock i loss) = host_fact plan s f ∷ []
 besides_read plan s f (ie.Start i loss) = host_fact plan s f ∷ draw_fact f.manager.draw ∷ []
 besides_read plan s f (ie.Halt i loss) =
-    fact.Interface (face.Started f.manager.started) ∷ draws_fact (state_of plan s).draws (pool_of plan) ∷ []
+    fact.Interface (face.Started f.manager.started) ∷ draws_fact (state_of_whole plan s).draws (pool_of plan) ∷ []
 besides_read plan s f e = []
 
 abbrev pub asked_by_face : Plan → WholeLinks → InterfaceEvent → Option FaceSeen → List Fact
@@ -231,8 +231,8 @@ first_read plan s end (x ∷ xs) = sending_facts plan s end (outgoing_at plan en
 abbrev pub forward_read : Plan → WholeLinks → ℕ → Direction → List Fact
 forward_read plan s link d =
     if has_hop plan link
-    then waiting_fact (length (carried_at s.accesses link d))
-    ∷ first_read plan s (leaving_end link d) (carried_at s.accesses link d) else []
+    then waiting_fact (length (carried_on_link s.accesses link d))
+    ∷ first_read plan s (leaving_end link d) (carried_on_link s.accesses link d) else []
 
 -- ---- all events
 

@@ -6,9 +6,9 @@ use Rattle.ide_types.specs.declared.port.Side.{Side}
 use Rattle.ide_types.specs.declared.port.Side.TheVariants.{Host, Device}
 use Rattle.ide_types.specs.declared.sub.SubKind.{SubKind}
 use Rattle.ide_types.specs.declared.sub.SubKind.TheVariants.{Pr, Npr, Cpl}
-use Rattle.ide_plan.specs.declared.plan.Plan.{Plan}
-use Rattle.key_laws.specs.History.{program_at}
-use Rattle.key_laws.specs.Places.{KeyPlace, is_host}
+use Rattle.ide_types.specs.declared.plan.Plan.{Plan}
+use Rattle.spec_keys.specs.History.{program_at}
+use Rattle.spec_keys.specs.Places.{KeyPlace, is_host}
 use Rattle.link_verdicts.specs.declared.verdict.Operation.{Operation}
 use Rattle.sub_stream.specs.declared.facts.SetFacts.{SetFacts}
 use Rattle.sub_stream.specs.declared.facts.SlotFacts.{SlotFacts}
@@ -20,7 +20,7 @@ use Rattle.ide_why.specs.declared.places.Place.{Place}
 use Rattle.ide_why.specs.Reading.{stream_read}
 
 abbrev pub key_place : Place → KeyPlace
-key_place p = record { side = p.side; link = p.line; stream = p.stream; sends = p.sends; sub = p.sub }
+key_place p = record { side = p.side; line = p.line; stream = p.stream; sends = p.sends; sub = p.sub }
 
 abbrev pub seen_place_at : Side → ℕ → ℕ → Bool → SubKind → Place
 seen_place_at side line stream upward u = record {
@@ -35,7 +35,7 @@ abbrev pub sets_in : Place → StreamFacts → SetFacts
 sets_in p f = if p.sends then (lane_seen f p.sub).sender.sets else (lane_seen f p.sub).receiver.sets
 
 abbrev pub sets_at : Plan → WholeLinks → Place → Option SetFacts
-sets_at plan s p = option_map (sets_in p) (stream_read plan s (record { side = p.side; link = p.line }) p.stream)
+sets_at plan s p = option_map (sets_in p) (stream_read plan s (record { side = p.side; line = p.line }) p.stream)
 
 -- a slot is Live, and the other is not Live under a newer draw
 abbrev pub is_last_beside : ℕ → SlotFacts → Bool

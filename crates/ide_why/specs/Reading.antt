@@ -2,24 +2,24 @@
 use Rattle.std.specs.Prelude.{ℕ, Option, Some, None, slice_get}
 use Rattle.std.specs.Option.{option_and_then, option_map}
 use Rattle.ide_types.specs.declared.port.PortName.{PortName}
-use Rattle.ide_plan.specs.declared.plan.Plan.{Plan}
+use Rattle.ide_types.specs.declared.plan.Plan.{Plan}
 use Rattle.tlp_layout.specs.declared.head.HeadView.{HeadView}
-use Rattle.interface_states.specs.Cause.{owner_of}
-use Rattle.link_history.specs.Plan.{is_closed}
-use Rattle.port_operations.specs.{find}
+use Rattle.spec_interfaces.specs.Cause.{owner_of}
+use Rattle.spec_links.specs.Plan.{is_closed}
+use Rattle.machine_operations.specs.{find}
 use Rattle.sub_stream.specs.declared.facts.StreamFacts.{StreamFacts}
 use Rattle.sub_stream.specs.Facts.{stream_facts}
-use Rattle.tdi_host.specs.Facts.{interface_facts}
-use Rattle.tdi_host.specs.Managers.{interface_of_requester}
-use Rattle.tdi_host.specs.Views.{HostTdi}
-use Rattle.tdi_state.specs.{Tdi, state_code}
-use Rattle.world.specs.{WholeLinks, interface_named, links_state, tdi_of_ends}
+use Rattle.interface_host.specs.Facts.{interface_facts}
+use Rattle.interface_host.specs.Managers.{interface_of_requester}
+use Rattle.interface_host.specs.Views.{HostTdi}
+use Rattle.interface_state.specs.{Tdi, state_code}
+use Rattle.world.specs.{WholeLinks, interface_named, links_state, interface_of_ends}
 use Rattle.ide_why.specs.declared.faces.FaceSeen.{FaceSeen}
 
 -- a stream at an end
 abbrev pub stream_read : Plan → WholeLinks → PortName → ℕ → Option StreamFacts
 stream_read plan s end stream =
-    option_map (stream_facts (is_closed plan end.link stream)) (find plan (links_state plan s.links) end stream)
+    option_map (stream_facts (is_closed plan end.line stream)) (find plan (links_state plan s.links) end stream)
 
 -- an interface, by its number, at this device and at the manager
 abbrev pub face_of : ℕ → Option Tdi → Option HostTdi → Option FaceSeen
@@ -29,7 +29,7 @@ face_of number _ _ = None
 
 abbrev pub face_located : WholeLinks → ℕ → Option (ℕ × ℕ) → Option FaceSeen
 face_located s number None = None
-face_located s number (Some at) = face_of number (tdi_of_ends s.links.ends.links at)
+face_located s number (Some at) = face_of number (interface_of_ends s.links.ends.links at)
     (slice_get s.links.keeper.interfaces.interfaces number)
 
 abbrev pub face_read : WholeLinks → ℕ → Option FaceSeen
@@ -42,5 +42,5 @@ requester_read s link requester =
     option_and_then (face_read s) (interface_of_requester s.links.keeper.interfaces link requester)
 
 -- the interface at a link that owns a TLP
-abbrev pub owner_read : WholeLinks → ℕ → HeadView → Option FaceSeen
-owner_read s link head = option_and_then (requester_read s link) (owner_of head)
+abbrev pub owner_face : WholeLinks → ℕ → HeadView → Option FaceSeen
+owner_face s link head = option_and_then (requester_read s link) (owner_of head)

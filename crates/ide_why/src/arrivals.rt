@@ -1,28 +1,16 @@
 //! Facts of what arrives.
 
-ghost use Rattle.std.specs.Prelude.{
-  ◌≡◌,
-  ◌<◌,
-  ◌∷◌,
-  ◌++◌,
-  [],
-  IfOk,
-  List,
-  Ok,
-  Some,
-  bit_xor,
-  length,
-  slice_index,
-  slice_set,
-};
+ghost use Rattle.std.specs.Prelude.{◌≡◌, ◌<◌, ◌∷◌, ◌++◌, [], IfOk, List, Ok, Some, bit_xor, length, slice_index};
+ghost use Rattle.std.specs.Prelude.{slice_set};
 ghost use Rattle.std.specs.Prelude.{if◌then◌else◌};
 ghost use Rattle.ide_prefix.specs.Cut.{packet_of_view, IsView};
 ghost use Rattle.ide_prefix.specs.Reading.{cut_of};
 ghost use Rattle.link_events.specs.declared.event.Event.TheVariants.{Pass, Alter, Cut as CutShort};
-ghost use Rattle.link_history.specs.Packets.{arrival_at};
+ghost use Rattle.spec_links.specs.Packets.{arrival_at};
 ghost use Rattle.why_facts.specs.Forms.{arrives_fact, packet_fact};
 ghost use Rattle.world.specs.{IsWorld, reads_at};
-ghost use Rattle.ide_why.specs.Facts.{arrival_facts, asks_at, asks_read, brought_facts, met_facts, received_read};
+ghost use Rattle.ide_why.specs.Facts.{arrival_facts, host_read_facts, asks_read_facts, brought_facts, met_facts};
+ghost use Rattle.ide_why.specs.Facts.{received_read};
 ghost use Rattle.ide_why.specs.Facts.{request_read, sealed_facts};
 ghost use Rattle.ide_why.specs.Reading.{stream_read};
 ghost use Rattle.ide_why.specs.Streams.{live_count};
@@ -32,18 +20,16 @@ use crate::reader::Reader;
 use crate::sends::push_port;
 use crate::streams::{push, push_receiver, push_status};
 use ide_prefix::{Cut, PacketView, cut};
-use ide_types::{Memory, PortName, Side};
+use ide_types::{OutOfMemory, PortName, Side, ValidPlan};
 use line_routes::{at_switch, goes_through, partner, port_of, reached};
 use std::alloc::Global;
 use sub_stream::{SetFacts, SlotFacts, StreamFacts};
 use tlp_layout::{HeadView, read_head};
-use trusted_memory::Span;
-use valid_plan::ValidPlan;
-use waiting_reads::MemReadView;
+use trusted_memory::{MemReadView, Span};
 use why_lines::{Fact, InterfaceFact, StreamFact};
 
 // A copy of the bytes, with the one at `at` combined with `mask`.
-fn altered(alloc: Global, bytes: &[u8], at: usize, mask: u8) -> Result<Vec<u8>, Memory>
+fn altered(alloc: Global, bytes: &[u8], at: usize, mask: u8) -> Result<Vec<u8>, OutOfMemory>
     requires { at < length bytes.now }
     ensures { IfOk result (λ copy. copy.items ≡ slice_set bytes.now at (bit_xor (slice_index bytes.now at) mask)) }
 {
@@ -107,7 +93,7 @@ impl Reader<'_> {
         place: u64,
         packet: &PacketView,
         head: &HeadView,
-    ) -> Result<(), Memory>
+    ) -> Result<(), OutOfMemory>
         requires { IsWorld self.now.plan.now self.now.links.now }
         ensures { IfOk result (λ _. facts.new.items ≡ facts.old.items ++ request_read self.now.links.now link place
             (packet_of_view packet.now) (Ok head.now)) }
@@ -134,10 +120,11 @@ impl Reader<'_> {
         port: PortName,
         place: u64,
         packet: &PacketView,
-    ) -> Result<(), Memory>
+    ) -> Result<(), OutOfMemory>
         requires world { IsWorld self.now.plan.now self.now.links.now }
         requires view { IsView packet.now }
-        ensures { IfOk result (λ _. facts.new.items ≡ facts.old.items ++ asks_at self.now.plan.now self.now.links.now
+        ensures { IfOk result (λ _. facts.new.items
+            ≡ facts.old.items ++ host_read_facts self.now.plan.now self.now.links.now
             port place
             (packet_of_view packet.now)) }
     {
@@ -146,7 +133,7 @@ impl Reader<'_> {
         }
         match read_head(packet.head) {
             Err(_) => Ok(()),
-            Ok(head) => self.push_asked_of_host(facts, port.link, place, packet, &head),
+            Ok(head) => self.push_asked_of_host(facts, port.line, place, packet, &head),
         }
     }
 
@@ -157,10 +144,10 @@ impl Reader<'_> {
         end: PortName,
         seen: &StreamFacts,
         packet: &PacketView,
-    ) -> Result<(), Memory>
+    ) -> Result<(), OutOfMemory>
         requires world { IsWorld self.now.plan.now self.now.links.now }
         requires view { IsView packet.now }
-        ensures { IfOk result (λ _. facts.new.items ≡ facts.old.items ++ asks_read self.now.plan.now
+        ensures { IfOk result (λ _. facts.new.items ≡ facts.old.items ++ asks_read_facts self.now.plan.now
             self.now.links.now end seen.now
             (packet_of_view packet.now)) }
     {
@@ -182,7 +169,7 @@ impl Reader<'_> {
         facts: &mut Vec<Fact>,
         end: PortName,
         packet: &PacketView,
-    ) -> Result<(), Memory>
+    ) -> Result<(), OutOfMemory>
         requires world { IsWorld self.now.plan.now self.now.links.now }
         requires view { IsView packet.now }
         ensures { IfOk result (λ _. facts.new.items ≡ facts.old.items ++ arrives_fact self.now.plan.now end
@@ -202,7 +189,12 @@ impl Reader<'_> {
     }
 
     // Appends the facts of bytes that meet an end.
-    fn push_met(&self, facts: &mut Vec<Fact>, end: PortName, bytes: &[u8]) -> Result<(), Memory>
+    fn push_met(
+        &self,
+        facts: &mut Vec<Fact>,
+        end: PortName,
+        bytes: &[u8],
+    ) -> Result<(), OutOfMemory>
         requires { IsWorld self.now.plan.now self.now.links.now }
         ensures { IfOk result (λ _. facts.new.items ≡ facts.old.items ++ met_facts self.now.plan.now
             self.now.links.now end (cut_of bytes.now)) }
@@ -219,7 +211,7 @@ impl Reader<'_> {
         facts: &mut Vec<Fact>,
         end: PortName,
         bytes: &[u8],
-    ) -> Result<(), Memory>
+    ) -> Result<(), OutOfMemory>
         requires { IsWorld self.now.plan.now self.now.links.now }
         ensures { (unnamed : List Fact) → IfOk result (λ _. facts.new.items ≡ facts.old.items ++ arrival_facts
             self.now.plan.now self.now.links.now unnamed (Some (arrival_at self.now.plan.now end bytes.now))) }
@@ -233,7 +225,7 @@ impl Reader<'_> {
     }
 
     /// Appends how many packets were sealed.
-    pub fn push_sealed(&self, facts: &mut Vec<Fact>) -> Result<(), Memory>
+    pub fn push_sealed(&self, facts: &mut Vec<Fact>) -> Result<(), OutOfMemory>
         ensures { IfOk result (λ _. facts.new.items ≡ facts.old.items ++ sealed_facts self.now.plan.now
             self.now.links.now) }
     {
@@ -247,7 +239,7 @@ impl Reader<'_> {
     }
 
     /// Appends the facts of a packet by its number that arrives whole.
-    pub fn push_passed(&self, facts: &mut Vec<Fact>, packet: u64) -> Result<(), Memory>
+    pub fn push_passed(&self, facts: &mut Vec<Fact>, packet: u64) -> Result<(), OutOfMemory>
         requires { IsWorld self.now.plan.now self.now.links.now }
         ensures { IfOk result (λ _. facts.new.items ≡ facts.old.items ++ brought_facts self.now.plan.now
             self.now.links.now
@@ -267,7 +259,7 @@ impl Reader<'_> {
         packet: u64,
         at: u64,
         mask: u8,
-    ) -> Result<(), Memory>
+    ) -> Result<(), OutOfMemory>
         requires { IsWorld self.now.plan.now self.now.links.now }
         ensures { IfOk result (λ _. facts.new.items ≡ facts.old.items ++ brought_facts self.now.plan.now
             self.now.links.now
@@ -287,7 +279,12 @@ impl Reader<'_> {
     }
 
     /// Appends the facts of the first bytes of a packet by its number that arrive.
-    pub fn push_cut(&self, facts: &mut Vec<Fact>, packet: u64, length: u64) -> Result<(), Memory>
+    pub fn push_cut(
+        &self,
+        facts: &mut Vec<Fact>,
+        packet: u64,
+        length: u64,
+    ) -> Result<(), OutOfMemory>
         requires { IsWorld self.now.plan.now self.now.links.now }
         ensures { IfOk result (λ _. facts.new.items ≡ facts.old.items ++ brought_facts self.now.plan.now
             self.now.links.now

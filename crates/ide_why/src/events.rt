@@ -1,13 +1,13 @@
 //! What the verdict of an event comes from.
 
 ghost use Rattle.std.specs.Prelude.{◌≡◌, ◌++◌, IfOk};
-ghost use Rattle.key_laws.specs.History.{History};
+ghost use Rattle.spec_keys.specs.History.{History};
 ghost use Rattle.why_facts.specs.Due.{facts_due};
-ghost use Rattle.world.specs.{IsWorld, Stands};
+ghost use Rattle.world.specs.{IsWorld, WorldStandsFor};
 ghost use Rattle.ide_why.specs.Facts.{arrived_facts, facts_read, sent_facts};
 
 use crate::reader::Reader;
-use ide_types::{Memory, PortName};
+use ide_types::{OutOfMemory, PortName};
 use line_routes::{has_port, may_send, sealing_end};
 use link_events::{AccessEvent, Event};
 use std::alloc::Global;
@@ -17,7 +17,12 @@ use world::World;
 
 impl Reader<'_> {
     // Appends the facts of bytes that are sent at a port.
-    fn push_sent(&self, facts: &mut Vec<Fact>, port: PortName, bytes: &[u8]) -> Result<(), Memory>
+    fn push_sent(
+        &self,
+        facts: &mut Vec<Fact>,
+        port: PortName,
+        bytes: &[u8],
+    ) -> Result<(), OutOfMemory>
         requires { IsWorld self.now.plan.now self.now.links.now }
         ensures { IfOk result (λ _. facts.new.items ≡ facts.old.items ++ sent_facts self.now.plan.now
             self.now.links.now port bytes.now) }
@@ -35,7 +40,7 @@ impl Reader<'_> {
         facts: &mut Vec<Fact>,
         port: PortName,
         bytes: &[u8],
-    ) -> Result<(), Memory>
+    ) -> Result<(), OutOfMemory>
         requires { IsWorld self.now.plan.now self.now.links.now }
         ensures { IfOk result (λ _. facts.new.items ≡ facts.old.items ++ arrived_facts self.now.plan.now
             self.now.links.now port bytes.now) }
@@ -48,7 +53,12 @@ impl Reader<'_> {
     }
 
     // Appends the facts of an event.
-    fn push_event(&self, alloc: Global, facts: &mut Vec<Fact>, event: &Event) -> Result<(), Memory>
+    fn push_event(
+        &self,
+        alloc: Global,
+        facts: &mut Vec<Fact>,
+        event: &Event,
+    ) -> Result<(), OutOfMemory>
         requires { IsWorld self.now.plan.now self.now.links.now }
         ensures { IfOk result (λ _. facts.new.items ≡ facts.old.items ++ facts_read self.now.plan.now
             self.now.links.now event.now) }
@@ -79,9 +89,9 @@ impl Reader<'_> {
 }
 
 /// The facts of the state before an event that its verdict comes from: those that the history's definitions give, for
-/// each history that the world stands for. Returns `Memory` for want of memory.
-pub fn facts(alloc: Global, world: &World, event: &Event) -> Result<Vec<Fact>, Memory>
-    ensures { (h : History) → Stands world.now h
+/// each history that the world stands for. Returns `OutOfMemory` for want of memory.
+pub fn facts(alloc: Global, world: &World, event: &Event) -> Result<Vec<Fact>, OutOfMemory>
+    ensures { (h : History) → WorldStandsFor world.now h
         → IfOk result (λ xs. xs.items ≡ facts_due world.now.plan h event.now) }
 {
     facts_stand();

@@ -5,8 +5,8 @@ ghost use Rattle.ide_why.specs.Faces.{face_seen, grant_seen, reported_seen};
 ghost use Rattle.why_facts.specs.Forms.{bound_facts};
 
 use crate::streams::push;
-use ide_types::Memory;
-use tdi_host::InterfaceFacts;
+use ide_types::OutOfMemory;
+use interface_host::InterfaceFacts;
 use why_lines::{Fact, InterfaceFact};
 
 /// An interface: its number, its state at its device, and what the manager keeps of it.
@@ -18,14 +18,14 @@ pub struct FaceSeen {
 }
 
 /// Appends a fact of interfaces.
-pub fn push_of_interface(facts: &mut Vec<Fact>, fact: InterfaceFact) -> Result<(), Memory>
+pub fn push_of_interface(facts: &mut Vec<Fact>, fact: InterfaceFact) -> Result<(), OutOfMemory>
     ensures { IfOk result (λ _. facts.new.items ≡ facts.old.items ++ Fact.Interface fact ∷ []) }
 {
     push(facts, Fact::Interface { fact })
 }
 
 // Appends the bound stream and the floor of a run.
-fn push_bound(facts: &mut Vec<Fact>, seen: &FaceSeen) -> Result<(), Memory>
+fn push_bound(facts: &mut Vec<Fact>, seen: &FaceSeen) -> Result<(), OutOfMemory>
     ensures { IfOk result (λ _. facts.new.items ≡ facts.old.items ++ bound_facts (grant_seen seen.now)) }
 {
     match seen.manager.floor {
@@ -41,7 +41,7 @@ fn push_bound(facts: &mut Vec<Fact>, seen: &FaceSeen) -> Result<(), Memory>
 }
 
 /// Appends an interface with the manager's view of it.
-pub fn push_face(facts: &mut Vec<Fact>, seen: &FaceSeen) -> Result<(), Memory>
+pub fn push_face(facts: &mut Vec<Fact>, seen: &FaceSeen) -> Result<(), OutOfMemory>
     ensures { IfOk result (λ _. facts.new.items ≡ facts.old.items ++ face_seen seen.now) }
 {
     push_of_interface(
@@ -59,7 +59,7 @@ pub fn push_face(facts: &mut Vec<Fact>, seen: &FaceSeen) -> Result<(), Memory>
 }
 
 /// Appends whether the report of a lock was read.
-pub fn push_reported(facts: &mut Vec<Fact>, reported: Option<bool>) -> Result<(), Memory>
+pub fn push_reported(facts: &mut Vec<Fact>, reported: Option<bool>) -> Result<(), OutOfMemory>
     ensures { IfOk result (λ _. facts.new.items ≡ facts.old.items ++ reported_seen reported) }
 {
     match reported {

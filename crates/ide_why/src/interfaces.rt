@@ -3,7 +3,7 @@
 ghost use Rattle.std.specs.Prelude.{◌≡◌, ◌∷◌, ◌++◌, [], IfOk, List, length};
 ghost use Rattle.hop_queues.specs.Directions.{queue_of};
 ghost use Rattle.ide_types.specs.Ports.{host_port};
-ghost use Rattle.interface_states.specs.Views.{number_in};
+ghost use Rattle.spec_interfaces.specs.Views.{number_in};
 ghost use Rattle.why_facts.specs.Forms.{draw_fact};
 ghost use Rattle.world.specs.{IsWorld};
 ghost use Rattle.ide_why.specs.Facts.{answer_read, asked_by_number, besides_read, completion_read};
@@ -14,10 +14,10 @@ use crate::faces::{FaceSeen, push_face, push_of_interface, push_reported};
 use crate::reader::Reader;
 use crate::streams::{push_sender, push_status};
 use hop_queues::HopQueues;
-use ide_types::{Direction, Memory, PortName, Side, SubKind};
+use ide_types::{Direction, OutOfMemory, PortName, Side, SubKind};
 use line_routes::{has_hop, leaving_end};
 use link_events::InterfaceEvent;
-use waiting_reads::WaitingRead;
+use trusted_memory::WaitingRead;
 use why_lines::{Fact, InterfaceFact};
 
 // The number of the interface that an event is on.
@@ -40,7 +40,7 @@ fn number_in(event: &InterfaceEvent) -> Option<u64>
     }
 }
 
-fn push_draw(facts: &mut Vec<Fact>, draw: u32) -> Result<(), Memory>
+fn push_draw(facts: &mut Vec<Fact>, draw: u32) -> Result<(), OutOfMemory>
     ensures { IfOk result (λ _. facts.new.items ≡ facts.old.items ++ draw_fact draw ∷ []) }
 {
     push_of_interface(facts, InterfaceFact::Draw { draw })
@@ -58,7 +58,7 @@ fn count(carried: &HopQueues, direction: Direction) -> usize
 
 impl Reader<'_> {
     // Appends the status of an interface's stream at the host's port.
-    fn push_host_status(&self, facts: &mut Vec<Fact>, seen: &FaceSeen) -> Result<(), Memory>
+    fn push_host_status(&self, facts: &mut Vec<Fact>, seen: &FaceSeen) -> Result<(), OutOfMemory>
         requires { IsWorld self.now.plan.now self.now.links.now }
         ensures { IfOk result (λ _. facts.new.items ≡ facts.old.items ++ host_fact self.now.plan.now
             self.now.links.now seen.now ∷ []) }
@@ -73,7 +73,7 @@ impl Reader<'_> {
         facts: &mut Vec<Fact>,
         seen: &FaceSeen,
         event: &InterfaceEvent,
-    ) -> Result<(), Memory>
+    ) -> Result<(), OutOfMemory>
         requires { IsWorld self.now.plan.now self.now.links.now }
         ensures { IfOk result (λ _. facts.new.items ≡ facts.old.items ++ besides_read self.now.plan.now
             self.now.links.now seen.now event.now) }
@@ -94,7 +94,11 @@ impl Reader<'_> {
     }
 
     /// Appends the facts of an event on an interface.
-    pub fn push_asked(&self, facts: &mut Vec<Fact>, event: &InterfaceEvent) -> Result<(), Memory>
+    pub fn push_asked(
+        &self,
+        facts: &mut Vec<Fact>,
+        event: &InterfaceEvent,
+    ) -> Result<(), OutOfMemory>
         requires { IsWorld self.now.plan.now self.now.links.now }
         ensures { IfOk result (λ _. facts.new.items ≡ facts.old.items ++ asked_by_number self.now.plan.now
             self.now.links.now event.now
@@ -116,13 +120,18 @@ impl Reader<'_> {
     // ---- answers to reads
 
     // Appends what a completion looks at at the host's port of a link.
-    fn push_completion(&self, facts: &mut Vec<Fact>, link: u8, stream: u8) -> Result<(), Memory>
+    fn push_completion(
+        &self,
+        facts: &mut Vec<Fact>,
+        link: u8,
+        stream: u8,
+    ) -> Result<(), OutOfMemory>
         requires { IsWorld self.now.plan.now self.now.links.now }
         ensures { IfOk result (λ _. facts.new.items ≡ facts.old.items ++ completion_read
             (stream_read self.now.plan.now self.now.links.now (host_port link) stream)) }
     {
         let side = Side::Host;
-        match self.stream(PortName { side, link }, stream) {
+        match self.stream(PortName { side, line: link }, stream) {
             None => Ok(()),
             Some(seen) => {
                 push_status(facts, seen.status)?;
@@ -132,7 +141,12 @@ impl Reader<'_> {
     }
 
     // Appends what the answer to a read that waits looks at.
-    fn push_read(&self, facts: &mut Vec<Fact>, link: u8, read: &WaitingRead) -> Result<(), Memory>
+    fn push_read(
+        &self,
+        facts: &mut Vec<Fact>,
+        link: u8,
+        read: &WaitingRead,
+    ) -> Result<(), OutOfMemory>
         requires { IsWorld self.now.plan.now self.now.links.now }
         ensures { (rs : List WaitingRead) → IfOk result (λ _. facts.new.items ≡ facts.old.items ++ oldest_read
             self.now.plan.now self.now.links.now link (read.now ∷ rs)) }
@@ -148,7 +162,7 @@ impl Reader<'_> {
     }
 
     /// Appends the facts of an answer to the oldest read of a link.
-    pub fn push_answer(&self, facts: &mut Vec<Fact>, link: u64) -> Result<(), Memory>
+    pub fn push_answer(&self, facts: &mut Vec<Fact>, link: u64) -> Result<(), OutOfMemory>
         requires { IsWorld self.now.plan.now self.now.links.now }
         ensures { IfOk result (λ _. facts.new.items ≡ facts.old.items ++ answer_read self.now.plan.now
             self.now.links.now link) }
@@ -174,7 +188,7 @@ impl Reader<'_> {
         facts: &mut Vec<Fact>,
         link: u64,
         direction: Direction,
-    ) -> Result<(), Memory>
+    ) -> Result<(), OutOfMemory>
         requires { IsWorld self.now.plan.now self.now.links.now }
         ensures { IfOk result (λ _. facts.new.items ≡ facts.old.items ++ forward_read self.now.plan.now
             self.now.links.now link direction) }

@@ -2,16 +2,17 @@
 
 ghost use Rattle.std.specs.Prelude.{◌≡◌, ◌∷◌, ◌++◌, ◌<◌, [], IfOk};
 ghost use Rattle.ide_types.specs.{is_hosted};
-ghost use Rattle.key_laws.specs.Operations.{last_exchange_of, work_of};
-ghost use Rattle.port_operations.specs.{status_at};
+ghost use Rattle.spec_keys.specs.Operations.{last_exchange_of, work_of};
+ghost use Rattle.machine_operations.specs.{machine_status};
 ghost use Rattle.tsm_host.specs.Facts.{op_seen};
 ghost use Rattle.why_facts.specs.Forms.{draws_fact, manager_fact, manager_state, may_go, pool_of};
 ghost use Rattle.world.specs.{IsWorld};
-ghost use Rattle.ide_why.specs.Facts.{establish_read, exchanges_read, refresh_read, state_of, status_read, stop_read};
+ghost use Rattle.ide_why.specs.Facts.{establish_read, exchanges_read, refresh_read, state_of_whole, status_read};
+ghost use Rattle.ide_why.specs.Facts.{stop_read};
 
 use crate::reader::{Reader, StageSeen};
 use crate::streams::{push, push_status};
-use ide_types::{Memory, PortName, Side, StreamStatus};
+use ide_types::{OutOfMemory, PortName, Side, StreamStatus};
 use link_verdicts::Operation;
 use tsm_host::StageFacts;
 use why_lines::{Fact, ManagerState, OperationFact};
@@ -42,14 +43,14 @@ pub fn manager_state(stage: StageFacts) -> ManagerState
 }
 
 /// Appends a fact of operations.
-pub fn push_of_operation(facts: &mut Vec<Fact>, fact: OperationFact) -> Result<(), Memory>
+pub fn push_of_operation(facts: &mut Vec<Fact>, fact: OperationFact) -> Result<(), OutOfMemory>
     ensures { IfOk result (λ _. facts.new.items ≡ facts.old.items ++ Fact.Operation fact ∷ []) }
 {
     push(facts, Fact::Operation { fact })
 }
 
 /// Appends what the manager knows of a stream.
-pub fn push_manager(facts: &mut Vec<Fact>, stage: StageFacts) -> Result<(), Memory>
+pub fn push_manager(facts: &mut Vec<Fact>, stage: StageFacts) -> Result<(), OutOfMemory>
     ensures { IfOk result (λ _. facts.new.items ≡ facts.old.items ++ manager_fact (op_seen stage) ∷ []) }
 {
     push_of_operation(
@@ -109,9 +110,9 @@ fn last_exchange(operation: Operation, line: u8) -> u64
 
 impl Reader<'_> {
     /// Appends how many of the pool's draws were made.
-    pub fn push_draws(&self, facts: &mut Vec<Fact>) -> Result<(), Memory>
+    pub fn push_draws(&self, facts: &mut Vec<Fact>) -> Result<(), OutOfMemory>
         ensures { IfOk result (λ _. facts.new.items ≡ facts.old.items ++ draws_fact
-            (state_of self.now.plan.now self.now.links.now).draws (pool_of self.now.plan.now) ∷ []) }
+            (state_of_whole self.now.plan.now self.now.links.now).draws (pool_of self.now.plan.now) ∷ []) }
     {
         let pool = self.plan.plan().pool.as_slice().len() as u64 / 6;
         push_of_operation(
@@ -129,7 +130,7 @@ impl Reader<'_> {
         facts: &mut Vec<Fact>,
         operation: Operation,
         seen: StageSeen,
-    ) -> Result<(), Memory>
+    ) -> Result<(), OutOfMemory>
         requires { IsWorld self.now.plan.now self.now.links.now }
         ensures { IfOk result (λ _. facts.new.items ≡ facts.old.items ++ exchanges_read self.now.plan.now
             self.now.links.now
@@ -147,11 +148,12 @@ impl Reader<'_> {
     // The status of a stream at the host's port, Idle if there is none.
     pub fn host_status(&self, line: u8, stream: u8) -> StreamStatus
         requires { IsWorld self.now.plan.now self.now.links.now }
-        ensures { result ≡ status_at self.now.plan.now (state_of self.now.plan.now self.now.links.now) Side.Host line
+        ensures { result ≡ machine_status self.now.plan.now (state_of_whole self.now.plan.now self.now.links.now)
+            Side.Host line
             stream }
     {
         let side = Side::Host;
-        match self.stream(PortName { side, link: line }, stream) {
+        match self.stream(PortName { side, line }, stream) {
             None => StreamStatus::Idle,
             Some(seen) => seen.status,
         }
@@ -163,7 +165,7 @@ impl Reader<'_> {
         facts: &mut Vec<Fact>,
         line: u64,
         stream: u64,
-    ) -> Result<(), Memory>
+    ) -> Result<(), OutOfMemory>
         requires { IsWorld self.now.plan.now self.now.links.now }
         ensures { IfOk result (λ _. facts.new.items ≡ facts.old.items ++ establish_read self.now.plan.now
             self.now.links.now line stream) }
@@ -179,7 +181,12 @@ impl Reader<'_> {
     }
 
     /// Appends the facts of a refresh of a link's stream.
-    pub fn push_refresh(&self, facts: &mut Vec<Fact>, line: u64, stream: u64) -> Result<(), Memory>
+    pub fn push_refresh(
+        &self,
+        facts: &mut Vec<Fact>,
+        line: u64,
+        stream: u64,
+    ) -> Result<(), OutOfMemory>
         requires world { IsWorld self.now.plan.now self.now.links.now }
         requires low { line < 8 }
         ensures { IfOk result (λ _. facts.new.items ≡ facts.old.items ++ refresh_read self.now.plan.now
@@ -197,7 +204,12 @@ impl Reader<'_> {
     }
 
     /// Appends the facts of a stop.
-    pub fn push_stop(&self, facts: &mut Vec<Fact>, line: u64, stream: u64) -> Result<(), Memory>
+    pub fn push_stop(
+        &self,
+        facts: &mut Vec<Fact>,
+        line: u64,
+        stream: u64,
+    ) -> Result<(), OutOfMemory>
         requires { IsWorld self.now.plan.now self.now.links.now }
         ensures { IfOk result (λ _. facts.new.items ≡ facts.old.items ++ stop_read self.now.plan.now
             self.now.links.now line stream) }
@@ -212,7 +224,12 @@ impl Reader<'_> {
     }
 
     /// Appends the facts of a status.
-    pub fn push_stage(&self, facts: &mut Vec<Fact>, line: u64, stream: u64) -> Result<(), Memory>
+    pub fn push_stage(
+        &self,
+        facts: &mut Vec<Fact>,
+        line: u64,
+        stream: u64,
+    ) -> Result<(), OutOfMemory>
         requires { IsWorld self.now.plan.now self.now.links.now }
         ensures { IfOk result (λ _. facts.new.items ≡ facts.old.items ++ status_read self.now.plan.now
             self.now.links.now line stream) }

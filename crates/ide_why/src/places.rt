@@ -1,8 +1,8 @@
 //! Where keys are: at an end of a line, and there in a sub-stream that it sends or receives.
 
 ghost use Rattle.std.specs.Prelude.{◌≡◌, ◌++◌, IfOk};
-ghost use Rattle.key_laws.specs.History.{program_at};
-ghost use Rattle.key_laws.specs.Operations.{work_of};
+ghost use Rattle.spec_keys.specs.History.{program_at};
+ghost use Rattle.spec_keys.specs.Operations.{work_of};
 ghost use Rattle.tsm_host.specs.Facts.{op_seen};
 ghost use Rattle.world.specs.{IsWorld};
 ghost use Rattle.ide_why.specs.Facts.{refusing_read};
@@ -11,7 +11,7 @@ ghost use Rattle.ide_why.specs.Places.{seen_place_at, sets_at};
 
 use crate::operations::{first_exchange, key_set, push_of_operation};
 use crate::reader::{Reader, StageSeen};
-use ide_types::{Memory, PortName, Side, SubKind};
+use ide_types::{OutOfMemory, PortName, Side, SubKind};
 use line_routes::port_of;
 use link_verdicts::Operation;
 use sub_stream::{SetFacts, SlotFacts};
@@ -78,7 +78,7 @@ impl Reader<'_> {
     {
         let end = PortName {
             side: place.side,
-            link: place.line,
+            line: place.line,
         };
         match self.stream(end, place.stream) {
             None => None,
@@ -178,7 +178,7 @@ impl Reader<'_> {
         facts: &mut Vec<Fact>,
         operation: Operation,
         seen: StageSeen,
-    ) -> Result<(), Memory>
+    ) -> Result<(), OutOfMemory>
         requires { IsWorld self.now.plan.now self.now.links.now }
         ensures { let w = work_of operation (op_seen seen.stage) 0 in
             IfOk result (λ _. facts.new.items ≡ facts.old.items ++ refusing_read self.now.plan.now self.now.links.now
@@ -195,7 +195,7 @@ impl Reader<'_> {
             Some(place) => {
                 let end = PortName {
                     side: place.side,
-                    link: place.line,
+                    line: place.line,
                 };
                 let refuses = OperationFact::Refuses {
                     exchange: program_at(operation, place),

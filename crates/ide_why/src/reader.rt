@@ -2,18 +2,17 @@
 
 ghost use Rattle.std.specs.Prelude.{◌≡◌, IfSome, length};
 ghost use Rattle.std.specs.Option.{option_map};
-ghost use Rattle.port_operations.specs.{find_op};
+ghost use Rattle.machine_operations.specs.{find_op};
 ghost use Rattle.tsm_host.specs.Facts.{op_seen};
 ghost use Rattle.world.specs.{IsWorld, links_state};
-ghost use Rattle.ide_why.specs.Reading.{face_read, owner_read, requester_read, stream_read};
+ghost use Rattle.ide_why.specs.Reading.{face_read, owner_face, requester_read, stream_read};
 
 use crate::faces::FaceSeen;
 use association::owner;
-use ide_types::PortName;
+use ide_types::{PortName, ValidPlan};
 use sub_stream::StreamFacts;
 use tlp_layout::HeadView;
 use tsm_host::StageFacts;
-use valid_plan::ValidPlan;
 use world::WholeLinks;
 
 /// A topology, and what is kept of its links and managers.
@@ -115,7 +114,7 @@ impl Reader<'_> {
     /// The interface at a link that owns a TLP with this header; `None` if none does.
     pub fn owner(&self, link: u8, head: &HeadView) -> Option<FaceSeen>
         requires { IsWorld self.now.plan.now self.now.links.now }
-        ensures { result ≡ owner_read self.now.links.now link head.now }
+        ensures { result ≡ owner_face self.now.links.now link head.now }
     {
         match owner(head) {
             None => None,

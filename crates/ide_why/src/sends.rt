@@ -2,9 +2,9 @@
 
 ghost use Rattle.std.specs.Prelude.{◌≡◌, ◌∷◌, ◌++◌, [], IfOk, true};
 ghost use Rattle.association.specs.Outgoing.{stream_taken};
-ghost use Rattle.interface_states.specs.Cause.{is_peer, owners_link};
-ghost use Rattle.link_history.specs.Plan.{has_port};
-ghost use Rattle.link_history.specs.Ports.{outgoing_at};
+ghost use Rattle.spec_interfaces.specs.Cause.{is_peer, owners_link};
+ghost use Rattle.spec_links.specs.Plan.{has_port};
+ghost use Rattle.spec_links.specs.Ports.{outgoing_at};
 ghost use Rattle.why_facts.specs.Due.{sets_own_t};
 ghost use Rattle.why_facts.specs.Forms.{at_port, sends_fact};
 ghost use Rattle.world.specs.{IsWorld};
@@ -14,15 +14,13 @@ ghost use Rattle.ide_why.specs.Reading.{stream_read};
 use crate::faces::push_face;
 use crate::reader::Reader;
 use crate::streams::{push, push_senders};
-use ide_plan::port_at;
-use ide_types::{Memory, PortName, Side, SubKind};
+use ide_types::{OutOfMemory, PortName, Side, SubKind, ValidPlan, port_at};
 use line_routes::{at_switch, port_of};
 use tlp_layout::{HeadView, TlpView, read};
-use valid_plan::ValidPlan;
 use why_lines::{Fact, StreamFact};
 
 /// Appends the port of an end.
-pub fn push_port(facts: &mut Vec<Fact>, plan: &ValidPlan, end: PortName) -> Result<(), Memory>
+pub fn push_port(facts: &mut Vec<Fact>, plan: &ValidPlan, end: PortName) -> Result<(), OutOfMemory>
     ensures { IfOk result (λ _. facts.new.items ≡ facts.old.items ++ at_port plan.now end ∷ []) }
 {
     let port = port_of(plan, end);
@@ -39,7 +37,7 @@ fn is_peer(plan: &ValidPlan, end: PortName) -> bool
     ensures { result ≡ is_peer plan.now end }
 {
     let links = plan.plan().links.as_slice().len();
-    24 <= end.link && !((end.link as usize) < links)
+    24 <= end.line && !((end.line as usize) < links)
 }
 
 // The link of the device whose interfaces own what is sent at an end.
@@ -47,9 +45,9 @@ fn owners_link(plan: &ValidPlan, end: PortName) -> u8
     ensures { result ≡ owners_link plan.now end }
 {
     if is_peer(plan, end) {
-        port_at(plan.plan().peers.as_slice(), end).link
+        port_at(plan.plan().peers.as_slice(), end).line
     } else {
-        end.link
+        end.line
     }
 }
 
@@ -79,7 +77,7 @@ impl Reader<'_> {
         facts: &mut Vec<Fact>,
         end: PortName,
         head: &HeadView,
-    ) -> Result<(), Memory>
+    ) -> Result<(), OutOfMemory>
         requires { IsWorld self.now.plan.now self.now.links.now }
         ensures { IfOk result (λ _. facts.new.items ≡ facts.old.items ++ owner_facts self.now.plan.now
             self.now.links.now end head.now) }
@@ -100,7 +98,7 @@ impl Reader<'_> {
         end: PortName,
         stream: u8,
         head: &HeadView,
-    ) -> Result<(), Memory>
+    ) -> Result<(), OutOfMemory>
         requires { IsWorld self.now.plan.now self.now.links.now }
         ensures { IfOk result (λ _. facts.new.items ≡ facts.old.items ++ stream_sends self.now.plan.now
             self.now.links.now end stream head.now
@@ -135,7 +133,7 @@ impl Reader<'_> {
         facts: &mut Vec<Fact>,
         end: PortName,
         bytes: &[u8],
-    ) -> Result<(), Memory>
+    ) -> Result<(), OutOfMemory>
         requires world { IsWorld self.now.plan.now self.now.links.now }
         requires has { has_port self.now.plan.now end ≡ true }
         ensures { IfOk result (λ _. facts.new.items ≡ facts.old.items ++ sending_facts self.now.plan.now

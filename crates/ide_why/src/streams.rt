@@ -4,12 +4,12 @@ ghost use Rattle.std.specs.Prelude.{◌≡◌, ◌∷◌, ◌++◌, [], IfOk};
 ghost use Rattle.why_facts.specs.Forms.{counts_facts, posted_fact, set_facts, state_fact, total_facts};
 ghost use Rattle.ide_why.specs.Streams.{receiver_seen, sender_seen, senders_seen, sets_seen, state_seen};
 
-use ide_types::{Memory, StreamStatus, SubKind};
+use ide_types::{OutOfMemory, StreamStatus, SubKind};
 use sub_stream::{SetFacts, SlotFacts, StreamFacts};
 use why_lines::{Fact, SetState, StreamFact};
 
 /// Appends a fact.
-pub fn push(facts: &mut Vec<Fact>, fact: Fact) -> Result<(), Memory>
+pub fn push(facts: &mut Vec<Fact>, fact: Fact) -> Result<(), OutOfMemory>
     ensures { IfOk result (λ _. facts.new.items ≡ facts.old.items ++ fact ∷ []) }
 {
     facts.push(fact)?;
@@ -48,7 +48,7 @@ fn set_fact(set: bool, slot: SlotFacts) -> Fact
 }
 
 /// Appends what both key sets hold.
-pub fn push_sets(facts: &mut Vec<Fact>, sets: SetFacts) -> Result<(), Memory>
+pub fn push_sets(facts: &mut Vec<Fact>, sets: SetFacts) -> Result<(), OutOfMemory>
     ensures { IfOk result (λ _. facts.new.items ≡ facts.old.items ++ sets_seen sets) }
 {
     push(facts, set_fact(false, sets.zero))?;
@@ -56,7 +56,7 @@ pub fn push_sets(facts: &mut Vec<Fact>, sets: SetFacts) -> Result<(), Memory>
 }
 
 /// Appends the stream's status.
-pub fn push_status(facts: &mut Vec<Fact>, status: StreamStatus) -> Result<(), Memory>
+pub fn push_status(facts: &mut Vec<Fact>, status: StreamStatus) -> Result<(), OutOfMemory>
     ensures { IfOk result (λ _. facts.new.items ≡ facts.old.items ++ state_fact status ∷ []) }
 {
     push(
@@ -68,7 +68,12 @@ pub fn push_status(facts: &mut Vec<Fact>, status: StreamStatus) -> Result<(), Me
 }
 
 // Appends the posted counts, if the sub-stream has any.
-fn push_counts(facts: &mut Vec<Fact>, sub: SubKind, sum: u64, posted: u64) -> Result<(), Memory>
+fn push_counts(
+    facts: &mut Vec<Fact>,
+    sub: SubKind,
+    sum: u64,
+    posted: u64,
+) -> Result<(), OutOfMemory>
     ensures { IfOk result (λ _. facts.new.items ≡ facts.old.items ++ counts_facts sub sum posted) }
 {
     match sub {
@@ -83,7 +88,7 @@ fn push_counts(facts: &mut Vec<Fact>, sub: SubKind, sum: u64, posted: u64) -> Re
 }
 
 // Appends the total of a closed stream.
-fn push_total(facts: &mut Vec<Fact>, closed: bool, units: u64) -> Result<(), Memory>
+fn push_total(facts: &mut Vec<Fact>, closed: bool, units: u64) -> Result<(), OutOfMemory>
     ensures { IfOk result (λ _. facts.new.items ≡ facts.old.items ++ total_facts closed units) }
 {
     if closed {
@@ -99,7 +104,11 @@ fn push_total(facts: &mut Vec<Fact>, closed: bool, units: u64) -> Result<(), Mem
 }
 
 /// Appends what a receiver keeps.
-pub fn push_receiver(facts: &mut Vec<Fact>, seen: &StreamFacts, sub: SubKind) -> Result<(), Memory>
+pub fn push_receiver(
+    facts: &mut Vec<Fact>,
+    seen: &StreamFacts,
+    sub: SubKind,
+) -> Result<(), OutOfMemory>
     ensures { IfOk result (λ _. facts.new.items ≡ facts.old.items ++ receiver_seen seen.now sub) }
 {
     let receiver = seen.at(sub).receiver;
@@ -109,7 +118,11 @@ pub fn push_receiver(facts: &mut Vec<Fact>, seen: &StreamFacts, sub: SubKind) ->
 }
 
 /// Appends what a sender keeps.
-pub fn push_sender(facts: &mut Vec<Fact>, seen: &StreamFacts, sub: SubKind) -> Result<(), Memory>
+pub fn push_sender(
+    facts: &mut Vec<Fact>,
+    seen: &StreamFacts,
+    sub: SubKind,
+) -> Result<(), OutOfMemory>
     ensures { IfOk result (λ _. facts.new.items ≡ facts.old.items ++ sender_seen seen.now sub) }
 {
     let sender = seen.at(sub).sender;
@@ -125,7 +138,11 @@ pub fn push_sender(facts: &mut Vec<Fact>, seen: &StreamFacts, sub: SubKind) -> R
 }
 
 /// Appends the stream's status and what the senders keep that the rules of sealing a TLP of a sub-stream look at.
-pub fn push_senders(facts: &mut Vec<Fact>, seen: &StreamFacts, class: SubKind) -> Result<(), Memory>
+pub fn push_senders(
+    facts: &mut Vec<Fact>,
+    seen: &StreamFacts,
+    class: SubKind,
+) -> Result<(), OutOfMemory>
     ensures { IfOk result (λ _. facts.new.items ≡ facts.old.items ++ senders_seen seen.now class) }
 {
     push_status(facts, seen.status)?;

@@ -5,4 +5,4 @@ use Rattle.std.specs.Prelude.{ℕ, Bool, List}
 pub data KeyCall : Type 0 where
   Program : (set : Bool) (key : List ℕ) (draw : ℕ) → KeyCall
   Go : (set : Bool) → KeyCall
-  Halt : (set : Bool) → KeyCall
+  Stop : (set : Bool) → KeyCall

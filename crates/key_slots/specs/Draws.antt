@@ -32,8 +32,8 @@ pub record DrawnSix : Type 0 where
   pub keys : List (List ℕ)
 
 -- the next draw; if all were made, how many they are
-abbrev pub draw_answer : Pool → Result DrawnSix PoolEmpty
-draw_answer pool =
+abbrev pub next_draw_answer : Pool → Result DrawnSix PoolEmpty
+next_draw_answer pool =
     if nat_lt pool.draws (draws_in pool.keys) then
     Ok (record { draw = pool.draws; keys = six_keys pool.keys pool.draws })
     else Err (record { draws = pool.draws })
@@ -49,5 +49,5 @@ near_six keys =
     ∷ slice_index_or keys 0 [] ∷ slice_index_or keys 1 [] ∷ slice_index_or keys 2 [] ∷ []
 
 -- the six keys of a draw, none of them spent
-abbrev pub unspent : List (List ℕ) → List (Option (List ℕ))
-unspent keys = map Some keys
+abbrev pub unspent_keys : List (List ℕ) → List (Option (List ℕ))
+unspent_keys keys = map Some keys

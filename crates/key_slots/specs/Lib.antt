@@ -9,12 +9,14 @@ pub use Rattle.key_slots.specs.declared.pool.PoolEmpty.{PoolEmpty}
 pub use Rattle.key_slots.specs.declared.slot.Slot.{Slot}
 pub use Rattle.key_slots.specs.declared.slot.SlotState.{SlotState}
 pub use Rattle.key_slots.specs.declared.slots.OnlyLive.{OnlyLive}
-pub use Rattle.key_slots.specs.Calls.{KeyCall, Program, Go, Halt}
+pub use Rattle.key_slots.specs.Calls.{KeyCall, Program, Go, Stop}
 pub use Rattle.key_slots.specs.Drawn.{DrawnKey}
 pub use Rattle.key_slots.specs.Draws.{Pool, DrawnSix, pool_key, six_keys, draws_in, new_pool}
-pub use Rattle.key_slots.specs.Draws.{draw_answer}
-pub use Rattle.key_slots.specs.Draws.{pool_after, unspent, near_six}
+pub use Rattle.key_slots.specs.Draws.{next_draw_answer}
+pub use Rattle.key_slots.specs.Draws.{pool_after, unspent_keys, near_six}
 pub use Rattle.key_slots.specs.Slots.{SlotPair, slot_in, with_both, empty_pair, slot_state, held_key, live_held}
-pub use Rattle.key_slots.specs.Slots.{is_empty, live_draw, shown_key, is_newer_than, live_of, live_set, is_last_live}
-pub use Rattle.key_slots.specs.Slots.{is_only_live, program_answer, programmed, after_go, armed, woken, halted}
+pub use Rattle.key_slots.specs.Slots.{is_empty, live_draw, shown_key, is_newer_than, newer_live_set, live_set}
+pub use Rattle.key_slots.specs.Slots.{is_last_live}
+pub use Rattle.key_slots.specs.Slots.{is_only_live, program_answer, programmed, after_go, armed_pair, woken}
+pub use Rattle.key_slots.specs.Slots.{stopped_pair}
 pub use Rattle.key_slots.specs.Slots.{after_end, ended_pair, is_live, is_armed, may_stand, is_sound}

@@ -73,13 +73,13 @@ is_newer_than set draw None = false
 is_newer_than set draw (Some other) = nat_lt draw other || ((draw == other) && not set)
 
 -- the Live set, of two the newer
-abbrev pub live_of : Option ℕ → Option ℕ → Option KeySet
-live_of None None = None
-live_of None (Some b) = Some (key_set true)
-live_of (Some a) other = Some (key_set (is_newer_than false a other))
+abbrev pub newer_live_set : Option ℕ → Option ℕ → Option KeySet
+newer_live_set None None = None
+newer_live_set None (Some b) = Some (key_set true)
+newer_live_set (Some a) other = Some (key_set (is_newer_than false a other))
 
 abbrev pub live_set : SlotPair → Option KeySet
-live_set pair = live_of (live_draw pair.zero) (live_draw pair.one)
+live_set pair = newer_live_set (live_draw pair.zero) (live_draw pair.one)
 
 -- ---- KEY_PROG
 
@@ -111,8 +111,8 @@ after_go true true (Programmed held) other = (Armed held, other)
 after_go sender unfinished mine other = (mine, other)
 
 -- a receiver's Programmed slot is Live; a sender's is Live, and the other emptied, if no unit is unfinished, else Armed
-abbrev pub armed : SlotPair → Bool → Bool → SlotPair
-armed pair set unfinished =
+abbrev pub armed_pair : SlotPair → Bool → Bool → SlotPair
+armed_pair pair set unfinished =
     with_both pair.sender set (after_go pair.sender unfinished (slot_in pair set) (slot_in pair (not set)))
 
 -- ---- K_SET_STOP
@@ -123,8 +123,8 @@ woken (Armed held) = Live held
 woken slot = slot
 
 -- the slot is emptied, and an Armed other one is Live
-abbrev pub halted : SlotPair → Bool → SlotPair
-halted pair set = with_both pair.sender set (Empty, woken (slot_in pair (not set)))
+abbrev pub stopped_pair : SlotPair → Bool → SlotPair
+stopped_pair pair set = with_both pair.sender set (Empty, woken (slot_in pair (not set)))
 
 -- ---- the end of a sender's unit
 

@@ -3,10 +3,10 @@
 ghost use Rattle.std.specs.Prelude.{◌≡◌, ◌*◌, ◌+◌, ◌≤◌, ◌<◌, ℕ, List, [], ◌∷◌, None, IfOk, length, slice_index_or};
 ghost use Rattle.std.specs.Prelude.{slice_set};
 ghost use Rattle.std.specs.Option.{option_copied};
-ghost use Rattle.key_slots.specs.Draws.{new_pool, draw_answer, pool_after, unspent, near_six};
+ghost use Rattle.key_slots.specs.Draws.{new_pool, next_draw_answer, pool_after, unspent_keys, near_six};
 
 use crate::Key;
-use ide_types::Memory;
+use ide_types::OutOfMemory;
 use std::alloc::Global;
 use std::marker::Model;
 
@@ -83,7 +83,7 @@ impl Model for WireSix {
 
 impl KeyPool {
     /// A pool of these keys, none of them drawn.
-    pub fn make(alloc: Global, keys: &[[u8; 32]]) -> Result<KeyPool, Memory>
+    pub fn make(alloc: Global, keys: &[[u8; 32]]) -> Result<KeyPool, OutOfMemory>
         requires { length keys.now ≤ MAX_KEYS }
         ensures { IfOk result (λ pool. pool ≡ new_pool keys.now) }
     {
@@ -101,7 +101,7 @@ impl KeyPool {
     /// Takes the six keys of the next draw. Returns `PoolEmpty` exactly if all draws were made, and then changes
     /// nothing.
     pub fn draw(&mut self) -> Result<KeySix, PoolEmpty>
-        ensures answer { result ≡ draw_answer self.old }
+        ensures answer { result ≡ next_draw_answer self.old }
         ensures pool { self.new ≡ pool_after self.old }
     {
         let draw = self.draws;
@@ -133,7 +133,7 @@ impl KeySix {
     /// The six keys for the host's port, and the same six for the device.
     pub fn split(self) -> (HostSix, WireSix)
         ensures host { result.0 ≡ self.keys }
-        ensures wire { result.1 ≡ unspent self.keys }
+        ensures wire { result.1 ≡ unspent_keys self.keys }
     {
         let [a, b, c, d, e, f] = self.keys;
         let host = [
@@ -158,8 +158,8 @@ impl KeySix {
     /// The six keys for the two ends of a line that are both keyed by messages: first those of the near end, by its own
     /// lanes, which receive direction 1 and send direction 0; then those of the far end.
     pub fn split_wire(self) -> (WireSix, WireSix)
-        ensures near { result.0 ≡ unspent (near_six self.keys) }
-        ensures far { result.1 ≡ unspent self.keys }
+        ensures near { result.0 ≡ unspent_keys (near_six self.keys) }
+        ensures far { result.1 ≡ unspent_keys self.keys }
     {
         let [a, b, c, d, e, f] = self.keys;
         let near = [

@@ -8,7 +8,7 @@ ghost use Rattle.key_slots.specs.Slots.{is_newer_than, live_draw, after_go, afte
 use crate::Key;
 use crate::slot::{HeldKey, Slot, SlotState};
 use gcm_seal::Gcm;
-use ide_types::{KeySet, Memory};
+use ide_types::{KeySet, OutOfMemory};
 use std::alloc::Global;
 use std::marker::Model;
 use std::mem;
@@ -51,29 +51,12 @@ impl Model for Slots {
 
 impl Slots {
     ghost use Rattle.key_slots.specs.declared.slot.Slot.TheVariants.{Empty};
-    ghost use Rattle.key_slots.specs.Slots.{
-      may_stand,
-      is_sound,
-      empty_pair,
-      slot_in,
-      with_both,
-      is_only_live,
-      program_answer,
-      programmed,
-      is_empty,
-      is_armed,
-      armed,
-      halted,
-      ended_pair,
-      live_set,
-      slot_state,
-      held_key,
-      live_held,
-      shown_key,
-    };
+    ghost use Rattle.key_slots.specs.Slots.{may_stand, is_sound, empty_pair, slot_in, with_both, is_only_live};
+    ghost use Rattle.key_slots.specs.Slots.{program_answer, programmed, is_empty, is_armed, armed_pair, stopped_pair};
+    ghost use Rattle.key_slots.specs.Slots.{ended_pair, live_set, slot_state, held_key, live_held, shown_key};
 
     /// Both slots empty. It alone takes memory.
-    pub fn make(alloc: Global, sender: bool) -> Result<Slots, Memory>
+    pub fn make(alloc: Global, sender: bool) -> Result<Slots, OutOfMemory>
         ensures { IfOk result (λ s. s ≡ empty_pair sender) }
     {
         let both = Both {
@@ -160,7 +143,7 @@ impl Slots {
     /// as it is. Returns `SlotEmpty` exactly if the slot is Empty.
     pub fn arm(&mut self, set: KeySet, unfinished: bool) -> Result<(), SlotEmpty>
         ensures answer { is_ok result ≡ not (is_empty (slot_in self.old (is_one set))) }
-        ensures slots { self.new ≡ armed self.old (is_one set) unfinished }
+        ensures slots { self.new ≡ armed_pair self.old (is_one set) unfinished }
     {
         if self.slot_ref(set).is_empty() {
             return Err(SlotEmpty);
@@ -173,8 +156,8 @@ impl Slots {
     }
 
     /// STOP: empties the slot; an Armed other one becomes Live.
-    pub fn halt(&mut self, set: KeySet)
-        ensures { self.new ≡ halted self.old (is_one set) }
+    pub fn stop(&mut self, set: KeySet)
+        ensures { self.new ≡ stopped_pair self.old (is_one set) }
     {
         let (_, other) = self.take(set);
         self.put(set, Slot::Empty, other.woken());

@@ -1,6 +1,6 @@
 //! Files of the system, and a writer, which no clause tells of.
 
-use ide_base::{FileShelf, OutSink, Shelf, ShelfFault, Sink, SinkFault};
+use cli_files::{FileShelf, OutSink, Shelf, ShelfFault, Sink, SinkFault};
 use std::test::Fail;
 use std::{fs, io};
 

@@ -1,7 +1,7 @@
 //! Objects as bytes, and what the responder of a port of one place replies.
 
-use ide_km::{KmFault, KmView, Responder, km_read, km_write};
 use ide_types::{Direction, KeySet};
+use key_messages::{KmFault, KmView, Responder, km_read, km_write};
 use key_slots::{SlotState, Slots};
 use port::OnePort;
 use std::alloc::{AllocError, Global};

@@ -3,8 +3,8 @@ ghost use Rattle.std.specs.Prelude.{◌≡◌, ◌∷◌, [], ◌++◌, codes, I
 ghost use Rattle.line_runs.specs.declared.ends.End.TheVariants as end;
 ghost use Rattle.layer_tests.specs.Copies.{copied as copied_of, long_copy, whole_copy};
 
-use ide_base::{MemShelf, MemSink, NamedFile};
-use ide_types::{Bytes, Memory};
+use cli_files::{MemShelf, MemSink, NamedFile};
+use ide_types::{Bytes, OutOfMemory};
 use line_runs::{End, Fault, LineWork, run_file};
 use link_events::{LINE_LIMIT, LineError, LineFault};
 use std::alloc::Global;
@@ -43,12 +43,12 @@ impl LineWork for Copies {
         End::Done
     }
 
-    fn closing(&self) -> Result<Bytes, Memory> {
+    fn closing(&self) -> Result<Bytes, OutOfMemory> {
         Bytes::copied(self.0, b"end")
     }
 }
 
-fn copied(alloc: Global, line: &[u8]) -> Result<Bytes, Memory>
+fn copied(alloc: Global, line: &[u8]) -> Result<Bytes, OutOfMemory>
     ensures { IfOk result (λ b. b ≡ line.now ++ 10 ∷ []) }
 {
     let mut text = Vec::from_slice(alloc, line)?;

@@ -1,29 +1,32 @@
 -- What an arrival makes of the devices' interfaces: those at the port settle by the ends of their streams as these are
 -- then; at any other device they stay, and so does what it says of its streams to others.
-use Rattle.link_steps.proofs.{◌≡◌, ℕ, suc, zero, ◌+◌, ◌-◌, ◌<◌, ◌==◌, true, false, List, [], ◌∷◌, refl, ap, sym, ◌∙◌}
-use Rattle.link_steps.proofs.{subst, arith, nat_tests, Option, Some, None, option_map, slice_get, same_Some, none-some}
-use Rattle.link_steps.proofs.{length, Side, Host, Device, PortName, Plan, PortEnd, LinkEnds, PairEnds, EndsView}
-use Rattle.link_steps.proofs.{with_port, pair_port, with_pair_port, changed_at, settled_link, settled_ends, live_on}
-use Rattle.link_steps.proofs.{line_place, with_port_at, with_port_on, AreLinks, seen_same, LineIs, OfLink, NearHop}
-use Rattle.link_steps.proofs.{FarHop, Between, line_of, port_own, near_port, far_port, between_port, IsOnWay}
-use Rattle.link_steps.specs.{LinePlace, Link, Near, Pair, KeeperView, secure_with, live_of, live_at_port, settled_at}
-use Rattle.link_steps.specs.{way_of}
+use Rattle.join_arrivals.proofs.{◌≡◌, ℕ, suc, zero, ◌+◌, ◌-◌, ◌<◌, ◌==◌, true, false, List, [], ◌∷◌, refl, ap, sym, ◌∙◌}
+use Rattle.join_arrivals.proofs.{subst, arith, nat_tests, Option, Some, None, option_map, slice_get, same_Some}
+use Rattle.join_arrivals.proofs.{none-some}
+use Rattle.join_arrivals.proofs.{length, Side, Host, Device, PortName, Plan, PortEnd, LinkEnds, PairEnds, EndsView}
+use Rattle.join_arrivals.proofs.{with_port, pair_port, with_pair_port, changed_at, settled_link, settled_ends}
+use Rattle.join_arrivals.proofs.{peer_live}
+use Rattle.join_arrivals.proofs.{line_place, with_port_at, with_port_on, AreLinks, seen_same, LineIs, OfLink, NearHop}
+use Rattle.join_arrivals.proofs.{FarHop, Between, line_of, port_own, near_port, far_port, between_port, IsOnWay}
+use Rattle.join_arrivals.specs.{LinePlace, Link, Near, Pair, KeeperView, secure_with, live_of, live_at_port}
+use Rattle.join_arrivals.specs.{settled_by_side}
+use Rattle.join_arrivals.specs.{way_of}
 use Rattle.std.proofs.Common.{inl, inr, ⊎_elim}
 use Rattle.std.specs.Prelude.{nat_lt, nat_le}
 use Rattle.ide_types.specs.declared.direction.Direction.TheVariants.{Downstream, Upstream}
 use Rattle.std.specs.Option.{option_and_then}
 use Rattle.std.proofs.lemmas.Bool.{cases_Bool, eqb-true}
 use Rattle.ide_types.specs.Ports.{host_port, device_port}
-use Rattle.ide_plan.specs.declared.plan.PeerPlan.{PeerPlan}
-use Rattle.ide_plan.specs.Ends.{peer_link}
-use Rattle.interface_states.specs.Peers.{peer_end}
-use Rattle.bound_streams.proofs.PeerEnds.{peer_end_is}
-use Rattle.link_history.specs.Plan.{has_port}
-use Rattle.link_history.specs.Ports.{port_of}
-use Rattle.tdi_device.specs.Replies.{DeviceTdis, settled_tdis}
+use Rattle.ide_types.specs.declared.plan.PeerPlan.{PeerPlan}
+use Rattle.ide_types.specs.Ends.{peer_link}
+use Rattle.spec_interfaces.specs.Peers.{peer_end}
+use Rattle.join_interfaces.proofs.PeerEnds.{peer_end_is}
+use Rattle.spec_links.specs.Plan.{has_port}
+use Rattle.spec_links.specs.Ports.{port_of}
+use Rattle.interface_device.specs.Replies.{DeviceTdis, settled_interfaces}
 use Rattle.line_arrivals.specs.Follows.{IsSettledOrSame, AllFollow}
 use Rattle.std.proofs.lemmas.Bool.{lt-ltb}
-use Rattle.link_history.specs.Hops.{entering_end}
+use Rattle.spec_links.specs.Hops.{entering_end}
 use Rattle.ide_types.specs.declared.direction.Direction.{Direction}
 
 -- ---- one item of a list
@@ -110,7 +113,7 @@ abbrev IsElsewhere : EndsView → Side → ℕ → ℕ → Type 0
 IsElsewhere v s k link = (n : ℕ) (p : PeerPlan) → k ≡ 8 + n → slice_get v.peers n ≡ Some p → peer_link s p ≡ link → ⊥
 
 live_same : (v : EndsView) (s : Side) (k : ℕ) (e : PortEnd) (j id : ℕ) → IsElsewhere v s k j
-    → live_on (with_port_at v s (Pair k) e) j id ≡ live_on v j id
+    → peer_live (with_port_at v s (Pair k) e) j id ≡ peer_live v j id
 live_same v s k e j id other = by (peer_end v.peers 0 j id) refl
   where
     by : (o : Option PortName) → peer_end v.peers 0 j id ≡ o
@@ -119,13 +122,13 @@ live_same v s k e j id other = by (peer_end v.peers 0 j id) refl
     by None is = refl
     by (Some x) is =
         let r = peer_end_is v.peers 0 j id x is in
-        said_same v.pairs k s x.side e (x.link - 16) id
+        said_same v.pairs k s x.side e (x.line - 16) id
         (λ place side. other r.number r.peer (omega (arith, place, r.line_is)) r.peer_is
         (ap (λ (t : Side). peer_link t r.peer) side ∙ r.at_link))
 
 live_put : (v : EndsView) (s : Side) (place : LinePlace) (e : PortEnd) (j id : ℕ)
     → ((k : ℕ) → place ≡ Pair k → IsElsewhere v s k j)
-    → live_on (with_port_at v s place e) j id ≡ live_on v j id
+    → peer_live (with_port_at v s place e) j id ≡ peer_live v j id
 live_put v s (Link i) e j id other = refl
 live_put v s (Near i) e j id other = refl
 live_put v s (Pair k) e j id other = live_same v s k e j id (other k refl)
@@ -160,7 +163,8 @@ pub record IsAtDevice (v : EndsView) (s : Side) (place : LinePlace) (link : ℕ)
       → peer_link s p ≡ link
 
 abbrev IsSettledNow : EndsView → ℕ → LinkEnds → LinkEnds → Type 0
-IsSettledNow v j l y = y.device.interfaces ≡ settled_tdis (secure_with y.device.port (live_on v j)) l.device.interfaces
+IsSettledNow v j l y = y.device.interfaces ≡ settled_interfaces (secure_with y.device.port (peer_live v j))
+    l.device.interfaces
 
 pub one_follows : (v : EndsView) (s : Side) (place : LinePlace) (e : PortEnd) (link : ℕ) → IsAtDevice v s place link
     → AllFollow v (settled_link (with_port_at v s place e) link)
@@ -175,7 +179,8 @@ one_follows v s place e link one j l l' is at = ⊎_elim here there (cases_Bool 
 
     settled : (o : Option LinkEnds) → slice_get v1.links j ≡ o → slice_get (settled_link v1 j).links j ≡ Some l'
         → IsSettledOrSame v (settled_link v1 j) j l l'
-    settled None none at_j = absurd (none-some l' (sym (missing v1.links j (settled_ends (live_on v1 j)) none) ∙ at_j))
+    settled None none at_j = absurd
+        (none-some l' (sym (missing v1.links j (settled_ends (peer_live v1 j)) none) ∙ at_j))
       where
         missing : (xs : List LinkEnds) (i : ℕ) (f : LinkEnds → LinkEnds) → slice_get xs i ≡ None
             → slice_get (changed_at xs i f) i ≡ None
@@ -183,13 +188,13 @@ one_follows v s place e link one j l l' is at = ⊎_elim here there (cases_Bool 
         missing (x ∷ xs) zero f none = absurd (none-some x (sym none))
         missing (x ∷ xs) (suc i) f none = missing xs i f none
     settled (Some x) at_x at_j =
-        let now = changed_here v1.links j (settled_ends (live_on v1 j)) x l' at_x at_j in
+        let now = changed_here v1.links j (settled_ends (peer_live v1 j)) x l' at_x at_j in
         inl (subst (λ (y : LinkEnds). IsSettledNow (settled_link v1 j) j l y) (sym now)
         (from x (same_interfaces x at_x)))
       where
         from : (y : LinkEnds) → y.device.interfaces ≡ l.device.interfaces
-            → IsSettledNow (settled_link v1 j) j l (settled_ends (live_on v1 j) y)
-        from y same = ap (λ (d : DeviceTdis). settled_tdis (secure_with y.device.port (live_on v1 j)) d) same
+            → IsSettledNow (settled_link v1 j) j l (settled_ends (peer_live v1 j) y)
+        from y same = ap (λ (d : DeviceTdis). settled_interfaces (secure_with y.device.port (peer_live v1 j)) d) same
 
     here : (link == j) ≡ true → IsSettledOrSame v (settled_link v1 link) j l l'
     here same =
@@ -202,7 +207,7 @@ one_follows v s place e link one j l l' is at = ⊎_elim here there (cases_Bool 
     there differs =
         let apart = not_same link j differs in
         let at1 : slice_get v1.links j ≡ Some l' =
-        sym (changed_other v1.links link j (settled_ends (live_on v1 link)) apart) ∙ at in
+        sym (changed_other v1.links link j (settled_ends (peer_live v1 link)) apart) ∙ at in
         inr (
           by_device s refl at1,
           λ id. live_put v s place e j id
@@ -226,7 +231,7 @@ one_follows v s place e link one j l l' is at = ⊎_elim here there (cases_Bool 
 -- ---- by the plan
 
 abbrev spot : Side → ℕ → PortName
-spot side line = record { side = side; link = line }
+spot side line = record { side = side; line = line }
 
 pub place_low : (line : ℕ) → line < 8 → line_place line ≡ Link line
 place_low line low = let a : nat_lt line 8 ≡ true = grind (arith, nat_tests) in rw a refl
@@ -254,15 +259,15 @@ number_same p q is = ap number_in_place is
 module _ (plan : Plan) (v : EndsView) (k : KeeperView) (links : AreLinks plan v k) where
   -- after another port was put at an end, by the line
   abbrev Follows : PortName → PortEnd → PortName → Type 0
-  Follows end e port = AllFollow v (settled_at port (with_port_on v end e))
+  Follows end e port = AllFollow v (settled_by_side port (with_port_on v end e))
 
-  settles_at : (end : PortName) (e : PortEnd) (link : ℕ) (q : LinePlace) → line_place end.link ≡ q
+  settles_at : (end : PortName) (e : PortEnd) (link : ℕ) (q : LinePlace) → line_place end.line ≡ q
       → IsAtDevice v end.side q link → AllFollow v (settled_link (with_port_on v end e) link)
   settles_at end e link q is one =
       subst (λ (p : LinePlace). AllFollow v (settled_link (with_port_at v end.side p e) link)) (sym is)
       (one_follows v end.side q e link one)
 
-  rests_at : (end : PortName) (e : PortEnd) (q : LinePlace) → line_place end.link ≡ q → IsAtNone v end.side q
+  rests_at : (end : PortName) (e : PortEnd) (q : LinePlace) → line_place end.line ≡ q → IsAtNone v end.side q
       → AllFollow v (with_port_on v end e)
   rests_at end e q is none =
       subst (λ (p : LinePlace). AllFollow v (with_port_at v end.side p e)) (sym is) (none_follow v end.side q e none)
@@ -317,17 +322,17 @@ module _ (plan : Plan) (v : EndsView) (k : KeeperView) (links : AreLinks plan v 
   apart_follows end e has none = by (line_of plan links.fits end has)
     where
       -- with this port
-      moved : (s : Side) (line : ℕ) (q : PortName) → end.link ≡ line → end.side ≡ s
+      moved : (s : Side) (line : ℕ) (q : PortName) → end.line ≡ line → end.side ≡ s
           → port_of plan (spot s line) ≡ q → Follows (spot s line) e q → Follows end e (port_of plan end)
       moved s line q line_is side_is port_is follows =
           subst (λ (x : PortName). Follows x e (port_of plan x))
-          (λ i. record { side = sym side_is i; link = sym line_is i })
+          (λ i. record { side = sym side_is i; line = sym line_is i })
           (subst (λ (x : PortName). Follows (spot s line) e x) (sym port_is) follows)
 
-      near : (s : Side) (i : ℕ) → end.link ≡ 8 + i → i < 8 → end.side ≡ s → Follows end e (port_of plan end)
+      near : (s : Side) (i : ℕ) → end.line ≡ 8 + i → i < 8 → end.side ≡ s → Follows end e (port_of plan end)
       near Host i at low side = moved Host (8 + i) (host_port i) at side (near_port plan links.fits i low).1
           (near_host i e low)
-      near Device i at low side = absurd (on_way (sym (λ j. way_of (record { side = side j; link = at j })) ∙ none))
+      near Device i at low side = absurd (on_way (sym (λ j. way_of (record { side = side j; line = at j })) ∙ none))
         where
           on_way : way_of (spot Device (8 + i)) ≡ None → ⊥
           on_way is = let a : nat_lt (8 + i) 16 ≡ true = grind (arith, nat_tests) in
@@ -335,10 +340,10 @@ module _ (plan : Plan) (v : EndsView) (k : KeeperView) (links : AreLinks plan v 
               let some : way_of (spot Device (8 + i)) ≡ Some (8 + i - 8, Downstream) = rw (b, a) refl in
               none-some (8 + i - 8, Downstream) (sym is ∙ some)
 
-      far : (s : Side) (i : ℕ) → end.link ≡ 16 + i → i < 8 → end.side ≡ s → Follows end e (port_of plan end)
+      far : (s : Side) (i : ℕ) → end.line ≡ 16 + i → i < 8 → end.side ≡ s → Follows end e (port_of plan end)
       far Device i at low side = moved Device (16 + i) (device_port i) at side (far_port plan links.fits i low).1
           (far_device i e low)
-      far Host i at low side = absurd (on_way (sym (λ j. way_of (record { side = side j; link = at j })) ∙ none))
+      far Host i at low side = absurd (on_way (sym (λ j. way_of (record { side = side j; line = at j })) ∙ none))
         where
           on_way : way_of (spot Host (16 + i)) ≡ None → ⊥
           on_way is = let a : nat_lt (16 + i) 24 ≡ true = grind (arith, nat_tests) in
@@ -346,11 +351,11 @@ module _ (plan : Plan) (v : EndsView) (k : KeeperView) (links : AreLinks plan v 
               let some : way_of (spot Host (16 + i)) ≡ Some (16 + i - 16, Upstream) = rw (b, a) refl in
               none-some (16 + i - 16, Upstream) (sym is ∙ some)
 
-      by : LineIs plan end.link → Follows end e (port_of plan end)
+      by : LineIs plan end.line → Follows end e (port_of plan end)
       by (OfLink less low) =
-          moved end.side end.link end refl refl
-          (port_own plan links.fits end (lt-ltb end.link (length plan.links) less))
-          (at_link end.side end.link e low)
+          moved end.side end.line end refl refl
+          (port_own plan links.fits end (lt-ltb end.line (length plan.links) less))
+          (at_link end.side end.line e low)
       by (NearHop i at low less) = near end.side i at low refl
       by (FarHop i at low less) = far end.side i at low refl
       by (Between n at) = moved end.side (24 + n) (device_port (peer_link end.side at.plan_of)) at.at refl

@@ -1,16 +1,19 @@
 -- Where bytes land, as the machine has it: they go through a switch, they wait there, or a host's or a device's port
 -- takes them.
-use Rattle.link_steps.proofs.{◌≡◌, ℕ, ◌+◌, ◌<◌, ◌==◌, Bool, true, false, List, [], ◌∷◌, ◌++◌, length, refl, ap, sym}
-use Rattle.link_steps.proofs.{◌∙◌, subst, arith, nat_tests, Option, Some, None, slice_get, slice_set, if◌then◌else◌}
-use Rattle.link_steps.proofs.{none-some, same_Some, append-nil, length-set, map, Side, Host, Device, PortName, Plan}
-use Rattle.link_steps.proofs.{PortEnd, LinkEnds, EndsView, Beside, LinkPacket, LinkState, Packet, port_on, with_port_on}
-use Rattle.link_steps.proofs.{settled_link, AreLinks, rows_of, state_of, UnitName, take_step, port_in, pair_port}
-use Rattle.link_steps.proofs.{port_at_place, line_place, PairEnds, ◌≤◌, unit_agrees, writes_agree, switch_admits_none}
-use Rattle.link_steps.proofs.{own_tlps, waits_open, turn_at, rests_all, StandsAt, Apart, OnWay, IsApart, IsOnWay}
-use Rattle.link_steps.proofs.{stands_at, reached_there, hop_mode, LineIs, OfLink, NearHop, FarHop, Between, line_of}
-use Rattle.link_steps.proofs.{switched_few, few_queued, queued_behind, switched_opens, switched_reads, there, wired}
-use Rattle.link_steps.proofs.{port_is, Keeps, Grows, end_kept, end_grows, settled_kept, settled_grows, settled_rows}
-use Rattle.link_steps.proofs.{grows_then, bounded_then, stays_all}
+use Rattle.join_arrivals.proofs.{◌≡◌, ℕ, ◌+◌, ◌<◌, ◌==◌, Bool, true, false, List, [], ◌∷◌, ◌++◌, length, refl, ap, sym}
+use Rattle.join_arrivals.proofs.{◌∙◌, subst, arith, nat_tests, Option, Some, None, slice_get, slice_set, if◌then◌else◌}
+use Rattle.join_arrivals.proofs.{none-some, same_Some, append-nil, length-set, map, Side, Host, Device, PortName, Plan}
+use Rattle.join_arrivals.proofs.{PortEnd, LinkEnds, EndsView, BesidePorts, LinkPacket, LinkState, Packet, port_on}
+use Rattle.join_arrivals.proofs.{with_port_on}
+use Rattle.join_arrivals.proofs.{settled_link, AreLinks, rows_of, state_of, UnitName, take_step, port_in, pair_port}
+use Rattle.join_arrivals.proofs.{port_at_place, line_place, PairEnds, ◌≤◌, unit_agrees, writes_agree}
+use Rattle.join_arrivals.proofs.{switch_admits_none}
+use Rattle.join_arrivals.proofs.{own_tlps, waits_open, turn_at, rests_all, StandsAt, Apart, OnWay, IsApart, IsOnWay}
+use Rattle.join_arrivals.proofs.{stands_at, reached_there, hop_aggregation, LineIs, OfLink, NearHop, FarHop, Between}
+use Rattle.join_arrivals.proofs.{line_of}
+use Rattle.join_arrivals.proofs.{switched_few, few_queued, queued_behind, switched_opens, switched_reads, there, wired}
+use Rattle.join_arrivals.proofs.{port_is, Keeps, Grows, end_kept, end_grows, settled_kept, settled_grows, settled_rows}
+use Rattle.join_arrivals.proofs.{grows_then, bounded_then, stays_all}
 use Rattle.std.specs.Prelude.{option_map}
 use Rattle.std.specs.Prelude.{IsSome}
 use Rattle.std.proofs.Common.{inr, ⊎_elim}
@@ -18,15 +21,16 @@ use Rattle.std.proofs.lemmas.Bool.{cases_Bool}
 use Rattle.ide_types.specs.Lines.{is_link_line}
 use Rattle.ide_types.specs.declared.direction.Direction.{Direction}
 use Rattle.ide_types.specs.declared.direction.Direction.TheVariants.{Downstream, Upstream}
-use Rattle.ide_plan.specs.declared.plan.Region.{Region}
-use Rattle.ide_plan.specs.Fits.{FitsPlan}
+use Rattle.ide_types.specs.declared.plan.Region.{Region}
+use Rattle.ide_types.specs.Fits.{FitsPlan}
 use Rattle.std.specs.Option.{option_map_or}
-use Rattle.stream_rules.specs.Stream.{StreamState}
-use Rattle.sub_stream.specs.{opened_from}
-use Rattle.link_steps.specs.{effects_from, packet_write, unit_writes, KeeperView, grants_in, writes_by, of_unit}
-use Rattle.link_steps.specs.{arrival_verdict, switched_each, unit_waits, InterfacesView, AreLeftBy, AccessesTurn}
-use Rattle.link_steps.specs.{IsBounded, carried_next, same_floors, way_of, settled_at, LinePlace, Link, Near, Pair}
-use Rattle.link_steps.specs.Accesses.{standings_of_ends}
+use Rattle.spec_stream.specs.Stream.{StreamState}
+use Rattle.sub_stream.specs.{opened_from_byte}
+use Rattle.join_arrivals.specs.{effects_from, packet_write, unit_writes, KeeperView, grants_in, writes_by, of_unit}
+use Rattle.join_arrivals.specs.{arrival_verdict, switched_each, unit_waits, InterfacesView, AreLeftBy, AccessesTurn}
+use Rattle.join_arrivals.specs.{IsBounded, carried_next, same_floors, way_of, settled_by_side, LinePlace, Link, Near}
+use Rattle.join_arrivals.specs.{Pair}
+use Rattle.join_arrivals.specs.Accesses.{standings_of_ends}
 use Rattle.ide_prefix.specs.Reading.{cut_of}
 use Rattle.link_events.specs.declared.event.Event.{Event}
 use Rattle.link_verdicts.specs.declared.verdict.Verdict.{Verdict}
@@ -34,27 +38,27 @@ use Rattle.link_verdicts.specs.declared.verdict.Verdict.TheVariants as v
 use Rattle.hop_queues.specs.declared.queue.HopTlp.{HopTlp}
 use Rattle.hop_queues.specs.declared.queues.HopQueues.{HopQueues}
 use Rattle.hop_queues.specs.{all_roomy, queue_of}
-use Rattle.guarded_memory.specs.declared.standing.Standing.{Standing}
+use Rattle.guarded_memory.specs.declared.standing.InterfaceStatus.{InterfaceStatus}
 use Rattle.guarded_memory.specs.Happenings.{Happened, newest_happened}
-use Rattle.waiting_reads.specs.declared.queue.WaitingRead.{WaitingRead}
+use Rattle.trusted_memory.specs.declared.queue.WaitingRead.{WaitingRead}
 use Rattle.trusted_memory.specs.{MemoryContents, Leads, Write, newest_first, IsLeftBy}
 use Rattle.guarded_memory.specs.Contents.{mmio_byte}
-use Rattle.key_laws.proofs.Tests.{same-true}
-use Rattle.link_history.specs.Plan.{has_port, is_same_port}
-use Rattle.link_history.specs.Ports.{port_of, at_switch, goes_through, reached}
-use Rattle.link_history.specs.History.{Arrival}
-use Rattle.link_history.specs.Hops.{entering_end, tlps_with}
-use Rattle.link_history.specs.Guarded.{happens_by, stored_in}
-use Rattle.link_history.specs.Memory.{Policy, Grants, effects_by, plain_of}
-use Rattle.bound_streams.specs.{stepped_arrival, stepped_cut, unit_tlps, waiting_reads_after, unit_in}
+use Rattle.spec_keys.proofs.Tests.{same-true}
+use Rattle.spec_links.specs.Plan.{has_port, is_same_port}
+use Rattle.spec_links.specs.Ports.{port_of, at_switch, goes_through, reached}
+use Rattle.spec_links.specs.History.{Arrival}
+use Rattle.spec_links.specs.Hops.{entering_end, tlps_with}
+use Rattle.spec_links.specs.Guarded.{happens_by, unit_happenings}
+use Rattle.spec_links.specs.Memory.{Policy, Grants, effects_by, plain_of}
+use Rattle.join_interfaces.specs.{stepped_arrival, stepped_cut, unit_tlps, waiting_reads_after, unit_in}
 use Rattle.ide_port.specs.Arrivals.{TakeStep}
 use Rattle.ide_port.specs.declared.answer.Arrival.{Arrival as Came}
 use Rattle.ide_port.specs.declared.answer.Arrival.TheVariants as came
-use Rattle.accesses.specs.declared.link.LinkAccesses.{LinkAccesses}
-use Rattle.link_steps.specs.Accesses.{Brings, policy_in}
-use Rattle.link_steps.proofs.Arrivals.{take_keeps, end_of, Opens, opens_each, effects_at, arrives_as}
-use Rattle.link_steps.proofs.Accesses.{arrival_turns}
-use Rattle.ide_types.specs.declared.memory.Memory.{Memory}
+use Rattle.link_stores.specs.declared.link.LinkAccesses.{LinkAccesses}
+use Rattle.join_arrivals.specs.Accesses.{Brings, policy_in}
+use Rattle.join_arrivals.proofs.Arrivals.{take_keeps, end_of, Opens, opens_each, effects_at, arrives_as}
+use Rattle.join_arrivals.proofs.Accesses.{arrival_turns}
+use Rattle.ide_types.specs.declared.memory.OutOfMemory.{OutOfMemory}
 use Rattle.std.specs.Prelude.{Result, Ok, Err, IfOk, is_some}
 use Rattle.std.proofs.lemmas.Option.{slice_get_within}
 use Rattle.line_arrivals.specs.Follows.{AllFollow}
@@ -72,7 +76,8 @@ either_way : (b : Bool) (xs : List HopTlp) → (if b then xs else xs) ≡ xs
 either_way true xs = refl
 either_way false xs = refl
 
-pub unread_turn : (plan : Plan) (o : Option PortName) (ps : List Packet) (standings : ℕ → List Standing) (e : Event)
+pub unread_turn : (plan : Plan) (o : Option PortName) (ps : List Packet) (standings : ℕ → List InterfaceStatus)
+    (e : Event)
     (xs : List LinkAccesses) → IsQuiet plan e → AccessesTurn (waiting_reads_after plan ps e (left_unread o)) same_floors
     (λ link. happens_by plan standings ps e (left_unread o) link)
     (carried_next (unit_tlps plan ps (left_unread o)) e (left_unread o)) xs xs
@@ -96,7 +101,7 @@ unread_writes plan grants st a (Some port) = refl
 
 pub unread_lands : (plan : Plan) (m : InterfacesView) (end : PortName) (bytes : List ℕ) (o : Option PortName)
     (old : EndsView) (c : MemoryContents) (xs : List LinkAccesses)
-    → ((k : KeeperView) (packets : List LinkPacket) → AreLinks plan old k → has_port plan end ≡ true → (b : Beside)
+    → ((k : KeeperView) (packets : List LinkPacket) → AreLinks plan old k → has_port plan end ≡ true → (b : BesidePorts)
     → (left_unread o, state_of plan old k packets)
     ≡ stepped_arrival plan b (state_of plan old k packets) (arrival_on plan end bytes))
     → Lands plan m end bytes (left_unread o) old c xs old c xs
@@ -153,30 +158,30 @@ some_is (Some x) some = (x, refl)
 
 -- devices that settle at a port
 settled_more : (s : Side) (line : ℕ) (old w : EndsView) → Grows 1 old w
-    → Grows 1 old (settled_at (record { side = s; link = line }) w)
+    → Grows 1 old (settled_by_side (record { side = s; line = line }) w)
 settled_more Host line old w grows = grows
 settled_more Device line old w grows =
     grows_then 1 0 old w (settled_link w line) grows (settled_grows w line)
 
 settled_links : (s : Side) (line : ℕ) (plan : Plan) (w : EndsView) (k : KeeperView) → AreLinks plan w k
-    → AreLinks plan (settled_at (record { side = s; link = line }) w) k
+    → AreLinks plan (settled_by_side (record { side = s; line = line }) w) k
 settled_links Host line plan w k links = links
 settled_links Device line plan w k links = settled_kept plan w k links line
 
-settled_same : (s : Side) (line : ℕ) (w : EndsView) → rows_of (settled_at (record { side = s; link = line }) w)
+settled_same : (s : Side) (line : ℕ) (w : EndsView) → rows_of (settled_by_side (record { side = s; line = line }) w)
     ≡ rows_of w
 settled_same Host line w = refl
 settled_same Device line w = settled_rows w line
 
 opens_at : (plan : Plan) (m : InterfacesView) (old : EndsView) (xs : List LinkAccesses) (regions : List Region)
-    (end port : PortName) (b : Beside) (l : LinkEnds) (a : LinkAccesses) → slice_get old.links port.link ≡ Some l
-    → slice_get xs port.link ≡ Some a → port_of plan end ≡ port → at_switch plan port ≡ false → regions ≡ plan.memory
+    (end port : PortName) (b : BesidePorts) (l : LinkEnds) (a : LinkAccesses) → slice_get old.links port.line ≡ Some l
+    → slice_get xs port.line ≡ Some a → port_of plan end ≡ port → at_switch plan port ≡ false → regions ≡ plan.memory
     → HasEffects plan m old xs b → Opens b end (effects_at regions m port l a)
 opens_at plan m old xs regions end port b l a l_is a_is at apart same effects unit key iv n ps =
     let policy : Policy = policy_in m old xs in
     (λ i. effects_from (same i) policy.grants (standings_of_ends (sym l_is i) (sym a_is i))
-    (length (option_map_or (λ (x : LinkAccesses). x.reads) (sym a_is i) [])) port unit (opened_from key iv n ps))
-    ∙ (opens_each plan policy port unit apart (policy.waiting port.link) key iv n ps
+    (length (option_map_or (λ (x : LinkAccesses). x.reads) (sym a_is i) [])) port unit (opened_from_byte key iv n ps))
+    ∙ (opens_each plan policy port unit apart (policy.waiting port.line) key iv n ps
     ∙ ((λ i. effects_by plan policy (sym at i) unit ps) ∙ (λ i. sym effects i end unit ps)))
 
 apart_at : (plan : Plan) (fits : FitsPlan plan) (end : PortName) → way_of end ≡ None → StandsAt plan fits end
@@ -184,7 +189,7 @@ apart_at : (plan : Plan) (fits : FitsPlan plan) (end : PortName) → way_of end 
 apart_at plan fits end none (Apart at) = at
 apart_at plan fits end none (OnWay link d at) = absurd (none-some (link, d) (sym none ∙ at.way))
 
-not_through : (plan : Plan) (end : PortName) (bytes : List ℕ) (b : Beside) (st : LinkState)
+not_through : (plan : Plan) (end : PortName) (bytes : List ℕ) (b : BesidePorts) (st : LinkState)
     → goes_through plan end bytes ≡ false
     → stepped_arrival plan b st (Some (record { port = end; bytes = bytes })) ≡ stepped_cut plan b st end (cut_of bytes)
 not_through plan end bytes b st stays = rw stays refl
@@ -192,7 +197,7 @@ not_through plan end bytes b st stays = rw stays refl
 pub lands_taken : (plan : Plan) (m : InterfacesView) (end0 : PortName) (bytes : List ℕ) (verdict : Verdict)
     (old : EndsView) (c : MemoryContents) (xs : List LinkAccesses) (new : EndsView) (d : MemoryContents)
     (ys : List LinkAccesses) → let end = reached plan end0 bytes in let port = port_of plan end in
-    goes_through plan end bytes ≡ false → way_of end ≡ None → IsSome (port_on old end) → port.link < length old.links
+    goes_through plan end bytes ≡ false → way_of end ≡ None → IsSome (port_on old end) → port.line < length old.links
     → length xs ≡ length old.links → Brings m end port bytes verdict old c xs new d ys
     → Lands plan m end0 bytes verdict old c xs new d ys
 lands_taken plan m end0 bytes verdict old c xs new d ys stays none here less many brought =
@@ -200,19 +205,19 @@ lands_taken plan m end0 bytes verdict old c xs new d ys stays none here less man
     let port : PortName = port_of plan end in
     let f = some_is (port_on old end) here in
     let e : PortEnd = f.0 in
-    let l = there old.links port.link less in
-    let a = there xs port.link (subst (λ (n : ℕ). port.link < n) (sym many) less) in
+    let l = there old.links port.line less in
+    let a = there xs port.line (subst (λ (n : ℕ). port.line < n) (sym many) less) in
     let x = brought.arrives e l.0 a.0 f.1 l.1 a.1 in
     let t : TakeStep = take_step e (cut_of bytes) in
     let keeps : Keeps e t.port = take_keeps e (cut_of bytes) in
     let w : EndsView = with_port_on old end t.port in
     let grows : Grows 1 old new = subst (λ (z : EndsView). Grows 1 old z) (sym x.new_is)
-    (settled_more port.side port.link old w (end_grows old end e t.port f.1 keeps.calls)) in
+    (settled_more port.side port.line old w (end_grows old end e t.port f.1 keeps.calls)) in
     record {
       bounded = λ packets steps bounded.
           bounded_then 1 old new packets packets steps (omega arith) bounded grows bounded.sealed_here;
       many = grows.many;
-      accesses_many = ap (λ (zs : List LinkAccesses). length zs) x.accesses_are ∙ length-set xs port.link x.access;
+      accesses_many = ap (λ (zs : List LinkAccesses). length zs) x.accesses_are ∙ length-set xs port.line x.access;
       regions = brought.regions;
       stands = λ k packets h links stands has.
           let has_end = reached_there plan links.fits end0 bytes has in
@@ -221,10 +226,10 @@ lands_taken plan m end0 bytes verdict old c xs new d ys stays none here less man
           let at_port = port_is plan old k links end e f.1 in
           let seen : state_of plan new k packets ≡ state_of plan w k packets =
           ap (λ (z : EndsView). state_of plan z k packets) x.new_is
-          ∙ ap (λ (rows : List (List StreamState)). record st { ports = rows }) (settled_same port.side port.link w) in
+          ∙ ap (λ (rows : List (List StreamState)). record st { ports = rows }) (settled_same port.side port.line w) in
           record {
             links = subst (λ (z : EndsView). AreLinks plan z k) (sym x.new_is)
-                (settled_links port.side port.link plan w k (end_kept plan old k links end e t.port f.1 keeps));
+                (settled_links port.side port.line plan w k (end_kept plan old k links end e t.port f.1 keeps));
             follows = subst (λ (z : EndsView). AllFollow old z) (sym x.new_is)
                 (apart_follows plan old k links end t.port has_end none);
             steps = λ b regions effects.
@@ -333,15 +338,15 @@ module _ (plan : Plan) (end : PortName) (link : ℕ) (d : Direction) (end_is : e
   no_more_reads e (came.Fail stream sub cause) k ws = refl
   no_more_reads e (came.Held unit) k ws = refl
   no_more_reads e (came.Accepted unit count) k ws =
-      ap (λ (rs : List WaitingRead). if (port_of plan end).link == k then ws ++ rs else ws)
+      ap (λ (rs : List WaitingRead). if (port_of plan end).line == k then ws ++ rs else ws)
       (switched_reads unit.draw delivered ended)
-      ∙ by ((port_of plan end).link == k)
+      ∙ by ((port_of plan end).line == k)
     where
       by : (b : Bool) → (if b then ws ++ [] else ws) ≡ ws
       by true = append-nil ws
       by false = refl
 
-  none_happens : (standings : ℕ → List Standing) (e : Event) → IsQuiet plan e → (answer : Came) (k : ℕ)
+  none_happens : (standings : ℕ → List InterfaceStatus) (e : Event) → IsQuiet plan e → (answer : Came) (k : ℕ)
       (older : List Happened) → newest_happened (happens_by plan standings ended e (says answer) k) older ≡ older
   none_happens standings e quiet (came.Malformed fault) k older =
       ap (λ (hs : List (Option Happened)). newest_happened hs older) (quiet _ k)
@@ -357,12 +362,13 @@ module _ (plan : Plan) (end : PortName) (link : ℕ) (d : Direction) (end_is : e
       ap (λ (hs : List (Option Happened)). newest_happened hs older) (quiet _ k)
   none_happens standings e quiet (came.Held unit) k older =
       ap (λ (hs : List (Option Happened)). newest_happened hs older) (quiet _ k)
-  none_happens standings e quiet (came.Accepted unit count) k older = by ((port_of plan end).link == k)
+  none_happens standings e quiet (came.Accepted unit count) k older = by ((port_of plan end).line == k)
     where
-      none : stored_in (standings (port_of plan end).link) plan end unit ended ≡ []
+      none : unit_happenings (standings (port_of plan end).line) plan end unit ended ≡ []
       none = rw switch refl
 
-      by : (b : Bool) → newest_happened (if b then stored_in (standings (port_of plan end).link) plan end unit ended
+      by : (b : Bool) → newest_happened
+          (if b then unit_happenings (standings (port_of plan end).line) plan end unit ended
           else []) older ≡ older
       by true = ap (λ (hs : List (Option Happened)). newest_happened hs older) none
       by false = refl
@@ -432,7 +438,7 @@ lands_waiting plan m end0 bytes verdict old c xs new ys w stays way here less co
           let switch : at_switch plan (port_of plan end) ≡ true = ap (at_switch plan) at.port_is ∙ at.switch in
           let ended : List Packet = unit_in plan st (arrival_on plan end0 bytes) in
           let few = switched_few plan st h end e stands is_end
-          (λ id. hop_mode plan links.fits end.link id at.line.0 at.line.1) bytes in
+          (λ id. hop_aggregation plan links.fits end.line id at.line.0 at.line.1) bytes in
           let agree = unit_agrees plan st h end e stands is_end (λ unit ps. tlps_with (plain_of plan end unit ps) ps)
           (λ unit ps. own_tlps ps) (waits_open plan end) bytes in
           record {
@@ -443,7 +449,7 @@ lands_waiting plan m end0 bytes verdict old c xs new ys w stays way here less co
             steps = λ b regions effects.
                 let policy : Policy = policy_in m old xs in
                 let opens : Opens b end (λ unit ps. switched_each ps) = λ unit key iv n ps.
-                switched_opens plan policy end unit at.switch (policy.waiting end.link) key iv n ps
+                switched_opens plan policy end unit at.switch (policy.waiting end.line) key iv n ps
                 ∙ ((λ i. effects_by plan policy (sym at.port_is i) unit ps) ∙ (λ i. sym effects i end unit ps)) in
                 let as_machine = arrives_as b plan end end at.port_is (λ unit ps. switched_each ps) opens old k packets
                 (wired plan old k links) e f.1 at_port (cut_of bytes) in
@@ -455,7 +461,7 @@ lands_waiting plan m end0 bytes verdict old c xs new ys w stays way here less co
                 (no_writes plan end w.0 w.1 at.end_is switch ended t.port.delivered (grants_in m) st
                 (arrival_on plan end0 bytes) c t.answer refl);
             turn = λ ev quiet.
-                let standings : ℕ → List Standing = (policy_in m old xs).standings in
+                let standings : ℕ → List InterfaceStatus = (policy_in m old xs).standings in
                 let low : is_link_line w.0 ≡ true =
                 (let least = at.less in let most = links.fits.links_most in grind (arith, nat_tests)) in
                 subst (λ (zs : List LinkAccesses). AccessesTurn (waiting_reads_after plan ended ev verdict) same_floors
@@ -510,16 +516,16 @@ pub ends_there : (plan : Plan) (v : EndsView) (k : KeeperView) → AreLinks plan
     → has_port plan end ≡ true → IsSome (port_on v end)
 ends_there plan v k links end has = by (line_of plan links.fits end has)
   where
-    at_place : (q : LinePlace) → line_place end.link ≡ q → IsSome (port_at_place v end.side q) → IsSome (port_on v end)
+    at_place : (q : LinePlace) → line_place end.line ≡ q → IsSome (port_at_place v end.side q) → IsSome (port_on v end)
     at_place q is some = subst (λ (p : LinePlace). IsSome (port_at_place v end.side p)) (sym is) some
 
-    on_line : (line : ℕ) (q : LinePlace) → end.link ≡ line → line_place line ≡ q → line_place end.link ≡ q
+    on_line : (line : ℕ) (q : LinePlace) → end.line ≡ line → line_place line ≡ q → line_place end.line ≡ q
     on_line line q at is = ap line_place at ∙ is
 
-    by : LineIs plan end.link → IsSome (port_on v end)
-    by (OfLink less low) = at_place (Link end.link) (place_low end.link low)
-        (mapped_some (λ (l : LinkEnds). port_in end.side l) (slice_get v.links end.link)
-        (within_get v.links end.link (omega (arith, less, links.many))))
+    by : LineIs plan end.line → IsSome (port_on v end)
+    by (OfLink less low) = at_place (Link end.line) (place_low end.line low)
+        (mapped_some (λ (l : LinkEnds). port_in end.side l) (slice_get v.links end.line)
+        (within_get v.links end.line (omega (arith, less, links.many))))
     by (NearHop i at low less) = at_place (Near i) (on_line (8 + i) (Near i) at (place_near i low))
         (mapped_some (λ (l : LinkEnds). port_in end.side l) (slice_get v.near i)
         (within_get v.near i (omega (arith, low, links.near_many))))
@@ -555,16 +561,16 @@ module _ (plan : Plan) (m : InterfacesView) (end0 : PortName) (bytes : List ℕ)
       (stands_at plan links.fits (reached plan end0 bytes) (reached_there plan links.fits end0 bytes has)) in
       let less = at.less in let many = links.many in let never : ⊥ = omega (arith, less, many, most) in never)
 
-  pub land_off_port : (port : PortName) → None ≡ way_of end → port ≡ port_of plan end → length old.links ≤ port.link
+  pub land_off_port : (port : PortName) → None ≡ way_of end → port ≡ port_of plan end → length old.links ≤ port.line
       → Lands plan m end0 bytes v.Nothing old c xs old c xs
   land_off_port port none port_is most = lands_nowhere plan m end0 bytes old c xs (λ k links has.
       let at = apart_at plan links.fits (reached plan end0 bytes) (ap way_of (sym end_is) ∙ sym none)
       (stands_at plan links.fits (reached plan end0 bytes) (reached_there plan links.fits end0 bytes has)) in
       let less = at.port.less in let many = links.many in
-      let link = ap (λ (p : PortName). p.link) (port_is ∙ ap (port_of plan) end_is) in
+      let link = ap (λ (p : PortName). p.line) (port_is ∙ ap (port_of plan) end_is) in
       let never : ⊥ = omega (arith, less, many, most, link) in never)
 
-  pub land_wait : (r : Result Verdict Memory) (new : EndsView) (ys : List LinkAccesses) (w : ℕ × Direction)
+  pub land_wait : (r : Result Verdict OutOfMemory) (new : EndsView) (ys : List LinkAccesses) (w : ℕ × Direction)
       → false ≡ goes_through plan end bytes → Some w ≡ way_of end → true ≡ is_some (port_on old end)
       → w.0 < length xs → IfOk r (λ u. ComesTo old end bytes w.0 w.1 u xs new ys)
       → IfOk r (λ u. Lands plan m end0 bytes u old c xs new c ys)
@@ -575,9 +581,9 @@ module _ (plan : Plan) (m : InterfacesView) (end0 : PortName) (bytes : List ℕ)
       (subst (λ (p : PortName). ComesTo old p bytes w.0 w.1 u xs new ys) end_is comes)
   land_wait (Err e) new ys w stays way here less comes = tt
 
-  pub land_take : (r : Result Verdict Memory) (new : EndsView) (d : MemoryContents) (ys : List LinkAccesses)
+  pub land_take : (r : Result Verdict OutOfMemory) (new : EndsView) (d : MemoryContents) (ys : List LinkAccesses)
       (port : PortName) → false ≡ goes_through plan end bytes → None ≡ way_of end → port ≡ port_of plan end
-      → port.link < length old.links → length xs ≡ length old.links
+      → port.line < length old.links → length xs ≡ length old.links
       → IfOk r (λ u. Brings m end port bytes u old c xs new d ys)
       → IfOk r (λ u. Lands plan m end0 bytes u old c xs new d ys)
   land_take (Ok u) new d ys port stays none port_is less many brings = ⊎_elim
@@ -586,7 +592,7 @@ module _ (plan : Plan) (m : InterfacesView) (end0 : PortName) (bytes : List ℕ)
       lands_taken plan m end0 bytes u old c xs new d ys
       (ap (λ (p : PortName). goes_through plan p bytes) (sym end_is) ∙ sym stays) (ap way_of (sym end_is) ∙ sym none)
       (ap (λ (p : PortName). is_some (port_on old p)) (sym end_is) ∙ here)
-      (subst (λ (p : PortName). p.link < length old.links) at less) many
+      (subst (λ (p : PortName). p.line < length old.links) at less) many
       (subst (λ (p : PortName). Brings m (reached plan end0 bytes) p bytes u old c xs new d ys) at
       (subst (λ (p : PortName). Brings m p port bytes u old c xs new d ys) end_is brings)))
       (λ gone.

@@ -1,10 +1,18 @@
 pub mod Follows
 pub mod Landing
-pub use Rattle.bound_streams.proofs.PeerEnds.{peer_end_is, peer_line_is}
-pub use Rattle.link_steps.proofs.Arrivals.{dumps}
-pub use Rattle.link_steps.proofs.{sealed_there, is_located, keeper_reset, links_reset, reset_grows, state_reset}
-pub use Rattle.link_steps.proofs.{sealing_there, at_port, cut_joined, lengths_join, sealed_on, send_joins, send_keeps}
-pub use Rattle.link_steps.proofs.{sends_as, sent, sent_at_port, IsName, at_side, end_found, name_is, op_is, planned}
-pub use Rattle.link_steps.proofs.{closed_at, none_found, some_op, unnamed}
-pub use Rattle.link_steps.proofs.Operations.{Operated, WorksOn, operated, operates_grow, some_named, step_none}
-pub use Rattle.link_steps.proofs.Operations.{step_not}
+-- what proofs above cite
+pub use Rattle.join_interfaces.proofs.PeerEnds.{peer_end_is, peer_line_is}
+pub use Rattle.join_arrivals.proofs.Arrivals.{dumps}
+pub use Rattle.join_arrivals.proofs.{sealed_there, is_located, keeper_reset, links_reset, reset_grows, state_reset}
+pub use Rattle.join_arrivals.proofs.{sealing_there, at_port, cut_joined, lengths_join, sealed_on, send_joins}
+pub use Rattle.join_arrivals.proofs.{send_keeps}
+pub use Rattle.join_arrivals.proofs.{sends_as, sent, sent_at_port, IsName, at_side, end_found, name_is, op_is, planned}
+pub use Rattle.join_arrivals.proofs.{closed_at, none_found, some_op, unnamed}
+pub use Rattle.join_arrivals.proofs.Operations.{Operated, WorksOn, operated, operates_grow, some_named, step_none}
+pub use Rattle.join_arrivals.proofs.Operations.{step_not}
+pub use Rattle.join_interfaces.proofs.NoBadReply.{answered_no_bad_reply}
+pub use Rattle.all_ends.proofs.ByPlace.{changed_is, each_set, seen_same, there}
+pub use Rattle.all_ends.proofs.Finds.{find_at, port_is, wired}
+pub use Rattle.all_ends.proofs.Kept.{Grows, KeepsEnds, as_before, bounded_then, end_grows, end_kept, links_grow}
+pub use Rattle.all_ends.proofs.Kept.{links_kept}
+pub use Rattle.all_ends.proofs.{set_read, IsNamed, named_stands, found_id, machine_found}

@@ -2,31 +2,32 @@
 use Rattle.std.specs.Prelude.{ℕ, ◌≡◌, ◌+◌, true, List, [], length, slice_get, slice_set, Option, Some}
 use Rattle.ide_types.specs.declared.direction.Direction.{Direction}
 use Rattle.ide_types.specs.declared.port.PortName.{PortName}
-use Rattle.ide_plan.specs.declared.plan.Plan.{Plan}
+use Rattle.ide_types.specs.declared.plan.Plan.{Plan}
 use Rattle.link_events.specs.declared.event.Event.{Event}
 use Rattle.link_verdicts.specs.declared.verdict.Verdict.{Verdict}
-use Rattle.key_laws.specs.History.{History}
-use Rattle.link_history.specs.Plan.{has_port}
-use Rattle.link_history.specs.Ports.{port_of}
-use Rattle.link_history.specs.Packets.{arrival_at}
-use Rattle.link_history.specs.History.{Arrival}
-use Rattle.link_history.specs.Memory.{effects_by}
-use Rattle.link_history.specs.Guarded.{asked_happens, happens_by}
-use Rattle.bound_streams.specs.{Beside, LinkPacket, stepped_arrival, PortsStandFor, unit_tlps, waiting_reads_after}
-use Rattle.bound_streams.specs.{unit_in}
-use Rattle.link_steps.specs.{carried_next, KeeperView, grants_in, writes_by, InterfacesView, EndsView, WaitsAt}
-use Rattle.link_steps.specs.{AreLinks, IsBounded, state_of}
+use Rattle.spec_keys.specs.History.{History}
+use Rattle.spec_links.specs.Plan.{has_port}
+use Rattle.spec_links.specs.Ports.{port_of}
+use Rattle.spec_links.specs.Packets.{arrival_at}
+use Rattle.spec_links.specs.History.{Arrival}
+use Rattle.spec_links.specs.Memory.{effects_by}
+use Rattle.spec_links.specs.Guarded.{asked_happens, happens_by}
+use Rattle.join_interfaces.specs.{BesidePorts, LinkPacket, stepped_arrival, PortsStandFor, unit_tlps}
+use Rattle.join_interfaces.specs.{waiting_reads_after}
+use Rattle.join_interfaces.specs.{unit_in}
+use Rattle.join_arrivals.specs.{carried_next, KeeperView, grants_in, writes_by, InterfacesView, EndsView, WaitsAt}
+use Rattle.join_arrivals.specs.{AreLinks, IsBounded, state_of}
 use Rattle.trusted_memory.specs.{MemoryContents, Leads}
 use Rattle.hop_queues.specs.declared.queues.HopQueues.{HopQueues}
 use Rattle.hop_queues.specs.{all_roomy}
-use Rattle.accesses.specs.declared.link.LinkAccesses.{LinkAccesses}
-use Rattle.link_steps.specs.Accesses.{AccessesTurn, policy_in, same_floors}
+use Rattle.link_stores.specs.declared.link.LinkAccesses.{LinkAccesses}
+use Rattle.join_arrivals.specs.Accesses.{AccessesTurn, policy_in, same_floors}
 use Rattle.line_arrivals.specs.Follows.{AllFollow}
 
 -- ---- at a switch
 
 -- There was room for the TLPs that came to the switch of this link's hop.
-pub record Comes (old : EndsView) (end : PortName) (bytes : List ℕ) (link : ℕ) (direction : Direction)
+pub record ComesToSwitch (old : EndsView) (end : PortName) (bytes : List ℕ) (link : ℕ) (direction : Direction)
     (verdict : Verdict) (xs : List LinkAccesses) (new : EndsView) (ys : List LinkAccesses) (a : LinkAccesses) : Type 0
   where
     pub queues : HopQueues
@@ -36,7 +37,7 @@ pub record Comes (old : EndsView) (end : PortName) (bytes : List ℕ) (link : �
 abbrev pub ComesTo : EndsView → PortName → List ℕ → ℕ → Direction → Verdict → List LinkAccesses → EndsView
     → List LinkAccesses → Type 0
 ComesTo old end bytes link direction verdict xs new ys =
-    (a : LinkAccesses) → slice_get xs link ≡ Some a → Comes old end bytes link direction verdict xs new ys a
+    (a : LinkAccesses) → slice_get xs link ≡ Some a → ComesToSwitch old end bytes link direction verdict xs new ys a
 
 -- ---- anywhere
 
@@ -48,7 +49,7 @@ abbrev pub arrival_on : Plan → PortName → List ℕ → Option Arrival
 arrival_on plan end bytes = Some (arrival_at plan end bytes)
 
 -- effects are by what the manager says, by the reads that wait and by how the devices' interfaces stand
-abbrev pub HasEffects : Plan → InterfacesView → EndsView → List LinkAccesses → Beside → Type 0
+abbrev pub HasEffects : Plan → InterfacesView → EndsView → List LinkAccesses → BesidePorts → Type 0
 HasEffects plan m old xs b =
     b.effects ≡ (λ port. effects_by plan (policy_in m old xs) (port_of plan port))
 
@@ -58,7 +59,7 @@ pub record LandsOn (plan : Plan) (m : InterfacesView) (end : PortName) (bytes : 
     (ys : List LinkAccesses) (k : KeeperView) (packets : List LinkPacket) : Type 0 where
   pub links : AreLinks plan new k
   pub follows : AllFollow old new
-  pub steps : (b : Beside) → c.regions ≡ plan.memory → HasEffects plan m old xs b
+  pub steps : (b : BesidePorts) → c.regions ≡ plan.memory → HasEffects plan m old xs b
       → (verdict, state_of plan new k packets)
       ≡ stepped_arrival plan b (state_of plan old k packets) (arrival_on plan end bytes)
   pub leads : c.regions ≡ plan.memory → Leads c (writes_by plan (grants_in m) (state_of plan old k packets)

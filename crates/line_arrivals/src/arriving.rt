@@ -1,20 +1,19 @@
 //! Where arriving bytes land.
 
 ghost use Rattle.std.specs.Prelude.{◌≡◌, ◌<◌, ◌≤◌, ◌^◌, IfOk, IsSome, OnErr, Some, length};
-ghost use Rattle.link_history.specs.Ports.{port_of as port_of_end};
-ghost use Rattle.link_steps.specs.{port_on, CallsBelow, way_of};
-ghost use Rattle.link_steps.specs.Accesses.{AccessesStay, Brings};
+ghost use Rattle.spec_links.specs.Ports.{port_of as port_of_end};
+ghost use Rattle.join_arrivals.specs.{port_on, CallsBelow, way_of};
+ghost use Rattle.join_arrivals.specs.Accesses.{AccessesStay, Brings};
 ghost use Rattle.line_arrivals.specs.Landing.{ComesTo, Lands};
 
-use accesses::Accesses;
-use ide_types::{Direction, Memory, PortName, Side};
+use ide_types::{Direction, OutOfMemory, PortName, Side, ValidPlan};
+use interface_ends::InterfaceKeeper;
+use join_arrivals::{AllEnds, bytes_arrive};
 use line_routes::{goes_through, port_of, reached};
-use link_steps::{AllEnds, bring};
+use link_stores::Accesses;
 use link_verdicts::Verdict;
 use std::alloc::Global;
-use tdi_ends::InterfaceKeeper;
 use trusted_memory::Trusted;
-use valid_plan::ValidPlan;
 
 /// Bytes that arrive at the port of an end, and what their verdict depends on beside the ends (this profile).
 #[derive(Clone, Copy)]
@@ -34,10 +33,10 @@ fn way(end: PortName) -> Option<(u8, Direction)>
     ensures { result ≡ way_of end }
 {
     match end.side {
-        Side::Device if 8 <= end.link && end.link < 16 => {
-            Some((end.link - 8, Direction::Downstream))
+        Side::Device if 8 <= end.line && end.line < 16 => {
+            Some((end.line - 8, Direction::Downstream))
         }
-        Side::Host if 16 <= end.link && end.link < 24 => Some((end.link - 16, Direction::Upstream)),
+        Side::Host if 16 <= end.line && end.line < 24 => Some((end.line - 16, Direction::Upstream)),
         _ => None,
     }
 }
@@ -50,7 +49,7 @@ fn wait_at(
     way: (u8, Direction),
     ends: &mut AllEnds,
     accesses: &mut Accesses,
-) -> Result<Verdict, Memory>
+) -> Result<Verdict, OutOfMemory>
     requires here { IsSome (port_on ends.old end) }
     requires few { CallsBelow (2 ^ 40) ends.old }
     requires link { way.0 < length accesses.old }
@@ -74,7 +73,7 @@ pub fn land(
     ends: &mut AllEnds,
     trusted: &mut Trusted,
     accesses: &mut Accesses,
-) -> Result<Verdict, Memory>
+) -> Result<Verdict, OutOfMemory>
     requires few { CallsBelow (2 ^ 40) ends.old }
     requires many { length accesses.old ≡ length ends.old.links }
     ensures lands { IfOk result (λ v. Lands arriving.now.plan.now arriving.now.keeper.now arriving.now.end
@@ -106,10 +105,10 @@ pub fn land(
             wait_at(alloc, arriving, end, way, ends, accesses)
         }
         None => {
-            if port.link as usize >= ends.count() {
+            if port.line as usize >= ends.count() {
                 return Ok(Verdict::Nothing);
             }
-            bring(ends, keeper, trusted, accesses, end, port, bytes)
+            bytes_arrive(ends, keeper, trusted, accesses, end, port, bytes)
         }
     }
 }

@@ -1,35 +1,23 @@
 -- The streams of a line, as they are looked up of a plan.
-use Rattle.link_history.proofs.Terms.{◌≡◌, ◌∙◌, ◌-◌, ◌<◌, ◌≤◌, ◌&&◌, ℕ, zero, suc, List, [], ◌∷◌, Bool, true}
-use Rattle.link_history.proofs.Terms.{
-  false,
-  Option,
-  Some,
-  None,
-  nat_lt,
-  is_some,
-  slice_get,
-  length,
-  map,
-  arith,
-  refl,
-  sym,
-}
-use Rattle.link_history.proofs.Terms.{ap, nat_tests, not, slice_get_within, Plan, PortName}
-use Rattle.link_history.proofs.Terms.{streams_of}
+use Rattle.spec_links.proofs.Terms.{◌≡◌, ◌∙◌, ◌-◌, ◌<◌, ◌≤◌, ◌&&◌, ℕ, zero, suc, List, [], ◌∷◌, Bool, true}
+use Rattle.spec_links.proofs.Terms.{false, Option, Some, None, nat_lt, is_some, slice_get, length, map, arith, refl}
+use Rattle.spec_links.proofs.Terms.{sym}
+use Rattle.spec_links.proofs.Terms.{ap, nat_tests, not, slice_get_within, Plan, PortName}
+use Rattle.spec_links.proofs.Terms.{streams_of}
 use Rattle.std.specs.List.{slice_index_or}
-use Rattle.ide_plan.specs.declared.plan.LinkPlan.{LinkPlan}
-use Rattle.ide_plan.specs.declared.plan.HopPlan.{HopPlan}
-use Rattle.ide_plan.specs.declared.plan.PeerPlan.{PeerPlan}
-use Rattle.ide_plan.specs.declared.stream.StreamPlan.{StreamPlan}
-use Rattle.ide_plan.specs.Ends.{link_hop, line_has}
-use Rattle.ide_plan.specs.Fits.{FitsPlan}
+use Rattle.ide_types.specs.declared.plan.LinkPlan.{LinkPlan}
+use Rattle.ide_types.specs.declared.plan.HopPlan.{HopPlan}
+use Rattle.ide_types.specs.declared.plan.PeerPlan.{PeerPlan}
+use Rattle.ide_types.specs.declared.stream.StreamPlan.{StreamPlan}
+use Rattle.ide_types.specs.Ends.{link_hop, line_has}
+use Rattle.ide_types.specs.Fits.{FitsPlan}
 use Rattle.tlp_layout.specs.Reading.{read_of}
 use Rattle.association.specs.Outgoing.{outgoing_of}
-use Rattle.link_history.specs.Plan.{has_link, has_line, hop_by_link, hop_streams, lone_stream, peer_streams}
-use Rattle.link_history.specs.Plan.{streams_by_link, behind_links, behind_near}
-unfoldable use Rattle.link_history.specs.Plan.{streams_by_line}
-use Rattle.link_history.specs.Ports.{at_switch, goes_to_hop, hop_lists, lacks_stream, takes_none}
-use Rattle.link_history.proofs.Ends.{among_eight, behind_eight, link_row, stream_is_there}
+use Rattle.spec_links.specs.Plan.{has_link, has_line, hop_by_link, hop_streams, lone_stream, peer_streams}
+use Rattle.spec_links.specs.Plan.{streams_by_link, behind_links, behind_near}
+unfoldable use Rattle.spec_links.specs.Plan.{streams_by_line}
+use Rattle.spec_links.specs.Ports.{at_switch, goes_to_hop, hop_lists, lacks_stream, takes_none}
+use Rattle.spec_links.proofs.Ends.{among_eight, behind_eight, link_row, stream_is_there}
 use Rattle.line_routes.specs.Rows.{goes_to_hop_by, has_line_by, hop_line_has, is_left_to_hop, lacks_hop_stream}
 
 -- ---- rows
@@ -96,7 +84,7 @@ below_suc : (i n : ℕ) → nat_lt (suc i) (suc n) ≡ nat_lt i n
 below_suc i n = grind (arith, nat_tests)
 
 peer_there : (peers : List PeerPlan) (i : ℕ)
-    → has_one (slice_index_or (map (λ (p : PeerPlan). lone_stream p.id p.mode ∷ []) peers) i [])
+    → has_one (slice_index_or (map (λ (p : PeerPlan). lone_stream p.id p.aggregation ∷ []) peers) i [])
     ≡ nat_lt i (length peers)
 peer_there [] i = grind (arith, nat_tests)
 peer_there (p ∷ peers) zero = grind (arith, nat_tests)
@@ -143,31 +131,31 @@ link_streams plan fits link l is =
 
 pub to_hop_is : (plan : Plan) → FitsPlan plan → (end : PortName) (bytes : List ℕ)
     → goes_to_hop plan end bytes ≡ goes_to_hop_by plan end bytes
-to_hop_is plan fits end bytes = by (slice_get plan.links end.link) refl
+to_hop_is plan fits end bytes = by (slice_get plan.links end.line) refl
   where
-    by : (o : Option LinkPlan) → slice_get plan.links end.link ≡ o
-        → (takes_none (outgoing_of (streams_of plan end.link) end.side bytes) && hop_lists (link_hop o) (read_of bytes))
+    by : (o : Option LinkPlan) → slice_get plan.links end.line ≡ o
+        → (takes_none (outgoing_of (streams_of plan end.line) end.side bytes) && hop_lists (link_hop o) (read_of bytes))
         ≡ is_left_to_hop o end.side bytes
     by None is = none_else _
     by (Some l) is = ap (λ (ss : List StreamPlan). takes_none (outgoing_of ss end.side bytes)
-        && hop_lists l.hop (read_of bytes)) (link_streams plan fits end.link l is)
+        && hop_lists l.hop (read_of bytes)) (link_streams plan fits end.line l is)
 
 pub to_hop_low : (plan : Plan) → FitsPlan plan → (end : PortName) (bytes : List ℕ)
-    → goes_to_hop_by plan end bytes ≡ true → end.link < 8
-to_hop_low plan fits end bytes goes = by (slice_get plan.links end.link) refl goes
+    → goes_to_hop_by plan end bytes ≡ true → end.line < 8
+to_hop_low plan fits end bytes goes = by (slice_get plan.links end.line) refl goes
   where
-    by : (o : Option LinkPlan) → slice_get plan.links end.link ≡ o → is_left_to_hop o end.side bytes ≡ true
-        → end.link < 8
+    by : (o : Option LinkPlan) → slice_get plan.links end.line ≡ o → is_left_to_hop o end.side bytes ≡ true
+        → end.line < 8
     by None is goes = absurd cc
     by (Some l) is goes =
-        let within = slice_get_within plan.links end.link l is in
+        let within = slice_get_within plan.links end.line l is in
         let most = fits.links_most in
         omega (arith, within, most)
 
 -- ---- what goes through a switch
 
 -- the end at a switch is on a line of a hop
-pub switch_line : (plan : Plan) (end : PortName) → at_switch plan end ≡ true → (8 ≤ end.link) × (end.link < 24)
+pub switch_line : (plan : Plan) (end : PortName) → at_switch plan end ≡ true → (8 ≤ end.line) × (end.line < 24)
 switch_line plan end is = (grind (arith, nat_tests), grind (arith, nat_tests))
 
 lacks_id : (plan : Plan) (line id : ℕ) → 8 ≤ line → line < 24 → line_has plan line id ≡ hop_line_has plan line id
@@ -188,4 +176,4 @@ pub lacks_is : (plan : Plan) (end : PortName) (id : Option ℕ) → at_switch pl
 lacks_is plan end None is = refl
 lacks_is plan end (Some id) is =
     let line = switch_line plan end is in
-    ap not (stream_is_there plan end.link id ∙ lacks_id plan end.link id line.0 line.1)
+    ap not (stream_is_there plan end.line id ∙ lacks_id plan end.line id line.0 line.1)

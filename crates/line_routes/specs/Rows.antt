@@ -3,16 +3,16 @@ use Rattle.std.specs.Prelude.{ℕ, ◌-◌, ◌&&◌, nat_lt, not, is_some, leng
 use Rattle.std.specs.Prelude.{List, Option, Some, None}
 use Rattle.ide_types.specs.declared.port.PortName.{PortName}
 use Rattle.ide_types.specs.declared.port.Side.{Side}
-use Rattle.ide_plan.specs.declared.plan.LinkPlan.{LinkPlan}
-use Rattle.ide_plan.specs.declared.plan.Plan.{Plan}
-use Rattle.ide_plan.specs.Plans.{hop_has_id}
-use Rattle.ide_plan.specs.Ends.{link_hop}
+use Rattle.ide_types.specs.declared.plan.LinkPlan.{LinkPlan}
+use Rattle.ide_types.specs.declared.plan.Plan.{Plan}
+use Rattle.ide_types.specs.Plans.{hop_has_id}
+use Rattle.ide_types.specs.Ends.{link_hop}
 use Rattle.tlp_layout.specs.Reading.{read_of}
 use Rattle.association.specs.declared.choice.Choice.{Choice}
 use Rattle.association.specs.declared.choice.Choice.TheVariants.{Plain}
 use Rattle.association.specs.Outgoing.{outgoing_of}
-use Rattle.link_history.specs.Plan.{has_link}
-use Rattle.link_history.specs.Ports.{takes_none, hop_lists}
+use Rattle.spec_links.specs.Plan.{has_link}
+use Rattle.spec_links.specs.Ports.{takes_none, hop_lists}
 
 -- the topology has the line
 abbrev pub has_line_by : Plan → ℕ → Bool
@@ -34,7 +34,7 @@ is_left_to_hop (Some l) side bytes =
     takes_none (outgoing_of l.streams side bytes) && hop_lists l.hop (read_of bytes)
 
 abbrev pub goes_to_hop_by : Plan → PortName → List ℕ → Bool
-goes_to_hop_by plan end bytes = is_left_to_hop (slice_get plan.links end.link) end.side bytes
+goes_to_hop_by plan end bytes = is_left_to_hop (slice_get plan.links end.line) end.side bytes
 
 -- the hop of this line from 8 to 23 has the stream
 abbrev pub hop_line_has : Plan → ℕ → ℕ → Bool
@@ -44,4 +44,4 @@ hop_line_has plan line id =
 
 abbrev pub lacks_hop_stream : Plan → PortName → Option ℕ → Bool
 lacks_hop_stream plan end None = false
-lacks_hop_stream plan end (Some id) = not (hop_line_has plan end.link id)
+lacks_hop_stream plan end (Some id) = not (hop_line_has plan end.line id)

@@ -1,21 +1,19 @@
 //! Which ends arriving bytes meet.
 
 ghost use Rattle.std.specs.Prelude.{◌≡◌, ◌≤◌, length, slice_get};
-ghost use Rattle.ide_plan.specs.Plans.{has_stream_id, hop_has_id as hop_has_its};
-ghost use Rattle.ide_plan.specs.Ends.{end_on as end_on_port, peer_end as end_of_peer};
-ghost use Rattle.ide_plan.specs.Ends.{link_hop, own_has_id as own_has_its, peer_end_at as end_of_peer_at};
-ghost use Rattle.link_history.specs.Ports.{id_in as id_of, reached as reached_by, goes_through as is_through};
+ghost use Rattle.ide_types.specs.Plans.{has_stream_id, hop_has_id as hop_has_its};
+ghost use Rattle.ide_types.specs.Ends.{end_on as end_on_port, peer_end as end_of_peer};
+ghost use Rattle.ide_types.specs.Ends.{link_hop, own_has_id as own_has_its, peer_end_at as end_of_peer_at};
+ghost use Rattle.spec_links.specs.Ports.{id_in as id_of, reached as reached_by, goes_through as is_through};
 ghost use Rattle.line_routes.specs.Rows.{hop_line_has as hop_line_has_id, lacks_hop_stream};
 
 use crate::ports::{at_switch, hop, port_of};
 use crate::sends::hop_end;
-use ide_plan::{PeerPlan, Plan, StreamPlan, port_at};
 use ide_prefix::PACKET_FIRST;
-use ide_types::{PortName, Side};
-use valid_plan::ValidPlan;
+use ide_types::{PeerPlan, Plan, PortName, Side, StreamPlan, ValidPlan, port_at};
 
 // The stream ID of a packet's bytes.
-#[tactic(auto, unfolding(link_history::specs::Ports::id_in))]
+#[tactic(auto, unfolding(spec_links::specs::Ports::id_in))]
 fn id_in(bytes: &[u8]) -> Option<u8>
     ensures { result ≡ id_of bytes.now }
 {
@@ -48,7 +46,7 @@ fn hop_has(plan: &Plan, link: u8, id: u8) -> bool
 }
 
 // The end at the link's device of the first of these streams that has the ID and ends there.
-#[tactic(auto, unfolding(ide_plan::specs::Ends::peer_end))]
+#[tactic(auto, unfolding(ide_types::specs::Ends::peer_end))]
 fn peer_end(peers: &[PeerPlan], link: u8, id: u8) -> Option<PortName>
     requires { length peers.now ≤ 8 }
     ensures { result ≡ end_of_peer peers.now 0 link id }
@@ -57,11 +55,11 @@ fn peer_end(peers: &[PeerPlan], link: u8, id: u8) -> Option<PortName>
     for peer in peers {
         if peer.id == id && peer.near == link {
             let side = Side::Host;
-            return Some(PortName { side, link: line });
+            return Some(PortName { side, line });
         }
         if peer.id == id && peer.far == link {
             let side = Side::Device;
-            return Some(PortName { side, link: line });
+            return Some(PortName { side, line });
         }
         line += 1;
     }
@@ -74,7 +72,7 @@ fn peer_end_at(peers: &[PeerPlan], port: PortName, id: u8) -> PortName
 {
     match port.side {
         Side::Host => port,
-        Side::Device => match peer_end(peers, port.link, id) {
+        Side::Device => match peer_end(peers, port.line, id) {
             None => port,
             Some(end) => end,
         },
@@ -95,12 +93,12 @@ fn end_on(plan: &Plan, port: PortName, id: u8) -> PortName
     requires { length plan.now.peers ≤ 8 }
     ensures { result ≡ end_on_port plan.now port id }
 {
-    if port.link >= 8 {
+    if port.line >= 8 {
         port
-    } else if own_has(plan, port.link, id) {
+    } else if own_has(plan, port.line, id) {
         port
-    } else if hop_has(plan, port.link, id) {
-        hop_end(port.side, port.link)
+    } else if hop_has(plan, port.line, id) {
+        hop_end(port.side, port.line)
     } else {
         peer_end_at(plan.peers.as_slice(), port, id)
     }
@@ -109,7 +107,7 @@ fn end_on(plan: &Plan, port: PortName, id: u8) -> PortName
 /// The end that bytes meet which arrive at the port of this one: that of the line that has their stream, first of the
 /// link, then of its hop, then of a stream between devices; the port if there is none. At a switch nothing is looked up
 /// (PCI Express Base 6.0 section 6.33, in this profile).
-#[tactic(auto, unfolding(link_history::specs::Ports::reached))]
+#[tactic(auto, unfolding(spec_links::specs::Ports::reached))]
 pub fn reached(plan: &ValidPlan, end: PortName, bytes: &[u8]) -> PortName
     ensures { result ≡ reached_by plan.now end bytes.now }
 {
@@ -135,18 +133,18 @@ fn hop_line_has(plan: &Plan, line: u8, id: u8) -> bool
 }
 
 fn lacks_stream(plan: &Plan, end: PortName, bytes: &[u8]) -> bool
-    requires { 8 ≤ end.link }
+    requires { 8 ≤ end.line }
     ensures { result ≡ lacks_hop_stream plan.now end (id_of bytes.now) }
 {
     match id_in(bytes) {
         None => false,
-        Some(id) => !hop_line_has(plan, end.link, id),
+        Some(id) => !hop_line_has(plan, end.line, id),
     }
 }
 
 /// Whether bytes that arrive at this end go through a switch unread: they are of another stream than the hop's (PCI
 /// Express Base 6.0 section 6.33, in this profile).
-#[tactic(auto, using(crate::proofs::Rows::lacks_is, crate::proofs::Rows::switch_line), unfolding(link_history::specs::Ports::goes_through))]
+#[tactic(auto, using(crate::proofs::Rows::lacks_is, crate::proofs::Rows::switch_line), unfolding(spec_links::specs::Ports::goes_through))]
 pub fn goes_through(plan: &ValidPlan, end: PortName, bytes: &[u8]) -> bool
     ensures { result ≡ is_through plan.now end bytes.now }
 {

@@ -1,16 +1,12 @@
 //! Hops of links.
 
 ghost use Rattle.std.specs.Prelude.{◌≡◌, ◌<◌};
-ghost use Rattle.key_laws.specs.Places.{is_cut};
-ghost use Rattle.link_history.specs.Hops.{
-  has_hop as has_hop_in,
-  leaving_end as leaving_end_of,
-  clears_hop as clears_hop_of,
-};
+ghost use Rattle.spec_keys.specs.Places.{is_cut};
+ghost use Rattle.spec_links.specs.Hops.{has_hop as has_hop_in, leaving_end as leaving_end_of};
+ghost use Rattle.spec_links.specs.Hops.{clears_hop as clears_hop_of};
 
 use crate::ports::hop;
-use ide_types::{Direction, PortName, Side};
-use valid_plan::ValidPlan;
+use ide_types::{Direction, PortName, Side, ValidPlan};
 
 /// Whether a link has a hop (this profile).
 pub fn has_hop(plan: &ValidPlan, link: u64) -> bool
@@ -28,11 +24,11 @@ pub fn leaving_end(link: u8, direction: Direction) -> PortName
     match direction {
         Direction::Downstream => PortName {
             side: Side::Host,
-            link: 16 + link,
+            line: 16 + link,
         },
         Direction::Upstream => PortName {
             side: Side::Device,
-            link: 8 + link,
+            line: 8 + link,
         },
     }
 }
@@ -40,7 +36,7 @@ pub fn leaving_end(link: u8, direction: Direction) -> PortName
 fn is_cut(ends: &[PortName], line: u8) -> bool
     ensures { result ≡ is_cut ends.now line }
 {
-    ends.iter().any(|end| end.link == line)
+    ends.iter().any(|end| end.line == line)
 }
 
 /// Whether these ends that a reset clears are of both segments of the link's hop (this profile).

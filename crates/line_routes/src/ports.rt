@@ -1,26 +1,24 @@
 //! Ends of lines, and the ports at which they are.
 
 ghost use Rattle.std.specs.Prelude.{◌≡◌, ◌<◌, ◌≤◌, length, option_map, slice_get};
-ghost use Rattle.ide_plan.specs.Ends.{link_hop};
-ghost use Rattle.link_history.specs.Plan.{has_link, has_port as has_end, partner as partner_of};
-ghost use Rattle.link_history.specs.Ports.{port_of as port_of_end, at_switch as is_at_switch, may_send as sends_at};
+ghost use Rattle.ide_types.specs.Ends.{link_hop};
+ghost use Rattle.spec_links.specs.Plan.{has_link, has_port as has_end, partner as partner_of};
+ghost use Rattle.spec_links.specs.Ports.{port_of as port_of_end, at_switch as is_at_switch, may_send as sends_at};
 ghost use Rattle.line_routes.specs.Rows.{has_line_by};
 
-use ide_plan::{HopPlan, Plan, port_at};
-use ide_types::{PortName, Side};
-use valid_plan::ValidPlan;
+use ide_types::{HopPlan, Plan, PortName, Side, ValidPlan, port_at};
 
 /// The other end of its line.
 pub fn partner(end: PortName) -> PortName
     ensures { result ≡ partner_of end }
 {
-    let PortName { side, link } = end;
+    let PortName { side, line: link } = end;
     PortName {
         side: match side {
             Side::Host => Side::Device,
             Side::Device => Side::Host,
         },
-        link,
+        line: link,
     }
 }
 
@@ -41,12 +39,12 @@ pub(crate) fn hop(plan: &Plan, link: u8) -> Option<&HopPlan>
 }
 
 /// The port of an end: of a host or a device it is the end of their link, of a switch the end itself (this profile).
-#[tactic(auto, unfolding(link_history::specs::Ports::port_of))]
+#[tactic(auto, unfolding(spec_links::specs::Ports::port_of))]
 pub fn port_of(plan: &ValidPlan, end: PortName) -> PortName
     ensures { result ≡ port_of_end plan.now end }
 {
     let plan = plan.plan();
-    if has_link(plan, end.link) {
+    if has_link(plan, end.line) {
         end
     } else {
         port_at(plan.peers.as_slice(), end)
@@ -58,12 +56,12 @@ pub fn port_of(plan: &ValidPlan, end: PortName) -> PortName
 pub fn at_switch(plan: &ValidPlan, end: PortName) -> bool
     ensures { result ≡ is_at_switch plan.now end }
 {
-    if has_link(plan.plan(), end.link) {
+    if has_link(plan.plan(), end.line) {
         return false;
     }
     match end.side {
-        Side::Host => 16 <= end.link && end.link < 24,
-        Side::Device => 8 <= end.link && end.link < 16,
+        Side::Host => 16 <= end.line && end.line < 24,
+        Side::Device => 8 <= end.line && end.line < 16,
     }
 }
 
@@ -84,7 +82,7 @@ fn has_line(plan: &Plan, line: u8) -> bool
 pub fn has_port(plan: &ValidPlan, end: PortName) -> bool
     ensures { result ≡ has_end plan.now end }
 {
-    has_line(plan.plan(), end.link)
+    has_line(plan.plan(), end.line)
 }
 
 /// Whether TLPs are sent at the end: it exists, and is not at a switch, which sends none of its own (this profile).

@@ -2,18 +2,16 @@
 
 ghost use Rattle.std.specs.Prelude.{◌≡◌, ◌&&◌, ◌<◌};
 ghost use Rattle.tlp_layout.specs.Reading.{read_of};
-ghost use Rattle.association.specs.Choice.{chosen};
+ghost use Rattle.association.specs.Choice.{chosen_stream};
 ghost use Rattle.association.specs.Outgoing.{outgoing_of, outgoing_on};
-ghost use Rattle.ide_plan.specs.Plans.{is_among};
-ghost use Rattle.ide_plan.specs.Ends.{hop_end as end_of_hop};
-ghost use Rattle.link_history.specs.Ports.{takes_none, hop_lists, sealing_end as sealing_end_of};
+ghost use Rattle.ide_types.specs.Plans.{is_among};
+ghost use Rattle.ide_types.specs.Ends.{hop_end as end_of_hop};
+ghost use Rattle.spec_links.specs.Ports.{takes_none, hop_lists, sealing_end as sealing_end_of};
 ghost use Rattle.line_routes.specs.Rows.{goes_to_hop_by, is_no_choice};
 
 use association::{Choice, choose};
-use ide_plan::{HopPlan, LinkPlan, Plan};
-use ide_types::{PortName, Side};
+use ide_types::{HopPlan, LinkPlan, Plan, PortName, Side, ValidPlan};
 use tlp_layout::read;
-use valid_plan::ValidPlan;
 
 fn is_plain(choice: Choice) -> bool
     ensures { result ≡ is_no_choice choice }
@@ -61,7 +59,7 @@ fn is_left(link: &LinkPlan, side: Side, bytes: &[u8]) -> bool
 fn goes_to_hop(plan: &Plan, end: PortName, bytes: &[u8]) -> bool
     ensures { result ≡ goes_to_hop_by plan.now end bytes.now }
 {
-    match plan.links.as_slice().get(end.link as usize) {
+    match plan.links.as_slice().get(end.line as usize) {
         None => false,
         Some(link) => is_left(link, end.side, bytes),
     }
@@ -74,7 +72,7 @@ pub(crate) fn hop_end(side: Side, link: u8) -> PortName
 {
     PortName {
         side,
-        link: match side {
+        line: match side {
             Side::Host => 8 + link,
             Side::Device => 16 + link,
         },
@@ -84,12 +82,12 @@ pub(crate) fn hop_end(side: Side, link: u8) -> PortName
 /// The end at which a TLP with these bytes is sealed that is sent at this end: that of the hop, if no stream of the
 /// link takes it and the hop lists its traffic class; else this end (PCI Express Base 6.0 section 6.33, in this
 /// profile).
-#[tactic(auto, using(crate::proofs::Rows::to_hop_is, crate::proofs::Rows::to_hop_low), unfolding(link_history::specs::Ports::sealing_end))]
+#[tactic(auto, using(crate::proofs::Rows::to_hop_is, crate::proofs::Rows::to_hop_low), unfolding(spec_links::specs::Ports::sealing_end))]
 pub fn sealing_end(plan: &ValidPlan, end: PortName, bytes: &[u8]) -> PortName
     ensures { result ≡ sealing_end_of plan.now end bytes.now }
 {
     if goes_to_hop(plan.plan(), end, bytes) {
-        hop_end(end.side, end.link)
+        hop_end(end.side, end.line)
     } else {
         end
     }

@@ -10,8 +10,8 @@ use Rattle.std.specs.List.{slice_index_or}
 use Rattle.std.proofs.Math.Seq.{take-append_seam, take-append-add, get_or-append_seam}
 use Rattle.std.proofs.lemmas.List.{append-nil}
 use Rattle.std.proofs.lemmas.Bool.{lt-ltb, le-ltb, ltb-false}
-use Rattle.ide_base.specs.Outside.{Contents, Rose, ShelfCause, ShelfSeen, SinkSeen}
-use Rattle.ide_base.specs.declared.shelf.ShelfFault.{ShelfFault}
+use Rattle.cli_files.specs.Outside.{Contents, Rose, ShelfCause, ShelfSeen, SinkSeen}
+use Rattle.cli_files.specs.declared.shelf.ShelfFault.{ShelfFault}
 use Rattle.line_runs.specs.Pieces.{pieces}
 use Rattle.link_events.specs.declared.fault.LineFault.{LineFault}
 use Rattle.link_events.specs.declared.fault.LineFault.TheVariants as line

@@ -4,8 +4,8 @@ use Rattle.std.proofs.Common.{sym, ap, ◌∙◌, append_assoc, take, drop, leng
 use Rattle.std.proofs.Math.Seq.{drop-append_seam}
 use Rattle.std.specs.Prelude.{IfOk}
 use Rattle.std.proofs.lemmas.List.{take-append-drop, take-append-le, append-nil, take_all}
-use Rattle.ide_base.specs.declared.shelf.ShelfFault.{ShelfFault}
-use Rattle.ide_base.specs.Outside.{Contents, ReadAt, ReadOf, ReadFrom}
+use Rattle.cli_files.specs.declared.shelf.ShelfFault.{ShelfFault}
+use Rattle.cli_files.specs.Outside.{Contents, ReadAt, ReadOf, ReadFrom}
 use Rattle.line_runs.specs.Gain.{Text, IsFront}
 use Rattle.line_runs.specs.Front.{FrontIn, FrontOf, Gave, GaveBehind, GaveOf, bytes_of, IsReadIn, IsReadOf, IsWholeIn}
 use Rattle.line_runs.specs.Front.{IsWholeOf, ReadsOn}

@@ -1,39 +1,17 @@
 -- One file after another, and what is due of a file in other words.
-use Rattle.std.proofs.Common.{
-  ◌≡◌,
-  ◌≤◌,
-  ◌+◌,
-  ◌++◌,
-  ◌∙◌,
-  ℕ,
-  [],
-  length,
-  length-take,
-  take,
-  Option,
-  Some,
-  None,
-  Result,
-  Ok,
-}
+use Rattle.std.proofs.Common.{◌≡◌, ◌≤◌, ◌+◌, ◌++◌, ◌∙◌, ℕ, [], length, length-take, take, Option, Some, None, Result}
+use Rattle.std.proofs.Common.{Ok}
 use Rattle.std.proofs.Common.{Err, refl, sym, ap, subst, arith, append_assoc, option_map}
 use Rattle.std.specs.Prelude.{IfErr, IfOk}
 use Rattle.std.proofs.lemmas.List.{append-nil, append_cancel_left}
-use Rattle.ide_base.specs.Outside.{Contents, Rose, ShelfSeen, SinkSeen}
+use Rattle.cli_files.specs.Outside.{Contents, Rose, ShelfSeen, SinkSeen}
 use Rattle.line_runs.specs.declared.ends.End.{End}
 use Rattle.line_runs.specs.declared.ends.Fault.{Fault}
 use Rattle.line_runs.specs.declared.ends.Fault.TheVariants as fault
 use Rattle.line_runs.specs.Front.{FrontIn, FrontOf, Gave, GaveOf, bytes_of}
 use Rattle.line_runs.specs.Gain.{Text, Gained, GainedMore, IsFront}
-use Rattle.line_runs.specs.Gathering.{
-  GainedAt,
-  NoFurther,
-  ReadAsFar,
-  ReadAsFarOf,
-  WroteEnded,
-  WroteEndedIn,
-  WroteEndedOf,
-}
+use Rattle.line_runs.specs.Gathering.{GainedAt, NoFurther, ReadAsFar, ReadAsFarOf, WroteEnded, WroteEndedIn}
+use Rattle.line_runs.specs.Gathering.{WroteEndedOf}
 use Rattle.line_runs.specs.Outcome.{Due, EndsBy, EndsOn, Quiet, SomeFront}
 use Rattle.line_runs.proofs.WholeFiles.{SameDue, gained_nothing}
 

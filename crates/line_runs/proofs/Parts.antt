@@ -9,7 +9,7 @@ use Rattle.std.specs.Prelude.{IfOk}
 use Rattle.std.specs.List.{onto_first}
 use Rattle.std.proofs.lemmas.List.{append-nil}
 use Rattle.std.proofs.lemmas.Bool.Decides.{nat_tests}
-use Rattle.ide_base.specs.Outside.{SinkSeen}
+use Rattle.cli_files.specs.Outside.{SinkSeen}
 use Rattle.line_runs.specs.Pieces.{pieces}
 use Rattle.line_runs.proofs.Cuts.{HasFirst, ends_line, some}
 use Rattle.link_events.specs.declared.fault.LineFault.{LineFault}

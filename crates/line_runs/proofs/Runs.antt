@@ -2,7 +2,7 @@
 use Rattle.std.proofs.Common.{◌≡◌, ◌==◌, ℕ, ◌+◌, [], ◌∷◌, ◌++◌, length, Bool, false, Option, Result, Ok, Err}
 use Rattle.std.proofs.Common.{refl, ap, ◌∙◌, append_assoc}
 use Rattle.std.proofs.lemmas.List.{append-nil}
-use Rattle.ide_base.specs.Outside.{Rose}
+use Rattle.cli_files.specs.Outside.{Rose}
 use Rattle.line_runs.specs.Pieces.{pieces}
 use Rattle.line_runs.proofs.Cuts.{some}
 use Rattle.link_events.specs.declared.fault.LineFault.{LineFault}

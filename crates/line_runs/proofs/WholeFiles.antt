@@ -1,7 +1,7 @@
 -- A file that was read, or could not be read, and a part that runs after it.
 use Rattle.std.proofs.Common.{◌≡◌, ℕ, [], Option, Some, None, Result, Ok, Err, refl, sym, ap, inl, inr}
 use Rattle.std.proofs.lemmas.List.{append-nil}
-use Rattle.ide_base.specs.Outside.{Contents, Rose}
+use Rattle.cli_files.specs.Outside.{Contents, Rose}
 use Rattle.line_runs.specs.declared.ends.End.{End}
 use Rattle.line_runs.specs.declared.ends.Fault.{Fault}
 use Rattle.line_runs.specs.declared.ends.Fault.TheVariants as fault

@@ -1,7 +1,7 @@
 -- The first bytes of a file.
 use Rattle.std.specs.Prelude.{ℕ, ◌+◌, ◌≤◌, ◌≡◌, ◌⊎◌, [], length, max, take, unwrap_or, Option, Some, None, Result, Ok}
 use Rattle.std.specs.Prelude.{Err}
-use Rattle.ide_base.specs.Outside.{Contents, Rose, Lacks, counted}
+use Rattle.cli_files.specs.Outside.{Contents, Rose, Lacks, counted}
 use Rattle.line_runs.specs.declared.front.Stop.{Stop}
 use Rattle.line_runs.specs.declared.front.Stop.TheVariants as stop
 use Rattle.line_runs.specs.Gain.{Text, IsFront}

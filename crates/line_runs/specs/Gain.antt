@@ -1,8 +1,8 @@
 -- What a sink has gained.
 use Rattle.std.specs.Prelude.{ℕ, ◌≡◌, ◌++◌, Option, Result, Ok, Err, option_map}
 pub use Rattle.ide_types.specs.{Text}
-use Rattle.ide_base.specs.Outside.{SinkErrCause}
-use Rattle.ide_base.specs.declared.sink.SinkFault.{SinkFault}
+use Rattle.cli_files.specs.Outside.{SinkErrCause}
+use Rattle.cli_files.specs.declared.sink.SinkFault.{SinkFault}
 
 -- the sink holds this text more, if it tells what it holds
 abbrev pub Gained : Option Text → Option Text → Text → Type 0

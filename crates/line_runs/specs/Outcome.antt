@@ -1,6 +1,6 @@
 -- What the end of a part promises, beside what the part should write.
 use Rattle.std.specs.Prelude.{ℕ, ◌≡◌, ◌⊎◌, Result, Ok, Err, [], ◌∷◌, ◌++◌, Option, Some, None}
-use Rattle.ide_base.specs.Outside.{Contents, Rose, ShelfSeen, SinkSeen}
+use Rattle.cli_files.specs.Outside.{Contents, Rose, ShelfSeen, SinkSeen}
 use Rattle.line_runs.specs.declared.ends.End.{End}
 use Rattle.line_runs.specs.declared.ends.Fault.{Fault}
 use Rattle.line_runs.specs.declared.ends.Fault.TheVariants as fault

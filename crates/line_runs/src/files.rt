@@ -3,7 +3,7 @@
 ghost use Rattle.std.specs.Prelude.{◌≡◌, ◌≢◌, ◌≤◌, ◌<◌, ◌+◌, ◌++◌, ◌^◌, ℕ, [], List, Ok, IsErr, IfOk, IfErr, IfSome};
 ghost use Rattle.std.specs.Prelude.{OnOk, None, length, nat_lt, option_map, take, vec_capacity};
 ghost use Rattle.std.specs.Prelude.{vec_len};
-ghost use Rattle.ide_base.specs.Outside.{AsksFor, Given, ShelfCause, given_by};
+ghost use Rattle.cli_files.specs.Outside.{AsksFor, Given, ShelfCause, given_by};
 ghost use Rattle.link_events.specs.Words.{line_limit};
 ghost use Rattle.line_runs.specs.Front.{AskedPieces, Gave, GaveAtMost, IsReadOf, ReadsOn, bytes_of};
 ghost use Rattle.line_runs.specs.Gathering.{CutIn, Gathers, GoesOn, NoFurther, PieceRan, ReadAsFar, WroteEnded};
@@ -15,8 +15,8 @@ use crate::front::PIECE;
 use crate::lines::{LineWork, refuse, refuse_in, run_last};
 use crate::writing::write;
 use crate::{End, FILE_LIMIT, Fault};
-use ide_base::{Shelf, ShelfFault, Sink};
-use ide_types::{Bytes, Memory};
+use cli_files::{Shelf, ShelfFault, Sink};
+use ide_types::{Bytes, OutOfMemory};
 use link_events::{LINE_LIMIT, LineError, LineFault, split_at_byte};
 use std::alloc::Global;
 
@@ -42,7 +42,7 @@ fn read_piece<S: Shelf>(
     ensures counted { Given (S.seen shelf.old).given (S.seen shelf.new).given result }
     ensures latest { (S.seen shelf.new).latest ≡ given_by result }
     ensures names { AsksFor name.now (S.seen shelf.old).asked (S.seen shelf.new).asked }
-    ensures pieces { AskedPieces (S.seen shelf.old).longest (S.seen shelf.new).longest }
+    ensures read_pieces { AskedPieces (S.seen shelf.old).longest (S.seen shelf.new).longest }
     ensures cause { ShelfCause (S.seen shelf.old).faults (S.seen shelf.new).faults (S.seen shelf.old).contents name.now
         result }
 {
@@ -90,7 +90,7 @@ pub fn run_file<S: Shelf, O: Sink, W: LineWork>(
         (GoesOn W.advance W.closing past) (bytes_of (contents name.now))) (S.seen shelf.old) (S.seen shelf.new)) }
     ensures cap { (S.seen shelf.new).given ≤ (S.seen shelf.old).given + (file_limit + 1) }
     ensures names { AsksFor name.now (S.seen shelf.old).asked (S.seen shelf.new).asked }
-    ensures pieces { AskedPieces (S.seen shelf.old).longest (S.seen shelf.new).longest }
+    ensures read_pieces { AskedPieces (S.seen shelf.old).longest (S.seen shelf.new).longest }
     ensures too_long { IfOk result (λ e. e ≡ End.TooLong → Gave (S.seen shelf.old).given (file_limit + 1)
         (S.seen shelf.new).given) }
     ensures whole { IfOk result (λ e. e ≡ End.Done → (S.seen shelf.new).given ≤ (S.seen shelf.old).given + file_limit) }
@@ -138,7 +138,7 @@ struct Lines {
 
 impl Lines {
     // The state before the first line.
-    fn make(alloc: Global) -> Result<Lines, Memory>
+    fn make(alloc: Global) -> Result<Lines, OutOfMemory>
         ensures number { IfOk result (λ l. l.number ≡ 1) }
         ensures unended { IfOk result (λ l. l.unended.items ≡ []) }
     {

@@ -1,9 +1,9 @@
 //! The first bytes of a file.
 ghost use Rattle.std.specs.Prelude.{◌≡◌, ◌≤◌, ◌<◌, ◌+◌, ◌^◌, length, IfOk, OnErr};
-ghost use Rattle.ide_base.specs.Outside.{AsksFor, counted};
+ghost use Rattle.cli_files.specs.Outside.{AsksFor, counted};
 ghost use Rattle.line_runs.specs.Front.{AskedPieces, FrontOf, Gave, GaveBehind, GaveOf, IsReadOf, ReadCause, ReadsOn};
 
-use ide_base::Shelf;
+use cli_files::Shelf;
 use std::alloc::Global;
 
 /// Why a file was not read.
@@ -37,7 +37,7 @@ fn read_on<S: Shelf>(
     ensures given { IfOk result (λ n. (S.seen shelf.new).given ≡ counted (S.seen shelf.old).given n) }
     ensures cap { (S.seen shelf.new).given ≤ (S.seen shelf.old).given + length piece.old }
     ensures names { AsksFor name.now (S.seen shelf.old).asked (S.seen shelf.new).asked }
-    ensures pieces { AskedPieces (S.seen shelf.old).longest (S.seen shelf.new).longest }
+    ensures read_pieces { AskedPieces (S.seen shelf.old).longest (S.seen shelf.new).longest }
     ensures within { IsReadOf (S.seen shelf.old).contents name.now bytes.old.items → GaveBehind
         (S.seen shelf.old).contents name.now (length bytes.old.items) (S.seen shelf.old).given
         (S.seen shelf.new).given }
@@ -69,7 +69,7 @@ pub fn read_front<S: Shelf>(
     ensures given { IfOk result (λ v. Gave (S.seen shelf.old).given (length v.items) (S.seen shelf.new).given) }
     ensures cap { (S.seen shelf.new).given ≤ (S.seen shelf.old).given + most }
     ensures names { AsksFor name.now (S.seen shelf.old).asked (S.seen shelf.new).asked }
-    ensures pieces { AskedPieces (S.seen shelf.old).longest (S.seen shelf.new).longest }
+    ensures read_pieces { AskedPieces (S.seen shelf.old).longest (S.seen shelf.new).longest }
     ensures within { GaveOf (S.seen shelf.old).contents name.now (S.seen shelf.old).given (S.seen shelf.new).given }
     ensures cause { ReadCause (S.seen shelf.old).faults (S.seen shelf.new).faults (S.seen shelf.old).contents name.now
         result }

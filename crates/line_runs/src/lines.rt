@@ -10,8 +10,8 @@ ghost use Rattle.line_runs.specs.Lines.{Came, after, process, refusal};
 
 use crate::writing::{finish, write};
 use crate::{End, Fault};
-use ide_base::Sink;
-use ide_types::{Bytes, Memory};
+use cli_files::Sink;
+use ide_types::{Bytes, OutOfMemory};
 use link_events::{LineError, LineFault, fault_line};
 use std::alloc::Global;
 
@@ -56,7 +56,7 @@ pub trait LineWork {
         ensures lacks { result ≡ End.NoEvent → may_lack };
 
     /// The text that is written after the last line.
-    fn closing(&self) -> Result<Bytes, Memory>
+    fn closing(&self) -> Result<Bytes, OutOfMemory>
         ensures { (past : Self.Past) → follows self.now past → IfOk result (λ text. text ≡ (closing past).1) };
 
     /// A line of more than 20,000 bytes is too long, whatever they are.

@@ -4,7 +4,7 @@ ghost use Rattle.line_runs.specs.Gain.{WriteCause, WritesAll};
 ghost use Rattle.line_runs.specs.Outcome.{Ran, Wrote};
 
 use crate::{End, Fault};
-use ide_base::{Sink, SinkFault};
+use cli_files::{Sink, SinkFault};
 
 // Writes all of a text, piece by piece.
 fn write_all<O: Sink>(out: &mut O, text: &[u8]) -> Result<(), SinkFault>

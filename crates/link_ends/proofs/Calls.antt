@@ -1,15 +1,15 @@
 -- No exchange of an operation sends or takes at a port.
 use Rattle.link_ends.proofs.Terms.{◌≡◌, ℕ, List, [], ◌∷◌, ◌∙◌, arith, Option, Some, None, IsSome, IfSome, PlaceCall}
 use Rattle.link_ends.proofs.Terms.{PortEnd, DeviceEnd, asked_device, after_call, LinkEnds, SameCalls, ap}
-use Rattle.ide_km.specs.{call_of}
+use Rattle.key_messages.specs.{call_of}
 use Rattle.std.proofs.Common.{◌++◌}
 use Rattle.link_ends.proofs.Terms.{Current, request_asked, spelling}
 use Rattle.tsm_host.specs.Streams.{has_host, end_asked}
 use Rattle.link_ends.proofs.Terms.{Side, refl, subst, sym}
 use Rattle.ide_types.specs.declared.port.Side.TheVariants.{Host, Device}
-use Rattle.line_ends.specs.declared.end.LineEnd.{LineEnd}
-use Rattle.line_ends.specs.declared.pair.PairEnds.{PairEnds}
-use Rattle.line_ends.specs.Ends.{answered_end, end_after, end_in, with_end}
+use Rattle.link_ends.specs.declared.end.LineEnd.{LineEnd}
+use Rattle.link_ends.specs.declared.pair.PairEnds.{PairEnds}
+use Rattle.link_ends.specs.LineEnds.{answered_end, line_end_after, end_in, with_end}
 use Rattle.link_ends.specs.PairKeepers.{HasPairCalls}
 use Rattle.link_ends.proofs.Ports.{PortMoves}
 
@@ -73,7 +73,7 @@ asked_of_end (Some c) f x side given items before draw same none sides asks draw
 
 -- ---- at the two ends of a line that is keyed by messages at both
 
-end_after_calls : (e : LineEnd) (o : Option PlaceCall) → (end_after e o).port.calls ≡ e.port.calls
+end_after_calls : (e : LineEnd) (o : Option PlaceCall) → (line_end_after e o).port.calls ≡ e.port.calls
 end_after_calls e None = refl
 end_after_calls e (Some c) = refl
 

@@ -1,22 +1,23 @@
 -- One exchange: the request reaches the device or is lost, and the manager takes what is carried back.
 use Rattle.link_ends.proofs.Terms.{◌≡◌, ℕ, ◌==◌, ◌<◌, Bool, true, false, List, refl, ◌∙◌, Option, Some, None, nat_lt}
-use Rattle.link_ends.proofs.Terms.{slice_range, Side, Place, PlaceCall, Shown, call_of}
+use Rattle.link_ends.proofs.Terms.{slice_range, Side, Place, PlaceCall, SlotsShown, call_of}
 use Rattle.link_ends.proofs.Terms.{call_from, is_done, spelling}
 use Rattle.link_ends.proofs.Terms.{sub_of, Operation, same-true, exchange_of, selector_of, request_of, WireKeys}
-use Rattle.link_ends.proofs.Terms.{StreamView, request_asked, IsAsked, Asked, StreamState, shown_stream, port_called}
-use Rattle.link_ends.proofs.Terms.{PortEnd, Found, found, shown}
+use Rattle.link_ends.proofs.Terms.{StreamView, request_asked, IsAsked, NextExchange, StreamState, shown_stream}
+use Rattle.link_ends.proofs.Terms.{port_called}
+use Rattle.link_ends.proofs.Terms.{PortEnd, Found, found_stream, slot_pair_at}
 use Rattle.link_ends.proofs.Terms.{called_port, after_call, HasStream, ap, subst}
 use Rattle.std.specs.Int.{w64, from_le_bytes}
 use Rattle.key_slots.specs.{KeySet}
 use Rattle.tsm_host.specs.Streams.{wire_asked}
 use Rattle.ide_types.specs.declared.key_set.KeySet.TheVariants.{Zero, One}
 use Rattle.ide_types.specs.declared.port.Side.TheVariants.{Device}
-use Rattle.ide_km.specs.declared.object.KmFault.{KmFault}
-use Rattle.ide_km.specs.declared.object.KmView.TheVariants.{KeyProg}
-use Rattle.ide_km.specs.Objects as objects
-use Rattle.ide_km.specs.{selected_place}
+use Rattle.key_messages.specs.declared.object.KmFault.{KmFault}
+use Rattle.key_messages.specs.declared.object.KmView.TheVariants.{KeyProg}
+use Rattle.key_messages.specs.Objects as objects
+use Rattle.key_messages.specs.{selected_place}
 use Rattle.tsm_host.specs.declared.exchange.Exchange.TheVariants as exchange
-use Rattle.link_walks.proofs.Lanes.{by_lane, Turn, asks, puts, goes, halts, turn}
+use Rattle.join_keys.proofs.Lanes.{by_lane, Turn, asks, puts, goes, halts, turn}
 use Rattle.link_ends.proofs.Ports.{IsAt, moved, called_there, found_there}
 
 -- ---- the place of a lane
@@ -30,14 +31,14 @@ lane_at id set lane lt = record { stream_is = refl; is_there = there set lane lt
 
 -- ---- the call of a request is at the stream, where ports that show the same of it take the same calls
 
-abbrev pub SameShown : ℕ → Shown → Shown → Type 0
+abbrev pub SameShown : ℕ → SlotsShown → SlotsShown → Type 0
 SameShown id a b = (place : Place) → IsAt id place → a place ≡ b place
 
 abbrev pub CallAt : ℕ → Option PlaceCall → Type 0
 CallAt id None = Unit {0}
 CallAt id (Some c) = IsAt id c.place
 
-pub same_done : (id : ℕ) (a b : Shown) (o : Option PlaceCall) → SameShown id a b → CallAt id o → is_done a o
+pub same_done : (id : ℕ) (a b : SlotsShown) (o : Option PlaceCall) → SameShown id a b → CallAt id o → is_done a o
     ≡ is_done b o
 same_done id a b None same at = refl
 same_done id a b (Some c) same at = rw (same c.place at) refl
@@ -66,18 +67,18 @@ turn_at id draw keys i o set n (halts k lane lt is e) = rw e (lane_at id k lane 
 
 -- ---- the device's port shows the stream
 
-shown_there : (e : PortEnd) (id : ℕ) (f : Found) → e.name.side ≡ Device → found e.plans e.states id ≡ Some f
-    → SameShown id (λ place. shown e place) (shown_stream id f.state)
+shown_there : (e : PortEnd) (id : ℕ) (f : Found) → e.name.side ≡ Device → found_stream e.plans e.states id ≡ Some f
+    → SameShown id (λ place. slot_pair_at e place) (shown_stream id f.state)
 shown_there e id f side is place at = rw (at.is_there, at.stream_is, side, is, same-true id) refl
 
 pub record DeviceGoes (e : PortEnd) (id : ℕ) (x : StreamState) (request : List ℕ) (draw : ℕ) (e' : PortEnd) : Type 0
   where
-    pub done : is_done (λ place. shown e' place) (call_of request draw)
+    pub done : is_done (λ place. slot_pair_at e' place) (call_of request draw)
         ≡ is_done (shown_stream id x) (call_of request draw)
     pub port : HasStream e id (port_called (call_of request draw) x) (after_call e' (call_of request draw))
 
 moved_there : (e e' : PortEnd) (id : ℕ) (f : Found) (x : StreamState) (call : Option PlaceCall) → e.name.side ≡ Device
-    → found e.plans e.states id ≡ Some f
+    → found_stream e.plans e.states id ≡ Some f
     → HasStream e id x e' → CallAt id call
     → HasStream e id (port_called call x) (after_call e' call)
 moved_there e e' id f x None side is has at = has
@@ -85,13 +86,13 @@ moved_there e e' id f x (Some call) side is has at =
     subst (λ (s : Side). HasStream e id (moved call s x) (called_port call e')) side
     (called_there e e' id f x call is has at)
 
-pub device_goes : (e e' : PortEnd) (id : ℕ) (f : Found) (x : StreamState) (a : Asked) (keeper : StreamView)
+pub device_goes : (e e' : PortEnd) (id : ℕ) (f : Found) (x : StreamState) (a : NextExchange) (keeper : StreamView)
     → e.name.side ≡ Device
-    → found e.plans e.states id ≡ Some f → HasStream e id x e'
+    → found_stream e.plans e.states id ≡ Some f → HasStream e id x e'
     → keeper.id ≡ id → IsAsked true (Some a) → DeviceGoes e id x (spelling (request_asked true a keeper)) a.draw e'
 device_goes e e' id f x a keeper side is has named asked =
     let side' : e'.name.side ≡ Device = ap (λ (p : PortEnd). p.name.side) has ∙ side in
-    let shows : SameShown id (λ place. shown e' place) (shown_stream id x) = shown_there e' id _ side'
+    let shows : SameShown id (λ place. slot_pair_at e' place) (shown_stream id x) = shown_there e' id _ side'
     (found_there e e' id f x is has) in
     let at : CallAt id (call_of (spelling (request_asked true a keeper)) a.draw) =
     rw named (turn_at id a.draw keeper.keys (wire_asked true a) a.operation a.set a.exchange

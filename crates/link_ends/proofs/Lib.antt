@@ -10,4 +10,6 @@ mod Operates
 mod PairCarried
 mod PairWalks
 mod PairOperates
-pub use Rattle.link_walks.proofs.Works.{is_asked}
+pub mod Turned
+-- what proofs above cite
+pub use Rattle.join_keys.proofs.Works.{is_asked}

@@ -58,7 +58,7 @@ placed link id (v ∷ vs) place is =
 pub record IsNamed (m : ManagerView) (link id : ℕ) (n : Named) : Type 0 where
   pub read : slice_get m.streams n.place ≡ Some n.stream
   pub first : first_named link id m.streams ≡ Some n.stream
-  pub link_is : n.stream.link ≡ link
+  pub link_is : n.stream.line ≡ link
   pub id_is : n.stream.id ≡ id
   pub sets : (w : StreamView) → slice_set m.streams n.place w ≡ set_named link id w m.streams
 
@@ -70,11 +70,11 @@ by_place m link id n (Some place) at is =
     let p : IsPlaced link id m.streams place = placed link id m.streams place at in
     let one : Some (record { place = place; stream = p.stream }) ≡ Some n = rw p.read at is in
     let same : record { place = place; stream = p.stream } ≡ n = same_Some _ n one in
-    let tests = both-true (p.stream.link == link) (p.stream.id == id) p.is_it in
+    let tests = both-true (p.stream.line == link) (p.stream.id == id) p.is_it in
     subst (λ (k : Named). IsNamed m link id k) same (record {
       read = p.read;
       first = p.first;
-      link_is = true-same p.stream.link link tests.0;
+      link_is = true-same p.stream.line link tests.0;
       id_is = true-same p.stream.id id tests.1;
       sets = p.sets;
     })

@@ -2,23 +2,25 @@
 use Rattle.link_ends.proofs.Terms.{◌≡◌, ℕ, Bool, true, false, [], refl, sym, ◌∙◌, arith, Option, Some, None, Ok, Err}
 use Rattle.link_ends.proofs.Terms.{option_map, option_and_then, if◌then◌else◌, slice_set, Side, Pool, live_set}
 use Rattle.link_ends.proofs.Terms.{six_keys, Loss, Operation, Work, work}
-use Rattle.link_ends.proofs.Terms.{work_of, op_standing, makes_draw, Outcome, op_name, programs, StreamView, HostView}
-use Rattle.link_ends.proofs.Terms.{host_view, asked_in, refusal_of, ok_unless, begun_stream, begun_calls, ManagerView}
+use Rattle.link_ends.proofs.Terms.{work_of, op_standing, makes_draw, StreamOutcome, op_name, programs, StreamView}
+use Rattle.link_ends.proofs.Terms.{HostView}
+use Rattle.link_ends.proofs.Terms.{host_view, asked_of_unfinished, refusal_of, ok_unless, begun_stream, begun_calls}
+use Rattle.link_ends.proofs.Terms.{ManagerView}
 use Rattle.link_ends.proofs.Terms.{Named, named, begin_refusal}
 use Rattle.link_ends.proofs.Terms.{begun_manager, pool_begun, calls_begun, IsAsked, pair_at, stream_status}
 use Rattle.link_ends.proofs.Terms.{all_called_at, halts}
 use Rattle.link_ends.proofs.Terms.{WalkedEnds, walk_on, walked_ends_unless, begun_ends, event_walk, PortEnd, Found}
-use Rattle.link_ends.proofs.Terms.{found}
-use Rattle.link_ends.proofs.Terms.{status_in, live_in_port, LinkEnds}
+use Rattle.link_ends.proofs.Terms.{found_stream}
+use Rattle.link_ends.proofs.Terms.{port_stream_status, live_in_port, LinkEnds}
 use Rattle.link_ends.proofs.Terms.{KeeperView, HasStream, IsAtBothEnds, DiffersInStream, IsWalked, Walks, IsOperated}
 use Rattle.link_ends.proofs.Terms.{ends_found, ap}
 use Rattle.link_ends.proofs.Terms.{subst}
 use Rattle.ide_types.specs.declared.sub.SubKind.{SubKind}
-use Rattle.tsm_host.specs.declared.operation.Op.{Op}
-use Rattle.tsm_host.specs.declared.operation.Outcome.TheVariants as outcome
-use Rattle.tsm_host.specs.declared.operation.Refusal.{Refusal}
-use Rattle.link_walks.specs.Joined.{host_of}
-use Rattle.link_walks.proofs.Works.{begun_id, begun_link}
+use Rattle.tsm_host.specs.declared.operation.NamedOperation.{NamedOperation}
+use Rattle.tsm_host.specs.declared.operation.StreamOutcome.TheVariants as outcome
+use Rattle.tsm_host.specs.declared.operation.StreamRefusal.{StreamRefusal}
+use Rattle.join_keys.specs.Joined.{host_of}
+use Rattle.join_keys.proofs.Works.{begun_id, begun_link}
 use Rattle.ide_types.specs.Lines.{is_hosted}
 use Rattle.tsm_host.specs.Streams.{has_host}
 use Rattle.ide_types.proofs.Places.{set_read}
@@ -27,9 +29,11 @@ use Rattle.link_ends.proofs.Names.{IsNamed, named_stands}
 
 -- what the manager reads of the host's port
 abbrev pub seen : PortEnd → ℕ → HostView
-seen e id = host_view (λ port stream. status_in port stream) (λ port stream sub. live_in_port port stream sub) e id
+seen e id = host_view (λ port stream. port_stream_status port stream) (λ port stream sub. live_in_port port stream sub)
+    e id
 
-pub host_seen : (e : PortEnd) (id : ℕ) (f : Found) → found e.plans e.states id ≡ Some f → seen e id ≡ host_of f.state
+pub host_seen : (e : PortEnd) (id : ℕ) (f : Found) → found_stream e.plans e.states id ≡ Some f → seen e id
+    ≡ host_of f.state
 host_seen e id f is =
     ap (λ (o : Option Found). let v : HostView = record {
       status = option_map (λ (g : Found). stream_status g.state) o;
@@ -38,20 +42,20 @@ host_seen e id f is =
     } in v)
     is
 
-pub refused_by : (o : Option Refusal) (r : Refusal) → Err r ≡ ok_unless o → o ≡ Some r
+pub refused_by : (o : Option StreamRefusal) (r : StreamRefusal) → Err r ≡ ok_unless o → o ≡ Some r
 refused_by o r is = grind arith
 
-pub not_refused : (o : Option Refusal) → Ok tt ≡ ok_unless o → o ≡ None
+pub not_refused : (o : Option StreamRefusal) → Ok tt ≡ ok_unless o → o ≡ None
 not_refused o is = grind arith
 
 -- ---- what it asks when it begins, or goes on
 
 standing_first : (o : Operation) (set : Bool) (draw f : ℕ) (b : Bool)
-    → IsAsked true (asked_in (op_standing (work o set draw f b) 1))
+    → IsAsked true (asked_of_unfinished (op_standing (work o set draw f b) 1))
 standing_first o set draw f b = grind arith
 
-begun_asked : (w : Work) (pool : Pool) (s : StreamView) → IsAsked true (asked_in s.op)
-    → IsAsked true (asked_in (begun_stream true w pool s).op)
+begun_asked : (w : Work) (pool : Pool) (s : StreamView) → IsAsked true (asked_of_unfinished s.op)
+    → IsAsked true (asked_of_unfinished (begun_stream true w pool s).op)
 begun_asked w pool s asked = grind (arith, standing_first w.operation w.set w.draw w.first w.begins)
 
 begun_at : (id : ℕ) (w : Work) (pool : Pool) → AllAt id (begun_calls true w pool id)
@@ -65,19 +69,19 @@ begun_at id w pool = by_tests w.begins (makes_draw w.operation)
 
 -- ---- an operation of the name
 
-module _ (k : KeeperView) (m1 : ManagerView) (pool1 : Pool) (l : LinkEnds) (host1 : PortEnd) (op : Op)
+module _ (k : KeeperView) (m1 : ManagerView) (pool1 : Pool) (l : LinkEnds) (host1 : PortEnd) (op : NamedOperation)
     (loss : Option Loss) (n : Named) (host device : Found)
-    (is : named k.manager (op_name op).link (op_name op).stream ≡ Some n)
+    (is : named k.manager (op_name op).line (op_name op).stream ≡ Some n)
     (hosted : has_host n.stream ≡ true) (on : IsAtBothEnds k.manager l n.place (op_name op).stream host device)
     (manager_is : m1 ≡ begun_manager k.manager (op_name op).operation (seen l.host n.stream.id) k.pool n)
     (pool_is : pool1 ≡ pool_begun (op_name op).operation (seen l.host n.stream.id) k.pool n)
     (moves : PortMoves l.host (calls_begun (op_name op).operation (seen l.host n.stream.id) k.pool n) host1) where
-  at_name : IsNamed k.manager (op_name op).link (op_name op).stream n
-  at_name = named_stands k.manager (op_name op).link (op_name op).stream n is
+  at_name : IsNamed k.manager (op_name op).line (op_name op).stream n
+  at_name = named_stands k.manager (op_name op).line (op_name op).stream n is
 
   view : seen l.host n.stream.id ≡ host_of host.state
   view = host_seen l.host n.stream.id host
-      (ap (λ (i : ℕ). found l.host.plans l.host.states i) at_name.id_is ∙ on.host_found)
+      (ap (λ (i : ℕ). found_stream l.host.plans l.host.states i) at_name.id_is ∙ on.host_found)
 
   pool_after : pool1 ≡ pool_begun (op_name op).operation (host_of host.state) k.pool n
   pool_after = pool_is ∙ ap (λ (v : HostView). pool_begun (op_name op).operation v k.pool n) view
@@ -85,16 +89,16 @@ module _ (k : KeeperView) (m1 : ManagerView) (pool1 : Pool) (l : LinkEnds) (host
   abbrev begun_work : Work
   begun_work = work_of (op_name op).operation n.stream.op k.pool.draws
 
-  walk_by : (o : Option Refusal) → begin_refusal (op_name op).operation (seen l.host n.stream.id) k.pool n ≡ o
+  walk_by : (o : Option StreamRefusal) → begin_refusal (op_name op).operation (seen l.host n.stream.id) k.pool n ≡ o
       → event_walk (op_name op).operation (host_of host.state) k.pool loss l.device.requester (ends_found n host device)
       ≡ walked_ends_unless o (ends_found n host device)
       (walk_on 13 loss l.device.requester (begun_ends begun_work k.pool (ends_found n host device)))
   walk_by o refusal =
-      ap (λ (q : Option Refusal). walked_ends_unless q (ends_found n host device)
+      ap (λ (q : Option StreamRefusal). walked_ends_unless q (ends_found n host device)
       (walk_on 13 loss l.device.requester (begun_ends begun_work k.pool (ends_found n host device))))
       (ap (λ (v : HostView). refusal_of (op_name op).operation n.stream.op v k.pool) (sym view) ∙ refusal)
 
-  pub operate_refused : (r : Refusal) → Err r ≡ ok_unless
+  pub operate_refused : (r : StreamRefusal) → Err r ≡ ok_unless
       (begin_refusal (op_name op).operation (seen l.host n.stream.id) k.pool n)
       → IsOperated k l op loss n host device (outcome.Refused r) (record { manager = m1; pool = pool1 })
       (record { host = host1; device = l.device })
@@ -120,8 +124,8 @@ module _ (k : KeeperView) (m1 : ManagerView) (pool1 : Pool) (l : LinkEnds) (host
         pool = pool_after;
       }
 
-  pub operate_goes : (m2 : ManagerView) (pool2 : Pool) (l2 : LinkEnds) (result : Outcome)
-      → IsAsked true (asked_in n.stream.op)
+  pub operate_goes : (m2 : ManagerView) (pool2 : Pool) (l2 : LinkEnds) (result : StreamOutcome)
+      → IsAsked true (asked_of_unfinished n.stream.op)
       → Ok tt ≡ ok_unless (begin_refusal (op_name op).operation (seen l.host n.stream.id) k.pool n)
       → Walks 13 loss m1 (record { host = host1; device = l.device }) result m2 l2 → pool2 ≡ pool1
       → IsOperated k l op loss n host device result (record { manager = m2; pool = pool2 }) l2
@@ -135,13 +139,14 @@ module _ (k : KeeperView) (m1 : ManagerView) (pool1 : Pool) (l : LinkEnds) (host
             n.place;
       } =
       rw (refusal, hosted) at manager_is in
-      let called : PortMoves l.host (begun_calls true begun_work k.pool n.stream.id) host1 = rw (refusal, hosted) at
+      let moved : PortMoves l.host (begun_calls true begun_work k.pool n.stream.id) host1 = rw
+      (refusal, hosted) at
       moves in
       let moved : HasStream l.host id
       (all_called_at l.host.name.side (begun_calls true begun_work k.pool n.stream.id) host.state) host1 =
       all_there l.host l.host host1 id host host.state (begun_calls true begun_work k.pool n.stream.id) on.host_found
       (stream_stands l.host id host on.host_found)
-      (rw at_name.id_is (begun_at id begun_work k.pool)) called in
+      (rw at_name.id_is (begun_at id begun_work k.pool)) moved in
       let st : DiffersInStream k.manager l n.place id (begun_ends begun_work k.pool (ends_found n host device)) m1
       (record { host = host1; device = l.device }) =
       record {

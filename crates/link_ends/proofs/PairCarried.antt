@@ -1,12 +1,13 @@
 -- What an exchange makes of the manager and of both ends of a line that is keyed by messages at both, whether its
--- request
--- reaches its end or is lost.
+-- request reaches its end or is lost.
 use Rattle.link_ends.proofs.Terms.{◌≡◌, ℕ, false, List, [], sym, refl, ◌∙◌, arith, Option, Some, None}
 use Rattle.link_ends.proofs.Terms.{slice_get, slice_set, slice_range, Side, PlaceCall, Place}
-use Rattle.link_ends.proofs.Terms.{call_of, is_done, reply_of, spelling, Loss, Judged, Outcome}
-use Rattle.link_ends.proofs.Terms.{Asked, Operation, StreamView, asked_in, request_asked, outcome_of, taken_stream}
+use Rattle.link_ends.proofs.Terms.{call_of, is_done, reply_bytes, spelling, Loss, Judged, StreamOutcome}
+use Rattle.link_ends.proofs.Terms.{NextExchange, Operation, StreamView, asked_of_unfinished, request_asked, outcome_of}
+use Rattle.link_ends.proofs.Terms.{taken_stream}
 use Rattle.link_ends.proofs.Terms.{taken_calls, ManagerView, asking_after, IsAsked, StreamState, shown_stream}
-use Rattle.link_ends.proofs.Terms.{port_called, judged_bytes, Found, found, PortEnd, lost_in, HasStream, WireKeys}
+use Rattle.link_ends.proofs.Terms.{port_called, judged_bytes, Found, found_stream, PortEnd, lost_message, HasStream}
+use Rattle.link_ends.proofs.Terms.{WireKeys}
 use Rattle.link_ends.proofs.Terms.{exchange_of, selector_of, request_of, same-true, sends_in, called_port, ap, subst}
 use Rattle.std.specs.Int.{w64, from_le_bytes}
 use Rattle.key_slots.specs.{KeySet}
@@ -14,16 +15,17 @@ use Rattle.ide_types.specs.Lines.{is_hosted}
 use Rattle.ide_types.specs.declared.direction.Direction.{Direction}
 use Rattle.ide_types.specs.declared.direction.Direction.TheVariants.{Downstream, Upstream}
 use Rattle.ide_types.specs.declared.port.Side.TheVariants.{Host, Device}
-use Rattle.ide_km.specs.Objects as objects
+use Rattle.key_messages.specs.Objects as objects
 use Rattle.link_events.specs.declared.event.Lost.{Lost}
 use Rattle.tsm_host.specs.Streams.{wire_asked, end_asked, has_host}
 use Rattle.tsm_host.specs.declared.exchange.Exchange.TheVariants as exchange
-use Rattle.link_walks.specs.Paired.{PairEnds as PairStreams, PairExchanged, pair_exchanged, pair_after, came_to_end}
-use Rattle.link_walks.specs.Paired.{pair_unless_lost}
-use Rattle.link_walks.proofs.PairTurns.{PairTurn, pair_puts, pair_goes, pair_halts, pair_turn}
-use Rattle.line_ends.specs.Ends.{turned, at_end, shown_end, end_after, answered_end, end_reply, end_in, with_end}
-use Rattle.line_ends.specs.declared.end.LineEnd.{LineEnd}
-use Rattle.line_ends.specs.declared.pair.PairEnds.{PairEnds}
+use Rattle.join_keys.specs.Paired.{PairEnds as PairStreams, PairExchanged, pair_exchanged, pair_after, came_to_end}
+use Rattle.join_keys.specs.Paired.{pair_unless_lost}
+use Rattle.join_keys.proofs.PairTurns.{PairTurn, pair_puts, pair_goes, pair_stops, pair_turn}
+use Rattle.link_ends.specs.LineEnds.{turned, at_end, shown_end, line_end_after, answered_end, end_reply, end_in}
+use Rattle.link_ends.specs.LineEnds.{with_end}
+use Rattle.link_ends.specs.declared.end.LineEnd.{LineEnd}
+use Rattle.link_ends.specs.declared.pair.PairEnds.{PairEnds}
 use Rattle.link_ends.specs.PairKeepers.{IsAtBoth, DiffersInPair, IsPairExchanged}
 use Rattle.link_ends.proofs.Terms.{Pool, KeeperView, current, current_asked}
 use Rattle.link_ends.proofs.Carried.{current_is}
@@ -46,7 +48,7 @@ pair_turn_at id draw keys i o set n (pair_puts side lane lt makes is at e) =
     rw e (program_at id (selector_of set lane) draw (slice_range request 8 40)
     (from_le_bytes w64 (slice_range request 40 48)) (lane_at id set lane lt) (objects.fault_of request))
 pair_turn_at id draw keys i o set n (pair_goes side lane lt makes is at e) = rw e (lane_at id set lane lt)
-pair_turn_at id draw keys i o set n (pair_halts side k lane lt is at e) = rw e (lane_at id k lane lt)
+pair_turn_at id draw keys i o set n (pair_stops side k lane lt is at e) = rw e (lane_at id k lane lt)
 
 -- ---- an end shows the stream as a device does
 
@@ -59,7 +61,8 @@ turned_at : (id : ℕ) (side : Side) (place : Place) → IsAt id place → IsAt 
 turned_at id side place at = record { stream_is = at.stream_is; is_there = at.is_there }
 
 end_there : (e : LineEnd) (id : ℕ) (f : Found) → e.port.name.side ≡ e.side
-    → found e.port.plans e.port.states id ≡ Some f → SameShown id (λ place. shown_end e place) (shown_stream id f.state)
+    → found_stream e.port.plans e.port.states id ≡ Some f → SameShown id (λ place. shown_end e place)
+    (shown_stream id f.state)
 end_there e id f named is place at =
     rw (at.is_there, at.stream_is, named, is, same-true id, sends_turned e.side place.direction) refl
 
@@ -70,8 +73,8 @@ pub record EndGoes (e : LineEnd) (id : ℕ) (x : StreamState) (request : List �
   pub stays : (answered_end e' request draw).side ≡ e'.side
 
 moved_end : (e e' : LineEnd) (id : ℕ) (f : Found) (x : StreamState) (call : Option PlaceCall)
-    → e.port.name.side ≡ e'.side → found e.port.plans e.port.states id ≡ Some f → HasStream e.port id x e'.port
-    → CallAt id call → HasStream e.port id (port_called call x) (end_after e' call).port
+    → e.port.name.side ≡ e'.side → found_stream e.port.plans e.port.states id ≡ Some f → HasStream e.port id x e'.port
+    → CallAt id call → HasStream e.port id (port_called call x) (line_end_after e' call).port
 moved_end e e' id f x None named is has at = has
 moved_end e e' id f x (Some call) named is has at =
     let c = called_there e.port e'.port id f x (record call { place = at_end e'.side call.place }) is has
@@ -85,12 +88,12 @@ moved_end e e' id f x (Some call) named is has at =
         → moved (record call { place = at_end e'.side call.place }) e.port.name.side x ≡ port_called (Some call) x
     sent_same named = rw (named, sends_turned e'.side call.place.direction) refl
 
-same_side : (e : LineEnd) (call : Option PlaceCall) → (end_after e call).side ≡ e.side
+same_side : (e : LineEnd) (call : Option PlaceCall) → (line_end_after e call).side ≡ e.side
 same_side e None = refl
 same_side e (Some call) = refl
 
-end_goes : (e e' : LineEnd) (id : ℕ) (f : Found) (x : StreamState) (a : Asked) (keeper : StreamView)
-    → e.port.name.side ≡ e'.side → found e.port.plans e.port.states id ≡ Some f → HasStream e.port id x e'.port
+end_goes : (e e' : LineEnd) (id : ℕ) (f : Found) (x : StreamState) (a : NextExchange) (keeper : StreamView)
+    → e.port.name.side ≡ e'.side → found_stream e.port.plans e.port.states id ≡ Some f → HasStream e.port id x e'.port
     → keeper.id ≡ id → IsAsked false (Some a)
     → EndGoes e id x (spelling (request_asked false a keeper)) a.draw e'
 end_goes e e' id f x a keeper named is has name asked =
@@ -108,7 +111,8 @@ end_goes e e' id f x a keeper named is has name asked =
 
 -- ---- the request reached its end
 
-pub record IsPairDelivered (l0 : PairEnds) (id : ℕ) (a : Asked) (e : PairStreams) (l : PairEnds) (reply : List ℕ) :
+pub record IsPairDelivered (l0 : PairEnds) (id : ℕ) (a : NextExchange) (e : PairStreams) (l : PairEnds) (reply : List ℕ)
+    :
     Type 0 where
   pub near : StreamState
   pub far : StreamState
@@ -119,7 +123,7 @@ pub record IsPairDelivered (l0 : PairEnds) (id : ℕ) (a : Asked) (e : PairStrea
   pub near_stays : l.near.side ≡ l0.near.side
   pub far_stays : l.far.side ≡ l0.far.side
 
-module _ (m0 m : ManagerView) (l0 l : PairEnds) (place id : ℕ) (near far : Found) (e : PairStreams) (a : Asked)
+module _ (m0 m : ManagerView) (l0 l : PairEnds) (place id : ℕ) (near far : Found) (e : PairStreams) (a : NextExchange)
     (after : PairEnds) (reply : List ℕ) (on : IsAtBoth m0 l0 place id near far)
     (st : DiffersInPair m0 l0 place id e m l)
     (asked : IsAsked false (Some a)) where
@@ -134,9 +138,9 @@ module _ (m0 m : ManagerView) (l0 l : PairEnds) (place id : ℕ) (near far : Fou
       end_goes l0.near l.near id near e.near a e.keeper (on.near_named ∙ sym (st.near_stays ∙ on.near_side))
       on.near_found st.near st.id_is asked in
       let call : Option PlaceCall = call_of request a.draw in
-      let said : reply_of 0 request (is_done (shown_stream e.keeper.id e.near) call) ≡ reply =
-      (λ i. reply_of 0 request (is_done (shown_stream (st.id_is i) e.near) call))
-      ∙ (ap (λ o. reply_of 0 request o) (sym went.done) ∙ sym reply_is) in
+      let said : reply_bytes 0 request (is_done (shown_stream e.keeper.id e.near) call) ≡ reply =
+      (λ i. reply_bytes 0 request (is_done (shown_stream (st.id_is i) e.near) call))
+      ∙ (ap (λ o. reply_bytes 0 request o) (sym went.done) ∙ sym reply_is) in
       record {
         near = port_called call e.near;
         far = e.far;
@@ -156,9 +160,9 @@ module _ (m0 m : ManagerView) (l0 l : PairEnds) (place id : ℕ) (near far : Fou
       end_goes l0.far l.far id far e.far a e.keeper (on.far_named ∙ sym (st.far_stays ∙ on.far_side))
       on.far_found st.far st.id_is asked in
       let call : Option PlaceCall = call_of request a.draw in
-      let said : reply_of 0 request (is_done (shown_stream e.keeper.id e.far) call) ≡ reply =
-      (λ i. reply_of 0 request (is_done (shown_stream (st.id_is i) e.far) call))
-      ∙ (ap (λ o. reply_of 0 request o) (sym went.done) ∙ sym reply_is) in
+      let said : reply_bytes 0 request (is_done (shown_stream e.keeper.id e.far) call) ≡ reply =
+      (λ i. reply_bytes 0 request (is_done (shown_stream (st.id_is i) e.far) call))
+      ∙ (ap (λ o. reply_bytes 0 request o) (sym went.done) ∙ sym reply_is) in
       record {
         near = e.near;
         far = port_called call e.far;
@@ -175,17 +179,17 @@ module _ (m0 m : ManagerView) (l0 l : PairEnds) (place id : ℕ) (near far : Fou
 
 -- ---- the manager takes it: nothing is called
 
-taken_pair_id : (a : Asked) (j : Judged) (s : StreamView) → (taken_stream false a j s).id ≡ s.id
+taken_pair_id : (a : NextExchange) (j : Judged) (s : StreamView) → (taken_stream false a j s).id ≡ s.id
 taken_pair_id a j s = grind arith
 
-taken_pair_link : (a : Asked) (j : Judged) (s : StreamView) → (taken_stream false a j s).link ≡ s.link
+taken_pair_link : (a : NextExchange) (j : Judged) (s : StreamView) → (taken_stream false a j s).line ≡ s.line
 taken_pair_link a j s = grind arith
 
-pub no_calls : (a : Asked) (j : Judged) (id : ℕ) → taken_calls false a j id ≡ []
+pub no_calls : (a : NextExchange) (j : Judged) (id : ℕ) → taken_calls false a j id ≡ []
 no_calls a j id = grind arith
 
 pub pair_exchange_ends : (m0 m m' : ManagerView) (l0 l' : PairEnds) (place id : ℕ) (near far : Found) (e : PairStreams)
-    (a : Asked) (loss : Option Loss) (result : Outcome) (j : Judged) (x y : StreamState)
+    (a : NextExchange) (loss : Option Loss) (result : StreamOutcome) (j : Judged) (x y : StreamState)
     → (streams : m.streams ≡ slice_set m0.streams place e.keeper) → e.keeper.id ≡ id → has_host e.keeper ≡ false
     → pair_exchanged loss 0 a e ≡ record { judged = j; near = x; far = y }
     → result ≡ outcome_of false a j
@@ -213,21 +217,23 @@ pair_exchange_ends m0 m m' l0 l' place id near far e a loss result j x y streams
     record {
       outcome = result_is ∙ sym (ap (λ (z : PairExchanged). outcome_of false a z.judged) is);
       stands = subst (λ (z : PairExchanged). DiffersInPair m0 l0 place id (pair_after a z e) m' l') (sym is) stands;
-      asking = ap (λ (k : ManagerView). k.asking) after ∙ ap (λ (o : Outcome). asking_after place o) (sym result_is);
+      asking = ap (λ (k : ManagerView). k.asking) after ∙ ap (λ (o : StreamOutcome). asking_after place o)
+          (sym result_is);
     }
 
 -- ---- what a manager asks, seen as the keeper shows it
 
-pub record IsPairAsking (m0 m : ManagerView) (l0 l : PairEnds) (place id : ℕ) (e : PairStreams) (a : Asked) : Type 0
+pub record IsPairAsking (m0 m : ManagerView) (l0 l : PairEnds) (place id : ℕ) (e : PairStreams) (a : NextExchange) :
+    Type 0
   where
     pub stands : DiffersInPair m0 l0 place id e m l
     pub current_is : current m ≡ Some (record { place = place; stream = e.keeper; asked = a })
 
 pub pair_is_asking : (m0 m : ManagerView) (pool : Pool) (k : KeeperView) (l0 l : PairEnds) (place id : ℕ)
-    (near far : Found) (e : PairStreams) (a : Asked)
+    (near far : Found) (e : PairStreams) (a : NextExchange)
     → (let v : KeeperView = record { manager = m; pool = pool } in v) ≡ k → IsAtBoth m0 l0 place id near far
     → DiffersInPair m0 l0 place id e k.manager l
-    → k.manager.asking ≡ Some place → asked_in e.keeper.op ≡ Some a → IsPairAsking m0 m l0 l place id e a
+    → k.manager.asking ≡ Some place → asked_of_unfinished e.keeper.op ≡ Some a → IsPairAsking m0 m l0 l place id e a
 pair_is_asking m0 m pool k l0 l place id near far e a view on st asking asked =
     let st' : DiffersInPair m0 l0 place id e m l = subst
     (λ (k : KeeperView). DiffersInPair m0 l0 place id e k.manager l) (sym view) st in
@@ -235,13 +241,14 @@ pair_is_asking m0 m pool k l0 l place id near far e a view on st asking asked =
     record {
       stands = st';
       current_is = current_is m place e.keeper (ap (λ (k : KeeperView). k.manager.asking) view ∙ asking) read
-          ∙ ap (λ (o : Option Asked). current_asked place e.keeper o) asked;
+          ∙ ap (λ (o : Option NextExchange). current_asked place e.keeper o) asked;
     }
 
 -- the near port after a take: no call
-pub near_same : (e e' : PortEnd) (a : Asked) (j : Judged) (id : ℕ) → PortMoves e (taken_calls false a j id) e' → e' ≡ e
+pub near_same : (e e' : PortEnd) (a : NextExchange) (j : Judged) (id : ℕ) → PortMoves e (taken_calls false a j id) e'
+    → e' ≡ e
 near_same e e' a j id moves = subst (λ (cs : List PlaceCall). PortMoves e cs e') (no_calls a j id) moves
 
 pub pair_lost : (loss : Option Loss) (n : ℕ) (came : PairExchanged) (e : PairStreams) (o : Option Lost)
-    → lost_in loss n ≡ o → pair_unless_lost (lost_in loss n) came e ≡ pair_unless_lost o came e
+    → lost_message loss n ≡ o → pair_unless_lost (lost_message loss n) came e ≡ pair_unless_lost o came e
 pair_lost loss n came e o is = ap (λ (q : Option Lost). pair_unless_lost q came e) is

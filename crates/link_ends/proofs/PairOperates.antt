@@ -1,28 +1,21 @@
 -- An operation on one stream of a line that is keyed by messages at both ends, from where the manager begins it or goes
--- on
--- with it.
+-- on with it.
 use Rattle.link_ends.proofs.Terms.{◌≡◌, ℕ, Bool, false, List, [], refl, sym, ◌∙◌, arith, Option, Some, None, Ok, Err}
-use Rattle.link_ends.proofs.Terms.{slice_set, Pool, Loss, Operation, Work, work, work_of, op_standing, Outcome, op_name}
-use Rattle.link_ends.proofs.Terms.{StreamView, HostView, asked_in, refusal_of, ok_unless, begun_stream, begun_calls}
-use Rattle.link_ends.proofs.Terms.{
-  ManagerView,
-  Named,
-  named,
-  begin_refusal,
-  begun_manager,
-  pool_begun,
-  calls_begun,
-  IsAsked,
-}
-use Rattle.link_ends.proofs.Terms.{PortEnd, Found, found, KeeperView, HasStream, PlaceCall, ap, subst}
-use Rattle.tsm_host.specs.declared.operation.Op.{Op}
-use Rattle.tsm_host.specs.declared.operation.Outcome.TheVariants as outcome
-use Rattle.tsm_host.specs.declared.operation.Refusal.{Refusal}
+use Rattle.link_ends.proofs.Terms.{slice_set, Pool, Loss, Operation, Work, work, work_of, op_standing, StreamOutcome}
+use Rattle.link_ends.proofs.Terms.{op_name}
+use Rattle.link_ends.proofs.Terms.{StreamView, HostView, asked_of_unfinished, refusal_of, ok_unless, begun_stream}
+use Rattle.link_ends.proofs.Terms.{begun_calls}
+use Rattle.link_ends.proofs.Terms.{ManagerView, Named, named, begin_refusal, begun_manager, pool_begun, calls_begun}
+use Rattle.link_ends.proofs.Terms.{IsAsked}
+use Rattle.link_ends.proofs.Terms.{PortEnd, Found, found_stream, KeeperView, HasStream, PlaceCall, ap, subst}
+use Rattle.tsm_host.specs.declared.operation.NamedOperation.{NamedOperation}
+use Rattle.tsm_host.specs.declared.operation.StreamOutcome.TheVariants as outcome
+use Rattle.tsm_host.specs.declared.operation.StreamRefusal.{StreamRefusal}
 use Rattle.tsm_host.specs.Streams.{has_host}
 use Rattle.ide_types.specs.Lines.{is_hosted}
-use Rattle.line_ends.specs.declared.pair.PairEnds.{PairEnds}
-use Rattle.link_walks.specs.Joined.{host_of}
-use Rattle.link_walks.specs.Paired.{PairWalked, pair_walk, pair_walked_unless, begun_pair, pair_event}
+use Rattle.link_ends.specs.declared.pair.PairEnds.{PairEnds}
+use Rattle.join_keys.specs.Joined.{host_of}
+use Rattle.join_keys.specs.Paired.{PairWalked, pair_walk, pair_walked_unless, begun_pair, pair_event}
 use Rattle.link_ends.specs.PairKeepers.{IsAtBoth, DiffersInPair, IsPairWalked, PairWalks, IsPairOperated, pair_found}
 use Rattle.ide_types.proofs.Places.{set_read}
 use Rattle.link_ends.proofs.Ports.{PortMoves, stream_stands}
@@ -32,17 +25,17 @@ use Rattle.link_ends.proofs.Operates.{seen, host_seen, refused_by, not_refused}
 -- ---- what it asks when it begins, or goes on
 
 standing_first : (o : Operation) (set : Bool) (draw f : ℕ) (b : Bool)
-    → IsAsked false (asked_in (op_standing (work o set draw f b) 1))
+    → IsAsked false (asked_of_unfinished (op_standing (work o set draw f b) 1))
 standing_first o set draw f b = grind arith
 
-begun_asked : (w : Work) (pool : Pool) (s : StreamView) → IsAsked false (asked_in s.op)
-    → IsAsked false (asked_in (begun_stream false w pool s).op)
+begun_asked : (w : Work) (pool : Pool) (s : StreamView) → IsAsked false (asked_of_unfinished s.op)
+    → IsAsked false (asked_of_unfinished (begun_stream false w pool s).op)
 begun_asked w pool s asked = grind (arith, standing_first w.operation w.set w.draw w.first w.begins)
 
 pair_begun_calls : (w : Work) (pool : Pool) (id : ℕ) → begun_calls false w pool id ≡ []
 pair_begun_calls w pool id = grind arith
 
-pair_begun_link : (w : Work) (pool : Pool) (s : StreamView) → (begun_stream false w pool s).link ≡ s.link
+pair_begun_link : (w : Work) (pool : Pool) (s : StreamView) → (begun_stream false w pool s).line ≡ s.line
 pair_begun_link w pool s = grind arith
 
 pair_begun_id : (w : Work) (pool : Pool) (s : StreamView) → (begun_stream false w pool s).id ≡ s.id
@@ -50,20 +43,20 @@ pair_begun_id w pool s = grind arith
 
 -- ---- an operation of the name
 
-module _ (k : KeeperView) (m1 : ManagerView) (pool1 : Pool) (l : PairEnds) (near1 : PortEnd) (op : Op)
+module _ (k : KeeperView) (m1 : ManagerView) (pool1 : Pool) (l : PairEnds) (near1 : PortEnd) (op : NamedOperation)
     (loss : Option Loss) (n : Named) (near far : Found)
-    (is : named k.manager (op_name op).link (op_name op).stream ≡ Some n)
+    (is : named k.manager (op_name op).line (op_name op).stream ≡ Some n)
     (paired : has_host n.stream ≡ false) (on : IsAtBoth k.manager l n.place (op_name op).stream near far)
     (manager_is : m1 ≡ begun_manager k.manager (op_name op).operation (seen l.near.port n.stream.id) k.pool n)
     (pool_is : pool1 ≡ pool_begun (op_name op).operation (seen l.near.port n.stream.id) k.pool n)
     (moves : PortMoves l.near.port (calls_begun (op_name op).operation (seen l.near.port n.stream.id) k.pool n) near1)
   where
-    at_name : IsNamed k.manager (op_name op).link (op_name op).stream n
-    at_name = named_stands k.manager (op_name op).link (op_name op).stream n is
+    at_name : IsNamed k.manager (op_name op).line (op_name op).stream n
+    at_name = named_stands k.manager (op_name op).line (op_name op).stream n is
 
     view : seen l.near.port n.stream.id ≡ host_of near.state
     view = host_seen l.near.port n.stream.id near
-        (ap (λ (i : ℕ). found l.near.port.plans l.near.port.states i) at_name.id_is ∙ on.near_found)
+        (ap (λ (i : ℕ). found_stream l.near.port.plans l.near.port.states i) at_name.id_is ∙ on.near_found)
 
     pool_after : pool1 ≡ pool_begun (op_name op).operation (host_of near.state) k.pool n
     pool_after = pool_is ∙ ap (λ (v : HostView). pool_begun (op_name op).operation v k.pool n) view
@@ -71,16 +64,17 @@ module _ (k : KeeperView) (m1 : ManagerView) (pool1 : Pool) (l : PairEnds) (near
     abbrev begun_work : Work
     begun_work = work_of (op_name op).operation n.stream.op k.pool.draws
 
-    walk_by : (o : Option Refusal) → begin_refusal (op_name op).operation (seen l.near.port n.stream.id) k.pool n ≡ o
+    walk_by : (o : Option StreamRefusal) → begin_refusal (op_name op).operation (seen l.near.port n.stream.id) k.pool n
+        ≡ o
         → pair_event (op_name op).operation (host_of near.state) k.pool loss 0 (pair_found n near far)
         ≡ pair_walked_unless o (pair_found n near far)
         (pair_walk 24 loss 0 (begun_pair begun_work k.pool (pair_found n near far)))
     walk_by o refusal =
-        ap (λ (q : Option Refusal). pair_walked_unless q (pair_found n near far)
+        ap (λ (q : Option StreamRefusal). pair_walked_unless q (pair_found n near far)
         (pair_walk 24 loss 0 (begun_pair begun_work k.pool (pair_found n near far))))
         (ap (λ (v : HostView). refusal_of (op_name op).operation n.stream.op v k.pool) (sym view) ∙ refusal)
 
-    pub pair_refused : (r : Refusal) → Err r ≡ ok_unless
+    pub pair_refused : (r : StreamRefusal) → Err r ≡ ok_unless
         (begin_refusal (op_name op).operation (seen l.near.port n.stream.id) k.pool n)
         → IsPairOperated k l op loss n near far (outcome.Refused r) (record { manager = m1; pool = pool1 })
         (record l { near = record l.near { port = near1 } })
@@ -108,8 +102,8 @@ module _ (k : KeeperView) (m1 : ManagerView) (pool1 : Pool) (l : PairEnds) (near
           pool = pool_after;
         }
 
-    pub pair_goes_on_with : (m2 : ManagerView) (pool2 : Pool) (l2 : PairEnds) (result : Outcome)
-        → IsAsked false (asked_in n.stream.op)
+    pub pair_goes_on_with : (m2 : ManagerView) (pool2 : Pool) (l2 : PairEnds) (result : StreamOutcome)
+        → IsAsked false (asked_of_unfinished n.stream.op)
         → Ok tt ≡ ok_unless (begin_refusal (op_name op).operation (seen l.near.port n.stream.id) k.pool n)
         → PairWalks 24 loss m1 (record l { near = record l.near { port = near1 } }) result m2 l2 → pool2 ≡ pool1
         → IsPairOperated k l op loss n near far result (record { manager = m2; pool = pool2 }) l2
@@ -123,11 +117,11 @@ module _ (k : KeeperView) (m1 : ManagerView) (pool1 : Pool) (l : PairEnds) (near
               n.place;
         } =
         rw (refusal, paired) at manager_is in
-        let called : PortMoves l.near.port (begun_calls false begun_work k.pool n.stream.id) near1 =
+        let moved : PortMoves l.near.port (begun_calls false begun_work k.pool n.stream.id) near1 =
         rw (refusal, paired) at moves in
         let same : near1 ≡ l.near.port =
         subst (λ (cs : List PlaceCall). PortMoves l.near.port cs near1) (pair_begun_calls begun_work k.pool n.stream.id)
-        called in
+        moved in
         let st : DiffersInPair k.manager l n.place id (begun_pair begun_work k.pool (pair_found n near far)) m1
         (record l { near = record l.near { port = near1 } }) =
         record {

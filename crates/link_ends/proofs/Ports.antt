@@ -1,22 +1,25 @@
 -- Calls of key management at a port, on one of its streams.
 use Rattle.link_ends.proofs.Terms.{◌≡◌, ℕ, Bool, true, List, [], ◌∷◌, refl, sym, ◌∙◌, rules, Option, Some}
 use Rattle.link_ends.proofs.Terms.{nat_lt, Side, Place, PlaceCall, place_at, CallsMove, programs, goes, halts}
-use Rattle.link_ends.proofs.Terms.{StreamState, sends_in, called, all_called_at, PortEnd, Found, found, changed, shown}
-use Rattle.link_ends.proofs.Terms.{unfinished_at, called_port, HasStream, found-id, found-changed, ap, subst}
+use Rattle.link_ends.proofs.Terms.{StreamState, sends_in, stream_after_call, all_called_at, PortEnd, Found}
+use Rattle.link_ends.proofs.Terms.{found_stream, changed_states, slot_pair_at}
+use Rattle.link_ends.proofs.Terms.{unfinished_at, called_port, HasStream, found_stream-id, found_stream-changed_states}
+use Rattle.link_ends.proofs.Terms.{ap, subst}
 use Rattle.ide_types.specs.declared.direction.Direction.{Direction}
 use Rattle.ide_prefix.specs.{sub_from}
 use Rattle.ide_port.specs.Calls.{is_place, stream_at, called_states}
 use Rattle.link_ends.proofs.Streams.{changed_same, changed_again}
 
-pub stream_stands : (e : PortEnd) (id : ℕ) (f : Found) → found e.plans e.states id ≡ Some f → HasStream e id f.state e
+pub stream_stands : (e : PortEnd) (id : ℕ) (f : Found) → found_stream e.plans e.states id ≡ Some f
+    → HasStream e id f.state e
 stream_stands e id f is = λ i. record e { states = sym (changed_same e.plans e.states id f is) i }
 
 -- the stream is found there
-pub found_there : (e e' : PortEnd) (id : ℕ) (f : Found) (x : StreamState) → found e.plans e.states id ≡ Some f
+pub found_there : (e e' : PortEnd) (id : ℕ) (f : Found) (x : StreamState) → found_stream e.plans e.states id ≡ Some f
     → HasStream e id x e'
-    → found e'.plans e'.states id ≡ Some (record f { state = x })
+    → found_stream e'.plans e'.states id ≡ Some (record f { state = x })
 found_there e e' id f x is has =
-    ap (λ (p : PortEnd). found p.plans p.states id) has ∙ found-changed e.plans e.states id f x is
+    ap (λ (p : PortEnd). found_stream p.plans p.states id) has ∙ found_stream-changed_states e.plans e.states id f x is
 
 -- the call is at a place of the stream
 pub record IsAt (id : ℕ) (place : Place) : Type 0 where
@@ -24,18 +27,20 @@ pub record IsAt (id : ℕ) (place : Place) : Type 0 where
   pub is_there : is_place place ≡ true
 
 abbrev pub moved : PlaceCall → Side → StreamState → StreamState
-moved c side x = called (sends_in side c.place.direction) (sub_from c.place.sub) c.call x
+moved c side x = stream_after_call (sends_in side c.place.direction) (sub_from c.place.sub) c.call x
 
-pub called_there : (e e' : PortEnd) (id : ℕ) (f : Found) (x : StreamState) (c : PlaceCall) → found e.plans e.states id
+pub called_there : (e e' : PortEnd) (id : ℕ) (f : Found) (x : StreamState) (c : PlaceCall)
+    → found_stream e.plans e.states id
     ≡ Some f → HasStream e id x e'
     → IsAt id c.place
     → HasStream e id (moved c e.name.side x) (called_port c e')
 called_there e e' id f x c is has at =
     let there : stream_at e' c.place ≡ Some (record f { state = x }) = rw (at.is_there, at.stream_is)
     (found_there e e' id f x is has) in
-    let all : called_states e' c (stream_at e' c.place) ≡ changed e.plans e.states id (moved c e.name.side x) =
+    let all : called_states e' c (stream_at e' c.place) ≡ changed_states e.plans e.states id (moved c e.name.side x) =
     ap (λ (o : Option Found). called_states e' c o) there
-    ∙ (λ i. changed (has i).plans (has i).states (found-id e.plans e.states id f is i) (moved c (has i).name.side x))
+    ∙ (λ i. changed_states (has i).plans (has i).states (found_stream-id e.plans e.states id f is i)
+    (moved c (has i).name.side x))
     ∙ changed_again e.plans e.states id x (moved c e.name.side x) in
     (λ i. record (has i) { states = all i; delivered = [] })
 
@@ -47,12 +52,12 @@ AllAt id (c ∷ cs) = IsAt id c.place × AllAt id cs
 
 abbrev pub PortMoves : PortEnd → List PlaceCall → PortEnd → Type 0
 PortMoves before cs after =
-    CallsMove (λ port place. shown port place) (λ port place. unfinished_at port place)
+    CallsMove (λ port place. slot_pair_at port place) (λ port place. unfinished_at port place)
     (λ before call after. after ≡ called_port call before) before cs after
 
 -- one after another, they are calls of the stream
 pub all_there : (e e' e2 : PortEnd) (id : ℕ) (f : Found) (x : StreamState) (cs : List PlaceCall)
-    → found e.plans e.states id ≡ Some f
+    → found_stream e.plans e.states id ≡ Some f
     → HasStream e id x e' → AllAt id cs
     → PortMoves e' cs e2 → HasStream e id (all_called_at e.name.side cs x) e2
 all_there e e' e2 id f x [] is has at moves = subst (λ (p : PortEnd). HasStream e id x p) (sym moves) has

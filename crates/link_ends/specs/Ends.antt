@@ -2,12 +2,12 @@
 use Rattle.std.specs.Prelude.{ℕ, Bool, List, Option}
 use Rattle.ide_types.specs.declared.port.Side.{Side}
 use Rattle.ide_types.specs.declared.port.Side.TheVariants.{Host, Device}
-use Rattle.ide_plan.specs.declared.stream.StreamPlan.{StreamPlan}
-use Rattle.ide_plan.specs.declared.interface.InterfacePlan.{InterfacePlan}
+use Rattle.ide_types.specs.declared.stream.StreamPlan.{StreamPlan}
+use Rattle.ide_types.specs.declared.interface.InterfacePlan.{InterfacePlan}
 use Rattle.ide_port.specs.{PortEnd, Trusting, new_port, reset_port}
-use Rattle.device_side.specs.Ends.{new_device, device_with_port as device_with, device_trusting}
-use Rattle.device_side.specs.Ends.{reset_device}
-use Rattle.link_walks.specs.{port_at}
+use Rattle.link_ends.specs.DeviceEnds.{new_device, device_with_port as device_with, device_trusting}
+use Rattle.link_ends.specs.DeviceEnds.{reset_device}
+use Rattle.join_keys.specs.{port_at}
 use Rattle.link_ends.specs.declared.ends.LinkEnds.{LinkEnds}
 
 -- no stream has keys
@@ -38,5 +38,5 @@ trusting_at Host l trusted = λ head stream. trusted
 trusting_at Device l trusted = device_trusting l.device.interfaces
 
 -- both ports are as they were made, and the device's interfaces but for the nonces that were given
-abbrev pub reset_ends : LinkEnds → LinkEnds
-reset_ends l = record { host = reset_port l.host; device = reset_device l.device }
+abbrev pub reset_link_ends : LinkEnds → LinkEnds
+reset_link_ends l = record { host = reset_port l.host; device = reset_device l.device }

@@ -1,22 +1,22 @@
 -- What the host's manager of interfaces is told of streams, and its operations at the two ends of a link.
 use Rattle.std.specs.Prelude.{ℕ, ◌&&◌, nat_le, Bool, if◌then◌else◌, List, slice_set, Option, None}
 use Rattle.ide_types.specs.declared.status.StreamStatus.{StreamStatus}
-use Rattle.tdi_host.specs.declared.operation.InterfaceOp.TheVariants.{Bind, Unbind}
+use Rattle.interface_host.specs.declared.operation.InterfaceOperation.TheVariants.{Bind, Unbind}
 use Rattle.tsm_host.specs.Managers.{ManagerView, named, status_named}
 use Rattle.link_ends.specs.Keepers.{KeeperView}
 use Rattle.link_events.specs.declared.event.Loss.{Loss}
-use Rattle.tsm_host.specs.declared.operation.Op.{Op}
-use Rattle.tsm_host.specs.declared.operation.Op.TheVariants.{Establish, Refresh, Stop}
-use Rattle.tsm_host.specs.declared.operation.Outcome.{Outcome}
-use Rattle.tsm_host.specs.declared.operation.Outcome.TheVariants.{Done}
-use Rattle.tsm_host.specs.declared.operation.Shown.TheVariants.{Draw}
+use Rattle.tsm_host.specs.declared.operation.NamedOperation.{NamedOperation}
+use Rattle.tsm_host.specs.declared.operation.NamedOperation.TheVariants.{Establish, Refresh, Stop}
+use Rattle.tsm_host.specs.declared.operation.StreamOutcome.{StreamOutcome}
+use Rattle.tsm_host.specs.declared.operation.StreamOutcome.TheVariants.{Done}
+use Rattle.tsm_host.specs.declared.operation.StreamResult.TheVariants.{Draw}
 use Rattle.tsm_host.specs.Streams.{status_or_idle}
-use Rattle.tdi_host.specs.declared.operation.InterfaceOp.{InterfaceOp}
-use Rattle.tdi_host.specs.Views.{HostTdi, peer_number}
-use Rattle.tdi_host.specs.Managers.{InterfaceManagerView, stop_begun, peer_stop, stream_keyed}
-use Rattle.tdi_ends.specs.Keepers.{Ended, interface_operated}
-use Rattle.ide_port.specs.{status_in}
-use Rattle.device_side.specs.Ends.{secure_at}
+use Rattle.interface_host.specs.declared.operation.InterfaceOperation.{InterfaceOperation}
+use Rattle.interface_host.specs.Views.{HostTdi, peer_number}
+use Rattle.interface_host.specs.Managers.{InterfaceManagerView, stop_begun, peer_stop, stream_keyed}
+use Rattle.interface_ends.specs.Keepers.{Ended, interface_operated}
+use Rattle.ide_port.specs.{port_stream_status}
+use Rattle.link_ends.specs.DeviceEnds.{secure_at}
 use Rattle.link_ends.specs.declared.ends.LinkEnds.{LinkEnds}
 
 -- the manager of interfaces, as it is seen
@@ -28,7 +28,7 @@ InterfacesView = InterfaceManagerView
 abbrev pub keyed_if : Bool → ℕ → ℕ → ℕ → InterfaceManagerView → InterfaceManagerView
 keyed_if drew link stream draw m = if drew then stream_keyed link stream draw m else m
 
-abbrev pub keyed_at_end : Outcome → ℕ → ℕ → InterfaceManagerView → InterfaceManagerView
+abbrev pub keyed_at_end : StreamOutcome → ℕ → ℕ → InterfaceManagerView → InterfaceManagerView
 keyed_at_end (Done (Draw draw)) link stream m = stream_keyed link stream draw m
 keyed_at_end outcome link stream m = m
 
@@ -36,7 +36,7 @@ abbrev pub stopped_if : Bool → ℕ → ℕ → InterfaceManagerView → Interf
 stopped_if begins link stream m = if begins then stop_begun link stream m else m
 
 -- an establish that drew gave the stream its draw, and so does a refresh at its end; a stop breaks views if it begins
-abbrev pub told : Op → Bool → Bool → ℕ → Outcome → InterfaceManagerView → InterfaceManagerView
+abbrev pub told : NamedOperation → Bool → Bool → ℕ → StreamOutcome → InterfaceManagerView → InterfaceManagerView
 told (Establish link stream) begins drew draw outcome m = keyed_if drew link stream draw m
 told (Refresh link stream) begins drew draw outcome m = keyed_at_end outcome link stream m
 told (Stop link stream) begins drew draw outcome m = stopped_if begins link stream m
@@ -44,13 +44,13 @@ told (Stop link stream) begins drew draw outcome m = stopped_if begins link stre
 -- ---- what an operation on a line that is keyed by messages at both ends tells
 
 -- each event of a stop of a stream between devices breaks views
-abbrev pub pair_told : Op → InterfaceManagerView → InterfaceManagerView
+abbrev pub pair_told : NamedOperation → InterfaceManagerView → InterfaceManagerView
 pair_told (Establish line stream) m = m
 pair_told (Refresh line stream) m = m
 pair_told (Stop line stream) m = if nat_le 24 line then peer_stop (peer_number line) m else m
 
 -- the draws of the establishes of streams between devices that drew last, by the streams' numbers
-abbrev pub peer_drawn : Op → Bool → ℕ → List ℕ → List ℕ
+abbrev pub peer_drawn : NamedOperation → Bool → ℕ → List ℕ → List ℕ
 peer_drawn (Establish line stream) drew draw draws =
     if nat_le 24 line && drew then slice_set draws (peer_number line) draw else draws
 peer_drawn (Refresh line stream) drew draw draws = draws
@@ -60,18 +60,19 @@ peer_drawn (Stop line stream) drew draw draws = draws
 
 -- the status of the stream that it asks for: of the interface's own at the host's port, of one between devices by the
 -- operations of the manager of keys
-abbrev pub status_for : ManagerView → Option StreamStatus → InterfaceOp → StreamStatus
+abbrev pub status_for : ManagerView → Option StreamStatus → InterfaceOperation → StreamStatus
 status_for m host (Bind peer) = status_named (named m peer.line peer.id)
 status_for m host (Unbind peer) = status_named (named m peer.line peer.id)
 status_for m host op = status_or_idle host
 
 -- what is Live at the device's end of the stream between devices that it names
-abbrev pub live_for : (ℕ → Option ℕ) → InterfaceOp → Option ℕ
+abbrev pub live_for : (ℕ → Option ℕ) → InterfaceOperation → Option ℕ
 live_for live (Bind peer) = live peer.id
 live_for live op = None
 
-abbrev pub operated_on : ℕ → InterfaceOp → Option Loss → KeeperView → (ℕ → Option ℕ) → InterfaceManagerView → LinkEnds
+abbrev pub operated_on : ℕ → InterfaceOperation → Option Loss → KeeperView → (ℕ → Option ℕ) → InterfaceManagerView
+    → LinkEnds
     → HostTdi → Ended
 operated_on interface op loss k live m l i =
-    interface_operated interface op (status_for k.manager (status_in l.host i.stream) op) k.pool.draws
+    interface_operated interface op (status_for k.manager (port_stream_status l.host i.stream) op) k.pool.draws
     (record { secure = secure_at l.device.port i.stream; live = live_for live op }) loss m l.device.interfaces i

@@ -1,28 +1,21 @@
 -- The manager at the two ends of a line that is keyed by messages at both: what an exchange and an operation make of
--- one
--- stream, and that no other changes.
+-- one stream, and that no other changes.
 use Rattle.std.specs.Prelude.{ℕ, ◌≡◌, ◌<◌, length, slice_set, Some, false}
 use Rattle.ide_types.specs.declared.port.Side.TheVariants.{Host, Device}
 use Rattle.link_events.specs.declared.event.Loss.{Loss}
 use Rattle.std.specs.Prelude.{Option}
-use Rattle.tsm_host.specs.declared.operation.Op.{Op}
-use Rattle.tsm_host.specs.declared.operation.Outcome.{Outcome}
-use Rattle.tsm_host.specs.declared.stage.Asked.{Asked}
+use Rattle.tsm_host.specs.declared.operation.NamedOperation.{NamedOperation}
+use Rattle.tsm_host.specs.declared.operation.StreamOutcome.{StreamOutcome}
+use Rattle.tsm_host.specs.declared.stage.NextExchange.{NextExchange}
 use Rattle.tsm_host.specs.Operations.{op_name}
-use Rattle.tsm_host.specs.Streams.{asked_in, has_host, outcome_of}
+use Rattle.tsm_host.specs.Streams.{asked_of_unfinished, has_host, outcome_of}
 use Rattle.tsm_host.specs.Managers.{ManagerView, Named, named, asking_after, pool_begun}
 use Rattle.tsm_host.specs.Walk.{IsAsked}
-use Rattle.ide_port.specs.{Found, found}
-use Rattle.link_walks.specs.Paired.{
-  PairEnds as PairStreams,
-  pair_exchanged,
-  pair_after,
-  PairWalked,
-  pair_walk,
-  pair_event,
-}
-use Rattle.link_walks.specs.Joined.{host_of}
-use Rattle.line_ends.specs.declared.pair.PairEnds.{PairEnds}
+use Rattle.ide_port.specs.{Found, found_stream}
+use Rattle.join_keys.specs.Paired.{PairEnds as PairStreams, pair_exchanged, pair_after, PairWalked, pair_walk}
+use Rattle.join_keys.specs.Paired.{pair_event}
+use Rattle.join_keys.specs.Joined.{host_of}
+use Rattle.link_ends.specs.declared.pair.PairEnds.{PairEnds}
 use Rattle.link_ends.specs.Keepers.{HasStream, KeeperView}
 
 -- ---- one stream at both ends
@@ -34,8 +27,8 @@ pub record IsAtBoth (m : ManagerView) (l : PairEnds) (place id : ℕ) (near far 
   pub far_side : l.far.side ≡ Device
   pub near_named : l.near.port.name.side ≡ Host
   pub far_named : l.far.port.name.side ≡ Device
-  pub near_found : found l.near.port.plans l.near.port.states id ≡ Some near
-  pub far_found : found l.far.port.plans l.far.port.states id ≡ Some far
+  pub near_found : found_stream l.near.port.plans l.near.port.states id ≡ Some near
+  pub far_found : found_stream l.far.port.plans l.far.port.states id ≡ Some far
 
 -- the manager and the ends with other parts of one stream
 pub record DiffersInPair (m : ManagerView) (l : PairEnds) (place id : ℕ) (e : PairStreams) (m' : ManagerView)
@@ -50,32 +43,32 @@ pub record DiffersInPair (m : ManagerView) (l : PairEnds) (place id : ℕ) (e : 
 
 -- ---- an exchange
 
-pub record IsPairExchanged (m0 : ManagerView) (l0 : PairEnds) (place id : ℕ) (loss : Option Loss) (a : Asked)
-    (e : PairStreams) (result : Outcome) (m : ManagerView) (l : PairEnds) : Type 0 where
+pub record IsPairExchanged (m0 : ManagerView) (l0 : PairEnds) (place id : ℕ) (loss : Option Loss) (a : NextExchange)
+    (e : PairStreams) (result : StreamOutcome) (m : ManagerView) (l : PairEnds) : Type 0 where
   pub outcome : result ≡ outcome_of false a (pair_exchanged loss 0 a e).judged
   pub stands : DiffersInPair m0 l0 place id (pair_after a (pair_exchanged loss 0 a e) e) m l
   pub asking : m.asking ≡ asking_after place result
 
 -- Whatever stream is asked.
-abbrev pub PairExchanges : Option Loss → ManagerView → PairEnds → Outcome → ManagerView → PairEnds → Type 0
+abbrev pub PairExchanges : Option Loss → ManagerView → PairEnds → StreamOutcome → ManagerView → PairEnds → Type 0
 PairExchanges loss m l result m' l' =
-    (m0 : ManagerView) (l0 : PairEnds) (place id : ℕ) (near far : Found) (e : PairStreams) (a : Asked)
+    (m0 : ManagerView) (l0 : PairEnds) (place id : ℕ) (near far : Found) (e : PairStreams) (a : NextExchange)
     → IsAtBoth m0 l0 place id near far
-    → DiffersInPair m0 l0 place id e m l → m.asking ≡ Some place → asked_in e.keeper.op ≡ Some a
+    → DiffersInPair m0 l0 place id e m l → m.asking ≡ Some place → asked_of_unfinished e.keeper.op ≡ Some a
     → IsAsked false (Some a) → IsPairExchanged m0 l0 place id loss a e result m' l'
 
 -- ---- one exchange after another
 
-pub record IsPairWalked (m0 : ManagerView) (l0 : PairEnds) (place id : ℕ) (walked : PairWalked) (result : Outcome)
+pub record IsPairWalked (m0 : ManagerView) (l0 : PairEnds) (place id : ℕ) (walked : PairWalked) (result : StreamOutcome)
     (m : ManagerView) (l : PairEnds) : Type 0 where
   pub outcome : result ≡ walked.outcome
   pub stands : DiffersInPair m0 l0 place id walked.ends m l
 
-abbrev pub PairWalks : ℕ → Option Loss → ManagerView → PairEnds → Outcome → ManagerView → PairEnds → Type 0
+abbrev pub PairWalks : ℕ → Option Loss → ManagerView → PairEnds → StreamOutcome → ManagerView → PairEnds → Type 0
 PairWalks more loss m l result m' l' =
     (m0 : ManagerView) (l0 : PairEnds) (place id : ℕ) (near far : Found) (e : PairStreams)
     → IsAtBoth m0 l0 place id near far
-    → DiffersInPair m0 l0 place id e m l → m.asking ≡ Some place → IsAsked false (asked_in e.keeper.op)
+    → DiffersInPair m0 l0 place id e m l → m.asking ≡ Some place → IsAsked false (asked_of_unfinished e.keeper.op)
     → IsPairWalked m0 l0 place id (pair_walk more loss 0 e) result m' l'
 
 -- ---- an operation
@@ -83,18 +76,20 @@ PairWalks more loss m l result m' l' =
 abbrev pub pair_found : Named → Found → Found → PairStreams
 pair_found n near far = record { near = near.state; far = far.state; keeper = n.stream }
 
-pub record IsPairOperated (k : KeeperView) (l : PairEnds) (op : Op) (loss : Option Loss) (n : Named) (near far : Found)
-    (result : Outcome) (k' : KeeperView) (l' : PairEnds) : Type 0 where
+pub record IsPairOperated (k : KeeperView) (l : PairEnds) (op : NamedOperation) (loss : Option Loss) (n : Named)
+    (near far : Found)
+    (result : StreamOutcome) (k' : KeeperView) (l' : PairEnds) : Type 0 where
   pub walked : IsPairWalked k.manager l n.place (op_name op).stream
       (pair_event (op_name op).operation (host_of near.state)
       k.pool loss 0 (pair_found n near far)) result k'.manager l'
   pub pool : k'.pool ≡ pool_begun (op_name op).operation (host_of near.state) k.pool n
 
-abbrev pub PairOperates : KeeperView → PairEnds → Op → Option Loss → Outcome → KeeperView → PairEnds → Type 0
+abbrev pub PairOperates : KeeperView → PairEnds → NamedOperation → Option Loss → StreamOutcome → KeeperView → PairEnds
+    → Type 0
 PairOperates k l op loss result k' l' =
-    (n : Named) (near far : Found) → named k.manager (op_name op).link (op_name op).stream ≡ Some n
+    (n : Named) (near far : Found) → named k.manager (op_name op).line (op_name op).stream ≡ Some n
     → has_host n.stream ≡ false → IsAtBoth k.manager l n.place (op_name op).stream near far
-    → IsAsked false (asked_in n.stream.op) → IsPairOperated k l op loss n near far result k' l'
+    → IsAsked false (asked_of_unfinished n.stream.op) → IsPairOperated k l op loss n near far result k' l'
 
 -- ---- calls
 

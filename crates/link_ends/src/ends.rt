@@ -1,15 +1,14 @@
 //! The two ends of a link.
 
 ghost use Rattle.std.specs.Prelude.{◌≡◌, ◌+◌, ◌<◌, ◌≤◌, ◌^◌, ℕ, IfOk, All, length};
-ghost use Rattle.ide_plan.specs.Fits.{FitsStream};
-ghost use Rattle.tdi_state.specs.Held.{FitsTdi};
+ghost use Rattle.ide_types.specs.Fits.{FitsStream};
+ghost use Rattle.interface_state.specs.Held.{FitsTdi};
 ghost use Rattle.ide_prefix.specs.Reading.{cut_of};
 ghost use Rattle.ide_port.specs.{IsSentAtPort, take_step};
 
-use device_side::{Device, PeerStreams};
-use ide_plan::{InterfacePlan, StreamPlan};
-use ide_port::{Arrival, Asked, Port, Sent};
-use ide_types::{Items, Memory, PortName, Side};
+use crate::{Device, PeerStreams};
+use ide_port::{Arrival, FixedTrust, Port, Sent};
+use ide_types::{InterfacePlan, Items, OutOfMemory, PortName, Side, StreamPlan};
 use std::alloc::Global;
 
 /// A link: its host's port, and its device (PCI Express Base 6.0 section 6.33 and chapter 11, in this profile).
@@ -20,11 +19,11 @@ pub struct LinkEnds {
 }
 
 impl LinkEnds {
-    ghost use Rattle.link_ends.specs.Ends.{new_ends, port_in, with_port, taken_ends, trusting_at, reset_ends};
+    ghost use Rattle.link_ends.specs.Ends.{new_ends, port_in, with_port, taken_ends, trusting_at, reset_link_ends};
 
     /// The ends of a link with these streams, without keys; a key seals at most `limit` units. `requester` is the
     /// requester ID that the device gives in its answer to QUERY, 0 if it has no interface; it has these interfaces,
-    /// whose locks get these nonces. Returns `Memory` for want of memory.
+    /// whose locks get these nonces. Returns `OutOfMemory` for want of memory.
     pub fn make(
         alloc: Global,
         link: u8,
@@ -33,14 +32,14 @@ impl LinkEnds {
         requester: u16,
         interfaces: &Items<InterfacePlan>,
         nonces: &Items<[u8; 32]>,
-    ) -> Result<LinkEnds, Memory>
+    ) -> Result<LinkEnds, OutOfMemory>
         requires streams { All FitsStream plans.now }
         requires interfaces { All FitsTdi interfaces.now }
         ensures { IfOk result (λ l. l ≡ new_ends link plans.now limit requester interfaces.now nonces.now) }
     {
         let name = PortName {
             side: Side::Host,
-            link,
+            line: link,
         };
         let host = Port::make(alloc, name, plans, limit)?;
         let device = Device::make(alloc, link, plans, limit, requester, interfaces, nonces)?;
@@ -56,7 +55,7 @@ impl LinkEnds {
         ensures ends { self.new ≡ with_port side (port_in side self.new) self.old }
     {
         match side {
-            Side::Host => self.host.send(tlp, more, &Asked(trusted)),
+            Side::Host => self.host.send(tlp, more, &FixedTrust(trusted)),
             Side::Device => self.device.send(tlp, more),
         }
     }
@@ -99,7 +98,7 @@ impl LinkEnds {
     /// Resets the link: both ports drop all keys, open units, held packets, counts and failures, and each interface of
     /// the device is in CONFIG_UNLOCKED with the topology's registers. No nonce that was given is given again.
     pub fn reset(&mut self)
-        ensures { self.new ≡ reset_ends self.old }
+        ensures { self.new ≡ reset_link_ends self.old }
     {
         self.host.reset();
         self.device.reset();

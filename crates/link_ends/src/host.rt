@@ -3,32 +3,28 @@
 ghost use Rattle.std.specs.Prelude.{◌≡◌, ◌==◌, ◌-◌, ◌<◌, ◌≤◌, not, IfOk, IfSome, IsSome, is_some, length, replicate};
 ghost use Rattle.std.specs.Prelude.{slice_get, slice_set};
 ghost use Rattle.key_slots.specs.{new_pool};
-ghost use Rattle.key_laws.specs.Operations.{work_of};
+ghost use Rattle.spec_keys.specs.Operations.{work_of};
 ghost use Rattle.tsm_host.specs.Operations.{op_name};
 ghost use Rattle.tsm_host.specs.Managers.{named, new_manager, reset_manager};
 ghost use Rattle.tsm_host.specs.Streams.{status_or_idle};
-ghost use Rattle.tdi_host.specs.Managers.{
-  new_interface_manager as new_interfaces,
-  reset_interface_manager as reset_interfaces,
-};
-ghost use Rattle.tdi_device.specs.Replies.{settled_tdis};
-ghost use Rattle.tdi_ends.specs.Keepers.{Ended};
-ghost use Rattle.device_side.specs.Ends.{secure_at, secure_with};
+ghost use Rattle.interface_host.specs.Managers.{new_interface_manager as new_interfaces};
+ghost use Rattle.interface_host.specs.Managers.{reset_interface_manager as reset_interfaces};
+ghost use Rattle.interface_device.specs.Replies.{settled_interfaces};
+ghost use Rattle.interface_ends.specs.Keepers.{Ended};
+ghost use Rattle.link_ends.specs.DeviceEnds.{secure_at, secure_with};
 ghost use Rattle.link_ends.specs.Hosts.{told, keyed_if, keyed_at_end, stopped_if, live_for, status_for};
 ghost use Rattle.link_ends.specs.Hosts.{pair_told, peer_drawn};
 
 use crate::ends::LinkEnds;
-use crate::keeper::Keeper;
-use device_side::PeerStreams;
-use ide_types::{Memory, PortName, StreamStatus};
-use line_ends::PairEnds;
+use crate::keeper::KeyKeeper;
+use crate::{PairEnds, PeerStreams};
+use ide_types::{OutOfMemory, PortName, StreamStatus, ValidPlan};
+use interface_device::StreamSaid;
+use interface_ends::InterfaceKeeper;
+use interface_host::InterfaceOperation;
 use link_events::Loss;
 use std::alloc::Global;
-use tdi_device::StreamSaid;
-use tdi_ends::InterfaceKeeper;
-use tdi_host::InterfaceOp;
-use tsm_host::{Op, Outcome, Shown};
-use valid_plan::ValidPlan;
+use tsm_host::{NamedOperation, StreamOutcome, StreamResult};
 
 /// The first line of a stream between devices.
 const FIRST_PEER_LINE: u8 = 24;
@@ -37,7 +33,7 @@ const FIRST_PEER_LINE: u8 = 24;
 /// 11, in this profile).
 #[derive(Drop)]
 pub struct HostKeeper {
-    pub keys: Keeper,
+    pub keys: KeyKeeper,
     pub interfaces: InterfaceKeeper,
     /// Of each stream between devices, by its number: the draw of the last establish of it that drew, 0 before the
     /// first.
@@ -54,11 +50,11 @@ fn status_or_idle(status: Option<StreamStatus>) -> StreamStatus
 }
 
 // What is Live at the device's end of the stream between devices that an operation names.
-fn live_for<P: PeerStreams>(peers: &P, op: InterfaceOp) -> Option<u32>
+fn live_for<P: PeerStreams>(peers: &P, op: InterfaceOperation) -> Option<u32>
     ensures { result ≡ live_for (P.live peers.now) op }
 {
     match op {
-        InterfaceOp::Bind(peer) => peers.live(peer.id),
+        InterfaceOperation::Bind(peer) => peers.live(peer.id),
         _ => None,
     }
 }
@@ -73,10 +69,10 @@ fn keyed_if(interfaces: &mut InterfaceKeeper, drew: bool, link: u8, stream: u8, 
 }
 
 // Tells it the draw of a refresh that ended.
-fn keyed_at_end(interfaces: &mut InterfaceKeeper, outcome: Outcome, link: u8, stream: u8)
+fn keyed_at_end(interfaces: &mut InterfaceKeeper, outcome: StreamOutcome, link: u8, stream: u8)
     ensures { interfaces.new ≡ keyed_at_end outcome link stream interfaces.old }
 {
-    if let Outcome::Done(Shown::Draw(draw)) = outcome {
+    if let StreamOutcome::Done(StreamResult::Draw(draw)) = outcome {
         interfaces.stream_keyed(link, stream, draw);
     }
 }
@@ -92,27 +88,27 @@ fn stopped_if(interfaces: &mut InterfaceKeeper, begins: bool, link: u8, stream: 
 // What an operation on a stream tells the manager of interfaces.
 fn tell(
     interfaces: &mut InterfaceKeeper,
-    op: Op,
+    op: NamedOperation,
     begins: bool,
     drew: bool,
     draw: u32,
-    outcome: Outcome,
+    outcome: StreamOutcome,
 )
     ensures { interfaces.new ≡ told op begins drew draw outcome interfaces.old }
 {
     match op {
-        Op::Establish(link, stream) => keyed_if(interfaces, drew, link, stream, draw),
-        Op::Refresh(link, stream) => keyed_at_end(interfaces, outcome, link, stream),
-        Op::Stop(link, stream) => stopped_if(interfaces, begins, link, stream),
+        NamedOperation::Establish(link, stream) => keyed_if(interfaces, drew, link, stream, draw),
+        NamedOperation::Refresh(link, stream) => keyed_at_end(interfaces, outcome, link, stream),
+        NamedOperation::Stop(link, stream) => stopped_if(interfaces, begins, link, stream),
     }
 }
 
 // Tells it of an operation on a line that is keyed by messages at both ends.
-fn tell_of_pair(interfaces: &mut InterfaceKeeper, op: Op)
+fn tell_of_pair(interfaces: &mut InterfaceKeeper, op: NamedOperation)
     ensures { interfaces.new ≡ pair_told op interfaces.old }
 {
     match op {
-        Op::Stop(line, _) if line >= FIRST_PEER_LINE => {
+        NamedOperation::Stop(line, _) if line >= FIRST_PEER_LINE => {
             interfaces.peer_stop(line - FIRST_PEER_LINE);
         }
         _ => {}
@@ -129,11 +125,11 @@ fn set_draw(draws: &mut [u32; 8], number: u8, draw: u32)
 }
 
 // Notes the draw of an operation on such a line, if it is an establish of a stream between devices that drew.
-fn note_draw(draws: &mut [u32; 8], op: Op, drew: bool, draw: u32)
+fn note_draw(draws: &mut [u32; 8], op: NamedOperation, drew: bool, draw: u32)
     ensures { draws.new ≡ peer_drawn op drew draw draws.old }
 {
     match op {
-        Op::Establish(line, _) if line >= FIRST_PEER_LINE && drew => {
+        NamedOperation::Establish(line, _) if line >= FIRST_PEER_LINE && drew => {
             set_draw(draws, line - FIRST_PEER_LINE, draw);
         }
         _ => {}
@@ -145,16 +141,16 @@ impl HostKeeper {
     ghost use Rattle.link_ends.specs.PairKeepers.{PairOperates, HasPairCalls};
     ghost use Rattle.link_ends.specs.Hosts.{operated_on};
 
-    /// A manager of the plan's lines, and the plan's keys, none of them drawn; no interface is locked. Returns `Memory`
-    /// for want of memory.
-    pub fn make(alloc: Global, plan: &ValidPlan) -> Result<HostKeeper, Memory>
+    /// A manager of the plan's lines, and the plan's keys, none of them drawn; no interface is locked. Returns
+    /// `OutOfMemory` for want of memory.
+    pub fn make(alloc: Global, plan: &ValidPlan) -> Result<HostKeeper, OutOfMemory>
         ensures { IfOk result (λ k. k ≡ record {
           keys = record { manager = new_manager plan.now.links plan.now.peers; pool = new_pool plan.now.pool };
           interfaces = new_interfaces plan.now.links plan.now.portion;
           peer_draws = replicate 8 0;
         }) }
     {
-        let keys = Keeper::make(alloc, plan)?;
+        let keys = KeyKeeper::make(alloc, plan)?;
         let plan = plan.plan();
         let interfaces = InterfaceKeeper::make(alloc, &plan.links, plan.portion)?;
         Ok(HostKeeper {
@@ -164,7 +160,7 @@ impl HostKeeper {
         })
     }
 
-    /// Begins an operation on a stream of the link with these ends, or goes on with it, and carries its exchanges until
+    /// Begins an operation on a stream of the line with these ends, or goes on with it, and carries its exchanges until
     /// it is done or refused, or `loss` loses one. If a stop begins, views of the stream's interfaces that are Locked,
     /// Running or Doubt become Broken. At the end, each of the device's interfaces in CONFIG_LOCKED or RUN goes to
     /// ERROR if a stream that it is bound to is not Secure at the device; `peers` says what stands at its ends of
@@ -173,15 +169,15 @@ impl HostKeeper {
         &mut self,
         ends: &mut LinkEnds,
         peers: &P,
-        op: Op,
+        op: NamedOperation,
         loss: Option<Loss>,
-    ) -> Outcome
-        requires { IsSome (named self.old.keys.manager (op_name op).link (op_name op).stream) }
+    ) -> StreamOutcome
+        requires { IsSome (named self.old.keys.manager (op_name op).line (op_name op).stream) }
         ensures operates { Operates self.old.keys ends.old op loss result self.new.keys ends.new }
         ensures calls { HasCalls ends.old ends.new }
-        ensures settles { ends.new.device.interfaces ≡ settled_tdis
+        ensures settles { ends.new.device.interfaces ≡ settled_interfaces
             (secure_with ends.new.device.port (P.live peers.now)) ends.old.device.interfaces }
-        ensures interfaces { IfSome (named self.old.keys.manager (op_name op).link (op_name op).stream) (λ n.
+        ensures interfaces { IfSome (named self.old.keys.manager (op_name op).line (op_name op).stream) (λ n.
             let begins = (work_of (op_name op).operation n.stream.op 0).begins in
             let draw = self.old.keys.pool.draws in
             let drew = not (self.new.keys.pool.draws == draw) in
@@ -199,8 +195,13 @@ impl HostKeeper {
 
     /// The same on the segment of a hop towards the host, whose ends these are. It is of no interface's stream: the
     /// manager of interfaces is told nothing.
-    pub fn operate_near(&mut self, ends: &mut LinkEnds, op: Op, loss: Option<Loss>) -> Outcome
-        requires { IsSome (named self.old.keys.manager (op_name op).link (op_name op).stream) }
+    pub fn operate_near(
+        &mut self,
+        ends: &mut LinkEnds,
+        op: NamedOperation,
+        loss: Option<Loss>,
+    ) -> StreamOutcome
+        requires { IsSome (named self.old.keys.manager (op_name op).line (op_name op).stream) }
         ensures operates { Operates self.old.keys ends.old op loss result self.new.keys ends.new }
         ensures calls { SameCalls ends.old ends.new }
         ensures kept { self.new ≡ record self.old { keys = self.new.keys } }
@@ -211,8 +212,13 @@ impl HostKeeper {
     /// The same on a line that is keyed by messages at both ends: the segment of a hop towards the device, or a stream
     /// between devices. At each event of a stop of a stream between devices views of the interfaces that it was to be
     /// bound to, and that are Locked, Running or Doubt, become Broken.
-    pub fn operate_pair(&mut self, ends: &mut PairEnds, op: Op, loss: Option<Loss>) -> Outcome
-        requires { IsSome (named self.old.keys.manager (op_name op).link (op_name op).stream) }
+    pub fn operate_pair(
+        &mut self,
+        ends: &mut PairEnds,
+        op: NamedOperation,
+        loss: Option<Loss>,
+    ) -> StreamOutcome
+        requires { IsSome (named self.old.keys.manager (op_name op).line (op_name op).stream) }
         ensures operates { PairOperates self.old.keys ends.old op loss result self.new.keys ends.new }
         ensures calls { HasPairCalls ends.old ends.new }
         ensures interfaces { self.new.interfaces ≡ pair_told op self.old.interfaces }
@@ -230,11 +236,11 @@ impl HostKeeper {
 
     // The status of the stream that an operation on an interface asks for: of its own at the host's port; of one
     // between devices as the manager of keys has it.
-    fn status_for(&self, op: InterfaceOp, host: Option<StreamStatus>) -> StreamStatus
+    fn status_for(&self, op: InterfaceOperation, host: Option<StreamStatus>) -> StreamStatus
         ensures { result ≡ status_for self.now.keys.manager host op }
     {
         match op {
-            InterfaceOp::Bind(peer) | InterfaceOp::Unbind(peer) => {
+            InterfaceOperation::Bind(peer) | InterfaceOperation::Unbind(peer) => {
                 self.keys.status(peer.line, peer.id)
             }
             _ => status_or_idle(host),
@@ -248,9 +254,9 @@ impl HostKeeper {
         ends: &mut LinkEnds,
         peers: &P,
         interface: usize,
-        op: InterfaceOp,
+        op: InterfaceOperation,
         loss: Option<Loss>,
-    ) -> tdi_host::Outcome
+    ) -> interface_host::InterfaceOutcome
         requires { interface < length self.old.interfaces.interfaces }
         ensures operated { IfSome (slice_get self.old.interfaces.interfaces interface) (λ i.
             let e : Ended = record {

@@ -2,31 +2,29 @@
 
 ghost use Rattle.std.specs.Prelude.{◌≡◌, ◌+◌, ◌<◌, ◌≤◌, ℕ, [], Some, None, IfOk, IfSome, IsSome, is_some, length};
 ghost use Rattle.std.specs.Prelude.{vec_len, vec_capacity};
-ghost use Rattle.ide_km.specs.{spelling};
-ghost use Rattle.key_laws.specs.Operations.{work_of};
-ghost use Rattle.ide_km.specs.declared.object.KmView.{KmView};
+ghost use Rattle.key_messages.specs.{spelling};
+ghost use Rattle.spec_keys.specs.Operations.{work_of};
+ghost use Rattle.key_messages.specs.declared.object.KmView.{KmView};
 ghost use Rattle.std.specs.Option.{option_map};
 ghost use Rattle.tsm_host.specs.Facts.{op_seen};
 ghost use Rattle.tsm_host.specs.Judging.{judged};
 ghost use Rattle.tsm_host.specs.Operations.{op_name};
 ghost use Rattle.tsm_host.specs.Streams.{has_host, end_asked, request_asked};
-ghost use Rattle.line_ends.specs.Ends.{answered_end, end_reply, end_in, with_end};
+ghost use Rattle.link_ends.specs.LineEnds.{answered_end, end_reply, end_in, with_end};
 ghost use Rattle.tsm_host.specs.Managers.{new_manager, named, op_named, status_named, current, reset_manager};
 ghost use Rattle.key_slots.specs.{new_pool};
-ghost use Rattle.device_side.specs.Ends.{asked_device, reply_given};
-ghost use Rattle.link_walks.specs.Walks.{judged_bytes};
-ghost use Rattle.key_laws.specs.Due.{lost_in};
+ghost use Rattle.link_ends.specs.DeviceEnds.{asked_device, reply_given};
+ghost use Rattle.join_keys.specs.Walks.{judged_bytes};
+ghost use Rattle.spec_keys.specs.Due.{lost_message};
 
 use crate::ends::LinkEnds;
-use device_side::Device;
-use ide_types::{Memory, PortName, StreamStatus};
+use crate::{Device, PairEnds};
+use ide_types::{OutOfMemory, PortName, StreamStatus, ValidPlan};
 use key_slots::KeyPool;
-use line_ends::PairEnds;
 use link_events::{Loss, Lost};
 use std::alloc::Global;
 use std::marker::Model;
-use tsm_host::{Carried, Manager, Op, Outcome, StageFacts};
-use valid_plan::ValidPlan;
+use tsm_host::{ExchangeReply, Manager, NamedOperation, StageFacts, StreamOutcome};
 
 /// The room that a request needs, in bytes.
 const REQUEST_ROOM: usize = 49;
@@ -40,17 +38,17 @@ const MOST_EXCHANGES: u8 = 13;
 /// The most exchanges of an operation on a line that is keyed by messages at both ends.
 const MOST_PAIR_EXCHANGES: u8 = 24;
 
-/// The manager of all links with the keys that it draws, and room for one exchange (PCI Express Base 6.0 section 6.33,
+/// The manager of all lines with the keys that it draws, and room for one exchange (PCI Express Base 6.0 section 6.33,
 /// in this profile).
 #[derive(Drop)]
-pub struct Keeper {
+pub struct KeyKeeper {
     manager: Manager,
     pool: KeyPool,
     request: Vec<u8>,
     reply: Vec<u8>,
 }
 
-impl Model for Keeper {
+impl Model for KeyKeeper {
     ghost use Rattle.std.specs.Prelude.{◌≤◌, vec_capacity};
     ghost use Rattle.link_ends.specs.Keepers.{KeeperView};
 
@@ -63,7 +61,7 @@ impl Model for Keeper {
 
 /// What is lost of the exchange of this number; `None` if nothing is.
 pub fn lost_at(loss: Option<Loss>, exchange: u32) -> Option<Lost>
-    ensures { result ≡ lost_in loss exchange }
+    ensures { result ≡ lost_message loss exchange }
 {
     match loss {
         Some(loss) if loss.exchange == exchange as u64 => Some(loss.lost),
@@ -72,13 +70,13 @@ pub fn lost_at(loss: Option<Loss>, exchange: u32) -> Option<Lost>
 }
 
 // A reply as it is carried; one without bytes is none.
-fn carried(reply: &[u8]) -> Carried<'_>
+fn carried(reply: &[u8]) -> ExchangeReply<'_>
     ensures { (request : KmView) → judged request result ≡ judged_bytes request reply.now }
 {
     if reply.is_empty() {
-        Carried::Reply(None)
+        ExchangeReply::Reply(None)
     } else {
-        Carried::Reply(Some(reply))
+        ExchangeReply::Reply(Some(reply))
     }
 }
 
@@ -127,12 +125,13 @@ fn deliver_to_end(
     ends.answer(manager.end(), request, draw, reply);
 }
 
-impl Keeper {
+impl KeyKeeper {
     ghost use Rattle.link_ends.specs.Keepers.{Exchanges, Walks, Operates, SameCalls};
     ghost use Rattle.link_ends.specs.PairKeepers.{PairExchanges, PairWalks, PairOperates, HasPairCalls};
 
-    /// A manager of the plan's lines, and the plan's keys, none of them drawn. Returns `Memory` for want of memory.
-    pub fn make(alloc: Global, plan: &ValidPlan) -> Result<Keeper, Memory>
+    /// A manager of the plan's lines, and the plan's keys, none of them drawn. Returns `OutOfMemory` for want of
+    /// memory.
+    pub fn make(alloc: Global, plan: &ValidPlan) -> Result<KeyKeeper, OutOfMemory>
         ensures { IfOk result (λ k. k ≡ record {
           manager = new_manager plan.now.links plan.now.peers;
           pool = new_pool plan.now.pool;
@@ -142,7 +141,7 @@ impl Keeper {
         let pool = KeyPool::make(alloc, plan.plan().pool.as_slice())?;
         let request = Vec::with_capacity(alloc, REQUEST_ROOM)?;
         let reply = Vec::with_capacity(alloc, REPLY_ROOM)?;
-        Ok(Keeper {
+        Ok(KeyKeeper {
             manager,
             pool,
             request,
@@ -150,7 +149,7 @@ impl Keeper {
         })
     }
 
-    /// Whether the link has the stream.
+    /// Whether the line has the stream.
     pub fn has_stream(&self, link: u8, stream: u8) -> bool
         ensures { result ≡ is_some (named self.now.manager link stream) }
     {
@@ -172,16 +171,16 @@ impl Keeper {
     }
 
     /// Whether an operation on a stream would begin, and not go on.
-    pub fn begins(&self, op: Op) -> bool
-        requires { IsSome (named self.now.manager (op_name op).link (op_name op).stream) }
-        ensures { IfSome (named self.now.manager (op_name op).link (op_name op).stream) (λ n.
+    pub fn begins(&self, op: NamedOperation) -> bool
+        requires { IsSome (named self.now.manager (op_name op).line (op_name op).stream) }
+        ensures { IfSome (named self.now.manager (op_name op).line (op_name op).stream) (λ n.
             result ≡ (work_of (op_name op).operation n.stream.op 0).begins) }
     {
         self.manager.begins(op)
     }
 
     // Carries the exchange that is next, but for the message of it that `loss` loses, if any.
-    fn exchange(&mut self, ends: &mut LinkEnds, loss: Option<Loss>) -> Outcome
+    fn exchange(&mut self, ends: &mut LinkEnds, loss: Option<Loss>) -> StreamOutcome
         requires { IsSome (current self.old.manager) }
         ensures calls { SameCalls ends.old ends.new }
         ensures exchange { Exchanges loss self.old.manager ends.old result self.new.manager ends.new }
@@ -197,7 +196,7 @@ impl Keeper {
                 );
                 self.manager.take(&mut ends.host, carried(&self.reply))
             }
-            Some(Lost::Request) => self.manager.take(&mut ends.host, Carried::Lost),
+            Some(Lost::Request) => self.manager.take(&mut ends.host, ExchangeReply::Lost),
             Some(Lost::Reply) => {
                 deliver(
                     &self.manager,
@@ -205,44 +204,49 @@ impl Keeper {
                     &mut self.request,
                     &mut self.reply,
                 );
-                self.manager.take(&mut ends.host, Carried::Lost)
+                self.manager.take(&mut ends.host, ExchangeReply::Lost)
             }
         }
     }
 
     // Up to so many exchanges of the operation that is asked.
-    fn walk(&mut self, more: u8, ends: &mut LinkEnds, loss: Option<Loss>) -> Outcome
+    fn walk(&mut self, more: u8, ends: &mut LinkEnds, loss: Option<Loss>) -> StreamOutcome
         ensures calls { SameCalls ends.old ends.new }
         ensures walk { Walks more loss self.old.manager ends.old result self.new.manager ends.new }
         ensures pool { self.new.pool ≡ self.old.pool }
     {
         if more == 0 {
-            return Outcome::Next;
+            return StreamOutcome::Next;
         }
         if !self.manager.is_asking() {
-            return Outcome::Next;
+            return StreamOutcome::Next;
         }
         match self.exchange(ends, loss) {
-            Outcome::Next => self.walk(more - 1, ends, loss),
+            StreamOutcome::Next => self.walk(more - 1, ends, loss),
             outcome => outcome,
         }
     }
 
-    /// Begins an operation on a stream of the link with these ends, or goes on with it, and carries its exchanges until
+    /// Begins an operation on a stream of the line with these ends, or goes on with it, and carries its exchanges until
     /// it is done or refused, or `loss` loses one.
-    pub fn operate(&mut self, ends: &mut LinkEnds, op: Op, loss: Option<Loss>) -> Outcome
-        requires { IsSome (named self.old.manager (op_name op).link (op_name op).stream) }
+    pub fn operate(
+        &mut self,
+        ends: &mut LinkEnds,
+        op: NamedOperation,
+        loss: Option<Loss>,
+    ) -> StreamOutcome
+        requires { IsSome (named self.old.manager (op_name op).line (op_name op).stream) }
         ensures operates { Operates self.old ends.old op loss result self.new ends.new }
         ensures calls { SameCalls ends.old ends.new }
     {
         match self.manager.begin(&mut ends.host, &mut self.pool, op) {
-            Err(refusal) => Outcome::Refused(refusal),
+            Err(refusal) => StreamOutcome::Refused(refusal),
             Ok(()) => self.walk(MOST_EXCHANGES, ends, loss),
         }
     }
 
     // The same at the ends of a line that is keyed by messages at both.
-    fn pair_exchange(&mut self, ends: &mut PairEnds, loss: Option<Loss>) -> Outcome
+    fn pair_exchange(&mut self, ends: &mut PairEnds, loss: Option<Loss>) -> StreamOutcome
         requires { IsSome (current self.old.manager) }
         ensures calls { HasPairCalls ends.old ends.new }
         ensures exchange { PairExchanges loss self.old.manager ends.old result self.new.manager ends.new }
@@ -253,40 +257,45 @@ impl Keeper {
                 deliver_to_end(&self.manager, ends, &mut self.request, &mut self.reply);
                 self.manager.take(&mut ends.near.port, carried(&self.reply))
             }
-            Some(Lost::Request) => self.manager.take(&mut ends.near.port, Carried::Lost),
+            Some(Lost::Request) => self.manager.take(&mut ends.near.port, ExchangeReply::Lost),
             Some(Lost::Reply) => {
                 deliver_to_end(&self.manager, ends, &mut self.request, &mut self.reply);
-                self.manager.take(&mut ends.near.port, Carried::Lost)
+                self.manager.take(&mut ends.near.port, ExchangeReply::Lost)
             }
         }
     }
 
-    fn pair_walk(&mut self, more: u8, ends: &mut PairEnds, loss: Option<Loss>) -> Outcome
+    fn pair_walk(&mut self, more: u8, ends: &mut PairEnds, loss: Option<Loss>) -> StreamOutcome
         ensures calls { HasPairCalls ends.old ends.new }
         ensures walk { PairWalks more loss self.old.manager ends.old result self.new.manager ends.new }
         ensures pool { self.new.pool ≡ self.old.pool }
     {
         if more == 0 {
-            return Outcome::Next;
+            return StreamOutcome::Next;
         }
         if !self.manager.is_asking() {
-            return Outcome::Next;
+            return StreamOutcome::Next;
         }
         match self.pair_exchange(ends, loss) {
-            Outcome::Next => self.pair_walk(more - 1, ends, loss),
+            StreamOutcome::Next => self.pair_walk(more - 1, ends, loss),
             outcome => outcome,
         }
     }
 
     /// Begins an operation on the stream of the line with these ends, which is keyed by messages at both, or goes on
     /// with it, and carries its exchanges until it is done or refused, or `loss` loses one.
-    pub fn operate_pair(&mut self, ends: &mut PairEnds, op: Op, loss: Option<Loss>) -> Outcome
-        requires { IsSome (named self.old.manager (op_name op).link (op_name op).stream) }
+    pub fn operate_pair(
+        &mut self,
+        ends: &mut PairEnds,
+        op: NamedOperation,
+        loss: Option<Loss>,
+    ) -> StreamOutcome
+        requires { IsSome (named self.old.manager (op_name op).line (op_name op).stream) }
         ensures operates { PairOperates self.old ends.old op loss result self.new ends.new }
         ensures calls { HasPairCalls ends.old ends.new }
     {
         match self.manager.begin(&mut ends.near.port, &mut self.pool, op) {
-            Err(refusal) => Outcome::Refused(refusal),
+            Err(refusal) => StreamOutcome::Refused(refusal),
             Ok(()) => self.pair_walk(MOST_PAIR_EXCHANGES, ends, loss),
         }
     }
@@ -302,7 +311,7 @@ impl Keeper {
 
 // ---- what is seen of it
 
-impl Keeper {
+impl KeyKeeper {
     /// The state of a stream's operations; `None` if the line has no such stream.
     pub fn facts(&self, line: u8, stream: u8) -> Option<StageFacts>
         ensures { option_map op_seen result ≡ op_named (named self.now.manager line stream) }

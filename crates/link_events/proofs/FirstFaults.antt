@@ -17,17 +17,10 @@ use Rattle.link_events.specs.Terms.fault
 use Rattle.link_events.specs.Words.{words_in, number_of_word, mask_in, bytes_in, port_of_word, any_port_of_word}
 use Rattle.ide_types.specs.Names.{is_printable}
 use Rattle.link_events.specs.Parse.{◌>>=◌, operation_in, marks_in, send_in, one_number_in}
-use Rattle.link_events.specs.Parse.{
-  two_numbers_in,
-  alter_in,
-  arrive_in,
-  bytes_event_in,
-  hop_event_in,
-  peer_event_in,
-  last_event_in,
-}
+use Rattle.link_events.specs.Parse.{two_numbers_in, alter_in, arrive_in, bytes_event_in, parsed_hop_event}
+use Rattle.link_events.specs.Parse.{parsed_peer_event, access_event_in}
 use Rattle.link_events.specs.Parse.{event_by, event_in, is_comment}
-use Rattle.link_events.specs.Faults.{WordTest, event_table, is_at_host, is_trusted_at, number_test, mask_test}
+use Rattle.link_events.specs.Faults.{WordTest, event_table, is_host_side, is_trusted_at, number_test, mask_test}
 use Rattle.link_events.specs.Faults.{bytes_test, port_test, any_port_test, word_test, trusted_test, mark_test}
 use Rattle.link_events.specs.Paired.{peer_send_tests}
 use Rattle.link_events.specs.Faults.{operation_tests, send_tests, arrive_tests, number_tests, two_number_tests}
@@ -66,7 +59,7 @@ arrive (p ∷ w ∷ x ∷ ws) = miscounted (p ∷ w ∷ x ∷ ws)
 
 -- ---- marks
 
-one_mark : (side : Side) (m : Text) → (bytes_eq m (codes "more") || (bytes_eq m (codes "trusted") && is_at_host side))
+one_mark : (side : Side) (m : Text) → (bytes_eq m (codes "more") || (bytes_eq m (codes "trusted") && is_host_side side))
     ≡ is_some (marks_in side (m ∷ []))
 one_mark Host m = by_tests (bytes_eq m (codes "more")) (bytes_eq m (codes "trusted"))
   where
@@ -83,7 +76,7 @@ one_mark Device m = by_tests (bytes_eq m (codes "more")) (bytes_eq m (codes "tru
     by_tests false false = refl
 
 trusted_by : (p t : Text) (x : PortName) → port_of_word p ≡ Some x → is_trusted_at p t
-    ≡ (bytes_eq t (codes "trusted") && is_at_host x.side)
+    ≡ (bytes_eq t (codes "trusted") && is_host_side x.side)
 trusted_by p t x is = rw is refl
 
 never : (c : Bool) → (c && false) ≡ false
@@ -92,7 +85,7 @@ never false = refl
 
 -- both marks are read as one
 marks_reads : (p m t : Text) (side : Side) (k : Bool × Bool → ScriptEvent) → is_trusted_at p t
-    ≡ (bytes_eq t (codes "trusted") && is_at_host side)
+    ≡ (bytes_eq t (codes "trusted") && is_host_side side)
     → Reads (word_test (codes "more") ∷ trusted_test p ∷ []) (m ∷ t ∷ [])
     (ok_or (marks_in side (m ∷ t ∷ [])) fault.Word >>= λ z. Ok (k z))
 marks_reads p m t Host k trusted = by_tests (bytes_eq m (codes "more")) (bytes_eq t (codes "trusted")) refl refl
@@ -163,9 +156,9 @@ event_reads first rest =
     (made_reads (two_number_tests rest) rest (two_numbers_in rest) (λ n. Cut n.0 n.1) (two_numbers rest))
     (row_reads (codes "dump") number_tests (drop 9 event_table) rest first _ _ _
     (made_reads (number_tests rest) rest (one_number_in rest) Dump (one_number rest))
-    (interface_reads first rest (drop 19 event_table) (last_event_in first rest)
-    (access_reads first rest (drop 21 event_table) (peer_event_in first rest)
-    (peer_reads first rest (drop 25 event_table) (hop_event_in first rest)
+    (interface_reads first rest (drop 19 event_table) (access_event_in first rest)
+    (access_reads first rest (drop 21 event_table) (parsed_peer_event first rest)
+    (peer_reads first rest (drop 25 event_table) (parsed_hop_event first rest)
     (hop_reads first rest (drop 28 event_table) (bytes_event_in first rest)
     (last_row (codes "send") send_tests (drop 29 event_table) rest first _ _ (send rest)
     (last_row (codes "psend") peer_send_tests (drop 30 event_table) rest first _ _ (peer_send rest)

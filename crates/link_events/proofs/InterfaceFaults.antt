@@ -6,7 +6,7 @@ use Rattle.link_events.specs.Terms.{ScriptEvent, Interface, InterfaceEvent, Loss
 use Rattle.link_events.specs.Terms.fault
 use Rattle.link_events.specs.Terms.ie
 use Rattle.link_events.specs.Words.{number_of_word}
-use Rattle.link_events.specs.Parts.{◌>>=◌, asked_in, one_number_in, Row, number_test}
+use Rattle.link_events.specs.Parts.{◌>>=◌, number_and_loss, one_number_in, Row, number_test}
 use Rattle.link_events.specs.Parts.{length_in, length_test, asked_tests, number_tests}
 use Rattle.link_events.specs.Interfaces.{register_in, register_value_in, write_event_in}
 use Rattle.link_events.specs.Interfaces.{memory_in}
@@ -43,9 +43,9 @@ memory (a ∷ l ∷ x ∷ ws) = miscounted (a ∷ l ∷ x ∷ ws)
 -- ---- the rows
 
 asked_row : (rest : List Text) (event : ℕ → Option Loss → InterfaceEvent)
-    → RowReads (asked_tests rest) rest (made_interface (asked_in rest >>= λ a. Ok (event a.0 a.1)))
+    → RowReads (asked_tests rest) rest (made_interface (number_and_loss rest >>= λ a. Ok (event a.0 a.1)))
 asked_row rest event = made_reads (asked_tests rest) rest _ Interface
-    (made_reads (asked_tests rest) rest (asked_in rest) (λ a. event a.0 a.1) (asked rest))
+    (made_reads (asked_tests rest) rest (number_and_loss rest) (λ a. event a.0 a.1) (asked rest))
 
 number_row : (rest : List Text) (event : ℕ → InterfaceEvent) → RowReads (number_tests rest) rest
     (made_interface (one_number_in rest >>= λ n. Ok (event n)))

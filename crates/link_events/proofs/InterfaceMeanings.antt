@@ -7,15 +7,15 @@ use Rattle.std.specs.Option.{ok_or, unwrap_or, option_map, option_and_then}
 use Rattle.std.specs.Str.{bytes_eq}
 use Rattle.std.proofs.lemmas.Bool.{eqb-true, ltb-true, leb-true, lt-ltb}
 use Rattle.ide_types.specs.Names.{Text}
-use Rattle.interface_words.specs.declared.register.Register.{Register}
-use Rattle.interface_words.specs.declared.register.Register.TheVariants.{Command, CacheLine, Msix, Lnr, Tph, Pasid, Ats}
-use Rattle.interface_words.specs.declared.register.Register.TheVariants.{Bar}
-use Rattle.interface_words.specs.RegisterNames.{width_of, IsAmongSix}
+use Rattle.ide_types.specs.declared.register.Register.{Register}
+use Rattle.ide_types.specs.declared.register.Register.TheVariants.{Command, CacheLine, Msix, Lnr, Tph, Pasid, Ats}
+use Rattle.ide_types.specs.declared.register.Register.TheVariants.{Bar}
+use Rattle.ide_types.specs.RegisterNames.{width_of, IsAmongSix}
 use Rattle.link_events.specs.Terms.{ScriptEvent, Interface, InterfaceEvent, Loss, LineFault}
 use Rattle.link_events.specs.Terms.fault
 use Rattle.link_events.specs.Terms.ie
 use Rattle.link_events.specs.Words.{number_of_word}
-use Rattle.link_events.specs.Parts.{◌>>=◌, asked_in, one_number_in, length_in, LossSpelledBy, AskedSpelledBy}
+use Rattle.link_events.specs.Parts.{◌>>=◌, number_and_loss, one_number_in, length_in, LossSpelledBy, AskedSpelledBy}
 use Rattle.link_events.specs.Interfaces.{register_word, bar_number, bar_in, register_in, register_value_in}
 use Rattle.link_events.specs.Interfaces.{write_event_in, memory_in, interface_event_of}
 use Rattle.link_events.specs.Interfaces.{InterfaceSpelledBy}
@@ -164,10 +164,10 @@ memory_spelled (a ∷ l ∷ x ∷ ws) e h = absurd (err_ok fault.Count e h)
 asked_as : (rest : List Text) (word : Text) (event : ℕ → Option Loss → InterfaceEvent)
     → ((a : ℕ × Option Loss) → AskedSpelledBy word a.0 a.1 (word ∷ rest)
     → InterfaceSpelledBy (event a.0 a.1) (word ∷ rest))
-    → SpelledAs SpelledBy rest word (made_interface (asked_in rest >>= λ a. Ok (event a.0 a.1)))
+    → SpelledAs SpelledBy rest word (made_interface (number_and_loss rest >>= λ a. Ok (event a.0 a.1)))
 asked_as rest word event each =
     made SpelledBy rest word _ Interface
-    (made InterfaceSpelledBy rest word (asked_in rest) (λ a. event a.0 a.1)
+    (made InterfaceSpelledBy rest word (number_and_loss rest) (λ a. event a.0 a.1)
     (λ a h. each a (asked_spelled word rest a h)))
 
 -- before what else the first word may be
@@ -204,7 +204,7 @@ interface_spelled first rest z others =
 asked_meant : (event : ℕ → Option Loss → InterfaceEvent) (interface : ℕ) (lose : Option Loss) (rest : List Text)
     (i : Text)
     → number_of_word i ≡ Some interface → LossSpelledBy lose rest
-    → (made_interface (asked_in (i ∷ rest) >>= λ a. Ok (event a.0 a.1)) >>= λ e. Ok (Some e))
+    → (made_interface (number_and_loss (i ∷ rest) >>= λ a. Ok (event a.0 a.1)) >>= λ e. Ok (Some e))
     ≡ Ok (Some (Interface (event interface lose)))
 asked_meant event interface lose rest i a c =
     let loss = loss_meant rest lose c in

@@ -18,15 +18,8 @@ use Rattle.link_events.specs.Terms.fault
 use Rattle.link_events.specs.Words.{words_in, number_of_word, mask_in, bytes_in, port_of_word, any_port_of_word}
 use Rattle.ide_types.specs.Names.{is_printable}
 use Rattle.link_events.specs.Parse.{◌>>=◌, operation_in, marks_in, send_in, one_number_in}
-use Rattle.link_events.specs.Parse.{
-  two_numbers_in,
-  alter_in,
-  arrive_in,
-  bytes_event_in,
-  hop_event_in,
-  peer_event_in,
-  last_event_in,
-}
+use Rattle.link_events.specs.Parse.{two_numbers_in, alter_in, arrive_in, bytes_event_in, parsed_hop_event}
+use Rattle.link_events.specs.Parse.{parsed_peer_event, access_event_in}
 use Rattle.link_events.specs.Parse.{event_by, event_in, is_comment, line_meaning}
 use Rattle.link_events.specs.Spells.{LossSpelledBy, mark_words, SpelledBy, SpellsEvent}
 use Rattle.link_events.specs.Spells.{MeaningIsSpelling}
@@ -167,9 +160,9 @@ event_spelled first rest =
     (made SpelledBy rest _ (two_numbers_in rest) (λ n. Cut n.0 n.1) (two_spelled _ rest))
     (tested (SpelledAs SpelledBy rest) first (codes "dump") _ _ _
     (made SpelledBy rest _ (one_number_in rest) Dump (one_spelled _ rest))
-    (interface_spelled first rest (last_event_in first rest)
-    (access_spelled first rest (peer_event_in first rest)
-    (peer_spelled first rest (hop_event_in first rest)
+    (interface_spelled first rest (access_event_in first rest)
+    (access_spelled first rest (parsed_peer_event first rest)
+    (peer_spelled first rest (parsed_hop_event first rest)
     (hop_spelled first rest (bytes_event_in first rest)
     (tested_last (SpelledAs SpelledBy rest) first (codes "send") _ _ (send_spelled rest)
     (tested_last (SpelledAs SpelledBy rest) first (codes "psend") _ _ (peer_send_spelled rest)

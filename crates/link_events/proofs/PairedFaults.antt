@@ -10,7 +10,7 @@ use Rattle.link_events.specs.Terms.fault
 use Rattle.link_events.specs.Terms.pe
 use Rattle.link_events.specs.Terms.he
 use Rattle.link_events.specs.Words.{number_of_word, bytes_in}
-use Rattle.link_events.specs.Parts.{◌>>=◌, asked_in, operation_in, two_numbers_in, WordTest, Row, number_test}
+use Rattle.link_events.specs.Parts.{◌>>=◌, number_and_loss, operation_in, two_numbers_in, WordTest, Row, number_test}
 use Rattle.link_events.specs.Parts.{bytes_test, word_test, asked_tests, operation_tests, two_number_tests}
 use Rattle.link_events.specs.Paired.{side_of_word, more_in, peer_send_in, peer_event_of, hop_event_of, side_test}
 use Rattle.link_events.specs.Paired.{peer_send_tests, peer_rows, hop_rows}
@@ -46,9 +46,9 @@ peer_send (p ∷ s ∷ w ∷ m ∷ n ∷ ws) = rw (lt-ltb 1 (length (m ∷ n ∷
 -- ---- the rows
 
 peer_asked_row : (rest : List Text) (event : ℕ → Option Loss → PeerEvent)
-    → RowReads (asked_tests rest) rest (made_peer (asked_in rest >>= λ a. Ok (event a.0 a.1)))
+    → RowReads (asked_tests rest) rest (made_peer (number_and_loss rest >>= λ a. Ok (event a.0 a.1)))
 peer_asked_row rest event = made_reads (asked_tests rest) rest _ Peer
-    (made_reads (asked_tests rest) rest (asked_in rest) (λ a. event a.0 a.1) (asked rest))
+    (made_reads (asked_tests rest) rest (number_and_loss rest) (λ a. event a.0 a.1) (asked rest))
 
 peer_operation_row : (rest : List Text) (event : ℕ → ℕ → Option Loss → PeerEvent)
     → RowReads (operation_tests rest) rest (made_peer (operation_in rest >>= λ o. Ok (event o.0 o.1 o.2)))

@@ -12,21 +12,13 @@ use Rattle.link_events.specs.Terms.fault
 use Rattle.link_events.specs.Terms.pe
 use Rattle.link_events.specs.Terms.he
 use Rattle.link_events.specs.Words.{number_of_word, bytes_in}
-use Rattle.link_events.specs.Parts.{◌>>=◌, asked_in, operation_in, two_numbers_in, LossSpelledBy}
+use Rattle.link_events.specs.Parts.{◌>>=◌, number_and_loss, operation_in, two_numbers_in, LossSpelledBy}
 use Rattle.link_events.specs.Paired.{side_of_word, more_in, peer_send_in, peer_event_of, hop_event_of, side_letter}
 use Rattle.link_events.specs.Paired.{more_words, PeerSendSpelledBy, PeerSpelledBy, HopSpelledBy}
 use Rattle.link_events.specs.Parse.{made_peer, made_hop, event_in}
 use Rattle.link_events.specs.Spells.{SpelledBy}
-use Rattle.link_events.proofs.Steps.{
-  err_ok,
-  ok_ok,
-  some_some,
-  none_some,
-  same_text,
-  next_of,
-  next_result,
-  tested_family,
-}
+use Rattle.link_events.proofs.Steps.{err_ok, ok_ok, some_some, none_some, same_text, next_of, next_result}
+use Rattle.link_events.proofs.Steps.{tested_family}
 use Rattle.link_events.proofs.Spelled.{asked_spelled, operation_spelled, two_spelled, loss_meant, SpelledAs, made}
 
 -- ---- the words of a send
@@ -94,10 +86,10 @@ peer_send_spelled (p ∷ s ∷ w ∷ marks) e h = peer_send_step p s w marks e (
 -- ---- what was read is spelled, before what else the first word may be
 
 peer_asked : (rest : List Text) (word : Text) (event : ℕ → Option Loss → PeerEvent)
-    → ((a : ℕ × Option Loss) → asked_in rest ≡ Ok a → PeerSpelledBy (event a.0 a.1) (word ∷ rest))
-    → SpelledAs SpelledBy rest word (made_peer (asked_in rest >>= λ a. Ok (event a.0 a.1)))
+    → ((a : ℕ × Option Loss) → number_and_loss rest ≡ Ok a → PeerSpelledBy (event a.0 a.1) (word ∷ rest))
+    → SpelledAs SpelledBy rest word (made_peer (number_and_loss rest >>= λ a. Ok (event a.0 a.1)))
 peer_asked rest word event each =
-    made SpelledBy rest word _ Peer (made PeerSpelledBy rest word (asked_in rest) (λ a. event a.0 a.1) each)
+    made SpelledBy rest word _ Peer (made PeerSpelledBy rest word (number_and_loss rest) (λ a. event a.0 a.1) each)
 
 peer_operation : (rest : List Text) (word : Text) (event : ℕ → ℕ → Option Loss → PeerEvent)
     → ((o : ℕ × ℕ × Option Loss) → operation_in rest ≡ Ok o → PeerSpelledBy (event o.0 o.1 o.2) (word ∷ rest))
@@ -146,7 +138,7 @@ peer_send_meant ws peer side bytes more h =
 
 peer_asked_meant : (event : ℕ → Option Loss → PeerEvent) (peer : ℕ) (lose : Option Loss) (rest : List Text) (p : Text)
     → number_of_word p ≡ Some peer → LossSpelledBy lose rest
-    → (made_peer (asked_in (p ∷ rest) >>= λ a. Ok (event a.0 a.1)) >>= λ e. Ok (Some e))
+    → (made_peer (number_and_loss (p ∷ rest) >>= λ a. Ok (event a.0 a.1)) >>= λ e. Ok (Some e))
     ≡ Ok (Some (Peer (event peer lose)))
 peer_asked_meant event peer lose rest p a c =
     let loss = loss_meant rest lose c in

@@ -10,7 +10,7 @@ use Rattle.link_events.specs.Terms.{ScriptEvent, Loss, LineFault}
 use Rattle.link_events.specs.Terms.fault
 use Rattle.link_events.specs.Words.{number_of_word, lost_of_word}
 use Rattle.link_events.specs.Parts.{◌>>=◌, lost_exchange_in, one_number_in, two_numbers_in, WordTest, Row, number_test}
-use Rattle.link_events.specs.Parts.{loss_in, asked_in, operation_in, lost_test, word_test, number_tests}
+use Rattle.link_events.specs.Parts.{loss_in, number_and_loss, operation_in, lost_test, word_test, number_tests}
 use Rattle.link_events.specs.Parts.{two_number_tests, asked_tests, operation_tests}
 use Rattle.link_events.specs.Faults.{FirstOff, RowFault, TableFault}
 use Rattle.link_events.proofs.Steps.{ok_err, err_err, false_true}
@@ -151,7 +151,7 @@ operation (l ∷ s ∷ a ∷ n ∷ w ∷ []) =
     (lost n w (λ z. (x, y, z)))))
 operation (l ∷ s ∷ a ∷ n ∷ w ∷ v ∷ ws) = miscounted (l ∷ s ∷ a ∷ n ∷ w ∷ v ∷ ws)
 
-pub asked : (ws : List Text) → RowReads (asked_tests ws) ws (asked_in ws)
+pub asked : (ws : List Text) → RowReads (asked_tests ws) ws (number_and_loss ws)
 asked [] = miscounted []
 asked (i ∷ []) = step_reads number_test (number_of_word i) i [] [] (λ x. Ok (x, None)) refl
     (λ x is. end_reads (x, None))

@@ -1,24 +1,6 @@
 -- A spelled event is allowed: its link is one of eight, and it has no more bytes than its line.
-use Rattle.std.proofs.Common.{
-  suc,
-  true,
-  false,
-  cond,
-  nat_le,
-  not,
-  ◌&&◌,
-  ◌||◌,
-  ◌==◌,
-  ◌+◌,
-  ◌-◌,
-  ◌≡◌,
-  ◌<◌,
-  ◌≤◌,
-  ◌^◌,
-  ℕ,
-  List,
-  [],
-}
+use Rattle.std.proofs.Common.{suc, true, false, cond, nat_le, not, ◌&&◌, ◌||◌, ◌==◌, ◌+◌, ◌-◌, ◌≡◌, ◌<◌, ◌≤◌, ◌^◌, ℕ}
+use Rattle.std.proofs.Common.{List, []}
 use Rattle.std.proofs.Common.{◌∷◌, Bool, Some, None, Ok, Err, length, filter, refl, ap, subst, arith, codes}
 use Rattle.std.specs.Prelude.{if◌then◌else◌}
 use Rattle.std.specs.List.{AllByRecursion, onto_first, slice_split}
@@ -96,22 +78,22 @@ few_bytes w bytes is = by_dash (bytes_eq w (codes "-")) is
 -- ---- ports
 
 link_step : (d : ℕ) (p : PortName) (low high host device : Bool) → nat_le d 55 ≡ high
-    → (if not (low && high) then None else if host then Some (record { side = Host; link = d - 48 }) else if device then
-    Some (record { side = Device; link = d - 48 }) else None) ≡ Some p
-    → p.link < 8
+    → (if not (low && high) then None else if host then Some (record { side = Host; line = d - 48 }) else if device then
+    Some (record { side = Device; line = d - 48 }) else None) ≡ Some p
+    → p.line < 8
 link_step d p true true true device x e =
-    let link : d - 48 ≡ p.link = ap (λ (q : PortName). q.link) (some_some (record { side = Host; link = d - 48 }) p e)
+    let link : d - 48 ≡ p.line = ap (λ (q : PortName). q.line) (some_some (record { side = Host; line = d - 48 }) p e)
     in
     omega (arith, leb-true d 55 x)
 link_step d p true true false true x e =
-    let link : d - 48 ≡ p.link = ap (λ (q : PortName). q.link) (some_some (record { side = Device; link = d - 48 }) p e)
+    let link : d - 48 ≡ p.line = ap (λ (q : PortName). q.line) (some_some (record { side = Device; line = d - 48 }) p e)
     in
     omega (arith, leb-true d 55 x)
 link_step d p true true false false x e = absurd (none_some p e)
 link_step d p true false host device x e = absurd (none_some p e)
 link_step d p false high host device x e = absurd (none_some p e)
 
-port_link : (w : Text) (p : PortName) → port_of_word w ≡ Some p → p.link < 8
+port_link : (w : Text) (p : PortName) → port_of_word w ≡ Some p → p.line < 8
 unfolding port_of_word
 port_link [] p e = absurd (none_some p e)
 port_link (s ∷ []) p e = absurd (none_some p e)

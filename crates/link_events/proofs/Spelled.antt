@@ -1,23 +1,7 @@
 -- Parts of lines that several families of events have: what was read of words is what they spell, and the other way
 -- round.
-use Rattle.std.proofs.Common.{
-  true,
-  false,
-  nat_le,
-  not,
-  ◌&&◌,
-  ◌≤◌,
-  arith,
-  ◌≡◌,
-  ℕ,
-  List,
-  [],
-  ◌∷◌,
-  Bool,
-  Option,
-  Some,
-  None,
-}
+use Rattle.std.proofs.Common.{true, false, nat_le, not, ◌&&◌, ◌≤◌, arith, ◌≡◌, ℕ, List, [], ◌∷◌, Bool, Option, Some}
+use Rattle.std.proofs.Common.{None}
 use Rattle.std.proofs.Common.{Result, Ok, Err, refl, ◌∙◌}
 use Rattle.std.proofs.Common.{ap, subst, codes}
 use Rattle.std.specs.Prelude.{if◌then◌else◌}
@@ -29,7 +13,7 @@ use Rattle.link_events.specs.Terms.{Loss, LineFault}
 use Rattle.link_events.specs.Terms.fault
 use Rattle.link_events.specs.Words.{number_of_word, lost_of_word}
 use Rattle.link_events.specs.Parts.{◌>>=◌, lost_exchange_in, loss_in, is_loss_long, one_number_in, two_numbers_in}
-use Rattle.link_events.specs.Parts.{asked_in, operation_in, length_in, LossSpelledBy, OneSpelledBy, TwoSpelledBy}
+use Rattle.link_events.specs.Parts.{number_and_loss, operation_in, length_in, LossSpelledBy, OneSpelledBy, TwoSpelledBy}
 use Rattle.link_events.specs.Parts.{AskedSpelledBy, OperationSpelledBy}
 use Rattle.link_events.proofs.Steps.{err_ok, ok_ok, some_some, none_some, same_text, next_of, next_result}
 
@@ -119,7 +103,7 @@ asked_step first i rest a true h =
     subst (λ (q : ℕ × Option Loss). AskedSpelledBy first q.0 q.1 (first ∷ i ∷ rest)) (ok_ok (x.0, y.0) a y.2)
     ((i, x.1), rest, loss_spelled rest y.0 y.1, refl)
 
-pub asked_spelled : (first : Text) (ws : List Text) (a : ℕ × Option Loss) → asked_in ws ≡ Ok a
+pub asked_spelled : (first : Text) (ws : List Text) (a : ℕ × Option Loss) → number_and_loss ws ≡ Ok a
     → AskedSpelledBy first a.0 a.1 (first ∷ ws)
 asked_spelled first [] a h = absurd (err_ok fault.Count a h)
 asked_spelled first (i ∷ rest) a h = asked_step first i rest a (is_loss_long rest) h

@@ -26,16 +26,16 @@ mask_test = record { is_spelled = λ w. is_some (mask_in w); fault = Hex }
 abbrev pub port_test : WordTest
 port_test = record { is_spelled = λ w. is_some (port_of_word w); fault = Word }
 
-abbrev pub is_at_host : Side → Bool
-is_at_host Host = true
-is_at_host Device = false
+abbrev pub is_host_side : Side → Bool
+is_host_side Host = true
+is_host_side Device = false
 
 abbrev pub any_port_test : WordTest
 any_port_test = record { is_spelled = λ w. is_some (any_port_of_word w); fault = Word }
 
 -- trusted, after a host's port
 abbrev pub is_trusted_at : Text → Text → Bool
-is_trusted_at port w = bytes_eq w (codes "trusted") && option_map_or (λ (p : PortName). is_at_host p.side)
+is_trusted_at port w = bytes_eq w (codes "trusted") && option_map_or (λ (p : PortName). is_host_side p.side)
     (port_of_word port) false
 
 abbrev pub trusted_test : Text → WordTest

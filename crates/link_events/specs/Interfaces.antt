@@ -6,14 +6,14 @@ use Rattle.std.specs.Option.{ok_or, option_and_then, option_map}
 use Rattle.std.specs.Str.{bytes_eq}
 use Rattle.ide_types.specs.Names.{Text}
 use Rattle.ide_types.specs.Lines.{is_peer_line}
-use Rattle.interface_words.specs.declared.register.Register.{Register}
-use Rattle.interface_words.specs.declared.register.Register.TheVariants.{Command, CacheLine, Msix, Lnr, Tph, Pasid, Ats}
-use Rattle.interface_words.specs.declared.register.Register.TheVariants.{Bar}
-use Rattle.interface_words.specs.RegisterNames.{width_of, IsAmongSix}
+use Rattle.ide_types.specs.declared.register.Register.{Register}
+use Rattle.ide_types.specs.declared.register.Register.TheVariants.{Command, CacheLine, Msix, Lnr, Tph, Pasid, Ats}
+use Rattle.ide_types.specs.declared.register.Register.TheVariants.{Bar}
+use Rattle.ide_types.specs.RegisterNames.{width_of, IsAmongSix}
 use Rattle.link_events.specs.Terms.{InterfaceEvent, LineFault, Word, Count, Number}
 use Rattle.link_events.specs.Terms.ie
 use Rattle.link_events.specs.Words.{number_of_word}
-use Rattle.link_events.specs.Parts.{◌>>=◌, asked_in, one_number_in, WordOf, AskedSpelledBy, OneSpelledBy}
+use Rattle.link_events.specs.Parts.{◌>>=◌, number_and_loss, one_number_in, WordOf, AskedSpelledBy, OneSpelledBy}
 use Rattle.link_events.specs.Parts.{WordTest, Row, number_test, asked_tests, number_tests, length_in, length_test}
 
 -- ---- words
@@ -75,11 +75,11 @@ memory_in _ = Err Count
 -- what the manager does to an interface; nothing if the first word is none of these events
 abbrev pub asking_event_of : Text → List Text → Option (Result InterfaceEvent LineFault)
 asking_event_of first rest =
-    if bytes_eq first (codes "lock") then Some (asked_in rest >>= λ a. Ok (ie.Lock a.0 a.1))
-    else if bytes_eq first (codes "report") then Some (asked_in rest >>= λ a. Ok (ie.Report a.0 a.1))
-    else if bytes_eq first (codes "start") then Some (asked_in rest >>= λ a. Ok (ie.Start a.0 a.1))
-    else if bytes_eq first (codes "halt") then Some (asked_in rest >>= λ a. Ok (ie.Halt a.0 a.1))
-    else if bytes_eq first (codes "state") then Some (asked_in rest >>= λ a. Ok (ie.State a.0 a.1))
+    if bytes_eq first (codes "lock") then Some (number_and_loss rest >>= λ a. Ok (ie.Lock a.0 a.1))
+    else if bytes_eq first (codes "report") then Some (number_and_loss rest >>= λ a. Ok (ie.Report a.0 a.1))
+    else if bytes_eq first (codes "start") then Some (number_and_loss rest >>= λ a. Ok (ie.Start a.0 a.1))
+    else if bytes_eq first (codes "halt") then Some (number_and_loss rest >>= λ a. Ok (ie.Halt a.0 a.1))
+    else if bytes_eq first (codes "state") then Some (number_and_loss rest >>= λ a. Ok (ie.State a.0 a.1))
     else None
 
 -- an event on an interface or on memory; nothing if the first word is none of these events
@@ -95,8 +95,7 @@ interface_event_of first rest =
 -- ---- as they are spelled
 
 -- the words spell the event: a value has room in its register, and 1 to 256 bytes are shown; bindings have words of
--- their
--- own, which name a stream between devices by its number
+-- their own, which name a stream between devices by its number
 abbrev pub InterfaceSpelledBy : InterfaceEvent → List Text → Type 0
 InterfaceSpelledBy (ie.Lock interface lose) words = AskedSpelledBy (codes "lock") interface lose words
 InterfaceSpelledBy (ie.Report interface lose) words = AskedSpelledBy (codes "report") interface lose words

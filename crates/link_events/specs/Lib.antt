@@ -10,16 +10,8 @@ pub mod Spells
 pub mod Faults
 -- what clauses and crates above cite
 pub use Rattle.ide_types.specs.Names.{Text}
-pub use Rattle.link_events.specs.Terms.{
-  ScriptEvent,
-  Event,
-  InterfaceEvent,
-  AccessEvent,
-  PeerEvent,
-  HopEvent,
-  Loss,
-  Lost,
-}
+pub use Rattle.link_events.specs.Terms.{ScriptEvent, Event, InterfaceEvent, AccessEvent, PeerEvent, HopEvent, Loss}
+pub use Rattle.link_events.specs.Terms.{Lost}
 pub use Rattle.link_events.specs.Terms.{LineFault, LineError}
 pub use Rattle.link_events.specs.Words.{line_limit, words_in, line_fault_word, fault_line_of}
 pub use Rattle.ide_types.specs.Names.{is_printable}

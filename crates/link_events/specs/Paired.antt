@@ -11,7 +11,7 @@ use Rattle.link_events.specs.Terms.{ScriptEvent, PeerSend, PeerEvent, HopEvent, 
 use Rattle.link_events.specs.Terms.pe
 use Rattle.link_events.specs.Terms.he
 use Rattle.link_events.specs.Words.{number_of_word, bytes_in}
-use Rattle.link_events.specs.Parts.{◌>>=◌, asked_in, operation_in, two_numbers_in, WordOf, AskedSpelledBy}
+use Rattle.link_events.specs.Parts.{◌>>=◌, number_and_loss, operation_in, two_numbers_in, WordOf, AskedSpelledBy}
 use Rattle.link_events.specs.Parts.{OperationSpelledBy, TwoSpelledBy, WordTest, Row, number_test, bytes_test, word_test}
 use Rattle.link_events.specs.Parts.{asked_tests, operation_tests, two_number_tests}
 
@@ -44,8 +44,8 @@ peer_send_in _ = Err Count
 -- an event on a stream between devices; nothing if the first word is none of these events
 abbrev pub peer_event_of : Text → List Text → Option (Result PeerEvent LineFault)
 peer_event_of first rest =
-    if bytes_eq first (codes "pestablish") then Some (asked_in rest >>= λ a. Ok (pe.Establish a.0 a.1))
-    else if bytes_eq first (codes "pstop") then Some (asked_in rest >>= λ a. Ok (pe.Stop a.0 a.1))
+    if bytes_eq first (codes "pestablish") then Some (number_and_loss rest >>= λ a. Ok (pe.Establish a.0 a.1))
+    else if bytes_eq first (codes "pstop") then Some (number_and_loss rest >>= λ a. Ok (pe.Stop a.0 a.1))
     else if bytes_eq first (codes "bind") then Some (operation_in rest >>= λ o. Ok (pe.Bind o.0 o.1 o.2))
     else if bytes_eq first (codes "unbind") then Some (operation_in rest >>= λ o. Ok (pe.Unbind o.0 o.1 o.2))
     else None

@@ -11,15 +11,8 @@ use Rattle.link_events.specs.Terms.{ScriptEvent, Establish, Refresh, Stop, Send,
 use Rattle.link_events.specs.Terms.{Status, Interface, InterfaceEvent, Access, AccessEvent, Peer, PeerEvent, Hop}
 use Rattle.link_events.specs.Terms.{HopEvent, LineFault, Word, Count, Number, Hex, TooLong, NotAscii, LineError}
 use Rattle.link_events.specs.Terms.error
-use Rattle.link_events.specs.Words.{
-  line_limit,
-  words_in,
-  number_of_word,
-  mask_in,
-  bytes_in,
-  port_of_word,
-  any_port_of_word,
-}
+use Rattle.link_events.specs.Words.{line_limit, words_in, number_of_word, mask_in, bytes_in, port_of_word}
+use Rattle.link_events.specs.Words.{any_port_of_word}
 use Rattle.ide_types.specs.Names.{is_printable}
 pub use Rattle.link_events.specs.Parts.{◌>>=◌, lost_exchange_in, loss_in, is_loss_long, one_number_in, two_numbers_in}
 pub use Rattle.link_events.specs.Parts.{operation_in}
@@ -111,24 +104,25 @@ abbrev pub made_hop : Result HopEvent LineFault → Result ScriptEvent LineFault
 made_hop answer = answer >>= λ e. Ok (Hop e)
 
 -- an event on a hop, or one that holds bytes
-abbrev pub hop_event_in : Text → List Text → Result ScriptEvent LineFault
-hop_event_in first rest = unwrap_or (option_map made_hop (hop_event_of first rest)) (bytes_event_in first rest)
+abbrev pub parsed_hop_event : Text → List Text → Result ScriptEvent LineFault
+parsed_hop_event first rest = unwrap_or (option_map made_hop (hop_event_of first rest)) (bytes_event_in first rest)
 
 -- an event on a stream between devices, or one of these
-abbrev pub peer_event_in : Text → List Text → Result ScriptEvent LineFault
-peer_event_in first rest = unwrap_or (option_map made_peer (peer_event_of first rest)) (hop_event_in first rest)
+abbrev pub parsed_peer_event : Text → List Text → Result ScriptEvent LineFault
+parsed_peer_event first rest = unwrap_or (option_map made_peer (peer_event_of first rest)) (parsed_hop_event first rest)
 
 -- an event on a trusted read or on guarded memory, or one of these
-abbrev pub last_event_in : Text → List Text → Result ScriptEvent LineFault
-last_event_in first rest = unwrap_or (option_map made_access (access_event_of first rest)) (peer_event_in first rest)
+abbrev pub access_event_in : Text → List Text → Result ScriptEvent LineFault
+access_event_in first rest = unwrap_or (option_map made_access (access_event_of first rest))
+    (parsed_peer_event first rest)
 
 -- an event on an interface or on memory, or one of these
-abbrev pub other_event_in : Text → List Text → Result ScriptEvent LineFault
-other_event_in first rest =
-    unwrap_or (option_map made_interface (interface_event_of first rest)) (last_event_in first rest)
+abbrev pub interface_event_in : Text → List Text → Result ScriptEvent LineFault
+interface_event_in first rest =
+    unwrap_or (option_map made_interface (interface_event_of first rest)) (access_event_in first rest)
 
 abbrev pub event_by : Text → List Text → Result ScriptEvent LineFault
-event_by first rest = unwrap_or (naming_event_of first rest) (other_event_in first rest)
+event_by first rest = unwrap_or (naming_event_of first rest) (interface_event_in first rest)
 
 -- no words are no event
 abbrev pub event_in : List Text → Result (Option ScriptEvent) LineFault

@@ -46,14 +46,14 @@ two_numbers_in (m ∷ n ∷ []) = do
 two_numbers_in _ = Err Count
 
 -- a number, and what is lost
-abbrev pub asked_in : List Text → Result (ℕ × Option Loss) LineFault
-asked_in (n ∷ rest) =
+abbrev pub number_and_loss : List Text → Result (ℕ × Option Loss) LineFault
+number_and_loss (n ∷ rest) =
     if not (is_loss_long rest) then Err Count
     else do
       number ← ok_or (number_of_word n) Number
       lose ← loss_in rest
       Ok (number, lose)
-asked_in _ = Err Count
+number_and_loss _ = Err Count
 
 -- two numbers, and what is lost
 abbrev pub operation_in : List Text → Result (ℕ × ℕ × Option Loss) LineFault

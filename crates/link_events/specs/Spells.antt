@@ -7,15 +7,8 @@ use Rattle.ide_types.specs.Names.{Text}
 use Rattle.ide_types.specs.Lines.{is_port}
 use Rattle.link_events.specs.Terms.{ScriptEvent, Establish, Refresh, Stop, Send, PeerSend, Pass, Alter, Cut, Arrive}
 use Rattle.link_events.specs.Terms.{Dump, Reset, Status, Interface, Access, Peer, Hop}
-use Rattle.link_events.specs.Words.{
-  line_limit,
-  words_in,
-  number_of_word,
-  mask_in,
-  bytes_in,
-  port_of_word,
-  any_port_of_word,
-}
+use Rattle.link_events.specs.Words.{line_limit, words_in, number_of_word, mask_in, bytes_in, port_of_word}
+use Rattle.link_events.specs.Words.{any_port_of_word}
 use Rattle.ide_types.specs.Names.{is_printable}
 pub use Rattle.link_events.specs.Parts.{WordOf, LossSpelledBy, OneSpelledBy, TwoSpelledBy, OperationSpelledBy}
 use Rattle.link_events.specs.Interfaces.{InterfaceSpelledBy, IsAllowedInterface}
@@ -74,11 +67,10 @@ abbrev pub NothingIsSkipped : Type 0
 NothingIsSkipped = (line : Text) → (line_meaning line ≡ Ok None) ↔ IsSkipped line
 
 -- A host's or a device's port sends, trusted is asked of a host's port alone, bytes arrive at a port of a host, a
--- device
--- or a switch, and a place in the event's bytes has at most 64 bits. A value has room in its register, and 1 to 256
--- bytes are shown.
+-- device or a switch, and a place in the event's bytes has at most 64 bits. A value has room in its register, and 1 to
+-- 256 bytes are shown.
 abbrev pub IsAllowedInScript : ScriptEvent → Type 0
-IsAllowedInScript (Send port bytes more trusted) = (port.link < 8) × (trusted ≡ true → port.side ≡ Host)
+IsAllowedInScript (Send port bytes more trusted) = (port.line < 8) × (trusted ≡ true → port.side ≡ Host)
     × (length bytes < 2 ^ 64)
 IsAllowedInScript (PeerSend peer side bytes more) = length bytes < 2 ^ 64
 IsAllowedInScript (Arrive port bytes) = (is_port port ≡ true) × (length bytes < 2 ^ 64)

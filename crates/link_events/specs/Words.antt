@@ -65,8 +65,8 @@ bytes_in w = if bytes_eq w (codes "-") then Some [] else result_ok (decode_of w)
 unfoldable pub port_of_word : Text → Option PortName
 port_of_word (s ∷ d ∷ []) =
     if not (nat_le 48 d && nat_le d 55) then None
-    else if s == 104 then Some (record { side = Host; link = d - 48 })
-    else if s == 100 then Some (record { side = Device; link = d - 48 })
+    else if s == 104 then Some (record { side = Host; line = d - 48 })
+    else if s == 100 then Some (record { side = Device; line = d - 48 })
     else None
 port_of_word _ = None
 

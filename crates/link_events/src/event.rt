@@ -1,8 +1,7 @@
 //! The events of a history.
 
 use crate::Ends;
-use ide_types::{Bytes, Direction, PortName};
-use interface_words::Register;
+use ide_types::{Bytes, Direction, PortName, Register};
 
 /// What is lost of an exchange: its request, or its reply (this profile).
 #[derive(Clone, Copy, PartialEq, Eq)]

@@ -4,7 +4,7 @@ ghost use Rattle.std.specs.Prelude.{◌≡◌, Some, IfOk};
 ghost use Rattle.link_events.specs.declared.fault.LineError.TheVariants.{Fault};
 ghost use Rattle.link_events.specs.Words.{line_fault_word, fault_line_of};
 
-use ide_types::Memory;
+use ide_types::OutOfMemory;
 use std::alloc::Global;
 use std::fmt;
 
@@ -62,7 +62,7 @@ impl fmt::Display for LineFault {
 
 /// The last line at a line of the script, counted from 1, that spells no event, with its line feed (this
 /// profile).
-pub fn fault_line(alloc: Global, line: u64, fault: LineFault) -> Result<Vec<u8>, Memory>
+pub fn fault_line(alloc: Global, line: u64, fault: LineFault) -> Result<Vec<u8>, OutOfMemory>
     ensures { IfOk result (λ text. text.items ≡ fault_line_of line fault) }
 {
     let text = format!(in alloc; "refused {line} {fault}\n")?;

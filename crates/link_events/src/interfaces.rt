@@ -2,21 +2,15 @@
 
 ghost use Rattle.std.specs.Prelude.{◌≡◌, ◌^◌, map, nat_lt};
 ghost use Rattle.std.specs.Option.{ok_or};
-ghost use Rattle.interface_words.specs.RegisterNames.{width_of};
+ghost use Rattle.ide_types.specs.RegisterNames.{width_of};
 ghost use Rattle.link_events.specs.declared.fault.LineFault.TheVariants as fault;
-ghost use Rattle.link_events.specs.Interfaces.{
-  bar_in,
-  register_in,
-  register_value_in,
-  write_event_in,
-  memory_in,
-};
+ghost use Rattle.link_events.specs.Interfaces.{bar_in, register_in, register_value_in, write_event_in, memory_in};
 ghost use Rattle.link_events.specs.Interfaces.{asking_event_of, interface_event_of};
 
 use crate::parts::{asked, length_at, one_number};
 use crate::words::{number, number_at};
 use crate::{InterfaceEvent, LineFault};
-use interface_words::Register;
+use ide_types::Register;
 
 // A BAR: `bar`, and its number from 0 to 5.
 fn bar(word: &[u8]) -> Option<Register>

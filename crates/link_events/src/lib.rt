@@ -15,7 +15,7 @@ mod words;
 pub use ends::Ends;
 pub use event::{AccessEvent, Event, InterfaceEvent, Loss, Lost};
 pub use fault::{LINE_LIMIT, LineError, LineFault, fault_line};
-pub use ide_types::Memory;
+pub use ide_types::OutOfMemory;
 pub use parse::{faults_are_first, lines_spell, parse_line};
 pub use script::{HopEvent, PeerEvent, ScriptEvent};
 pub use words::{Words, bytes_at, is_printed, split_at_byte, words_of};

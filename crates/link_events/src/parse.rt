@@ -5,8 +5,9 @@ ghost use Rattle.std.specs.Option.{ok_or};
 ghost use Rattle.link_events.specs.declared.fault.LineFault.TheVariants as fault;
 ghost use Rattle.link_events.specs.Words.{words_in};
 ghost use Rattle.link_events.specs.Parse.{marks_in, send_in, alter_in, arrive_in, bytes_event_in};
-ghost use Rattle.link_events.specs.Parse.{packet_event_of, naming_event_of, hop_event_in, peer_event_in, last_event_in};
-ghost use Rattle.link_events.specs.Parse.{other_event_in};
+ghost use Rattle.link_events.specs.Parse.{packet_event_of, naming_event_of, parsed_hop_event, parsed_peer_event};
+ghost use Rattle.link_events.specs.Parse.{access_event_in};
+ghost use Rattle.link_events.specs.Parse.{interface_event_in};
 ghost use Rattle.link_events.specs.Parse.{event_by, event_in};
 ghost use Rattle.link_events.specs.Parse.{line_meaning, begins_bytes, line_answer, IsLineAnswer};
 ghost use Rattle.link_events.specs.Spells.{MeaningIsSpelling, NothingIsSkipped, SpelledAreAllowed};
@@ -151,9 +152,9 @@ fn naming_event(first: &[u8], rest: &[&[u8]]) -> Option<Result<ScriptEvent, Line
 
 // An event on a hop, or one that holds bytes.
 fn some_hop_event(alloc: Global, first: &[u8], rest: &[&[u8]]) -> Result<ScriptEvent, LineError>
-    ensures gives { IsLineAnswer (hop_event_in first.now (map (λ w. w.now) rest.now)) result }
+    ensures gives { IsLineAnswer (parsed_hop_event first.now (map (λ w. w.now) rest.now)) result }
     ensures exact { begins_bytes (first.now ∷ []) ≡ false
-        → result ≡ line_answer (hop_event_in first.now (map (λ w. w.now) rest.now)) }
+        → result ≡ line_answer (parsed_hop_event first.now (map (λ w. w.now) rest.now)) }
 {
     match hop_event(first, rest) {
         Some(Ok(event)) => Ok(ScriptEvent::Hop { event }),
@@ -164,9 +165,9 @@ fn some_hop_event(alloc: Global, first: &[u8], rest: &[&[u8]]) -> Result<ScriptE
 
 // An event on a stream between devices, or one of these.
 fn some_peer_event(alloc: Global, first: &[u8], rest: &[&[u8]]) -> Result<ScriptEvent, LineError>
-    ensures gives { IsLineAnswer (peer_event_in first.now (map (λ w. w.now) rest.now)) result }
+    ensures gives { IsLineAnswer (parsed_peer_event first.now (map (λ w. w.now) rest.now)) result }
     ensures exact { begins_bytes (first.now ∷ []) ≡ false
-        → result ≡ line_answer (peer_event_in first.now (map (λ w. w.now) rest.now)) }
+        → result ≡ line_answer (parsed_peer_event first.now (map (λ w. w.now) rest.now)) }
 {
     match peer_event(first, rest) {
         Some(Ok(event)) => Ok(ScriptEvent::Peer { event }),
@@ -176,10 +177,10 @@ fn some_peer_event(alloc: Global, first: &[u8], rest: &[&[u8]]) -> Result<Script
 }
 
 // An event on a trusted read or on guarded memory, or one of these.
-fn last_event(alloc: Global, first: &[u8], rest: &[&[u8]]) -> Result<ScriptEvent, LineError>
-    ensures gives { IsLineAnswer (last_event_in first.now (map (λ w. w.now) rest.now)) result }
+fn some_access_event(alloc: Global, first: &[u8], rest: &[&[u8]]) -> Result<ScriptEvent, LineError>
+    ensures gives { IsLineAnswer (access_event_in first.now (map (λ w. w.now) rest.now)) result }
     ensures exact { begins_bytes (first.now ∷ []) ≡ false
-        → result ≡ line_answer (last_event_in first.now (map (λ w. w.now) rest.now)) }
+        → result ≡ line_answer (access_event_in first.now (map (λ w. w.now) rest.now)) }
 {
     match access_event(first, rest) {
         Some(Ok(event)) => Ok(ScriptEvent::Access { event }),
@@ -189,15 +190,19 @@ fn last_event(alloc: Global, first: &[u8], rest: &[&[u8]]) -> Result<ScriptEvent
 }
 
 // An event on an interface or on memory, or one of these.
-fn other_event(alloc: Global, first: &[u8], rest: &[&[u8]]) -> Result<ScriptEvent, LineError>
-    ensures gives { IsLineAnswer (other_event_in first.now (map (λ w. w.now) rest.now)) result }
+fn some_interface_event(
+    alloc: Global,
+    first: &[u8],
+    rest: &[&[u8]],
+) -> Result<ScriptEvent, LineError>
+    ensures gives { IsLineAnswer (interface_event_in first.now (map (λ w. w.now) rest.now)) result }
     ensures exact { begins_bytes (first.now ∷ []) ≡ false
-        → result ≡ line_answer (other_event_in first.now (map (λ w. w.now) rest.now)) }
+        → result ≡ line_answer (interface_event_in first.now (map (λ w. w.now) rest.now)) }
 {
     match interface_event(first, rest) {
         Some(Ok(event)) => Ok(ScriptEvent::Interface { event }),
         Some(Err(fault)) => Err(LineError::Fault(fault)),
-        None => last_event(alloc, first, rest),
+        None => some_access_event(alloc, first, rest),
     }
 }
 
@@ -209,7 +214,7 @@ fn event(alloc: Global, first: &[u8], rest: &[&[u8]]) -> Result<ScriptEvent, Lin
     match naming_event(first, rest) {
         Some(Ok(event)) => Ok(event),
         Some(Err(fault)) => Err(LineError::Fault(fault)),
-        None => other_event(alloc, first, rest),
+        None => some_interface_event(alloc, first, rest),
     }
 }
 

@@ -3,7 +3,8 @@
 ghost use Rattle.std.specs.Prelude.{◌≡◌, map};
 ghost use Rattle.std.specs.Option.{ok_or};
 ghost use Rattle.link_events.specs.declared.fault.LineFault.TheVariants as fault;
-ghost use Rattle.link_events.specs.Parts.{loss_in, asked_in, operation_in, one_number_in, two_numbers_in, length_in};
+ghost use Rattle.link_events.specs.Parts.{loss_in, number_and_loss, operation_in, one_number_in, two_numbers_in};
+ghost use Rattle.link_events.specs.Parts.{length_in};
 
 use crate::words::{lost_at, number, number_at};
 use crate::{LineFault, Loss};
@@ -48,7 +49,7 @@ pub(crate) fn two_numbers(words: &[&[u8]]) -> Result<(u64, u64), LineFault>
 
 // A number, and what is lost.
 pub(crate) fn asked(words: &[&[u8]]) -> Result<(u64, Option<Loss>), LineFault>
-    ensures { result ≡ asked_in (map (λ w. w.now) words.now) }
+    ensures { result ≡ number_and_loss (map (λ w. w.now) words.now) }
 {
     let [number, rest @ ..] = words else {
         return Err(LineFault::Count);

@@ -171,11 +171,11 @@ fn port(word: &[u8]) -> Option<PortName>
     match *side {
         b'h' => Some(PortName {
             side: Side::Host,
-            link,
+            line: link,
         }),
         b'd' => Some(PortName {
             side: Side::Device,
-            link,
+            line: link,
         }),
         _ => None,
     }
@@ -201,19 +201,19 @@ fn any_port(word: &[u8]) -> Option<PortName>
     match *letter {
         b'h' => Some(PortName {
             side: Side::Host,
-            link,
+            line: link,
         }),
         b'd' => Some(PortName {
             side: Side::Device,
-            link,
+            line: link,
         }),
         b'u' => Some(PortName {
             side: Side::Device,
-            link: 8 + link,
+            line: 8 + link,
         }),
         b'w' => Some(PortName {
             side: Side::Host,
-            link: 16 + link,
+            line: 16 + link,
         }),
         _ => None,
     }

@@ -3,11 +3,11 @@ use Rattle.std.proofs.Common.{◌≡◌, ◌+◌, List, refl, codes}
 use Rattle.std.specs.Prelude.{if◌then◌else◌}
 use Rattle.std.specs.Str.{bytes_eq}
 use Rattle.ide_types.specs.Names.{Text}
-use Rattle.interface_words.specs.ViewNames.{view_word}
-use Rattle.interface_words.specs.declared.view.View.{View}
-use Rattle.interface_words.specs.declared.view.View.TheVariants as view
-use Rattle.interface_words.specs.declared.verdict.InterfaceVerdict.{InterfaceVerdict}
-use Rattle.interface_words.specs.declared.verdict.InterfaceVerdict.TheVariants as iv
+use Rattle.ide_types.specs.ViewNames.{view_word}
+use Rattle.ide_types.specs.declared.view.View.{View}
+use Rattle.ide_types.specs.declared.view.View.TheVariants as view
+use Rattle.ide_types.specs.declared.verdict.InterfaceVerdict.{InterfaceVerdict}
+use Rattle.ide_types.specs.declared.verdict.InterfaceVerdict.TheVariants as iv
 use Rattle.link_verdicts.proofs.WordReadings.{word_at, number, bytes, pairs}
 
 abbrev pub view_named : Text → View

@@ -1,10 +1,10 @@
 -- No word of the line of an interface or of memory has a space in it.
 use Rattle.std.proofs.Common.{rules, ◌-◌}
-use Rattle.interface_words.specs.ViewNames.{view_word}
-use Rattle.interface_words.specs.declared.view.View.{View}
-use Rattle.interface_words.specs.declared.view.View.TheVariants as view
-use Rattle.interface_words.specs.declared.verdict.InterfaceVerdict.{InterfaceVerdict}
-use Rattle.interface_words.specs.declared.verdict.InterfaceVerdict.TheVariants as iv
+use Rattle.ide_types.specs.ViewNames.{view_word}
+use Rattle.ide_types.specs.declared.view.View.{View}
+use Rattle.ide_types.specs.declared.view.View.TheVariants as view
+use Rattle.ide_types.specs.declared.verdict.InterfaceVerdict.{InterfaceVerdict}
+use Rattle.ide_types.specs.declared.verdict.InterfaceVerdict.TheVariants as iv
 use Rattle.link_verdicts.specs.InterfaceLines.{interface_words, FitsInterfaceVerdict}
 use Rattle.link_verdicts.proofs.Joins.{IsWord, AreWords}
 use Rattle.link_verdicts.proofs.Readings.{few_peers}

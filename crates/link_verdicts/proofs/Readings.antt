@@ -19,29 +19,20 @@ use Rattle.ide_types.specs.declared.line.LineKind.TheVariants as kind
 use Rattle.ide_types.specs.Ports.{host_port, device_port}
 use Rattle.ide_types.specs.Lines.{is_port, is_switch_side, is_near_hop_line, is_far_hop_line}
 use Rattle.ide_types.specs.Lines.{is_peer_line}
-use Rattle.ide_plan.specs.declared.plan.HopPlan.{HopPlan}
-use Rattle.ide_plan.specs.declared.plan.PeerPlan.{PeerPlan}
-use Rattle.ide_plan.specs.declared.plan.Plan.{Plan}
-use Rattle.ide_plan.specs.Fits.{FitsPlan}
-use Rattle.ide_plan.specs.Plans.{hop_has_id}
-use Rattle.ide_plan.specs.Ends.{link_hop, peer_has_id, own_has_id, line_has, port_at, end_on}
-use Rattle.ide_plan.proofs.EndsFound.{end_found, port_is_one, few_lines}
+use Rattle.ide_types.specs.declared.plan.HopPlan.{HopPlan}
+use Rattle.ide_types.specs.declared.plan.PeerPlan.{PeerPlan}
+use Rattle.ide_types.specs.declared.plan.Plan.{Plan}
+use Rattle.ide_types.specs.Fits.{FitsPlan}
+use Rattle.ide_types.specs.Plans.{hop_has_id}
+use Rattle.ide_types.specs.Ends.{link_hop, peer_has_id, own_has_id, line_has, port_at, end_on}
+use Rattle.ide_types.proofs.EndsFound.{end_found, port_is_one, few_lines}
 use Rattle.ide_types.specs.declared.fault_word.FaultWord.{FaultWord}
 use Rattle.ide_types.specs.declared.status.StreamStatus.{StreamStatus}
 use Rattle.ide_types.specs.declared.sub.FailCause.TheVariants as fail
 use Rattle.ide_types.specs.declared.fault_word.FaultWord.TheVariants as fault
 use Rattle.link_verdicts.specs.Terms.{NotTrusted, NotRunning, WrongStream, Stale, Outside, Crosses, Full, Effect, Sync}
-use Rattle.link_verdicts.specs.Terms.{
-  Delivered,
-  Applied,
-  Queued,
-  Stored,
-  Waiting,
-  Blocked,
-  SealedPacket,
-  UnitName,
-  Verdict,
-}
+use Rattle.link_verdicts.specs.Terms.{Delivered, Applied, Queued, Stored, Waiting, Blocked, SealedPacket, UnitName}
+use Rattle.link_verdicts.specs.Terms.{Verdict}
 use Rattle.link_verdicts.specs.Terms.{Nothing, Malformed}
 use Rattle.link_verdicts.specs.Terms.{Plain, RefusedInsecure, RefusedNoKey, RefusedUnfinished, RefusedWorn, Sealed}
 use Rattle.link_verdicts.specs.Terms.{Unknown, Insecure, NotKeyed, Fail, Held, Accepted, Established, Refreshed}
@@ -56,11 +47,11 @@ use Rattle.ide_types.specs.Names.{kind_word}
 use Rattle.link_verdicts.specs.Shown.{shown_packet, shown}
 use Rattle.link_verdicts.specs.Lines.{effect_word, operation_word, bit_of, unit_words, sync_words, sealed_words}
 use Rattle.link_verdicts.specs.Lines.{more_packets_words, packets_words, effects_words, verdict_words}
-use Rattle.interface_words.specs.declared.verdict.InterfaceVerdict.TheVariants as iv
+use Rattle.ide_types.specs.declared.verdict.InterfaceVerdict.TheVariants as iv
 use Rattle.link_verdicts.proofs.WordReadings.{word_at, number, bytes, number_back, bytes_back, pairs_back}
 use Rattle.link_verdicts.proofs.InterfaceReadings.{view_back, interface_refusal, interface_by}
 use Rattle.link_verdicts.proofs.AccessReadings.{block_named, block_back, begins_access, access_by}
-use Rattle.link_verdicts.specs.Apart.{Fits, FitsStream, FitsUnit, FitsSealed, FitPackets}
+use Rattle.link_verdicts.specs.Apart.{Fits, FitsLineStream, FitsUnit, FitsSealed, FitPackets}
 
 -- ---- words and what they stand for
 
@@ -255,8 +246,8 @@ beyond a b h = elim (cases_Bool (nat_le a b)) [
   | inr other ↦ other
 ]
 
-side_back : (s : Side) (l : ℕ) → l < 8 → port (port_word (record { side = s; link = l }))
-    ≡ record { side = s; link = l }
+side_back : (s : Side) (l : ℕ) → l < 8 → port (port_word (record { side = s; line = l }))
+    ≡ record { side = s; line = l }
 side_back Host l h = rw (beyond 8 l h, beyond 16 l (omega (arith, h))) (rw (number_back l (omega (arith, h))) refl)
 side_back Device l h = rw (beyond 8 l h, beyond 16 l (omega (arith, h))) (rw (number_back l (omega (arith, h))) refl)
 
@@ -286,16 +277,16 @@ upper_back l h =
     rw h (rw (number_back (l - 8) (omega (arith, ltb-true l 16 parts.1)), back) refl)
 
 port_by_test : (s : Side) (l : ℕ) (low : Bool) → nat_lt l 8 ≡ low → (low || is_switch_side s l) ≡ true
-    → port (port_word (record { side = s; link = l })) ≡ record { side = s; link = l }
+    → port (port_word (record { side = s; line = l })) ≡ record { side = s; line = l }
 port_by_test s l true is h = side_back s l (ltb-true l 8 is)
 port_by_test Host l false is h = lower_back l h
 port_by_test Device l false is h = upper_back l h
 
 port_back : (p : PortName) → is_port p ≡ true → port (port_word p) ≡ p
-port_back p h = port_by_test p.side p.link (nat_lt p.link 8) refl h
+port_back p h = port_by_test p.side p.line (nat_lt p.line 8) refl h
 
 -- the end that is read of a port's word and a stream's is the end
-end_back : (plan : Plan) → FitsPlan plan → (p : PortName) (s : ℕ) → FitsStream plan p.link s
+end_back : (plan : Plan) → FitsPlan plan → (p : PortName) (s : ℕ) → FitsLineStream plan p.line s
     → end plan (port_word (port_at plan.peers p)) (decimal s) ≡ p
 end_back plan fits p s h =
     rw (port_back (port_at plan.peers p) (port_is_one plan fits p s h.0), number_back s h.1)

@@ -15,27 +15,17 @@ use Rattle.ide_types.specs.declared.line.LineKind.{LineKind}
 use Rattle.ide_types.specs.declared.line.LineKind.TheVariants as kind
 use Rattle.ide_types.specs.Lines.{is_port}
 use Rattle.ide_types.specs.Names.{kind_word}
-use Rattle.ide_plan.specs.declared.plan.Plan.{Plan}
-use Rattle.ide_plan.specs.Fits.{FitsPlan}
-use Rattle.ide_plan.specs.Ends.{port_at}
-use Rattle.ide_plan.proofs.EndsFound.{port_is_one, few_lines, few_ports}
+use Rattle.ide_types.specs.declared.plan.Plan.{Plan}
+use Rattle.ide_types.specs.Fits.{FitsPlan}
+use Rattle.ide_types.specs.Ends.{port_at}
+use Rattle.ide_types.proofs.EndsFound.{port_is_one, few_lines, few_ports}
 use Rattle.link_verdicts.specs.Shown.{shown_packet, shown}
 use Rattle.ide_types.specs.declared.fault_word.FaultWord.{FaultWord}
 use Rattle.ide_types.specs.declared.status.StreamStatus.{StreamStatus}
 use Rattle.ide_types.specs.declared.sub.FailCause.TheVariants as fail
 use Rattle.ide_types.specs.declared.fault_word.FaultWord.TheVariants as fault
-use Rattle.link_verdicts.specs.Terms.{
-  Effect,
-  Sync,
-  Delivered,
-  Applied,
-  Queued,
-  Stored,
-  Waiting,
-  Blocked,
-  SealedPacket,
-  UnitName,
-}
+use Rattle.link_verdicts.specs.Terms.{Effect, Sync, Delivered, Applied, Queued, Stored, Waiting, Blocked, SealedPacket}
+use Rattle.link_verdicts.specs.Terms.{UnitName}
 use Rattle.link_verdicts.specs.Terms.{Verdict, Nothing, Malformed}
 use Rattle.link_verdicts.specs.Terms.{Plain, RefusedInsecure, RefusedNoKey, RefusedUnfinished, RefusedWorn, Sealed}
 use Rattle.link_verdicts.specs.Terms.{Unknown, Insecure, NotKeyed, Fail, Held, Accepted, Established, Refreshed}
@@ -47,7 +37,7 @@ use Rattle.link_verdicts.specs.Terms.operation
 use Rattle.ide_types.specs.Names.{Text, side_word, port_word, substream_word, fail_word, fault_word, status_word}
 use Rattle.link_verdicts.specs.Lines.{effect_word, operation_word, keyed_words, bit_of, unit_words, sync_words}
 use Rattle.link_verdicts.specs.Lines.{sealed_words, more_packets_words, packets_words, effects_words, verdict_words}
-use Rattle.link_verdicts.specs.Apart.{LinesApart, Fits, FitsKeyed, FitsStream, FitsUnit, FitsSealed, FitPackets}
+use Rattle.link_verdicts.specs.Apart.{LinesApart, Fits, FitsKeyed, FitsLineStream, FitsUnit, FitsSealed, FitPackets}
 use Rattle.link_verdicts.proofs.Joins.{IsWord, AreWords, line_apart}
 use Rattle.link_verdicts.proofs.WordSpellings.{decimal_word, bytes_are_word}
 use Rattle.link_verdicts.proofs.InterfaceSpellings.{interface_is_words}
@@ -65,9 +55,9 @@ port_by_tests Host l false false h = letter_word 104 l (omega arith) h
 port_by_tests Device l false false h = letter_word 100 l (omega arith) h
 
 port_is_word : (p : PortName) → is_port p ≡ true → IsWord (port_word p)
-port_is_word p h = port_by_tests p.side p.link _ _ (few_ports p h)
+port_is_word p h = port_by_tests p.side p.line _ _ (few_ports p h)
 
-end_is_word : (plan : Plan) → FitsPlan plan → (p : PortName) (s : ℕ) → FitsStream plan p.link s
+end_is_word : (plan : Plan) → FitsPlan plan → (p : PortName) (s : ℕ) → FitsLineStream plan p.line s
     → IsWord (port_word (port_at plan.peers p))
 end_is_word plan fits p s h = port_is_word (port_at plan.peers p) (port_is_one plan fits p s h.0)
 

@@ -3,9 +3,9 @@ use Rattle.std.specs.Prelude.{ℕ, ◌≡◌, ◌<◌, ◌^◌, true, List, [], 
 use Rattle.hex.specs.Hex.{IsBytes}
 use Rattle.ide_types.specs.declared.port.PortName.{PortName}
 use Rattle.ide_types.specs.Lines.{is_port}
-use Rattle.ide_plan.specs.declared.plan.Plan.{Plan}
-use Rattle.ide_plan.specs.Fits.{FitsPlan}
-use Rattle.ide_plan.specs.Ends.{line_has}
+use Rattle.ide_types.specs.declared.plan.Plan.{Plan}
+use Rattle.ide_types.specs.Fits.{FitsPlan}
+use Rattle.ide_types.specs.Ends.{line_has}
 use Rattle.link_verdicts.specs.Terms.{SealedPacket, UnitName, Verdict, Nothing, Malformed, Plain, RefusedInsecure}
 use Rattle.link_verdicts.specs.Terms.{RefusedNoKey, RefusedUnfinished, RefusedWorn, Sealed, Unknown, Insecure, NotKeyed}
 use Rattle.link_verdicts.specs.Terms.{Fail, Held, Accepted, Established, Refreshed, Stopped, LostRequest, LostReply}
@@ -17,18 +17,17 @@ use Rattle.link_verdicts.specs.Lines.{line_of}
 use Rattle.link_verdicts.specs.Shown.{shown}
 
 -- ---- Each number has at most 64 bits, as those of every type here have, and each byte 8. A line of the topology has
--- the
--- stream, and where none is looked up a port is named.
+-- the stream, and where none is looked up a port is named.
 
-abbrev pub FitsStream : Plan → ℕ → ℕ → Type 0
-FitsStream plan line stream = (line_has plan line stream ≡ true) × (stream < 2 ^ 64)
+abbrev pub FitsLineStream : Plan → ℕ → ℕ → Type 0
+FitsLineStream plan line stream = (line_has plan line stream ≡ true) × (stream < 2 ^ 64)
 
 abbrev pub FitsUnit : Plan → PortName → UnitName → Type 0
-FitsUnit plan port u = FitsStream plan port.link u.stream × (u.draw < 2 ^ 64) × (u.unit < 2 ^ 64)
+FitsUnit plan port u = FitsLineStream plan port.line u.stream × (u.draw < 2 ^ 64) × (u.unit < 2 ^ 64)
 
 abbrev pub FitsSealed : Plan → SealedPacket → Type 0
 FitsSealed plan p =
-    (p.number < 2 ^ 64) × FitsStream plan p.port.link p.stream × (p.draw < 2 ^ 64) × (p.unit < 2 ^ 64)
+    (p.number < 2 ^ 64) × FitsLineStream plan p.port.line p.stream × (p.draw < 2 ^ 64) × (p.unit < 2 ^ 64)
     × (p.posted < 2 ^ 64)
 
 abbrev pub FitPackets : Plan → List SealedPacket → Type 0
@@ -48,14 +47,14 @@ Fits plan RefusedUnfinished = Unit {0}
 Fits plan (RefusedWorn sub units) = units < 2 ^ 64
 Fits plan (Sealed packets) = FitPackets plan packets
 Fits plan (Unknown port stream) = (is_port port ≡ true) × (stream < 2 ^ 64)
-Fits plan (Insecure port stream) = FitsStream plan port.link stream
-Fits plan (NotKeyed port stream sub) = FitsStream plan port.link stream
-Fits plan (Fail port stream sub cause) = FitsStream plan port.link stream
+Fits plan (Insecure port stream) = FitsLineStream plan port.line stream
+Fits plan (NotKeyed port stream sub) = FitsLineStream plan port.line stream
+Fits plan (Fail port stream sub cause) = FitsLineStream plan port.line stream
 Fits plan (Held port unit) = FitsUnit plan port unit
 Fits plan (Accepted port unit effects) = FitsUnit plan port unit
-Fits plan (Established line stream draw) = FitsStream plan line stream × (draw < 2 ^ 64)
+Fits plan (Established line stream draw) = FitsLineStream plan line stream × (draw < 2 ^ 64)
 Fits plan (Refreshed link stream draw) = FitsKeyed link stream draw
-Fits plan (Stopped line stream) = FitsStream plan line stream
+Fits plan (Stopped line stream) = FitsLineStream plan line stream
 Fits plan (LostRequest exchange) = exchange < 2 ^ 64
 Fits plan (LostReply exchange) = exchange < 2 ^ 64
 Fits plan RefusedNotIdle = Unit {0}
@@ -72,8 +71,7 @@ Fits plan (Access verdict) = FitsAccessVerdict verdict
 Fits plan (Through port) = is_port port ≡ true
 
 -- Texts that are equal, and begin with the lines of two verdicts of one topology as they are shown, begin with one
--- verdict
--- of one number, and go on alike.
+-- verdict of one number, and go on alike.
 abbrev pub LinesApart : Type 0
 LinesApart =
     (plan : Plan) → FitsPlan plan → (m n : ℕ) (v w : Verdict) (xs ys : List ℕ) → m < 2 ^ 64 → n < 2 ^ 64 → Fits plan v

@@ -4,9 +4,9 @@ use Rattle.std.specs.Fmt.{decimal}
 use Rattle.hex.specs.Hex.{encode_lower, IsBytes}
 use Rattle.ide_types.specs.Names.{Text}
 use Rattle.ide_types.specs.Lines.{is_peer_line}
-use Rattle.interface_words.specs.ViewNames.{view_word}
-use Rattle.interface_words.specs.declared.verdict.InterfaceVerdict.{InterfaceVerdict}
-use Rattle.interface_words.specs.declared.verdict.InterfaceVerdict.TheVariants as iv
+use Rattle.ide_types.specs.ViewNames.{view_word}
+use Rattle.ide_types.specs.declared.verdict.InterfaceVerdict.{InterfaceVerdict}
+use Rattle.ide_types.specs.declared.verdict.InterfaceVerdict.TheVariants as iv
 use Rattle.link_verdicts.specs.Words.{bytes_word}
 
 abbrev pub interface_words : InterfaceVerdict → List Text

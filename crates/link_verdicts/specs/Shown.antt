@@ -1,7 +1,7 @@
 -- A verdict as it is shown: it names ends of lines, and its line names the ports that they are at.
 use Rattle.std.specs.Prelude.{List, map}
-use Rattle.ide_plan.specs.declared.plan.PeerPlan.{PeerPlan}
-use Rattle.ide_plan.specs.Ends.{port_at}
+use Rattle.ide_types.specs.declared.plan.PeerPlan.{PeerPlan}
+use Rattle.ide_types.specs.Ends.{port_at}
 use Rattle.link_verdicts.specs.Terms.{SealedPacket, Verdict, Sealed, Insecure, NotKeyed, Fail, Held, Accepted}
 
 abbrev pub shown_packet : List PeerPlan → SealedPacket → SealedPacket

@@ -6,8 +6,7 @@ ghost use Rattle.ide_types.specs.Names.{joined};
 ghost use Rattle.link_verdicts.specs.Words.{bytes_word};
 ghost use Rattle.link_verdicts.specs.InterfaceLines.{interface_words, IsInterfaceRefusal, ShowsBytes};
 
-use ide_types::Bytes;
-use interface_words::InterfaceVerdict;
+use ide_types::{Bytes, InterfaceVerdict};
 use std::alloc::{AllocError, Global};
 
 pub(crate) fn bytes_text(alloc: Global, bytes: &Bytes) -> Result<String, AllocError>

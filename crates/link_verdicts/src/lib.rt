@@ -12,7 +12,7 @@ mod showing;
 mod verdict;
 
 pub use access::AccessVerdict;
-pub use ide_types::Memory;
+pub use ide_types::OutOfMemory;
 pub use lines::{line, lines_apart, totals_line};
 pub use lists::{Effects, SealedPackets};
 pub use showing::shown;

@@ -10,7 +10,7 @@ ghost use Rattle.link_verdicts.specs.Apart.{LinesApart};
 
 use crate::access_lines::access_text;
 use crate::interface_lines::{bytes_text, interface_text};
-use crate::{Effect, Memory, SealedPacket, Totals, UnitName, Verdict};
+use crate::{Effect, OutOfMemory, SealedPacket, Totals, UnitName, Verdict};
 use ide_types::PortName;
 use std::alloc::{AllocError, Global};
 
@@ -327,7 +327,7 @@ fn arrival_text(alloc: Global, number: u64, verdict: &Verdict) -> Result<String,
 }
 
 /// The line of a verdict, as it is shown, after its event's number, from 1, with its line feed (this profile).
-pub fn line(alloc: Global, number: u64, verdict: &Verdict) -> Result<Vec<u8>, Memory>
+pub fn line(alloc: Global, number: u64, verdict: &Verdict) -> Result<Vec<u8>, OutOfMemory>
     ensures { IfOk result (λ text. text.items ≡ line_of number verdict.now) }
 {
     let text = text_of(alloc, number, verdict)?;
@@ -335,7 +335,7 @@ pub fn line(alloc: Global, number: u64, verdict: &Verdict) -> Result<Vec<u8>, Me
 }
 
 /// The last line of a run that was read to its end, with its line feed (this profile).
-pub fn totals_line(alloc: Global, totals: &Totals) -> Result<Vec<u8>, Memory>
+pub fn totals_line(alloc: Global, totals: &Totals) -> Result<Vec<u8>, OutOfMemory>
     ensures { IfOk result (λ text. text.items ≡ totals_line_of totals.now) }
 {
     let Totals {

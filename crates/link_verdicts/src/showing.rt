@@ -4,7 +4,7 @@ ghost use Rattle.std.specs.Prelude.{◌≡◌, ◌≤◌, length, map};
 ghost use Rattle.link_verdicts.specs.Shown.{shown as shown_of, shown_packet};
 
 use crate::{SealedPacket, SealedPackets, Verdict};
-use ide_plan::{PeerPlan, port_at};
+use ide_types::{PeerPlan, port_at};
 
 fn packet(peers: &[PeerPlan], packet: SealedPacket) -> SealedPacket
     ensures { result ≡ shown_packet peers.now packet }

@@ -1,8 +1,9 @@
 //! The verdict of each event of a script.
 
 use crate::{AccessVerdict, Effects, SealedPackets};
-use ide_types::{Bytes, FailCause, FaultWord, LineKind, PortName, StreamStatus, SubKind};
-use interface_words::InterfaceVerdict;
+use ide_types::{
+    Bytes, FailCause, FaultWord, InterfaceVerdict, LineKind, PortName, StreamStatus, SubKind,
+};
 
 /// A sealed packet: its number over the run, from 1, the end that sealed it, and what its prefix says: `posted` is the
 /// posted count, `sync` marks a sync packet (PCI Express Base 6.0 section 6.33).

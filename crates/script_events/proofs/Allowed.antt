@@ -7,43 +7,37 @@ use Rattle.std.proofs.lemmas.Option.{slice_get_within}
 use Rattle.ide_types.specs.declared.port.Side.{Side}
 use Rattle.ide_types.specs.declared.port.PortName.{PortName}
 use Rattle.ide_types.specs.Lines.{is_peer_line}
-use Rattle.ide_plan.specs.declared.plan.PeerPlan.{PeerPlan}
-use Rattle.ide_plan.specs.declared.plan.Plan.{Plan}
-use Rattle.ide_plan.specs.Fits.{FitsPlan}
-use Rattle.ide_plan.specs.Ends.{has_port, interface_link}
+use Rattle.ide_types.specs.declared.plan.PeerPlan.{PeerPlan}
+use Rattle.ide_types.specs.declared.plan.Plan.{Plan}
+use Rattle.ide_types.specs.Fits.{FitsPlan}
+use Rattle.ide_types.specs.Ends.{has_port, interface_link}
 use Rattle.script_events.specs.Terms.{Establish, Refresh, Stop, Send, PeerSend, Pass, Alter, Cut, Arrive}
 use Rattle.script_events.specs.Terms.{Dump, Reset, Status, Interface, Access, Peer, Hop, Loss}
 use Rattle.script_events.specs.Terms.event
 use Rattle.script_events.specs.Terms.pe
 use Rattle.script_events.specs.Terms.he
 use Rattle.link_events.specs.Spells.{IsAllowed, IsAllowedInScript}
-use Rattle.script_events.specs.Events.{
-  event_of,
-  peer_stream,
-  peer_stream_in,
-  bound_stream,
-  ends_at,
-  own_stream,
-  hop_stream,
-}
-use Rattle.script_events.specs.Events.{established, refreshed, stopped, shown, sent, bound, unbound, forwarded, arrived}
+use Rattle.script_events.specs.Events.{event_of, peer_stream, peer_stream_in, bound_stream, ends_at, own_stream}
+use Rattle.script_events.specs.Events.{hop_stream}
+use Rattle.script_events.specs.Events.{establish_event, refresh_event, stop_event, status_event, send_event, bind_event}
+use Rattle.script_events.specs.Events.{unbind_event, forward_event, arrive_event}
 use Rattle.script_events.specs.Events.{reset}
 use Rattle.script_events.specs.Laws.{EventsAreAllowed}
 
 -- operations on streams are allowed
-establish_is : (lose : Option Loss) (o : Option (ℕ × ℕ)) → IsAllowed (established lose o)
+establish_is : (lose : Option Loss) (o : Option (ℕ × ℕ)) → IsAllowed (establish_event lose o)
 establish_is lose None = tt
 establish_is lose (Some s) = tt
 
-refresh_is : (lose : Option Loss) (o : Option (ℕ × ℕ)) → IsAllowed (refreshed lose o)
+refresh_is : (lose : Option Loss) (o : Option (ℕ × ℕ)) → IsAllowed (refresh_event lose o)
 refresh_is lose None = tt
 refresh_is lose (Some s) = tt
 
-stop_is : (lose : Option Loss) (o : Option (ℕ × ℕ)) → IsAllowed (stopped lose o)
+stop_is : (lose : Option Loss) (o : Option (ℕ × ℕ)) → IsAllowed (stop_event lose o)
 stop_is lose None = tt
 stop_is lose (Some s) = tt
 
-status_is : (o : Option (ℕ × ℕ)) → IsAllowed (shown o)
+status_is : (o : Option (ℕ × ℕ)) → IsAllowed (status_event o)
 status_is None = tt
 status_is (Some s) = tt
 
@@ -64,16 +58,17 @@ or_right true b h = refl
 or_right false b h = h
 
 sent_is : (side : Side) (bytes : List ℕ) (more : Bool) (o : Option (ℕ × ℕ)) → OfPeers o → length bytes < 2 ^ 64
-    → IsAllowed (sent side bytes more o)
+    → IsAllowed (send_event side bytes more o)
 sent_is side bytes more None of few = tt
 sent_is side bytes more (Some s) of few = (or_right _ _ of, λ t. absurd (let never : ⊥ = cc in never), few)
 
-bound_is : (interface : ℕ) (lose : Option Loss) (o : Option (ℕ × ℕ)) → OfPeers o → IsAllowed (bound interface lose o)
+bound_is : (interface : ℕ) (lose : Option Loss) (o : Option (ℕ × ℕ)) → OfPeers o
+    → IsAllowed (bind_event interface lose o)
 bound_is interface lose None of = tt
 bound_is interface lose (Some s) of = of
 
 unbound_is : (interface : ℕ) (lose : Option Loss) (o : Option (ℕ × ℕ)) → OfPeers o
-    → IsAllowed (unbound interface lose o)
+    → IsAllowed (unbind_event interface lose o)
 unbound_is interface lose None of = tt
 unbound_is interface lose (Some s) of = of
 
@@ -87,7 +82,7 @@ bound_of plan fits interface peer =
     (peer_is plan fits peer (slice_get plan.peers peer) refl)
 
 arrived_is : (plan : Plan) (port : PortName) (bytes : List ℕ) (b : Bool) → has_port plan port ≡ b
-    → IsAllowedInScript (Arrive port bytes) → IsAllowed (arrived plan port bytes)
+    → IsAllowedInScript (Arrive port bytes) → IsAllowed (arrive_event plan port bytes)
 arrived_is plan port bytes true is h = rw is h
 arrived_is plan port bytes false is h = rw is tt
 
@@ -95,13 +90,13 @@ reset_is : (plan : Plan) (link : ℕ) (b : Bool) → nat_lt link (length plan.li
 reset_is plan link true is = rw is tt
 reset_is plan link false is = rw is tt
 
-forward_is : (plan : Plan) (link direction : ℕ) → IsAllowed (forwarded plan link direction)
+forward_is : (plan : Plan) (link direction : ℕ) → IsAllowed (forward_event plan link direction)
 forward_is plan link direction = grind arith
 
 send_is : (port : PortName) (bytes : List ℕ) (more trusted : Bool) → IsAllowedInScript (Send port bytes more trusted)
     → IsAllowed (event.Send port bytes more trusted)
 send_is port bytes more trusted h =
-    let low = lt-ltb port.link 8 h.0 in
+    let low = lt-ltb port.line 8 h.0 in
     (rw low refl, λ t. (h.1 t, low), h.2)
 
 pub events_are_allowed : EventsAreAllowed

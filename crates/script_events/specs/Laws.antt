@@ -1,6 +1,6 @@
 -- What a script's event comes to is an event that a history may have.
-use Rattle.ide_plan.specs.declared.plan.Plan.{Plan}
-use Rattle.ide_plan.specs.Fits.{FitsPlan}
+use Rattle.ide_types.specs.declared.plan.Plan.{Plan}
+use Rattle.ide_types.specs.Fits.{FitsPlan}
 use Rattle.script_events.specs.Terms.{ScriptEvent}
 use Rattle.link_events.specs.Spells.{IsAllowed, IsAllowedInScript}
 use Rattle.script_events.specs.Events.{event_of}

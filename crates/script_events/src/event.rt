@@ -1,20 +1,20 @@
-//! The event of a script's event.
+//! The event of a history that a script's event is.
 
 ghost use Rattle.std.specs.Prelude.{◌≡◌, ◌<◌, IfSome};
-ghost use Rattle.script_events.specs.Events.{event_of as event_in, established, refreshed, stopped, shown, sent, bound};
-ghost use Rattle.script_events.specs.Events.{unbound, forwarded, arrived, reset as reset_of, peer_event_in};
+ghost use Rattle.script_events.specs.Events.{event_of as event_in, establish_event, refresh_event, stop_event};
+ghost use Rattle.script_events.specs.Events.{status_event, send_event, bind_event};
+ghost use Rattle.script_events.specs.Events.{unbind_event, forward_event, arrive_event, reset as reset_of};
+ghost use Rattle.script_events.specs.Events.{peer_event_in};
 ghost use Rattle.script_events.specs.Events.{hop_event_in};
 ghost use Rattle.script_events.specs.Laws.{EventsAreAllowed};
 
 use crate::resets::reset_ends;
 use crate::streams::{bound_stream, has_port, hop, hop_stream, own_stream, peer_stream};
-use ide_plan::Plan;
-use ide_types::{Bytes, Direction, PortName, Side};
+use ide_types::{Bytes, Direction, Plan, PortName, Side, ValidPlan};
 use link_events::{Event, HopEvent, InterfaceEvent, Loss, PeerEvent, ScriptEvent};
-use valid_plan::ValidPlan;
 
 fn establish(stream: Option<(u64, u64)>, lose: Option<Loss>) -> Event
-    ensures { result ≡ established lose stream }
+    ensures { result ≡ establish_event lose stream }
 {
     match stream {
         None => Event::Absent,
@@ -23,7 +23,7 @@ fn establish(stream: Option<(u64, u64)>, lose: Option<Loss>) -> Event
 }
 
 fn refresh(stream: Option<(u64, u64)>, lose: Option<Loss>) -> Event
-    ensures { result ≡ refreshed lose stream }
+    ensures { result ≡ refresh_event lose stream }
 {
     match stream {
         None => Event::Absent,
@@ -32,7 +32,7 @@ fn refresh(stream: Option<(u64, u64)>, lose: Option<Loss>) -> Event
 }
 
 fn stop(stream: Option<(u64, u64)>, lose: Option<Loss>) -> Event
-    ensures { result ≡ stopped lose stream }
+    ensures { result ≡ stop_event lose stream }
 {
     match stream {
         None => Event::Absent,
@@ -41,7 +41,7 @@ fn stop(stream: Option<(u64, u64)>, lose: Option<Loss>) -> Event
 }
 
 fn status(stream: Option<(u64, u64)>) -> Event
-    ensures { result ≡ shown stream }
+    ensures { result ≡ status_event stream }
 {
     match stream {
         None => Event::Absent,
@@ -51,14 +51,14 @@ fn status(stream: Option<(u64, u64)>) -> Event
 
 fn send(side: Side, bytes: Bytes, more: bool, stream: Option<(u64, u64)>) -> Event
     requires { IfSome stream (λ s. s.0 < 32) }
-    ensures { result ≡ sent side bytes more stream }
+    ensures { result ≡ send_event side bytes more stream }
 {
     match stream {
         None => Event::Absent,
         Some((line, _)) => {
             let port = PortName {
                 side,
-                link: line as u8,
+                line: line as u8,
             };
             Event::Send {
                 port,
@@ -71,7 +71,7 @@ fn send(side: Side, bytes: Bytes, more: bool, stream: Option<(u64, u64)>) -> Eve
 }
 
 fn bind(interface: u64, stream: Option<(u64, u64)>, lose: Option<Loss>) -> Event
-    ensures { result ≡ bound interface lose stream }
+    ensures { result ≡ bind_event interface lose stream }
 {
     match stream {
         None => Event::Absent,
@@ -87,7 +87,7 @@ fn bind(interface: u64, stream: Option<(u64, u64)>, lose: Option<Loss>) -> Event
 }
 
 fn unbind(interface: u64, stream: Option<(u64, u64)>, lose: Option<Loss>) -> Event
-    ensures { result ≡ unbound interface lose stream }
+    ensures { result ≡ unbind_event interface lose stream }
 {
     match stream {
         None => Event::Absent,
@@ -103,7 +103,7 @@ fn unbind(interface: u64, stream: Option<(u64, u64)>, lose: Option<Loss>) -> Eve
 }
 
 fn forward(plan: &Plan, link: u64, direction: u64) -> Event
-    ensures { result ≡ forwarded plan.now link direction }
+    ensures { result ≡ forward_event plan.now link direction }
 {
     if hop(plan, link).is_none() {
         return Event::Absent;
@@ -122,7 +122,7 @@ fn forward(plan: &Plan, link: u64, direction: u64) -> Event
 }
 
 fn arrive(plan: &Plan, port: PortName, bytes: Bytes) -> Event
-    ensures { result ≡ arrived plan.now port bytes }
+    ensures { result ≡ arrive_event plan.now port bytes }
 {
     if has_port(plan, port) {
         Event::Arrive { port, bytes }

@@ -2,20 +2,18 @@
 
 ghost use Rattle.std.specs.Prelude.{◌≡◌, ◌≤◌, ◌<◌, ◌∷◌, ◌++◌, length, slice_get};
 ghost use Rattle.ide_types.specs.Ports.{host_port, device_port};
-ghost use Rattle.ide_plan.specs.Ends.{link_hop, hop_ends, peer_ends, reset_ends as reset_ends_of};
+ghost use Rattle.ide_types.specs.Ends.{link_hop, hop_ends, peer_ends, reset_ends as reset_ends_of};
 
 use crate::streams::hop;
-use ide_plan::{PeerPlan, Plan};
-use ide_types::{PortName, Side};
+use ide_types::{PeerPlan, Plan, PortName, Side, ValidPlan};
 use link_events::Ends;
-use valid_plan::ValidPlan;
 
 fn host(line: u8) -> PortName
     ensures { result ≡ host_port line }
 {
     PortName {
         side: Side::Host,
-        link: line,
+        line,
     }
 }
 
@@ -24,7 +22,7 @@ fn device(line: u8) -> PortName
 {
     PortName {
         side: Side::Device,
-        link: line,
+        line,
     }
 }
 
@@ -51,7 +49,7 @@ fn link_ends(plan: &Plan, link: u8) -> Ends
 }
 
 // Appends those of streams between devices at the link's device.
-#[tactic(auto, unfolding(ide_plan::specs::Ends::peer_ends))]
+#[tactic(auto, unfolding(ide_types::specs::Ends::peer_ends))]
 fn push_peer_ends(ends: &mut Ends, peers: &[PeerPlan], link: u8)
     requires room { length ends.old ≤ 6 }
     requires few { length peers.now ≤ 8 }

@@ -1,17 +1,15 @@
 //! Streams that a script names, by their lines and their IDs.
 
 ghost use Rattle.std.specs.Prelude.{◌≡◌, ◌<◌, Some, option_map, slice_get, IfSome};
-ghost use Rattle.ide_plan.specs.Plans.{has_stream_id};
-ghost use Rattle.ide_plan.specs.Ends.{own_has_id, link_hop, has_port as has_port_in};
-ghost use Rattle.ide_plan.specs.Ends.{interface_link as link_of_interface};
+ghost use Rattle.ide_types.specs.Plans.{has_stream_id};
+ghost use Rattle.ide_types.specs.Ends.{own_has_id, link_hop, has_port as has_port_in};
+ghost use Rattle.ide_types.specs.Ends.{interface_link as link_of_interface};
 ghost use Rattle.script_events.specs.Events.{own_stream as own_stream_of, peer_stream as peer_stream_of};
 ghost use Rattle.script_events.specs.Events.{segment_stream};
 ghost use Rattle.script_events.specs.Events.{hop_stream as hop_stream_of, ends_at as ends_at_link};
 ghost use Rattle.script_events.specs.Events.{bound_stream as bound_stream_of};
 
-use ide_plan::{HopPlan, LinkPlan, PeerPlan, Plan, StreamPlan};
-use ide_types::PortName;
-use valid_plan::ValidPlan;
+use ide_types::{HopPlan, LinkPlan, PeerPlan, Plan, PortName, StreamPlan, ValidPlan};
 
 fn has_stream(streams: &[StreamPlan], id: u64) -> bool
     ensures { result ≡ has_stream_id streams.now id }
@@ -87,7 +85,7 @@ pub(crate) fn hop_stream(plan: &ValidPlan, link: u64, segment: u64) -> Option<(u
 }
 
 // The link of an interface, by its number over all links.
-#[tactic(auto, unfolding(ide_plan::specs::Ends::interface_link))]
+#[tactic(auto, unfolding(ide_types::specs::Ends::interface_link))]
 fn interface_link(links: &[LinkPlan], interface: u64) -> Option<usize>
     ensures { result ≡ link_of_interface links.now 0 interface }
 {
@@ -128,9 +126,9 @@ pub(crate) fn bound_stream(plan: &ValidPlan, interface: u64, peer: u64) -> Optio
 pub(crate) fn has_port(plan: &Plan, port: PortName) -> bool
     ensures { result ≡ has_port_in plan.now port }
 {
-    match port.link {
+    match port.line {
         0..=7 => true,
-        8..=15 => hop(plan, u64::from(port.link - 8)).is_some(),
-        _ => hop(plan, u64::from(port.link) - 16).is_some(),
+        8..=15 => hop(plan, u64::from(port.line - 8)).is_some(),
+        _ => hop(plan, u64::from(port.line) - 16).is_some(),
     }
 }

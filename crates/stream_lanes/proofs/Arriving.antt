@@ -11,82 +11,76 @@ use Rattle.ide_types.specs.declared.sub.SubKind.{SubKind}
 use Rattle.ide_types.specs.declared.sub.SubKind.TheVariants.{Pr, Npr, Cpl}
 use Rattle.ide_types.specs.declared.sub.FailCause.TheVariants as fail
 use Rattle.ide_prefix.specs.Packet.{Packet}
-use Rattle.stream_rules.specs.Stream.{
-  LaneSlot,
-  Empty,
-  Programmed,
-  Armed,
-  Live,
-  LiveKey,
-  RxSub,
-  Three,
-  StreamState,
-  at_sub,
-}
-use Rattle.stream_rules.specs.Stream.{slot_in_set, live_in, Taken, Insecure, NotKeyed, Failed, Held, Accepted}
-use Rattle.stream_rules.specs.Stream.{holds_any}
-use Rattle.stream_rules.specs.Stream.{posted_sum, is_tagged, checked, dropped, dropped_held, taken_under, state_after}
-use Rattle.sub_stream.specs.{answer_of, opened_under}
+use Rattle.spec_stream.specs.Stream.{LaneSlot, Empty, Programmed, Armed, Live, LiveKey, RxSub, Three, StreamState}
+use Rattle.spec_stream.specs.Stream.{at_sub}
+use Rattle.spec_stream.specs.Stream.{slot_in_set, live_in, Taken, Insecure, NotKeyed, Failed, Held, Accepted}
+use Rattle.spec_stream.specs.Stream.{holds_any}
+use Rattle.spec_stream.specs.Stream.{posted_sum, is_tagged, outcome_of_checks, slot_without_packets, dropped_held}
+use Rattle.spec_stream.specs.Stream.{stream_outcome_by_keys, state_after}
+use Rattle.sub_stream.specs.{answer_taken, opened_unit}
 use Rattle.sub_stream.specs.declared.answer.Taken.{Taken as Answer}
 use Rattle.sub_stream.specs.declared.answer.Taken.TheVariants as answers
-use Rattle.stream_lanes.specs.Arrivals.{opened_after, ReceiveEnd, ReceiveEnds, allows, taken_at, taken_here, kept_after}
-use Rattle.stream_lanes.specs.Arrivals.{end_after, is_fail, lent_after, picked, lent_from, IsReceiveLanes}
+use Rattle.stream_lanes.specs.Arrivals.{opened_if_accepted, ReceiveEnd, ReceiveEnds, allows, lane_outcome_by_keys}
+use Rattle.stream_lanes.specs.Arrivals.{lane_outcome, kept_sub_after}
+use Rattle.stream_lanes.specs.Arrivals.{end_after, is_fail, lent_lane, value_of_kind, lent_lane_packets, IsReceiveLanes}
 use Rattle.stream_lanes.specs.Arrivals.{receiving_state}
-use Rattle.stream_lanes.specs.Arrivals.{taken_among, ends_after}
+use Rattle.stream_lanes.specs.Arrivals.{lanes_outcome, receive_ends_after}
 
 abbrev pub view : ReceiveEnd → ReceiveEnd → ReceiveEnd → Option SubKind → ℕ → ReceiveEnds
 view pr npr cpl lent takes = record {
-  mode = pr.mode;
+  aggregation = pr.aggregation;
   closed = pr.closed;
   rx = record { pr = pr.kept; npr = npr.kept; cpl = cpl.kept };
-  delivered = lent_from lent pr npr cpl;
+  delivered = lent_lane_packets lent pr npr cpl;
   takes = takes;
 }
 
 -- ---- the answer
 
-pub record IsPicked (mode : ℕ) (closed : Bool) (rx : Three RxSub) (u : SubKind) (e : ReceiveEnd) : Type 0 where
-  pub mode_is : e.mode ≡ mode
+pub record IsPicked (aggregation : ℕ) (closed : Bool) (rx : Three RxSub) (u : SubKind) (e : ReceiveEnd) : Type 0 where
+  pub aggregation_is : e.aggregation ≡ aggregation
   pub closed_is : e.closed ≡ closed
   pub sub_is : e.sub ≡ u
   pub kept_is : e.kept ≡ at_sub rx u
 
-pub picked-right : (pr npr cpl : ReceiveEnd) (takes : ℕ) (u : SubKind) → IsReceiveLanes pr npr cpl takes
-    → IsPicked pr.mode pr.closed (record { pr = pr.kept; npr = npr.kept; cpl = cpl.kept }) u (picked u pr npr cpl)
-picked-right pr npr cpl takes Pr inv = record { mode_is = refl; closed_is = refl; sub_is = inv.is_pr; kept_is = refl }
-picked-right pr npr cpl takes Npr inv = record
-    { mode_is = inv.npr_mode; closed_is = inv.npr_closed; sub_is = inv.is_npr; kept_is = refl }
-picked-right pr npr cpl takes Cpl inv = record
-    { mode_is = inv.cpl_mode; closed_is = inv.cpl_closed; sub_is = inv.is_cpl; kept_is = refl }
+pub value_of_kind-right : (pr npr cpl : ReceiveEnd) (takes : ℕ) (u : SubKind) → IsReceiveLanes pr npr cpl takes
+    → IsPicked pr.aggregation pr.closed (record { pr = pr.kept; npr = npr.kept; cpl = cpl.kept }) u
+    (value_of_kind u pr npr cpl)
+value_of_kind-right pr npr cpl takes Pr inv = record
+    { aggregation_is = refl; closed_is = refl; sub_is = inv.is_pr; kept_is = refl }
+value_of_kind-right pr npr cpl takes Npr inv = record
+    { aggregation_is = inv.npr_aggregation; closed_is = inv.npr_closed; sub_is = inv.is_npr; kept_is = refl }
+value_of_kind-right pr npr cpl takes Cpl inv = record
+    { aggregation_is = inv.cpl_aggregation; closed_is = inv.cpl_closed; sub_is = inv.is_cpl; kept_is = refl }
 
 -- the one of a sub-stream answers as the stream does
-under_here : (e : ReceiveEnd) (mode : ℕ) (closed : Bool) (rx : Three RxSub) (p : Packet) (x y : Option LiveKey)
-    → IsPicked mode closed rx p.prefix.sub e
-    → taken_at e rx.pr.got p x y ≡ taken_under mode closed rx p x y
-under_here e mode closed rx p None None is = refl
-under_here e mode closed rx p None (Some y) is = refl
-under_here e mode closed rx p (Some x) y is =
-    λ i. if holds_any y || (not p.prefix.m && nat_le (is.mode_is i) (length x.packets + 1)) then Failed fail.Unit
-    else if p.prefix.m then checked (is_tagged (is.closed_is i) (is.kept_is i).total x p)
+under_here : (e : ReceiveEnd) (aggregation : ℕ) (closed : Bool) (rx : Three RxSub) (p : Packet) (x y : Option LiveKey)
+    → IsPicked aggregation closed rx p.prefix.sub e
+    → lane_outcome_by_keys e rx.pr.got p x y ≡ stream_outcome_by_keys aggregation closed rx p x y
+under_here e aggregation closed rx p None None is = refl
+under_here e aggregation closed rx p None (Some y) is = refl
+under_here e aggregation closed rx p (Some x) y is =
+    λ i. if holds_any y || (not p.prefix.m && nat_le (is.aggregation_is i) (length x.packets + 1)) then Failed fail.Unit
+    else if p.prefix.m then outcome_of_checks (is_tagged (is.closed_is i) (is.kept_is i).total x p)
     ((sub_bits (is.sub_is i) == 0) || nat_le ((is.kept_is i).sum + posted_sum (x.packets ++ p ∷ [])) rx.pr.got) x p
     else Held x.draw (x.units + 1)
 
 pub among-here : (pr npr cpl : ReceiveEnd) (lent : Option SubKind) (takes : ℕ) (p : Packet)
     → IsReceiveLanes pr npr cpl takes
-    → taken_here (picked p.prefix.sub pr npr cpl) pr.kept.got p ≡ taken_among (view pr npr cpl lent takes) p
+    → lane_outcome (value_of_kind p.prefix.sub pr npr cpl) pr.kept.got p ≡ lanes_outcome (view pr npr cpl lent takes) p
 among-here pr npr cpl lent takes p inv =
     let rx : Three RxSub = record { pr = pr.kept; npr = npr.kept; cpl = cpl.kept } in
-    let is = picked-right pr npr cpl takes p.prefix.sub inv in
-    (λ i. taken_at (picked p.prefix.sub pr npr cpl) pr.kept.got p
+    let is = value_of_kind-right pr npr cpl takes p.prefix.sub inv in
+    (λ i. lane_outcome_by_keys (value_of_kind p.prefix.sub pr npr cpl) pr.kept.got p
     (live_in (slot_in_set (is.kept_is i).slots p.prefix.k))
     (live_in (slot_in_set (is.kept_is i).slots (not p.prefix.k))))
-    ∙ under_here (picked p.prefix.sub pr npr cpl) pr.mode pr.closed rx p
+    ∙ under_here (value_of_kind p.prefix.sub pr npr cpl) pr.aggregation pr.closed rx p
     (live_in (slot_in_set (at_sub rx p.prefix.sub).slots p.prefix.k))
     (live_in (slot_in_set (at_sub rx p.prefix.sub).slots (not p.prefix.k))) is
 
 -- ---- the receivers after it
 
-dropped_again : (slot : LaneSlot) → dropped (dropped slot) ≡ dropped slot
+dropped_again : (slot : LaneSlot) → slot_without_packets (slot_without_packets slot) ≡ slot_without_packets slot
 dropped_again Empty = refl
 dropped_again (Programmed j key) = refl
 dropped_again (Armed j key) = refl
@@ -101,7 +95,7 @@ abbrev pub of_sub : Packet → SubKind → Packet
 of_sub p u = record p { prefix = record p.prefix { sub = u } }
 
 abbrev pub kept_in : SubKind → SubKind → RxSub → Packet → Taken → RxSub
-kept_in u w rx p t = if is_same_sub u w then kept_after rx p t else rx
+kept_in u w rx p t = if is_same_sub u w then kept_sub_after rx p t else rx
 
 abbrev pub kept_last : Answer → RxSub → RxSub
 kept_last a rx = if is_fail a then dropped_held rx else rx
@@ -113,7 +107,7 @@ three_after u pr npr cpl p t a = record {
   cpl = kept_last a (kept_in u Cpl cpl p t);
 }
 
-three_right : (st : StreamState) (u : SubKind) (p : Packet) (t : Taken) (a : Answer) → Some a ≡ answer_of t
+three_right : (st : StreamState) (u : SubKind) (p : Packet) (t : Taken) (a : Answer) → Some a ≡ answer_taken t
     → three_after u st.rx.pr st.rx.npr st.rx.cpl (of_sub p u) t a ≡ (state_after st (of_sub p u) t).rx
 three_right st u p Insecure a e = absurd (cc)
 three_right st Pr p NotKeyed a e = let same : a ≡ answers.NotKeyed = cc in rw same refl
@@ -135,7 +129,7 @@ three_right st Pr p (Accepted j n unit) a e = let same : a ≡ answers.Accepted 
 three_right st Npr p (Accepted j n unit) a e = let same : a ≡ answers.Accepted j n (length unit) = cc in rw same refl
 three_right st Cpl p (Accepted j n unit) a e = let same : a ≡ answers.Accepted j n (length unit) = cc in rw same refl
 
-pub three-right : (st : StreamState) (p : Packet) (t : Taken) (a : Answer) → Some a ≡ answer_of t
+pub three-right : (st : StreamState) (p : Packet) (t : Taken) (a : Answer) → Some a ≡ answer_taken t
     → three_after p.prefix.sub st.rx.pr st.rx.npr st.rx.cpl p t a ≡ (state_after st p t).rx
 three-right st p t a e = three_right st p.prefix.sub p t a e
 
@@ -144,7 +138,7 @@ three-right st p t a e = three_right st p.prefix.sub p t a e
 -- the receiver after both steps
 pub record IsAfter (u w : SubKind) (p : Packet) (t : Taken) (a : Answer) (old new : ReceiveEnd) : Type 0 where
   pub sub_is : new.sub ≡ old.sub
-  pub mode_is : new.mode ≡ old.mode
+  pub aggregation_is : new.aggregation ≡ old.aggregation
   pub closed_is : new.closed ≡ old.closed
   pub kept_is : new.kept ≡ kept_last a (kept_in u w old.kept p t)
   pub delivered_is : is_fail a ≡ false → new.delivered ≡ (if is_same_sub u w then end_after old p t else old).delivered
@@ -156,7 +150,7 @@ few_after true old p t = omega arith
 few_after false old p t = omega arith
 
 kept_of : (b : Bool) (old : ReceiveEnd) (p : Packet) (t : Taken) → (if b then end_after old p t else old).kept
-    ≡ (if b then kept_after old.kept p t else old.kept)
+    ≡ (if b then kept_sub_after old.kept p t else old.kept)
 kept_of true old p t = refl
 kept_of false old p t = refl
 
@@ -164,10 +158,11 @@ sub_of : (b : Bool) (old : ReceiveEnd) (p : Packet) (t : Taken) → (if b then e
 sub_of true old p t = refl
 sub_of false old p t = refl
 
-mode_of : (b : Bool) (old : ReceiveEnd) (p : Packet) (t : Taken) → (if b then end_after old p t else old).mode
-    ≡ old.mode
-mode_of true old p t = refl
-mode_of false old p t = refl
+aggregation_of : (b : Bool) (old : ReceiveEnd) (p : Packet) (t : Taken)
+    → (if b then end_after old p t else old).aggregation
+    ≡ old.aggregation
+aggregation_of true old p t = refl
+aggregation_of false old p t = refl
 
 closed_of : (b : Bool) (old : ReceiveEnd) (p : Packet) (t : Taken) → (if b then end_after old p t else old).closed
     ≡ old.closed
@@ -184,7 +179,9 @@ is-after u w p t a old mid new mid_is kept delivered rest =
     let b = is_same_sub u w in
     record {
       sub_is = ap (λ (e : ReceiveEnd). e.sub) rest ∙ ap (λ (e : ReceiveEnd). e.sub) mid_is ∙ sub_of b old p t;
-      mode_is = ap (λ (e : ReceiveEnd). e.mode) rest ∙ ap (λ (e : ReceiveEnd). e.mode) mid_is ∙ mode_of b old p t;
+      aggregation_is = ap (λ (e : ReceiveEnd). e.aggregation) rest ∙ ap (λ (e : ReceiveEnd). e.aggregation) mid_is ∙
+          aggregation_of b
+          old p t;
       closed_is = ap (λ (e : ReceiveEnd). e.closed) rest ∙ ap (λ (e : ReceiveEnd). e.closed) mid_is ∙ closed_of b old p
           t;
       kept_is = kept ∙ ap (kept_last a) (ap (λ (e : ReceiveEnd). e.kept) mid_is ∙ kept_of b old p t);
@@ -194,12 +191,12 @@ is-after u w p t a old mid new mid_is kept delivered rest =
     }
 
 lent_right : (u : SubKind) (p : Packet) (t : Taken) (a : Answer) (pr npr cpl pr' npr' cpl' : ReceiveEnd)
-    (st : StreamState) → Some a ≡ answer_of t
+    (st : StreamState) → Some a ≡ answer_taken t
     → st.rx ≡ record { pr = pr.kept; npr = npr.kept; cpl = cpl.kept }
     → (is_fail a ≡ false → pr'.delivered ≡ (if is_same_sub u Pr then end_after pr (of_sub p u) t else pr).delivered)
     → (is_fail a ≡ false → npr'.delivered ≡ (if is_same_sub u Npr then end_after npr (of_sub p u) t else npr).delivered)
     → (is_fail a ≡ false → cpl'.delivered ≡ (if is_same_sub u Cpl then end_after cpl (of_sub p u) t else cpl).delivered)
-    → lent_from (lent_after u a) pr' npr' cpl' ≡ opened_after st (of_sub p u) t
+    → lent_lane_packets (lent_lane u a) pr' npr' cpl' ≡ opened_if_accepted st (of_sub p u) t
 lent_right u p Insecure a pr npr cpl pr' npr' cpl' st e is d1 d2 d3 = absurd (cc)
 lent_right u p NotKeyed a pr npr cpl pr' npr' cpl' st e is d1 d2 d3 = let same : a
     ≡ answers.NotKeyed = cc in rw same refl
@@ -209,22 +206,24 @@ lent_right u p (Held j n) a pr npr cpl pr' npr' cpl' st e is d1 d2 d3 = let same
     ≡ answers.Held j n = cc in rw same refl
 lent_right Pr p (Accepted j n unit) a pr npr cpl pr' npr' cpl' st e is d1 d2 d3 =
     let same : a ≡ answers.Accepted j n (length unit) = cc in
-    ap (λ (b : Answer). lent_from (lent_after Pr b) pr' npr' cpl') same ∙ d1 (ap is_fail same)
-    ∙ ap (λ (rx : Three RxSub). opened_under (live_in (slot_in_set rx.pr.slots p.prefix.k)) Pr unit) (sym is)
+    ap (λ (b : Answer). lent_lane_packets (lent_lane Pr b) pr' npr' cpl') same ∙ d1 (ap is_fail same)
+    ∙ ap (λ (rx : Three RxSub). opened_unit (live_in (slot_in_set rx.pr.slots p.prefix.k)) Pr unit) (sym is)
 lent_right Npr p (Accepted j n unit) a pr npr cpl pr' npr' cpl' st e is d1 d2 d3 =
     let same : a ≡ answers.Accepted j n (length unit) = cc in
-    ap (λ (b : Answer). lent_from (lent_after Npr b) pr' npr' cpl') same ∙ d2 (ap is_fail same)
-    ∙ ap (λ (rx : Three RxSub). opened_under (live_in (slot_in_set rx.npr.slots p.prefix.k)) Npr unit) (sym is)
+    ap (λ (b : Answer). lent_lane_packets (lent_lane Npr b) pr' npr' cpl') same ∙ d2 (ap is_fail same)
+    ∙ ap (λ (rx : Three RxSub). opened_unit (live_in (slot_in_set rx.npr.slots p.prefix.k)) Npr unit) (sym is)
 lent_right Cpl p (Accepted j n unit) a pr npr cpl pr' npr' cpl' st e is d1 d2 d3 =
     let same : a ≡ answers.Accepted j n (length unit) = cc in
-    ap (λ (b : Answer). lent_from (lent_after Cpl b) pr' npr' cpl') same ∙ d3 (ap is_fail same)
-    ∙ ap (λ (rx : Three RxSub). opened_under (live_in (slot_in_set rx.cpl.slots p.prefix.k)) Cpl unit) (sym is)
+    ap (λ (b : Answer). lent_lane_packets (lent_lane Cpl b) pr' npr' cpl') same ∙ d3 (ap is_fail same)
+    ∙ ap (λ (rx : Three RxSub). opened_unit (live_in (slot_in_set rx.cpl.slots p.prefix.k)) Cpl unit) (sym is)
 
 -- the packet's own receiver takes it
 own_take : (u w : SubKind) (pr npr cpl : ReceiveEnd) (got : ℕ) (p : Packet)
-    → (if is_same_sub u w then end_after (picked w pr npr cpl) p (taken_here (picked w pr npr cpl) got p) else picked w
+    → (if is_same_sub u w then end_after (value_of_kind w pr npr cpl) p
+    (lane_outcome (value_of_kind w pr npr cpl) got p) else value_of_kind w
     pr npr cpl)
-    ≡ (if is_same_sub u w then end_after (picked w pr npr cpl) p (taken_here (picked u pr npr cpl) got p) else picked w
+    ≡ (if is_same_sub u w then end_after (value_of_kind w pr npr cpl) p
+    (lane_outcome (value_of_kind u pr npr cpl) got p) else value_of_kind w
     pr npr cpl)
 own_take Pr Pr pr npr cpl got p = refl
 own_take Pr Npr pr npr cpl got p = refl
@@ -237,14 +236,15 @@ own_take Cpl Npr pr npr cpl got p = refl
 own_take Cpl Cpl pr npr cpl got p = refl
 
 pub own-after : (u w : SubKind) (p : Packet) (a : Answer) (pr npr cpl mid new : ReceiveEnd) (got : ℕ)
-    → mid ≡ (if is_same_sub u w then end_after (picked w pr npr cpl) p (taken_here (picked w pr npr cpl) got p) else
-    picked w pr npr cpl)
+    → mid ≡ (if is_same_sub u w then end_after (value_of_kind w pr npr cpl) p
+    (lane_outcome (value_of_kind w pr npr cpl) got p) else
+    value_of_kind w pr npr cpl)
     → new.kept ≡ (if is_fail a then dropped_held mid.kept else mid.kept)
     → (is_fail a ≡ false → new.delivered ≡ mid.delivered)
     → new ≡ record mid { kept = new.kept; delivered = new.delivered }
-    → IsAfter u w p (taken_here (picked u pr npr cpl) got p) a (picked w pr npr cpl) new
+    → IsAfter u w p (lane_outcome (value_of_kind u pr npr cpl) got p) a (value_of_kind w pr npr cpl) new
 own-after u w p a pr npr cpl mid new got mid_is kept delivered rest =
-    is-after u w p (taken_here (picked u pr npr cpl) got p) a (picked w pr npr cpl) mid new
+    is-after u w p (lane_outcome (value_of_kind u pr npr cpl) got p) a (value_of_kind w pr npr cpl) mid new
     (mid_is ∙ own_take u w pr npr cpl got p) kept delivered rest
 
 pub record AreAfter (p : Packet) (t : Taken) (a : Answer) (pr npr cpl pr' npr' cpl' : ReceiveEnd) : Type 0 where
@@ -253,26 +253,27 @@ pub record AreAfter (p : Packet) (t : Taken) (a : Answer) (pr npr cpl pr' npr' c
   pub cpl_is : IsAfter p.prefix.sub Cpl p t a cpl cpl'
 
 pub ends-after : (p : Packet) (t : Taken) (a : Answer) (pr npr cpl pr' npr' cpl' : ReceiveEnd) (lent : Option SubKind)
-    (takes : ℕ) → Some a ≡ answer_of t
+    (takes : ℕ) → Some a ≡ answer_taken t
     → AreAfter p t a pr npr cpl pr' npr' cpl'
-    → view pr' npr' cpl' (lent_after p.prefix.sub a) (takes + 1) ≡ ends_after (view pr npr cpl lent takes) p t
+    → view pr' npr' cpl' (lent_lane p.prefix.sub a) (takes + 1) ≡ receive_ends_after (view pr npr cpl lent takes) p t
 ends-after p t a pr npr cpl pr' npr' cpl' lent takes e after =
     let old : ReceiveEnds = view pr npr cpl lent takes in
-    let delivered : lent_from (lent_after p.prefix.sub a) pr' npr' cpl' ≡ opened_after (receiving_state old) p t =
+    let delivered : lent_lane_packets (lent_lane p.prefix.sub a) pr' npr' cpl'
+    ≡ opened_if_accepted (receiving_state old) p t =
     lent_right p.prefix.sub p t a pr npr cpl pr' npr' cpl' (receiving_state old) e refl after.pr_is.delivered_is
     after.npr_is.delivered_is after.cpl_is.delivered_is in
     (λ i. record {
-      mode = after.pr_is.mode_is i;
+      aggregation = after.pr_is.aggregation_is i;
       closed = after.pr_is.closed_is i;
       rx = record { pr = after.pr_is.kept_is i; npr = after.npr_is.kept_is i; cpl = after.cpl_is.kept_is i };
       delivered = delivered i;
       takes = takes + 1;
     })
     ∙ ap (λ (rx : Three RxSub). record {
-      mode = pr.mode;
+      aggregation = pr.aggregation;
       closed = pr.closed;
       rx = rx;
-      delivered = opened_after (receiving_state old) p t;
+      delivered = opened_if_accepted (receiving_state old) p t;
       takes = takes + 1;
     }) (three-right (receiving_state old) p t a e)
 
@@ -283,15 +284,16 @@ abbrev pub Orderly : ReceiveEnd → ℕ → Taken → Type 0
 Orderly e got (Accepted j n unit) = allows e got unit ≡ true
 Orderly e got t = Unit {0}
 
-pub orderly : (e : ReceiveEnd) (got : ℕ) (p : Packet) (x y : Option LiveKey) → Orderly e got (taken_at e got p x y)
+pub orderly : (e : ReceiveEnd) (got : ℕ) (p : Packet) (x y : Option LiveKey)
+    → Orderly e got (lane_outcome_by_keys e got p x y)
 orderly e got p None None = tt
 orderly e got p None (Some y) = tt
 orderly e got p (Some x) y =
-    by_tests (holds_any y || (not p.prefix.m && nat_le e.mode (length x.packets + 1))) p.prefix.m
+    by_tests (holds_any y || (not p.prefix.m && nat_le e.aggregation (length x.packets + 1))) p.prefix.m
     (is_tagged e.closed e.kept.total x p) (allows e got (x.packets ++ p ∷ [])) refl
   where
     by_tests : (b m tagged allowed : Bool) → allows e got (x.packets ++ p ∷ []) ≡ allowed
-        → Orderly e got (if b then Failed fail.Unit else if m then checked tagged allowed x p else Held x.draw
+        → Orderly e got (if b then Failed fail.Unit else if m then outcome_of_checks tagged allowed x p else Held x.draw
         (x.units + 1))
     by_tests true m tagged allowed is = tt
     by_tests false false tagged allowed is = tt
@@ -310,7 +312,7 @@ got_last : (b : Bool) (rx : RxSub) → (if b then dropped_held rx else rx).got �
 got_last true rx = refl
 got_last false rx = refl
 
-got_more : (rx : RxSub) (p : Packet) (t : Taken) → rx.got ≤ (kept_after rx p t).got
+got_more : (rx : RxSub) (p : Packet) (t : Taken) → rx.got ≤ (kept_sub_after rx p t).got
 got_more rx p Insecure = omega arith
 got_more rx p NotKeyed = omega arith
 got_more rx p (Failed cause) = omega arith
@@ -319,7 +321,7 @@ got_more rx p (Accepted j n unit) = omega arith
 
 sum_within : (e : ReceiveEnd) (got : ℕ) (p : Packet) (t : Taken) → (sub_bits e.sub == 0) ≡ false → e.kept.sum ≤ got
     → Orderly e got t
-    → (kept_after e.kept p t).sum ≤ got
+    → (kept_sub_after e.kept p t).sum ≤ got
 sum_within e got p Insecure other le o = le
 sum_within e got p NotKeyed other le o = le
 sum_within e got p (Failed cause) other le o = le
@@ -349,7 +351,7 @@ order_last a x y le = omega (arith, le, sum_last (is_fail a) x, got_last (is_fai
 
 pub lanes-kept : (p : Packet) (t : Taken) (a : Answer) (pr npr cpl pr' npr' cpl' : ReceiveEnd) (takes : ℕ)
     → takes < 2 ^ 40 → IsReceiveLanes pr npr cpl takes
-    → taken_here (picked p.prefix.sub pr npr cpl) pr.kept.got p ≡ t → AreAfter p t a pr npr cpl pr' npr' cpl'
+    → lane_outcome (value_of_kind p.prefix.sub pr npr cpl) pr.kept.got p ≡ t → AreAfter p t a pr npr cpl pr' npr' cpl'
     → IsReceiveLanes pr' npr' cpl' (takes + 1)
 lanes-kept p t a pr npr cpl pr' npr' cpl' takes few inv is after =
     let npr_order : (kept_in p.prefix.sub Npr npr.kept p t).sum ≤ (kept_in p.prefix.sub Pr pr.kept p t).got =
@@ -360,8 +362,8 @@ lanes-kept p t a pr npr cpl pr' npr' cpl' takes few inv is after =
       is_pr = after.pr_is.sub_is ∙ inv.is_pr;
       is_npr = after.npr_is.sub_is ∙ inv.is_npr;
       is_cpl = after.cpl_is.sub_is ∙ inv.is_cpl;
-      npr_mode = after.npr_is.mode_is ∙ inv.npr_mode ∙ sym after.pr_is.mode_is;
-      cpl_mode = after.cpl_is.mode_is ∙ inv.cpl_mode ∙ sym after.pr_is.mode_is;
+      npr_aggregation = after.npr_is.aggregation_is ∙ inv.npr_aggregation ∙ sym after.pr_is.aggregation_is;
+      cpl_aggregation = after.cpl_is.aggregation_is ∙ inv.cpl_aggregation ∙ sym after.pr_is.aggregation_is;
       npr_closed = after.npr_is.closed_is ∙ inv.npr_closed ∙ sym after.pr_is.closed_is;
       cpl_closed = after.cpl_is.closed_is ∙ inv.cpl_closed ∙ sym after.pr_is.closed_is;
       npr_order =
@@ -378,10 +380,10 @@ lanes-kept p t a pr npr cpl pr' npr' cpl' takes few inv is after =
       few = omega (arith, few);
     }
   where
-    picked_order : (w : SubKind) → p.prefix.sub ≡ w → Orderly (picked w pr npr cpl) pr.kept.got t
+    picked_order : (w : SubKind) → p.prefix.sub ≡ w → Orderly (value_of_kind w pr npr cpl) pr.kept.got t
     picked_order w e =
-        subst (λ (u : SubKind). Orderly (picked u pr npr cpl) pr.kept.got t) e
-        (subst (λ (t : Taken). Orderly (picked p.prefix.sub pr npr cpl) pr.kept.got t) is
-        (orderly (picked p.prefix.sub pr npr cpl) pr.kept.got p
-        (live_in (slot_in_set (picked p.prefix.sub pr npr cpl).kept.slots p.prefix.k))
-        (live_in (slot_in_set (picked p.prefix.sub pr npr cpl).kept.slots (not p.prefix.k)))))
+        subst (λ (u : SubKind). Orderly (value_of_kind u pr npr cpl) pr.kept.got t) e
+        (subst (λ (t : Taken). Orderly (value_of_kind p.prefix.sub pr npr cpl) pr.kept.got t) is
+        (orderly (value_of_kind p.prefix.sub pr npr cpl) pr.kept.got p
+        (live_in (slot_in_set (value_of_kind p.prefix.sub pr npr cpl).kept.slots p.prefix.k))
+        (live_in (slot_in_set (value_of_kind p.prefix.sub pr npr cpl).kept.slots (not p.prefix.k)))))

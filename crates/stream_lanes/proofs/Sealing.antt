@@ -9,41 +9,34 @@ use Rattle.std.specs.Int.{w64, to_be_bytes}
 use Rattle.std.proofs.lemmas.Grind.{common_steps}
 use Rattle.ide_types.specs.declared.port.Side.TheVariants.{Host}
 use Rattle.link_verdicts.specs.declared.verdict.SealedPacket.{SealedPacket as Described}
-use Rattle.gcm_seal.specs.Gcm.{masked, tag_of}
-use Rattle.gcm_seal.proofs.Strings.{length-masked}
+use Rattle.gcm_seal.specs.Gcm.{masked_bytes, tag_of}
+use Rattle.gcm_seal.proofs.Strings.{length-masked_bytes}
 use Rattle.gcm_seal.proofs.Sealing.{length-tag_of}
 use Rattle.ide_prefix.specs.Packet.{Packet, packet_bytes, sync_head}
 use Rattle.ide_prefix.specs.Iv.{iv_of}
-use Rattle.ide_prefix.specs.Units.{authenticated, encrypted}
-use Rattle.stream_rules.specs.Sending.{is_posted, no_key, ahead_with, begins_unit, prefix_of}
-use Rattle.stream_rules.specs.Stream.{
-  LaneSlot,
-  Empty,
-  Programmed,
-  Armed,
-  Live,
-  LiveKey,
-  LaneSlots,
-  with_slot,
-  live_sender,
-}
-use Rattle.stream_rules.specs.Stream.{lane_of, packet_under, tagged_under, untagged_under, sealed_slots, ended_slots}
-use Rattle.stream_rules.specs.Slots.{is_live_slot, any_live, is_busy, both_slots, slot_gone}
+use Rattle.ide_prefix.specs.Units.{authenticated_bytes, encrypted_bytes}
+use Rattle.spec_stream.specs.Sending.{is_posted, no_key, total_ahead, begins_unit, prefix_of}
+use Rattle.spec_stream.specs.Stream.{LaneSlot, Empty, Programmed, Armed, Live, LiveKey, LaneSlots, with_slot}
+use Rattle.spec_stream.specs.Stream.{live_sender}
+use Rattle.spec_stream.specs.Stream.{lane_of, packet_under, tagged_under, untagged_under, sealed_slots, ended_slots}
+use Rattle.spec_stream.specs.Slots.{is_live_slot, any_live, is_busy, both_slots, slot_gone}
 use Rattle.key_slots.specs.{is_only_live}
 use Rattle.sub_stream.specs.{Sender, Content, packets_under, open_packets, ready_of, ready_under, sealing_of}
-use Rattle.sub_stream.specs.{sealing_under, sealing_as, noted, ends, ahead_for, ahead_of, tagged_packet, Sealing}
+use Rattle.sub_stream.specs.{sealing_under, sealing_as, described_content, ends, sender_ahead, unit_ahead}
+use Rattle.sub_stream.specs.{tagged_packet, Sealing}
 use Rattle.sub_stream.specs.{slot_pair}
 use Rattle.sub_stream.specs.{gone_slots, gone_sender, programmed_sender}
-use Rattle.stream_lanes.specs.Lanes.{SendEnd, IsSendLane, open_unit_number, open_in, sealing_lane, said, is_spent}
+use Rattle.stream_lanes.specs.Lanes.{SendEnd, IsSendLane, open_unit_number, open_in, sealing_lane, described_packet}
+use Rattle.stream_lanes.specs.Lanes.{is_spent}
 use Rattle.stream_lanes.specs.Lanes.{packet_said}
-use Rattle.stream_lanes.specs.Lanes.{measured, sync_said}
+use Rattle.stream_lanes.specs.Lanes.{measured_packet, sync_said}
 
 abbrev pub one_live : LaneSlots → Bool
 one_live s = is_live_slot s.first && is_live_slot s.second
 
 abbrev pub view : Sender → Bool → ℕ → ℕ → SendEnd
 view tx closed posted total = record {
-  fixed = record { stream = tx.stream; mode = tx.mode; limit = tx.limit; closed = closed };
+  fixed = record { stream = tx.stream; aggregation = tx.aggregation; limit = tx.limit; closed = closed };
   sub = tx.sub;
   kept = record { slots = tx.slots; posted = posted; total = total };
 }
@@ -87,7 +80,7 @@ moved-kept tx limit closed posted total slots inv moved =
     elim moved.0 [
       | inl same ↦ record {
         same_limit = inv.same_limit;
-        some_mode = inv.some_mode;
+        some_aggregation = inv.some_aggregation;
         one_live = moved.1;
         fits = rw same inv.fits;
         ahead = rw same inv.ahead;
@@ -95,9 +88,9 @@ moved-kept tx limit closed posted total slots inv moved =
       }
       | inr none ↦ record {
         same_limit = inv.same_limit;
-        some_mode = inv.some_mode;
+        some_aggregation = inv.some_aggregation;
         one_live = moved.1;
-        fits = rw none inv.some_mode;
+        fits = rw none inv.some_aggregation;
         ahead = λ e. absurd (none_open _ none e);
         no_count = inv.no_count;
       }
@@ -183,7 +176,7 @@ said_under e m t sync o =
     let key = unwrap_or (lane_of e.kept.posted o).key no_key in
     record {
       number = 0;
-      port = record { side = Host; link = 0 };
+      port = record { side = Host; line = 0 };
       stream = e.fixed.stream;
       sub = e.sub;
       draw = key.draw;
@@ -196,16 +189,17 @@ said_under e m t sync o =
     }
 
 abbrev last_under : SendEnd → Bool → Option (Bool × LiveKey) → Bool
-last_under e more o = not more || (length (lane_of e.kept.posted o).unfinished + 1 == e.fixed.mode)
+last_under e more o = not more || (length (lane_of e.kept.posted o).unfinished + 1 == e.fixed.aggregation)
 
 abbrev whole_under : SendEnd → List ℕ → List ℕ → Bool → Bool → Bool → Option (Bool × LiveKey) → Packet
 whole_under e head payload more t sync o =
     let d = said_under e (last_under e more o) t sync o in
-    packet_under (ahead_with e.fixed.closed d.unit e.kept.total) o d head payload
+    packet_under (total_ahead e.fixed.closed d.unit e.kept.total) o d head payload
 
 -- the description of a packet
 abbrev pub said_of : SendEnd → Bool → Bool → Bool → Described
-said_of e more t sync = said e (not more || (length (sealing_lane e).unfinished + 1 == e.fixed.mode)) t sync
+said_of e more t sync = described_packet e (not more || (length (sealing_lane e).unfinished + 1 == e.fixed.aggregation))
+    t sync
 
 abbrev pub sealing_right : Sender → Bool → ℕ → ℕ → Content → Bool → Sealing
 sealing_right tx closed posted total c more =
@@ -213,10 +207,10 @@ sealing_right tx closed posted total c more =
     let d = said_of e more c.t c.sync in
     let p = packet_said e c.head c.payload d in
     record {
-      description = measured d p;
+      description = measured_packet d p;
       packet = p;
       sender = record tx {
-        ahead = (if d.m then [] else ahead_with closed d.unit total);
+        ahead = (if d.m then [] else total_ahead closed d.unit total);
         slots = sealed_slots d.m p
             tx.slots;
       };
@@ -228,17 +222,17 @@ sealing_with tx closed posted total c more o =
     let d = said_under e (last_under e more o) c.t c.sync o in
     let p = whole_under e c.head c.payload more c.t c.sync o in
     record {
-      description = measured d p;
+      description = measured_packet d p;
       packet = p;
       sender = record tx {
-        ahead = (if d.m then [] else ahead_with closed d.unit total);
+        ahead = (if d.m then [] else total_ahead closed d.unit total);
         slots = sealed_slots d.m p
             tx.slots;
       };
     }
 
 lent_ahead_is : (closed : Bool) (total n : ℕ) (lent : List ℕ) → lent ≡ (if closed then to_be_bytes w64 total else [])
-    → ahead_of lent n ≡ ahead_with closed n total
+    → unit_ahead lent n ≡ total_ahead closed n total
 lent_ahead_is closed total n lent e = by_unit closed (n == 1) lent e
   where
     by_unit : (closed b : Bool) (lent : List ℕ) → lent ≡ (if closed then to_be_bytes w64 total else [])
@@ -251,8 +245,8 @@ lent_ahead_is closed total n lent e = by_unit closed (n == 1) lent e
 -- what comes before a unit is what the rules say
 pub ahead-right : (b : Bool) (old : List ℕ) (closed : Bool) (total n : ℕ) (lent : List ℕ) → lent
     ≡ (if closed then to_be_bytes w64 total else [])
-    → (b ≡ false → old ≡ ahead_with closed n total)
-    → (if b then ahead_of lent n else old) ≡ ahead_with closed n total
+    → (b ≡ false → old ≡ total_ahead closed n total)
+    → (if b then unit_ahead lent n else old) ≡ total_ahead closed n total
 ahead-right true old closed total n lent e h = lent_ahead_is closed total n lent e
 ahead-right false old closed total n lent e h = h refl
 
@@ -285,10 +279,10 @@ sealing-is tx limit closed posted total lent c more inv live unspent is_lent is_
         ap (λ (o : Option (Bool × LiveKey)). begins_unit (lane_of posted o) && ((lane_of posted o).units == tx.limit))
         (sym is) ∙ unspent in
         let ready : ready_of tx ≡ Ok x = ap (ready_under tx.limit) is ∙ ready_live tx.limit _ x spent in
-        let open_ahead : (length x.1.packets == 0) ≡ false → tx.ahead ≡ ahead_with closed (x.1.units + 1) total =
+        let open_ahead : (length x.1.packets == 0) ≡ false → tx.ahead ≡ total_ahead closed (x.1.units + 1) total =
         subst (λ (o : Option (Bool × LiveKey)). (length (packets_under o) == 0) ≡ false → tx.ahead
-        ≡ ahead_with closed (open_unit_number o) total) is inv.ahead in
-        let ahead : ahead_for tx x.1 lent ≡ ahead_with closed (x.1.units + 1) total =
+        ≡ total_ahead closed (open_unit_number o) total) is inv.ahead in
+        let ahead : sender_ahead tx x.1 lent ≡ total_ahead closed (x.1.units + 1) total =
         ahead-right (length x.1.packets == 0) tx.ahead closed total (x.1.units + 1) lent is_lent open_ahead in
         let count : c.posted ≡ (if is_posted tx.sub then 0 else posted) = is_posted_count ∙ count_said
         (is_posted tx.sub) posted inv.no_count in
@@ -298,10 +292,10 @@ sealing-is tx limit closed posted total lent c more inv live unspent is_lent is_
       where
         sealed_with : (x : Bool × LiveKey) → List ℕ → ℕ → Sealing
         sealed_with x ahead n =
-            let m = not more || (length x.1.packets + 1 == tx.mode) in
+            let m = not more || (length x.1.packets + 1 == tx.aggregation) in
             let d : Described = record {
               number = 0;
-              port = record { side = Host; link = 0 };
+              port = record { side = Host; line = 0 };
               stream = tx.stream;
               sub = tx.sub;
               draw = x.1.draw;
@@ -314,7 +308,7 @@ sealing-is tx limit closed posted total lent c more inv live unspent is_lent is_
             } in
             let p = tagged_under ahead x.1.key x.1.packets d (untagged_under x.1.key x.1.packets d c.head c.payload) in
             record {
-              description = measured d p;
+              description = measured_packet d p;
               packet = p;
               sender = record tx { ahead = (if m then [] else ahead); slots = sealed_slots m p tx.slots };
             }
@@ -333,7 +327,7 @@ sync-same ahead None d head payload head' payload' e =
     ap (λ (y : List ℕ × List ℕ). record {
       prefix = prefix_of d;
       head = y.0;
-      body = masked [] (iv_of d.sub d.unit) (length (encrypted [])) y.1;
+      body = masked_bytes [] (iv_of d.sub d.unit) (length (encrypted_bytes [])) y.1;
       tag = [];
     })
     (same_parts d.sync head payload head' payload' e)
@@ -342,8 +336,8 @@ sync-same ahead (Some x) d head payload head' payload' e =
     (record {
       prefix = prefix_of d;
       head = y.0;
-      body = masked x.1.key (iv_of d.sub d.unit)
-          (length (encrypted x.1.packets)) y.1;
+      body = masked_bytes x.1.key (iv_of d.sub d.unit)
+          (length (encrypted_bytes x.1.packets)) y.1;
       tag = [];
     }))
     (same_parts d.sync head payload head' payload' e)
@@ -423,11 +417,12 @@ goes_on-live p s x is = by_slots s.first s.second ∙ ap (joined p) is
     by_slots (Armed g l) (Live h) = refl
 
 -- a posted packet joins, or ends its unit
-pub room-sealed : (mode n : ℕ) (m : Bool) (p : Packet) (s : LaneSlots) → any_live s ≡ true
-    → n + mode ≤ 255 + length (open_in s)
-    → (length (open_in (sealed_slots m p s)) == 0) ≡ false → n + 1 + mode ≤ 255 + length (open_in (sealed_slots m p s))
-room-sealed mode n true p s live le e = absurd (none_open _ (ended_open s) e)
-room-sealed mode n false p s live le e =
+pub room-sealed : (aggregation n : ℕ) (m : Bool) (p : Packet) (s : LaneSlots) → any_live s ≡ true
+    → n + aggregation ≤ 255 + length (open_in s)
+    → (length (open_in (sealed_slots m p s)) == 0) ≡ false → n + 1 + aggregation ≤ 255 + length
+    (open_in (sealed_slots m p s))
+room-sealed aggregation n true p s live le e = absurd (none_open _ (ended_open s) e)
+room-sealed aggregation n false p s live le e =
     let some = live-some s live in
     let on = ap packets_under (goes_on-live p s some.0 some.1) in
     let now : length (open_in (sealed_slots false p s)) ≡ length (open_in s) + 1 =
@@ -439,14 +434,14 @@ not_last : (more b : Bool) → (not more || b) ≡ false → b ≡ false
 not_last true b e = e
 not_last false b e = absurd (cc)
 
-room_left : (n mode : ℕ) → n < mode → (n + 1 == mode) ≡ false → n + 1 < mode
-room_left n mode less e = grind (arith, common_steps)
+room_left : (n aggregation : ℕ) → n < aggregation → (n + 1 == aggregation) ≡ false → n + 1 < aggregation
+room_left n aggregation less e = grind (arith, common_steps)
 
 pub sealed-kept : (tx : Sender) (limit : ℕ) (closed : Bool) (posted total : ℕ) (more : Bool) (p : Packet) (m : Bool)
     → IsSendLane tx limit closed posted total → any_live tx.slots ≡ true
-    → m ≡ (not more || (length (lane_of posted (live_sender tx.slots)).unfinished + 1 == tx.mode))
+    → m ≡ (not more || (length (lane_of posted (live_sender tx.slots)).unfinished + 1 == tx.aggregation))
     → IsSendLane (record tx {
-      ahead = (if m then [] else ahead_with closed ((lane_of posted (live_sender tx.slots)).units + 1) total);
+      ahead = (if m then [] else total_ahead closed ((lane_of posted (live_sender tx.slots)).units + 1) total);
       slots
           = sealed_slots m p tx.slots;
     }) limit closed 0 (if m then total + 1 else total)
@@ -454,36 +449,37 @@ sealed-kept tx limit closed posted total more p m inv live is_m =
     let some = live-some tx.slots live in
     under m is_m some.0 some.1
   where
-    under : (m : Bool) → m ≡ (not more || (length (lane_of posted (live_sender tx.slots)).unfinished + 1 == tx.mode))
+    under : (m : Bool) → m ≡
+        (not more || (length (lane_of posted (live_sender tx.slots)).unfinished + 1 == tx.aggregation))
         → (x : Bool × LiveKey) → live_sender tx.slots ≡ Some x
         → IsSendLane (record tx {
-          ahead = (if m then [] else ahead_with closed ((lane_of posted (live_sender tx.slots)).units + 1) total);
+          ahead = (if m then [] else total_ahead closed ((lane_of posted (live_sender tx.slots)).units + 1) total);
           slots = sealed_slots m p tx.slots;
         }) limit closed 0 (if m then total + 1 else total)
     under true is_m x is = record {
       same_limit = inv.same_limit;
-      some_mode = inv.some_mode;
+      some_aggregation = inv.some_aggregation;
       one_live = sealed-one_live true p tx.slots inv.one_live;
-      fits = rw (ended_open tx.slots) inv.some_mode;
+      fits = rw (ended_open tx.slots) inv.some_aggregation;
       ahead = λ e. absurd (none_open _ (ended_open tx.slots) e);
       no_count = λ e. refl;
     }
     under false is_m x is =
-        let fits : length x.1.packets < tx.mode = subst
-        (λ (o : Option (Bool × LiveKey)). length (packets_under o) < tx.mode) is inv.fits in
-        let low : (length x.1.packets + 1 == tx.mode) ≡ false =
+        let fits : length x.1.packets < tx.aggregation = subst
+        (λ (o : Option (Bool × LiveKey)). length (packets_under o) < tx.aggregation) is inv.fits in
+        let low : (length x.1.packets + 1 == tx.aggregation) ≡ false =
         not_last more _ (ap (λ (o : Option (Bool × LiveKey)). not more
-        || (length (lane_of posted o).unfinished + 1 == tx.mode)) (sym is) ∙ sym is_m) in
-        let more_fits : length (x.1.packets ++ p ∷ []) < tx.mode = rw (length-append x.1.packets (p ∷ []))
-        (room_left (length x.1.packets) tx.mode fits low) in
+        || (length (lane_of posted o).unfinished + 1 == tx.aggregation)) (sym is) ∙ sym is_m) in
+        let more_fits : length (x.1.packets ++ p ∷ []) < tx.aggregation = rw (length-append x.1.packets (p ∷ []))
+        (room_left (length x.1.packets) tx.aggregation fits low) in
         let on = goes_on-live p tx.slots x is in
         record {
           same_limit = inv.same_limit;
-          some_mode = inv.some_mode;
+          some_aggregation = inv.some_aggregation;
           one_live = sealed-one_live false p tx.slots inv.one_live;
-          fits = subst (λ (o : Option (Bool × LiveKey)). length (packets_under o) < tx.mode) (sym on) more_fits;
-          ahead = λ e. (λ i. ahead_with closed ((lane_of posted (is i)).units + 1) total) ∙
-              (λ i. ahead_with closed (open_unit_number (sym on i)) total);
+          fits = subst (λ (o : Option (Bool × LiveKey)). length (packets_under o) < tx.aggregation) (sym on) more_fits;
+          ahead = λ e. (λ i. total_ahead closed ((lane_of posted (is i)).units + 1) total) ∙
+              (λ i. total_ahead closed (open_unit_number (sym on i)) total);
           no_count = λ e. refl;
         }
 
@@ -497,21 +493,23 @@ short_under : (e : SendEnd) (o : Option (Bool × LiveKey)) (d : Described) → d
     → (ahead : List ℕ) → length (packet_bytes (packet_under ahead o d [] [])) ≤ 28
 short_under e None d m sync ahead =
     short (untagged_under [] [] d [] []) (ap (λ (b : Bool). if b then sync_head else []) sync)
-    (length-masked [] (iv_of d.sub d.unit) (length (encrypted [])) (if d.sync then [] else []) ∙ ap
+    (length-masked_bytes [] (iv_of d.sub d.unit) (length (encrypted_bytes [])) (if d.sync then [] else []) ∙ ap
     (λ (b : Bool). length {A = ℕ} (if b then [] else [])) sync) (omega arith)
 short_under e (Some x) d m sync ahead =
     let q = untagged_under x.1.key x.1.packets d [] [] in
-    let tag : length (if d.m then tag_of x.1.key (iv_of d.sub d.unit) (ahead ++ authenticated (x.1.packets ++ q ∷ []))
-    (encrypted (x.1.packets ++ q ∷ [])) else []) ≡ 12 =
+    let tag : length (if d.m then tag_of x.1.key (iv_of d.sub d.unit)
+    (ahead ++ authenticated_bytes (x.1.packets ++ q ∷ []))
+    (encrypted_bytes (x.1.packets ++ q ∷ [])) else []) ≡ 12 =
     ap (λ (b : Bool). length
-    (if b then tag_of x.1.key (iv_of d.sub d.unit) (ahead ++ authenticated (x.1.packets ++ q ∷ []))
-    (encrypted (x.1.packets ++ q ∷ [])) else [])) m
-    ∙ length-tag_of x.1.key (iv_of d.sub d.unit) (ahead ++ authenticated (x.1.packets ++ q ∷ []))
-    (encrypted (x.1.packets ++ q ∷ [])) in
+    (if b then tag_of x.1.key (iv_of d.sub d.unit) (ahead ++ authenticated_bytes (x.1.packets ++ q ∷ []))
+    (encrypted_bytes (x.1.packets ++ q ∷ [])) else [])) m
+    ∙ length-tag_of x.1.key (iv_of d.sub d.unit) (ahead ++ authenticated_bytes (x.1.packets ++ q ∷ []))
+    (encrypted_bytes (x.1.packets ++ q ∷ [])) in
     short (tagged_under ahead x.1.key x.1.packets d q) (ap (λ (b : Bool). if b then sync_head else []) sync)
-    (length-masked x.1.key (iv_of d.sub d.unit) (length (encrypted x.1.packets)) (if d.sync then [] else []) ∙ ap
+    (length-masked_bytes x.1.key (iv_of d.sub d.unit) (length (encrypted_bytes x.1.packets)) (if d.sync then [] else [])
+    ∙ ap
     (λ (b : Bool). length {A = ℕ} (if b then [] else [])) sync) (omega (arith, tag))
 
 pub sync-short : (e : SendEnd) → length (packet_bytes (packet_said e [] [] (sync_said e))) ≤ 28
 sync-short e = short_under e (live_sender e.kept.slots) (sync_said e) refl refl
-    (ahead_with e.fixed.closed (sync_said e).unit e.kept.total)
+    (total_ahead e.fixed.closed (sync_said e).unit e.kept.total)

@@ -11,18 +11,18 @@ use Rattle.ide_types.specs.declared.port.PortName.{PortName}
 use Rattle.link_verdicts.specs.declared.verdict.Verdict.{Verdict}
 use Rattle.link_verdicts.specs.declared.verdict.SealedPacket.{SealedPacket as Described}
 use Rattle.ide_prefix.specs.Packet.{Packet, packet_bytes}
-use Rattle.stream_rules.specs.Sending.{Sending, Lanes, ahead_with, is_keyless, is_worn, needs_sync, refusals}
-use Rattle.stream_rules.specs.Sending.{first_that_holds, described, ends_unit, sets_trusted, sealed_by}
-use Rattle.stream_rules.specs.Stream.{LaneSlot, Empty, Programmed, Armed, Live, LaneSlots, LiveKey, TxSub, lane_of}
-use Rattle.stream_rules.specs.Stream.{at_sub, each_sub, live_sender, packet_under, sealed_sub}
-use Rattle.stream_rules.specs.Stream.{sealed_one, sealed_all}
-use Rattle.stream_rules.specs.Slots.{is_live_slot, any_live}
+use Rattle.spec_stream.specs.Sending.{Sending, Lanes, total_ahead, is_keyless, is_worn, needs_sync, refusals}
+use Rattle.spec_stream.specs.Sending.{first_that_holds, described_seal, ends_unit, sets_trusted, sealed_with_syncs}
+use Rattle.spec_stream.specs.Stream.{LaneSlot, Empty, Programmed, Armed, Live, LaneSlots, LiveKey, TxSub, lane_of}
+use Rattle.spec_stream.specs.Stream.{at_sub, each_sub, live_sender, packet_under, sealed_sub}
+use Rattle.spec_stream.specs.Stream.{sealed_one, sealed_all}
+use Rattle.spec_stream.specs.Slots.{is_live_slot, any_live}
 use Rattle.sub_stream.specs.declared.answer.MeasuredPacket.{MeasuredPacket}
 use Rattle.stream_lanes.specs.Sends.{numbered_from, joined_packets, packet_lengths, IsSealed}
 use Rattle.stream_lanes.specs.declared.fixed.Fixed.{Fixed}
-use Rattle.stream_lanes.specs.Lanes.{SendEnd, SendEnds, end_at, sealing_lanes, tlp_said, sync_said, packet_said_at}
+use Rattle.stream_lanes.specs.Lanes.{SendEnd, SendEnds, send_end_at, sealing_lanes, tlp_said, sync_said, packet_said_at}
 use Rattle.stream_lanes.specs.Lanes.{sealed_ends}
-use Rattle.stream_lanes.specs.Lanes.{measured, synced, sync_packets, sync_bytes}
+use Rattle.stream_lanes.specs.Lanes.{measured_packet, ends_after_sync, sync_packets, sync_bytes}
 use Rattle.stream_lanes.proofs.Sealing.{sync-same}
 
 -- ---- what is not refused
@@ -86,18 +86,18 @@ when-needed false b e f = absurd (cc)
 
 -- ---- what a sync packet leaves
 
-pub synced-cpl : (b : Bool) (x : SendEnds) → (synced b Npr x).tx.cpl ≡ x.tx.cpl
-synced-cpl true x = refl
-synced-cpl false x = refl
+pub ends_after_sync-cpl : (b : Bool) (x : SendEnds) → (ends_after_sync b Npr x).tx.cpl ≡ x.tx.cpl
+ends_after_sync-cpl true x = refl
+ends_after_sync-cpl false x = refl
 
-pub end-cpl : (b : Bool) (x : SendEnds) → end_at (synced b Npr x) Cpl ≡ end_at x Cpl
+pub end-cpl : (b : Bool) (x : SendEnds) → send_end_at (ends_after_sync b Npr x) Cpl ≡ send_end_at x Cpl
 end-cpl true x = refl
 end-cpl false x = refl
 
 -- after the sync packets the sender of the TLP is as it was
 pub end-kept : (x : SendEnds) (sub : SubKind) (b c : Bool) → b ≡ needs_sync (sealing_lanes x) sub Npr → c
     ≡ needs_sync (sealing_lanes x) sub Cpl
-    → end_at (synced c Cpl (synced b Npr x)) sub ≡ end_at x sub
+    → send_end_at (ends_after_sync c Cpl (ends_after_sync b Npr x)) sub ≡ send_end_at x sub
 end-kept x Pr true true e f = refl
 end-kept x Pr true false e f = refl
 end-kept x Pr false true e f = refl
@@ -120,16 +120,16 @@ sync_packet : (x : SendEnds) (d : Described) (number : ℕ) (port : PortName) (h
     → packet_said_at x [] [] d ≡
     (sealed_one x.fixed.closed head payload (record d { number = number; port = port }) x.tx).0
 sync_packet x d number port head payload e =
-    sync-same (ahead_with x.fixed.closed d.unit (at_sub x.tx d.sub).total) (live_sender (at_sub x.tx d.sub).slots) d []
+    sync-same (total_ahead x.fixed.closed d.unit (at_sub x.tx d.sub).total) (live_sender (at_sub x.tx d.sub).slots) d []
     [] head payload e
-    ∙ renumbered (ahead_with x.fixed.closed d.unit (at_sub x.tx d.sub).total) (live_sender (at_sub x.tx d.sub).slots) d
+    ∙ renumbered (total_ahead x.fixed.closed d.unit (at_sub x.tx d.sub).total) (live_sender (at_sub x.tx d.sub).slots) d
     number port head payload
 
 tlp_packet : (x : SendEnds) (d : Described) (number : ℕ) (port : PortName) (head payload : List ℕ)
     → packet_said_at x head payload d ≡
     (sealed_one x.fixed.closed head payload (record d { number = number; port = port }) x.tx).0
 tlp_packet x d number port head payload =
-    renumbered (ahead_with x.fixed.closed d.unit (at_sub x.tx d.sub).total) (live_sender (at_sub x.tx d.sub).slots) d
+    renumbered (total_ahead x.fixed.closed d.unit (at_sub x.tx d.sub).total) (live_sender (at_sub x.tx d.sub).slots) d
     number port head payload
 
 -- the senders after the TLP's packet
@@ -140,29 +140,30 @@ after_packet x d p q e = ap (λ (r : Packet). record x { tx = each_sub (λ u. se
 
 -- the packets that were sealed, as the senders say them, and the bytes after others
 abbrev pub last_ends : SendEnds → Bool → Bool → SendEnds
-last_ends x b c = synced c Cpl (synced b Npr x)
+last_ends x b c = ends_after_sync c Cpl (ends_after_sync b Npr x)
 
 abbrev pub all_said : SendEnds → SubKind → Bool → Bool → List ℕ → List ℕ → Bool → Bool → List MeasuredPacket
 all_said x sub b c head payload more t =
-    (([] ++ sync_packets b Npr x) ++ sync_packets c Cpl (synced b Npr x))
-    ++ measured (tlp_said (end_at (last_ends x b c) sub) more t)
-    (packet_said_at (last_ends x b c) head payload (tlp_said (end_at (last_ends x b c) sub) more t)) ∷ []
+    (([] ++ sync_packets b Npr x) ++ sync_packets c Cpl (ends_after_sync b Npr x))
+    ++ measured_packet (tlp_said (send_end_at (last_ends x b c) sub) more t)
+    (packet_said_at (last_ends x b c) head payload (tlp_said (send_end_at (last_ends x b c) sub) more t)) ∷ []
 
 abbrev pub all_bytes : SendEnds → SubKind → Bool → Bool → List ℕ → List ℕ → Bool → Bool → List ℕ → List ℕ
 all_bytes x sub b c head payload more t before =
-    ((before ++ sync_bytes b Npr x) ++ sync_bytes c Cpl (synced b Npr x))
-    ++ packet_bytes (packet_said_at (last_ends x b c) head payload (tlp_said (end_at (last_ends x b c) sub) more t))
+    ((before ++ sync_bytes b Npr x) ++ sync_bytes c Cpl (ends_after_sync b Npr x))
+    ++ packet_bytes (packet_said_at (last_ends x b c) head payload
+    (tlp_said (send_end_at (last_ends x b c) sub) more t))
 
 abbrev pub all_ends : SendEnds → SubKind → Bool → Bool → List ℕ → List ℕ → Bool → Bool → SendEnds
 all_ends x sub b c head payload more t =
-    sealed_ends (last_ends x b c) head payload (tlp_said (end_at (last_ends x b c) sub) more t)
+    sealed_ends (last_ends x b c) head payload (tlp_said (send_end_at (last_ends x b c) sub) more t)
 
 -- the rules' descriptions, when it is known which sync packets go first
 abbrev flagged : Bool → Bool → Lanes → Sending → ℕ → List Described
 flagged b c x s number =
-    let first = if b then described x s Npr number true false true ∷ [] else [] in
-    let second = if c then described x s Cpl (number + length first) true false true ∷ [] else [] in
-    first ++ second ++ described x s s.class (number + length first + length second) (ends_unit x s)
+    let first = if b then described_seal x s Npr number true false true ∷ [] else [] in
+    let second = if c then described_seal x s Cpl (number + length first) true false true ∷ [] else [] in
+    first ++ second ++ described_seal x s s.class (number + length first + length second) (ends_unit x s)
     (sets_trusted s.port s.trusted) false ∷ []
 
 pub record IsSealedAs (x : SendEnds) (head payload : List ℕ) (port : PortName) (number : ℕ) (ds : List Described)
@@ -201,7 +202,7 @@ runs_alone : (x : SendEnds) (head payload : List ℕ) (port : PortName) (class :
     → Runs x head payload (as_sent x port class more trusted) number false false before
     (flagged false false (sealing_lanes x) (as_sent x port class more trusted) number)
 runs_alone x head payload port class more trusted number before =
-    let d = tlp_said (end_at x class) more (sets_trusted port trusted) in
+    let d = tlp_said (send_end_at x class) more (sets_trusted port trusted) in
     let e = tlp_packet x d (number + 0 + 0) port head payload in
     let n : number ≡ number + 0 + 0 = omega arith in
     record {
@@ -220,9 +221,9 @@ runs_posted : (b c : Bool) (x : SendEnds) (head payload : List ℕ) (port : Port
 runs_posted false false x head payload port more trusted number before = runs_alone x head payload port Pr more trusted
     number before
 runs_posted true false x head payload port more trusted number before =
-    let d1 = sync_said (end_at x Npr) in
-    let x1 = synced true Npr x in
-    let d = tlp_said (end_at x1 Pr) more (sets_trusted port trusted) in
+    let d1 = sync_said (send_end_at x Npr) in
+    let x1 = ends_after_sync true Npr x in
+    let d = tlp_said (send_end_at x1 Pr) more (sets_trusted port trusted) in
     let e1 = sync_packet x d1 number port head payload refl in
     let e = tlp_packet x1 d (number + 1 + 0) port head payload in
     let n : number + 1 ≡ number + 1 + 0 = omega arith in
@@ -235,9 +236,9 @@ runs_posted true false x head payload port more trusted number before =
       senders = after_packet x1 d _ _ e;
     }
 runs_posted false true x head payload port more trusted number before =
-    let d1 = sync_said (end_at x Cpl) in
-    let x1 = synced true Cpl x in
-    let d = tlp_said (end_at x1 Pr) more (sets_trusted port trusted) in
+    let d1 = sync_said (send_end_at x Cpl) in
+    let x1 = ends_after_sync true Cpl x in
+    let d = tlp_said (send_end_at x1 Pr) more (sets_trusted port trusted) in
     let e1 = sync_packet x d1 (number + 0) port head payload refl in
     let e = tlp_packet x1 d (number + 0 + 1) port head payload in
     let m : number ≡ number + 0 = omega arith in
@@ -251,11 +252,11 @@ runs_posted false true x head payload port more trusted number before =
       senders = after_packet x1 d _ _ e;
     }
 runs_posted true true x head payload port more trusted number before =
-    let d1 = sync_said (end_at x Npr) in
-    let x1 = synced true Npr x in
-    let d2 = sync_said (end_at x1 Cpl) in
-    let x2 = synced true Cpl x1 in
-    let d = tlp_said (end_at x2 Pr) more (sets_trusted port trusted) in
+    let d1 = sync_said (send_end_at x Npr) in
+    let x1 = ends_after_sync true Npr x in
+    let d2 = sync_said (send_end_at x1 Cpl) in
+    let x2 = ends_after_sync true Cpl x1 in
+    let d = tlp_said (send_end_at x2 Pr) more (sets_trusted port trusted) in
     let e1 = sync_packet x d1 number port head payload refl in
     let e2 = sync_packet x1 d2 (number + 1) port head payload refl in
     let e = tlp_packet x2 d (number + 1 + 1) port head payload in
@@ -273,7 +274,7 @@ runs : (class : SubKind) (b c : Bool) (x : SendEnds) (head payload : List ℕ) (
     (number : ℕ) (before : List ℕ)
     → b ≡ needs_sync (sealing_lanes x) class Npr → c ≡ needs_sync (sealing_lanes x) class Cpl
     → Runs x head payload (as_sent x port class more trusted) number b c before
-    (sealed_by (sealing_lanes x) (as_sent x port class more trusted) number)
+    (sealed_with_syncs (sealing_lanes x) (as_sent x port class more trusted) number)
 runs Pr b c x head payload port more trusted number before e f =
     subst (λ (y : Bool × Bool). Runs x head payload (as_sent x port Pr more trusted) number b c before
     (flagged y.0 y.1 (sealing_lanes x) (as_sent x port Pr more trusted) number)) (λ i. (e i, f i))

@@ -12,40 +12,34 @@ use Rattle.ide_types.specs.Sub.{sub_bits}
 use Rattle.ide_types.specs.declared.sub.SubKind.{SubKind}
 use Rattle.ide_types.specs.declared.sub.SubKind.TheVariants.{Pr, Npr, Cpl}
 use Rattle.ide_types.specs.declared.sub.FailCause.TheVariants as fail
-use Rattle.gcm_seal.specs.Gcm.{masked}
+use Rattle.gcm_seal.specs.Gcm.{masked_bytes}
 use Rattle.ide_prefix.specs.Iv.{iv_of}
 use Rattle.ide_prefix.specs.Packet.{Packet}
-use Rattle.stream_rules.specs.Sending.{is_posted, ahead_with}
-use Rattle.stream_rules.specs.Stream.{
-  LaneSlot,
-  Empty,
-  Programmed,
-  Armed,
-  Live,
-  LiveKey,
-  LaneSlots,
-  slot_in_set,
-  with_slot,
-}
-use Rattle.stream_rules.specs.Stream.{live_in}
-use Rattle.stream_rules.specs.Stream.{Taken, Insecure, NotKeyed, Failed, Held, Accepted, holds_any, posted_sum}
-use Rattle.stream_rules.specs.Stream.{is_tagged, checked, dropped, gone_on, counted_unit, retired, accepted_slots}
+use Rattle.spec_stream.specs.Sending.{is_posted, total_ahead}
+use Rattle.spec_stream.specs.Stream.{LaneSlot, Empty, Programmed, Armed, Live, LiveKey, LaneSlots, slot_in_set}
+use Rattle.spec_stream.specs.Stream.{with_slot}
+use Rattle.spec_stream.specs.Stream.{live_in}
+use Rattle.spec_stream.specs.Stream.{Taken, Insecure, NotKeyed, Failed, Held, Accepted, holds_any, posted_sum}
+use Rattle.spec_stream.specs.Stream.{is_tagged, outcome_of_checks, slot_without_packets, gone_on, counted_unit}
+use Rattle.spec_stream.specs.Stream.{slot_unless_older, accepted_slots}
 use Rattle.key_slots.specs.{is_only_live}
-use Rattle.sub_stream.specs.{Receiver, answer_of, opened_from, opened_under, key_for, ahead_in, ahead_of}
-use Rattle.sub_stream.specs.{is_tagged_behind, judged_packet, taken_with, taken_of, dropped_slots, ahead_held}
+use Rattle.sub_stream.specs.{Receiver, answer_taken, opened_from_byte, opened_unit, key_for, receiver_ahead, unit_ahead}
+use Rattle.sub_stream.specs.{is_tagged_behind, judged_packet, receiver_outcome_by_keys, receiver_outcome, dropped_slots}
+use Rattle.sub_stream.specs.{ahead_held}
 use Rattle.sub_stream.specs.{after_answer}
-use Rattle.sub_stream.specs.{ahead_at, with_slots, programmed_receiver, slot_pair}
+use Rattle.sub_stream.specs.{slots_ahead, with_slots, programmed_receiver, slot_pair}
 use Rattle.sub_stream.specs.Receivers.{is_accepted}
 use Rattle.sub_stream.specs.declared.answer.Taken.{Taken as Answer}
 use Rattle.sub_stream.specs.declared.answer.Taken.TheVariants as answers
-use Rattle.stream_lanes.specs.Arrivals.{ReceiveEnd, allows, taken_at, taken_here, end_after, HoldsPackets, HoldsRight}
+use Rattle.stream_lanes.specs.Arrivals.{ReceiveEnd, allows, lane_outcome_by_keys, lane_outcome, end_after, HoldsPackets}
+use Rattle.stream_lanes.specs.Arrivals.{HoldsRight}
 use Rattle.stream_lanes.specs.Arrivals.{IsReceiveLane, count_in}
 use Rattle.stream_lanes.proofs.Sealing.{ahead-right}
 
 abbrev pub view : Receiver → SubKind → Bool → ℕ → ℕ → ℕ → ReceiveEnd
 view rx sub closed sum got total = record {
   sub = sub;
-  mode = rx.mode;
+  aggregation = rx.aggregation;
   closed = closed;
   kept = record { slots = rx.slots; sum = sum; got = got; total = total };
   delivered = rx.delivered;
@@ -59,19 +53,19 @@ posted_sum-joined ps p =
     let e = sum_by-append (λ (x : Packet). x.prefix.posted) ps (p ∷ []) in
     e ∙ omega arith
 
-posted_sum-opened_from : (key iv : List ℕ) (n : ℕ) (ps : List Packet) → posted_sum (opened_from key iv n ps)
+posted_sum-opened_from_byte : (key iv : List ℕ) (n : ℕ) (ps : List Packet) → posted_sum (opened_from_byte key iv n ps)
     ≡ posted_sum ps
-posted_sum-opened_from key iv n [] = refl
-posted_sum-opened_from key iv n (p ∷ ps) =
+posted_sum-opened_from_byte key iv n [] = refl
+posted_sum-opened_from_byte key iv n (p ∷ ps) =
     sum_by-append (λ (x : Packet). x.prefix.posted)
-    (record { prefix = p.prefix; head = p.head; body = masked key iv n p.body; tag = [] } ∷ [])
-    (opened_from key iv (n + length p.body) ps)
-    ∙ ap (λ m. posted_sum (p ∷ []) + m) (posted_sum-opened_from key iv (n + length p.body) ps)
+    (record { prefix = p.prefix; head = p.head; body = masked_bytes key iv n p.body; tag = [] } ∷ [])
+    (opened_from_byte key iv (n + length p.body) ps)
+    ∙ ap (λ m. posted_sum (p ∷ []) + m) (posted_sum-opened_from_byte key iv (n + length p.body) ps)
     ∙ sym (sum_by-append (λ (x : Packet). x.prefix.posted) (p ∷ []) ps)
 
-pub posted_sum-opened : (x : LiveKey) (sub : SubKind) (ps : List Packet) → posted_sum (opened_under (Some x) sub ps)
+pub posted_sum-opened : (x : LiveKey) (sub : SubKind) (ps : List Packet) → posted_sum (opened_unit (Some x) sub ps)
     ≡ posted_sum ps
-posted_sum-opened x sub ps = posted_sum-opened_from x.key (iv_of sub (x.units + 1)) 0 ps
+posted_sum-opened x sub ps = posted_sum-opened_from_byte x.key (iv_of sub (x.units + 1)) 0 ps
 
 -- ---- the answer
 
@@ -94,60 +88,65 @@ allowed-right Npr sum got allowed n few e le = ap (nat_le n) e ∙ within_left s
 allowed-right Cpl sum got allowed n few e le = ap (nat_le n) e ∙ within_left sum n got (le refl)
 
 -- what comes before the packets of a slot, with the next
-next_ahead : (ahead : List ℕ) (mode : ℕ) (closed : Bool) (total : ℕ) (lent : List ℕ) (x : LiveKey) → lent
+next_ahead : (ahead : List ℕ) (aggregation : ℕ) (closed : Bool) (total : ℕ) (lent : List ℕ) (x : LiveKey) → lent
     ≡ (if closed then to_be_bytes w64 total else [])
-    → HoldsPackets ahead mode closed total x → (if length x.packets == 0 then ahead_of lent (x.units + 1) else ahead)
-    ≡ ahead_with closed (x.units + 1) total
-next_ahead ahead mode closed total lent x e held = ahead-right (length x.packets == 0) ahead closed total (x.units + 1)
+    → HoldsPackets ahead aggregation closed total x →
+    (if length x.packets == 0 then unit_ahead lent (x.units + 1) else ahead)
+    ≡ total_ahead closed (x.units + 1) total
+next_ahead ahead aggregation closed total lent x e held = ahead-right (length x.packets == 0) ahead closed total
+    (x.units + 1)
     lent e held.ahead_right
 
-few_posted : (ahead : List ℕ) (mode : ℕ) (closed : Bool) (total : ℕ) (x : LiveKey) (p : Packet) → mode ≤ 8
-    → p.prefix.posted < 256 → HoldsPackets ahead mode closed total x
+few_posted : (ahead : List ℕ) (aggregation : ℕ) (closed : Bool) (total : ℕ) (x : LiveKey) (p : Packet) → aggregation ≤ 8
+    → p.prefix.posted < 256 → HoldsPackets ahead aggregation closed total x
     → posted_sum (x.packets ++ p ∷ []) ≤ 2295
-few_posted ahead mode closed total x p small byte held = omega
+few_posted ahead aggregation closed total x p small byte held = omega
     (arith, posted_sum-joined x.packets p, held.posted, held.fits)
 
 taken_slots : (rx : Receiver) (sub : SubKind) (closed : Bool) (sum own total got allowed : ℕ) (lent : List ℕ)
     (p : Packet) (mine : LaneSlot) (other : Option LiveKey)
-    → rx.mode ≤ 8 → HoldsRight rx.ahead rx.mode closed total mine → p.prefix.posted < 256
+    → rx.aggregation ≤ 8 → HoldsRight rx.ahead rx.aggregation closed total mine → p.prefix.posted < 256
     → allowed ≡ (if sub_bits sub == 0 then 2 ^ 64 - 1 else got - sum) → (is_posted sub ≡ false → sum ≤ got)
     → lent ≡ (if closed then to_be_bytes w64 total else [])
-    → taken_with rx allowed lent p (live_in mine) other ≡ taken_at (view rx sub closed sum own total) got p
+    → receiver_outcome_by_keys rx allowed lent p (live_in mine) other
+    ≡ lane_outcome_by_keys (view rx sub closed sum own total) got p
     (live_in mine) other
 taken_slots rx sub closed sum own total got allowed lent p mine other small held byte is_allowed le is_lent = by_slot
     mine held
   where
-    by_none : (other : Option LiveKey) → taken_with rx allowed lent p None other
-        ≡ taken_at (view rx sub closed sum own total) got p None other
+    by_none : (other : Option LiveKey) → receiver_outcome_by_keys rx allowed lent p None other
+        ≡ lane_outcome_by_keys (view rx sub closed sum own total) got p None other
     by_none None = refl
     by_none (Some y) = refl
 
     by_fits : (x : LiveKey) (b : Bool) →
-        (if not b then judged_packet (ahead_in rx x lent) allowed x p else Failed fail.Unit)
+        (if not b then judged_packet (receiver_ahead rx x lent) allowed x p else Failed fail.Unit)
         ≡ (if b then Failed fail.Unit
-        else if p.prefix.m then checked (is_tagged_behind (ahead_in rx x lent) x p)
+        else if p.prefix.m then outcome_of_checks (is_tagged_behind (receiver_ahead rx x lent) x p)
         (nat_le (posted_sum (x.packets ++ p ∷ [])) allowed) x p
         else Held x.draw (x.units + 1))
     by_fits x true = refl
     by_fits x false = refl
 
-    by_slot : (s : LaneSlot) → HoldsRight rx.ahead rx.mode closed total s
-        → taken_with rx allowed lent p (live_in s) other ≡ taken_at (view rx sub closed sum own total) got p
+    by_slot : (s : LaneSlot) → HoldsRight rx.ahead rx.aggregation closed total s
+        → receiver_outcome_by_keys rx allowed lent p (live_in s) other
+        ≡ lane_outcome_by_keys (view rx sub closed sum own total) got p
         (live_in s) other
     by_slot Empty held = by_none other
     by_slot (Programmed j key) held = by_none other
     by_slot (Armed j key) held = by_none other
     by_slot (Live x) held =
-        let ahead = next_ahead rx.ahead rx.mode closed total lent x is_lent held in
+        let ahead = next_ahead rx.ahead rx.aggregation closed total lent x is_lent held in
         let within = allowed-right sub sum got allowed (posted_sum (x.packets ++ p ∷ []))
-        (few_posted rx.ahead rx.mode closed total x p small byte held) is_allowed le in
-        by_fits x (holds_any other || (not p.prefix.m && nat_le rx.mode (length x.packets + 1)))
-        ∙ (λ i. if holds_any other || (not p.prefix.m && nat_le rx.mode (length x.packets + 1)) then Failed fail.Unit
-        else if p.prefix.m then checked (is_tagged_behind (ahead i) x p) (within i) x p
+        (few_posted rx.ahead rx.aggregation closed total x p small byte held) is_allowed le in
+        by_fits x (holds_any other || (not p.prefix.m && nat_le rx.aggregation (length x.packets + 1)))
+        ∙ (λ i. if holds_any other || (not p.prefix.m && nat_le rx.aggregation (length x.packets + 1)) then Failed
+        fail.Unit
+        else if p.prefix.m then outcome_of_checks (is_tagged_behind (ahead i) x p) (within i) x p
         else Held x.draw (x.units + 1))
 
 slot_right : (k : Bool) (rx : Receiver) (closed : Bool) (sum own total : ℕ) → IsReceiveLane rx closed sum own total
-    → HoldsRight rx.ahead rx.mode closed total (slot_in_set rx.slots k)
+    → HoldsRight rx.ahead rx.aggregation closed total (slot_in_set rx.slots k)
 slot_right true rx closed sum own total inv = inv.second
 slot_right false rx closed sum own total inv = inv.first
 
@@ -156,25 +155,25 @@ pub taken-right : (rx : Receiver) (sub : SubKind) (closed : Bool) (sum own total
     → IsReceiveLane rx closed sum own total → p.prefix.posted < 256
     → allowed ≡ (if sub_bits sub == 0 then 2 ^ 64 - 1 else got - sum) → (is_posted sub ≡ false → sum ≤ got)
     → lent ≡ (if closed then to_be_bytes w64 total else [])
-    → taken_of rx allowed lent p ≡ taken_here (view rx sub closed sum own total) got p
+    → receiver_outcome rx allowed lent p ≡ lane_outcome (view rx sub closed sum own total) got p
 taken-right rx sub closed sum own total got allowed lent p inv byte is_allowed le is_lent =
     taken_slots rx sub closed sum own total got allowed lent p (slot_in_set rx.slots p.prefix.k)
     (key_for rx (not p.prefix.k))
-    inv.small_mode (slot_right p.prefix.k rx closed sum own total inv) byte is_allowed le is_lent
+    inv.small_aggregation (slot_right p.prefix.k rx closed sum own total inv) byte is_allowed le is_lent
 
 -- ---- the receiver after it
 
 -- if a unit was accepted its key is Live
 pub accepted-keyed : (e : ReceiveEnd) (got : ℕ) (p : Packet) (j n : ℕ) (unit : List Packet) (x y : Option LiveKey)
-    → taken_at e got p x y ≡ Accepted j n unit
-    → posted_sum (opened_under x p.prefix.sub unit) ≡ posted_sum unit
+    → lane_outcome_by_keys e got p x y ≡ Accepted j n unit
+    → posted_sum (opened_unit x p.prefix.sub unit) ≡ posted_sum unit
 accepted-keyed e got p j n unit None None is = absurd (cc)
 accepted-keyed e got p j n unit None (Some y) is = absurd (cc)
 accepted-keyed e got p j n unit (Some x) y is = posted_sum-opened x p.prefix.sub unit
 
 pub end-after : (rx : Receiver) (sub : SubKind) (closed : Bool) (sum own total got : ℕ) (lent : List ℕ) (p : Packet)
     (t : Taken) (a : Answer)
-    → taken_here (view rx sub closed sum own total) got p ≡ t → Some a ≡ answer_of t
+    → lane_outcome (view rx sub closed sum own total) got p ≡ t → Some a ≡ answer_taken t
     → (let new : Receiver = record (after_answer rx lent p t) { takes = rx.takes + 1 } in
     view new sub closed (if is_accepted a then sum + posted_sum new.delivered else sum)
     (if is_accepted a then own + count_in a else own) (if is_accepted a then total + 1 else total))
@@ -187,7 +186,7 @@ end-after rx sub closed sum own total got lent p (Held j n) a is e = let same : 
     ≡ answers.Held j n = cc in rw same refl
 end-after rx sub closed sum own total got lent p (Accepted j n unit) a is e =
     let same : a ≡ answers.Accepted j n (length unit) = cc in
-    let posted : posted_sum (opened_under (key_for rx p.prefix.k) p.prefix.sub unit) ≡ posted_sum unit =
+    let posted : posted_sum (opened_unit (key_for rx p.prefix.k) p.prefix.sub unit) ≡ posted_sum unit =
     accepted-keyed (view rx sub closed sum own total) got p j n unit (key_for rx p.prefix.k)
     (key_for rx (not p.prefix.k)) is in
     rw same (λ i. record (end_after (view rx sub closed sum own total) p (Accepted j n unit)) {
@@ -211,66 +210,68 @@ clash : (b : Bool) → b ≡ true → b ≡ false → ⊥
 clash b e f = let g : true ≡ false = sym e ∙ f in cc
 
 -- a slot that holds no packets is right under any total
-nothing_held : (slot : LaneSlot) (ahead ahead' : List ℕ) (mode : ℕ) (closed : Bool) (total total' : ℕ)
-    → HoldsRight ahead mode closed total slot
-    → holds_any (live_in slot) ≡ false → HoldsRight ahead' mode closed total' slot
-nothing_held Empty ahead ahead' mode closed total total' held e = tt
-nothing_held (Programmed j key) ahead ahead' mode closed total total' held e = tt
-nothing_held (Armed j key) ahead ahead' mode closed total total' held e = tt
-nothing_held (Live x) ahead ahead' mode closed total total' held e = record {
+nothing_held : (slot : LaneSlot) (ahead ahead' : List ℕ) (aggregation : ℕ) (closed : Bool) (total total' : ℕ)
+    → HoldsRight ahead aggregation closed total slot
+    → holds_any (live_in slot) ≡ false → HoldsRight ahead' aggregation closed total' slot
+nothing_held Empty ahead ahead' aggregation closed total total' held e = tt
+nothing_held (Programmed j key) ahead ahead' aggregation closed total total' held e = tt
+nothing_held (Armed j key) ahead ahead' aggregation closed total total' held e = tt
+nothing_held (Live x) ahead ahead' aggregation closed total total' held e = record {
   ahead_right = λ some. absurd (clash _ (none_in x e) some);
   posted = held.posted;
   fits = held.fits;
 }
 
 -- a Live slot without packets
-begun_right : (ahead : List ℕ) (mode : ℕ) (closed : Bool) (total draw units : ℕ) (key : List ℕ) → 0 < mode
-    → HoldsPackets ahead mode closed total (record { draw = draw; key = key; units = units; packets = [] })
-begun_right ahead mode closed total draw units key some = record {
+begun_right : (ahead : List ℕ) (aggregation : ℕ) (closed : Bool) (total draw units : ℕ) (key : List ℕ) → 0 < aggregation
+    → HoldsPackets ahead aggregation closed total (record { draw = draw; key = key; units = units; packets = [] })
+begun_right ahead aggregation closed total draw units key some = record {
   ahead_right = λ e. absurd (cc);
   posted = omega arith;
   fits = some;
 }
 
-dropped_right : (slot : LaneSlot) (ahead : List ℕ) (mode : ℕ) (closed : Bool) (total : ℕ) → 0 < mode
-    → HoldsRight ahead mode closed total (dropped slot)
-dropped_right Empty ahead mode closed total some = tt
-dropped_right (Programmed j key) ahead mode closed total some = tt
-dropped_right (Armed j key) ahead mode closed total some = tt
-dropped_right (Live x) ahead mode closed total some = begun_right ahead mode closed total x.draw x.units x.key some
+dropped_right : (slot : LaneSlot) (ahead : List ℕ) (aggregation : ℕ) (closed : Bool) (total : ℕ) → 0 < aggregation
+    → HoldsRight ahead aggregation closed total (slot_without_packets slot)
+dropped_right Empty ahead aggregation closed total some = tt
+dropped_right (Programmed j key) ahead aggregation closed total some = tt
+dropped_right (Armed j key) ahead aggregation closed total some = tt
+dropped_right (Live x) ahead aggregation closed total some = begun_right ahead aggregation closed total x.draw x.units
+    x.key some
 
-counted_right : (slot : LaneSlot) (ahead : List ℕ) (mode : ℕ) (closed : Bool) (total : ℕ) → 0 < mode
-    → HoldsRight ahead mode closed total (counted_unit slot)
-counted_right Empty ahead mode closed total some = tt
-counted_right (Programmed j key) ahead mode closed total some = tt
-counted_right (Armed j key) ahead mode closed total some = tt
-counted_right (Live x) ahead mode closed total some = begun_right ahead mode closed total x.draw (x.units + 1) x.key
+counted_right : (slot : LaneSlot) (ahead : List ℕ) (aggregation : ℕ) (closed : Bool) (total : ℕ) → 0 < aggregation
+    → HoldsRight ahead aggregation closed total (counted_unit slot)
+counted_right Empty ahead aggregation closed total some = tt
+counted_right (Programmed j key) ahead aggregation closed total some = tt
+counted_right (Armed j key) ahead aggregation closed total some = tt
+counted_right (Live x) ahead aggregation closed total some = begun_right ahead aggregation closed total x.draw
+    (x.units + 1) x.key
     some
 
-retired_right : (j : ℕ) (slot : LaneSlot) (ahead : List ℕ) (mode : ℕ) (closed : Bool) (total : ℕ)
-    → HoldsRight ahead mode closed total slot
-    → HoldsRight ahead mode closed total (retired j slot)
-retired_right j Empty ahead mode closed total held = tt
-retired_right j (Programmed i key) ahead mode closed total held = tt
-retired_right j (Armed i key) ahead mode closed total held = tt
-retired_right j (Live x) ahead mode closed total held = by_age (nat_lt x.draw j)
+retired_right : (j : ℕ) (slot : LaneSlot) (ahead : List ℕ) (aggregation : ℕ) (closed : Bool) (total : ℕ)
+    → HoldsRight ahead aggregation closed total slot
+    → HoldsRight ahead aggregation closed total (slot_unless_older j slot)
+retired_right j Empty ahead aggregation closed total held = tt
+retired_right j (Programmed i key) ahead aggregation closed total held = tt
+retired_right j (Armed i key) ahead aggregation closed total held = tt
+retired_right j (Live x) ahead aggregation closed total held = by_age (nat_lt x.draw j)
   where
-    by_age : (b : Bool) → HoldsRight ahead mode closed total (if b then Empty else Live x)
+    by_age : (b : Bool) → HoldsRight ahead aggregation closed total (if b then Empty else Live x)
     by_age true = tt
     by_age false = held
 
 -- a packet that is held
-room_more : (n mode : ℕ) → nat_le mode (n + 1) ≡ false → n + 1 < mode
-room_more n mode e = grind (arith, common_steps)
+room_more : (n aggregation : ℕ) → nat_le aggregation (n + 1) ≡ false → n + 1 < aggregation
+room_more n aggregation e = grind (arith, common_steps)
 
-joined_right : (ahead ahead' : List ℕ) (mode : ℕ) (closed : Bool) (total : ℕ) (x : LiveKey) (p : Packet)
-    → HoldsPackets ahead mode closed total x
-    → p.prefix.posted < 256 → nat_le mode (length x.packets + 1) ≡ false → ahead'
-    ≡ ahead_with closed (x.units + 1) total
-    → HoldsPackets ahead' mode closed total (record x { packets = x.packets ++ p ∷ [] })
-joined_right ahead ahead' mode closed total x p held byte room is =
+joined_right : (ahead ahead' : List ℕ) (aggregation : ℕ) (closed : Bool) (total : ℕ) (x : LiveKey) (p : Packet)
+    → HoldsPackets ahead aggregation closed total x
+    → p.prefix.posted < 256 → nat_le aggregation (length x.packets + 1) ≡ false → ahead'
+    ≡ total_ahead closed (x.units + 1) total
+    → HoldsPackets ahead' aggregation closed total (record x { packets = x.packets ++ p ∷ [] })
+joined_right ahead ahead' aggregation closed total x p held byte room is =
     let size = length-append x.packets (p ∷ []) in
-    let less = room_more (length x.packets) mode room in
+    let less = room_more (length x.packets) aggregation room in
     record {
       ahead_right = λ e. is;
       posted = omega (arith, posted_sum-joined x.packets p, held.posted, size);
@@ -279,108 +280,115 @@ joined_right ahead ahead' mode closed total x p held byte room is =
 
 -- what an answer tells of the slots
 abbrev FitsHere : ℕ → Packet → Taken → Option LiveKey → Option LiveKey → Type 0
-FitsHere mode p (Held j n) (Some x) other = (holds_any other ≡ false) × (nat_le mode (length x.packets + 1) ≡ false)
-FitsHere mode p (Held j n) None other = ⊥
-FitsHere mode p (Accepted j n unit) mine other = holds_any other ≡ false
-FitsHere mode p taken mine other = Unit {0}
+FitsHere aggregation p (Held j n) (Some x) other = (holds_any other ≡ false)
+    × (nat_le aggregation (length x.packets + 1) ≡ false)
+FitsHere aggregation p (Held j n) None other = ⊥
+FitsHere aggregation p (Accepted j n unit) mine other = holds_any other ≡ false
+FitsHere aggregation p taken mine other = Unit {0}
 
 or_both : (a b : Bool) → (a || b) ≡ false → (a ≡ false) × (b ≡ false)
 or_both true b e = absurd (cc)
 or_both false b e = (refl, e)
 
 fits_here : (e : ReceiveEnd) (got : ℕ) (p : Packet) (x y : Option LiveKey)
-    → FitsHere e.mode p (taken_at e got p x y) x y
+    → FitsHere e.aggregation p (lane_outcome_by_keys e got p x y) x y
 fits_here e got p None None = tt
 fits_here e got p None (Some y) = tt
 fits_here e got p (Some x) y =
-    by_fits (holds_any y || (not p.prefix.m && nat_le e.mode (length x.packets + 1))) refl p.prefix.m refl
+    by_fits (holds_any y || (not p.prefix.m && nat_le e.aggregation (length x.packets + 1))) refl p.prefix.m refl
     (is_tagged e.closed e.kept.total x p) (allows e got (x.packets ++ p ∷ []))
   where
-    by_fits : (b : Bool) → (holds_any y || (not p.prefix.m && nat_le e.mode (length x.packets + 1))) ≡ b → (m : Bool)
+    by_fits : (b : Bool) → (holds_any y || (not p.prefix.m && nat_le e.aggregation (length x.packets + 1))) ≡ b
+        → (m : Bool)
         → p.prefix.m ≡ m → (tagged allowed : Bool)
-        → FitsHere e.mode p (if b then Failed fail.Unit else if m then checked tagged allowed x p else Held x.draw
+        → FitsHere e.aggregation p
+        (if b then Failed fail.Unit else if m then outcome_of_checks tagged allowed x p else Held x.draw
         (x.units + 1)) (Some x) y
     by_fits true is m is_m tagged allowed = tt
     by_fits false is true is_m false allowed = tt
     by_fits false is true is_m true false = tt
     by_fits false is true is_m true true = (or_both (holds_any y) _ is).0
     by_fits false is false is_m tagged allowed =
-        let both = or_both (holds_any y) (not p.prefix.m && nat_le e.mode (length x.packets + 1)) is in
-        (both.0, ap (λ m. not m && nat_le e.mode (length x.packets + 1)) (sym is_m) ∙ both.1)
+        let both = or_both (holds_any y) (not p.prefix.m && nat_le e.aggregation (length x.packets + 1)) is in
+        (both.0, ap (λ m. not m && nat_le e.aggregation (length x.packets + 1)) (sym is_m) ∙ both.1)
 
 abbrev BothRight : Bool → List ℕ → ℕ → Bool → ℕ → LaneSlots → Type 0
-BothRight k ahead mode closed total s = HoldsRight ahead mode closed total s.first
-    × HoldsRight ahead mode closed total s.second
+BothRight k ahead aggregation closed total s = HoldsRight ahead aggregation closed total s.first
+    × HoldsRight ahead aggregation closed total s.second
 
 held_both : (k : Bool) (rx : Receiver) (closed : Bool) (sum own total got : ℕ) (lent : List ℕ) (p : Packet) (j n : ℕ)
     → IsReceiveLane rx closed sum own total
     → p.prefix.posted < 256 → lent ≡ (if closed then to_be_bytes w64 total else [])
-    → FitsHere rx.mode p (Held j n) (live_in (slot_in_set rx.slots k)) (live_in (slot_in_set rx.slots (not k)))
-    → BothRight k (ahead_held rx (live_in (slot_in_set rx.slots k)) lent) rx.mode closed total
+    → FitsHere rx.aggregation p (Held j n) (live_in (slot_in_set rx.slots k)) (live_in (slot_in_set rx.slots (not k)))
+    → BothRight k (ahead_held rx (live_in (slot_in_set rx.slots k)) lent) rx.aggregation closed total
     (with_slot rx.slots k (gone_on p (slot_in_set rx.slots k)))
 held_both true rx closed sum own total got lent p j n inv byte is_lent fits = by_slot rx.slots.second inv.second fits
   where
-    by_slot : (s : LaneSlot) → HoldsRight rx.ahead rx.mode closed total s
-        → FitsHere rx.mode p (Held j n) (live_in s) (live_in rx.slots.first)
-        → HoldsRight (ahead_held rx (live_in s) lent) rx.mode closed total rx.slots.first
-        × HoldsRight (ahead_held rx (live_in s) lent) rx.mode closed total (gone_on p s)
+    by_slot : (s : LaneSlot) → HoldsRight rx.ahead rx.aggregation closed total s
+        → FitsHere rx.aggregation p (Held j n) (live_in s) (live_in rx.slots.first)
+        → HoldsRight (ahead_held rx (live_in s) lent) rx.aggregation closed total rx.slots.first
+        × HoldsRight (ahead_held rx (live_in s) lent) rx.aggregation closed total (gone_on p s)
     by_slot Empty held fits = absurd fits
     by_slot (Programmed i key) held fits = absurd fits
     by_slot (Armed i key) held fits = absurd fits
     by_slot (Live x) held fits = (
-      nothing_held rx.slots.first rx.ahead (ahead_in rx x lent) rx.mode closed total total inv.first fits.0,
-      joined_right rx.ahead (ahead_in rx x lent) rx.mode closed total x p held byte fits.1
-          (next_ahead rx.ahead rx.mode closed total lent x is_lent held),
+      nothing_held rx.slots.first rx.ahead (receiver_ahead rx x lent) rx.aggregation closed total total inv.first
+          fits.0,
+      joined_right rx.ahead (receiver_ahead rx x lent) rx.aggregation closed total x p held byte fits.1
+          (next_ahead rx.ahead rx.aggregation closed total lent x is_lent held),
     )
 held_both false rx closed sum own total got lent p j n inv byte is_lent fits = by_slot rx.slots.first inv.first fits
   where
-    by_slot : (s : LaneSlot) → HoldsRight rx.ahead rx.mode closed total s
-        → FitsHere rx.mode p (Held j n) (live_in s) (live_in rx.slots.second)
-        → HoldsRight (ahead_held rx (live_in s) lent) rx.mode closed total (gone_on p s)
-        × HoldsRight (ahead_held rx (live_in s) lent) rx.mode closed total rx.slots.second
+    by_slot : (s : LaneSlot) → HoldsRight rx.ahead rx.aggregation closed total s
+        → FitsHere rx.aggregation p (Held j n) (live_in s) (live_in rx.slots.second)
+        → HoldsRight (ahead_held rx (live_in s) lent) rx.aggregation closed total (gone_on p s)
+        × HoldsRight (ahead_held rx (live_in s) lent) rx.aggregation closed total rx.slots.second
     by_slot Empty held fits = absurd fits
     by_slot (Programmed i key) held fits = absurd fits
     by_slot (Armed i key) held fits = absurd fits
     by_slot (Live x) held fits = (
-      joined_right rx.ahead (ahead_in rx x lent) rx.mode closed total x p held byte fits.1
-          (next_ahead rx.ahead rx.mode closed total lent x is_lent held),
-      nothing_held rx.slots.second rx.ahead (ahead_in rx x lent) rx.mode closed total total inv.second fits.0,
+      joined_right rx.ahead (receiver_ahead rx x lent) rx.aggregation closed total x p held byte fits.1
+          (next_ahead rx.ahead rx.aggregation closed total lent x is_lent held),
+      nothing_held rx.slots.second rx.ahead (receiver_ahead rx x lent) rx.aggregation closed total total inv.second
+          fits.0,
     )
 
 accepted_both : (k : Bool) (rx : Receiver) (closed : Bool) (sum own total : ℕ) (j : ℕ)
     → IsReceiveLane rx closed sum own total
     → holds_any (live_in (slot_in_set rx.slots (not k))) ≡ false
-    → BothRight k [] rx.mode closed (total + 1) (accepted_slots j k rx.slots)
+    → BothRight k [] rx.aggregation closed (total + 1) (accepted_slots j k rx.slots)
 accepted_both true rx closed sum own total j inv none = (
-  retired_right j rx.slots.first [] rx.mode closed (total + 1)
-      (nothing_held rx.slots.first rx.ahead [] rx.mode closed total (total + 1) inv.first none),
-  counted_right rx.slots.second [] rx.mode closed (total + 1) inv.some_mode,
+  retired_right j rx.slots.first [] rx.aggregation closed (total + 1)
+      (nothing_held rx.slots.first rx.ahead [] rx.aggregation closed total (total + 1) inv.first none),
+  counted_right rx.slots.second [] rx.aggregation closed (total + 1) inv.some_aggregation,
 )
 accepted_both false rx closed sum own total j inv none = (
-  counted_right rx.slots.first [] rx.mode closed (total + 1) inv.some_mode,
-  retired_right j rx.slots.second [] rx.mode closed (total + 1)
-      (nothing_held rx.slots.second rx.ahead [] rx.mode closed total (total + 1) inv.second none),
+  counted_right rx.slots.first [] rx.aggregation closed (total + 1) inv.some_aggregation,
+  retired_right j rx.slots.second [] rx.aggregation closed (total + 1)
+      (nothing_held rx.slots.second rx.ahead [] rx.aggregation closed total (total + 1) inv.second none),
 )
 
 pub taken-kept : (rx : Receiver) (sub : SubKind) (closed : Bool) (sum own total got : ℕ) (lent : List ℕ) (p : Packet)
     (t : Taken) (a : Answer) (sum' own' total' : ℕ)
     → IsReceiveLane rx closed sum own total → p.prefix.posted < 256 → rx.takes < 2 ^ 40
     → lent ≡ (if closed then to_be_bytes w64 total else [])
-    → taken_here (view rx sub closed sum own total) got p ≡ t → Some a ≡ answer_of t
+    → lane_outcome (view rx sub closed sum own total) got p ≡ t → Some a ≡ answer_taken t
     → sum' ≤ sum + 2040 → own' ≤ own + 255 → total' ≡ (if is_accepted a then total + 1 else total)
     → IsReceiveLane (record (after_answer rx lent p t) { takes = rx.takes + 1 }) closed sum' own' total'
 taken-kept rx sub closed sum own total got lent p t a sum' own' total' inv byte few is_lent is e le_sum le_own
     is_total =
-    by_taken t is e (subst (λ (t : Taken). FitsHere rx.mode p t (key_for rx p.prefix.k) (key_for rx (not p.prefix.k)))
+    by_taken t is e (subst
+    (λ (t : Taken). FitsHere rx.aggregation p t (key_for rx p.prefix.k) (key_for rx (not p.prefix.k)))
     is (fits_here (view rx sub closed sum own total) got p (key_for rx p.prefix.k) (key_for rx (not p.prefix.k))))
   where
     with_both : (ahead : List ℕ) (slots : LaneSlots) (delivered : List Packet) → total' ≤ total + 1
-        → HoldsRight ahead rx.mode closed total' slots.first → HoldsRight ahead rx.mode closed total' slots.second
+        → HoldsRight ahead rx.aggregation closed total' slots.first
+        → HoldsRight ahead rx.aggregation closed total' slots.second
         → IsReceiveLane (record rx { ahead = ahead; slots = slots; delivered = delivered; takes = rx.takes + 1 }) closed
         sum' own' total'
     with_both ahead slots delivered le first second = record {
-      some_mode = inv.some_mode;
-      small_mode = inv.small_mode;
+      some_aggregation = inv.some_aggregation;
+      small_aggregation = inv.small_aggregation;
       first = first;
       second = second;
       few = omega (arith, few);
@@ -393,8 +401,8 @@ taken-kept rx sub closed sum own total got lent p t a sum' own' total' inv byte 
     same_total b same quiet = is_total ∙ ap (λ (x : Answer). if is_accepted x then total + 1 else total) same ∙ ap
         (λ x. if x then total + 1 else total) quiet
 
-    by_taken : (t : Taken) → taken_here (view rx sub closed sum own total) got p ≡ t → Some a ≡ answer_of t
-        → FitsHere rx.mode p t (key_for rx p.prefix.k) (key_for rx (not p.prefix.k))
+    by_taken : (t : Taken) → lane_outcome (view rx sub closed sum own total) got p ≡ t → Some a ≡ answer_taken t
+        → FitsHere rx.aggregation p t (key_for rx p.prefix.k) (key_for rx (not p.prefix.k))
         → IsReceiveLane (record (after_answer rx lent p t) { takes = rx.takes + 1 }) closed sum' own' total'
     by_taken NotKeyed is e fits =
         let same : a ≡ answers.NotKeyed = cc in
@@ -405,8 +413,8 @@ taken-kept rx sub closed sum own total got lent p t a sum' own' total' inv byte 
         let same : a ≡ answers.Fail cause = cc in
         let keeps = same_total (answers.Fail cause) same refl in
         with_both [] (dropped_slots rx.slots) [] (omega (arith, keeps))
-        (dropped_right rx.slots.first [] rx.mode closed total' inv.some_mode)
-        (dropped_right rx.slots.second [] rx.mode closed total' inv.some_mode)
+        (dropped_right rx.slots.first [] rx.aggregation closed total' inv.some_aggregation)
+        (dropped_right rx.slots.second [] rx.aggregation closed total' inv.some_aggregation)
     by_taken (Held j n) is e fits =
         let same : a ≡ answers.Held j n = cc in
         let keeps = same_total (answers.Held j n) same refl in
@@ -419,18 +427,19 @@ taken-kept rx sub closed sum own total got lent p t a sum' own' total' inv byte 
         let next : total' ≡ total + 1 = is_total ∙ ap (λ (x : Answer). if is_accepted x then total + 1 else total) same
         in
         let both = accepted_both p.prefix.k rx closed sum own total j inv fits in
-        with_both [] (accepted_slots j p.prefix.k rx.slots) (opened_under (key_for rx p.prefix.k) p.prefix.sub unit)
+        with_both [] (accepted_slots j p.prefix.k rx.slots) (opened_unit (key_for rx p.prefix.k) p.prefix.sub unit)
         (omega (arith, next)) (rw next both.0) (rw next both.1)
 
 -- ---- KEY_PROG
 
-kept_ahead : (slot : LaneSlot) (b : Bool) (ahead : List ℕ) (mode : ℕ) (closed : Bool) (total : ℕ)
+kept_ahead : (slot : LaneSlot) (b : Bool) (ahead : List ℕ) (aggregation : ℕ) (closed : Bool) (total : ℕ)
     → (holds_any (live_in slot) ≡ true → b ≡ true)
-    → HoldsRight ahead mode closed total slot → HoldsRight (if b then ahead else []) mode closed total slot
-kept_ahead Empty b ahead mode closed total h held = tt
-kept_ahead (Programmed j key) b ahead mode closed total h held = tt
-kept_ahead (Armed j key) b ahead mode closed total h held = tt
-kept_ahead (Live x) b ahead mode closed total h held = record {
+    → HoldsRight ahead aggregation closed total slot → HoldsRight (if b then ahead else []) aggregation closed total
+    slot
+kept_ahead Empty b ahead aggregation closed total h held = tt
+kept_ahead (Programmed j key) b ahead aggregation closed total h held = tt
+kept_ahead (Armed j key) b ahead aggregation closed total h held = tt
+kept_ahead (Live x) b ahead aggregation closed total h held = record {
   ahead_right = λ some. ap (λ (c : Bool). if c then ahead else []) (h (some_in x some)) ∙ held.ahead_right some;
   posted = held.posted;
   fits = held.fits;
@@ -441,12 +450,13 @@ or_true a b e = ap (λ c. c || b) e
 
 programmed_both : (k : Bool) (rx : Receiver) (closed : Bool) (sum own total : ℕ) (key : List ℕ) (draw : ℕ)
     → IsReceiveLane rx closed sum own total
-    → (let s = with_slot rx.slots k (Programmed draw key) in HoldsRight (ahead_at s rx.ahead) rx.mode closed total
-    s.first × HoldsRight (ahead_at s rx.ahead) rx.mode closed total s.second)
+    → (let s = with_slot rx.slots k (Programmed draw key) in HoldsRight (slots_ahead s rx.ahead) rx.aggregation closed
+    total
+    s.first × HoldsRight (slots_ahead s rx.ahead) rx.aggregation closed total s.second)
 programmed_both true rx closed sum own total key draw inv =
-    (kept_ahead rx.slots.first _ rx.ahead rx.mode closed total (or_true _ false) inv.first, tt)
+    (kept_ahead rx.slots.first _ rx.ahead rx.aggregation closed total (or_true _ false) inv.first, tt)
 programmed_both false rx closed sum own total key draw inv =
-    (tt, kept_ahead rx.slots.second _ rx.ahead rx.mode closed total (λ e. e) inv.second)
+    (tt, kept_ahead rx.slots.second _ rx.ahead rx.aggregation closed total (λ e. e) inv.second)
 
 pub programmed-right : (k : Bool) (rx : Receiver) (closed : Bool) (sum own total : ℕ) (key : List ℕ) (draw : ℕ)
     → IsReceiveLane rx closed sum own total
@@ -459,8 +469,8 @@ programmed-right k rx closed sum own total key draw inv = by_answer (is_only_liv
     by_answer false =
         let both = programmed_both k rx closed sum own total key draw inv in
         record {
-          some_mode = inv.some_mode;
-          small_mode = inv.small_mode;
+          some_aggregation = inv.some_aggregation;
+          small_aggregation = inv.small_aggregation;
           first = both.0;
           second = both.1;
           few = inv.few;

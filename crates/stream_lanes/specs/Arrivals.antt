@@ -6,14 +6,15 @@ use Rattle.ide_types.specs.declared.sub.SubKind.{SubKind}
 use Rattle.ide_types.specs.declared.sub.SubKind.TheVariants.{Pr, Npr, Cpl}
 use Rattle.ide_types.specs.declared.sub.FailCause.TheVariants as fail
 use Rattle.ide_prefix.specs.Packet.{Packet}
-use Rattle.stream_rules.specs.Sending.{ahead_with}
-use Rattle.stream_rules.specs.Stream.{LaneSlot, Live, LiveKey, RxSub, Three, StreamState, at_sub, set_sub, each_sub}
-use Rattle.stream_rules.specs.Stream.{slot_in_set, live_in, Taken, NotKeyed, Failed, Held, Accepted, holds_any}
-use Rattle.stream_rules.specs.Stream.{posted_sum}
-use Rattle.stream_rules.specs.Stream.{is_tagged, checked, dropped_held, accepted_sub, held_sub, taken_by, state_after}
-use Rattle.stream_rules.specs.Slots.{any_live}
+use Rattle.spec_stream.specs.Sending.{total_ahead}
+use Rattle.spec_stream.specs.Stream.{LaneSlot, Live, LiveKey, RxSub, Three, StreamState, at_sub, set_sub, each_sub}
+use Rattle.spec_stream.specs.Stream.{slot_in_set, live_in, Taken, NotKeyed, Failed, Held, Accepted, holds_any}
+use Rattle.spec_stream.specs.Stream.{posted_sum}
+use Rattle.spec_stream.specs.Stream.{is_tagged, outcome_of_checks, dropped_held, accepted_sub, held_sub, stream_outcome}
+use Rattle.spec_stream.specs.Stream.{state_after}
+use Rattle.spec_stream.specs.Slots.{any_live}
 use Rattle.key_slots.specs.{KeyCall}
-use Rattle.sub_stream.specs.{Receiver, no_slots, opened_under}
+use Rattle.sub_stream.specs.{Receiver, no_slots, opened_unit}
 use Rattle.sub_stream.specs.declared.answer.Taken.{Taken as Answer}
 use Rattle.sub_stream.specs.declared.answer.Taken.TheVariants as answers
 use Rattle.sub_stream.specs.Calls.{slots_called_into, no_stream}
@@ -24,7 +25,7 @@ use Rattle.sub_stream.specs.Calls.{slots_called_into, no_stream}
 -- how many packets it was given
 pub record ReceiveEnd : Type 0 where
   pub sub : SubKind
-  pub mode : ℕ
+  pub aggregation : ℕ
   pub closed : Bool
   pub kept : RxSub
   pub delivered : List Packet
@@ -34,60 +35,61 @@ abbrev pub no_rx : RxSub
 no_rx = record { slots = no_slots; sum = 0; got = 0; total = 0 }
 
 abbrev pub new_receive_end : SubKind → ℕ → Bool → ReceiveEnd
-new_receive_end sub mode closed =
-    record { sub = sub; mode = mode; closed = closed; kept = no_rx; delivered = []; takes = 0 }
+new_receive_end sub aggregation closed =
+    record { sub = sub; aggregation = aggregation; closed = closed; kept = no_rx; delivered = []; takes = 0 }
 
 -- the posted counts, with those of a unit, sum to at most the number of posted packets
 abbrev pub allows : ReceiveEnd → ℕ → List Packet → Bool
 allows e got unit = (sub_bits e.sub == 0) || nat_le (e.kept.sum + posted_sum unit) got
 
-abbrev pub taken_at : ReceiveEnd → ℕ → Packet → Option LiveKey → Option LiveKey → Taken
-taken_at e got p None None = NotKeyed
-taken_at e got p None (Some y) = Failed fail.Key
-taken_at e got p (Some x) other =
-    if holds_any other || (not p.prefix.m && nat_le e.mode (length x.packets + 1)) then Failed fail.Unit
-    else if p.prefix.m then checked (is_tagged e.closed e.kept.total x p) (allows e got (x.packets ++ p ∷ [])) x p
+abbrev pub lane_outcome_by_keys : ReceiveEnd → ℕ → Packet → Option LiveKey → Option LiveKey → Taken
+lane_outcome_by_keys e got p None None = NotKeyed
+lane_outcome_by_keys e got p None (Some y) = Failed fail.Key
+lane_outcome_by_keys e got p (Some x) other =
+    if holds_any other || (not p.prefix.m && nat_le e.aggregation (length x.packets + 1)) then Failed fail.Unit
+    else if p.prefix.m then outcome_of_checks (is_tagged e.closed e.kept.total x p) (allows e got (x.packets ++ p ∷ []))
+    x p
     else Held x.draw (x.units + 1)
 
 -- the answer to a packet of it, after so many accepted posted packets
-abbrev pub taken_here : ReceiveEnd → ℕ → Packet → Taken
-taken_here e got p = taken_at e got p (live_in (slot_in_set e.kept.slots p.prefix.k))
+abbrev pub lane_outcome : ReceiveEnd → ℕ → Packet → Taken
+lane_outcome e got p = lane_outcome_by_keys e got p (live_in (slot_in_set e.kept.slots p.prefix.k))
     (live_in (slot_in_set e.kept.slots (not p.prefix.k)))
 
-abbrev pub kept_after : RxSub → Packet → Taken → RxSub
-kept_after rx p (Failed cause) = dropped_held rx
-kept_after rx p (Held j n) = held_sub p.prefix.k p rx
-kept_after rx p (Accepted j n unit) = accepted_sub j p.prefix.k unit rx
-kept_after rx p taken = rx
+abbrev pub kept_sub_after : RxSub → Packet → Taken → RxSub
+kept_sub_after rx p (Failed cause) = dropped_held rx
+kept_sub_after rx p (Held j n) = held_sub p.prefix.k p rx
+kept_sub_after rx p (Accepted j n unit) = accepted_sub j p.prefix.k unit rx
+kept_sub_after rx p taken = rx
 
 abbrev pub delivered_after : ReceiveEnd → Packet → Taken → List Packet
-delivered_after e p (Accepted j n unit) = opened_under (live_in (slot_in_set e.kept.slots p.prefix.k)) p.prefix.sub unit
+delivered_after e p (Accepted j n unit) = opened_unit (live_in (slot_in_set e.kept.slots p.prefix.k)) p.prefix.sub unit
 delivered_after e p (Failed cause) = []
 delivered_after e p (Held j n) = []
 delivered_after e p taken = e.delivered
 
 abbrev pub end_after : ReceiveEnd → Packet → Taken → ReceiveEnd
 end_after e p taken =
-    record e { kept = kept_after e.kept p taken; delivered = delivered_after e p taken; takes = e.takes + 1 }
+    record e { kept = kept_sub_after e.kept p taken; delivered = delivered_after e p taken; takes = e.takes + 1 }
 
 abbrev pub called_into : ReceiveEnd → KeyCall → RxSub
 called_into e call = record e.kept { slots = slots_called_into call e.kept.slots }
 
 -- what comes before held packets is what the rules say; they are few, and their posted counts are bytes
-pub record HoldsPackets (ahead : List ℕ) (mode : ℕ) (closed : Bool) (total : ℕ) (x : LiveKey) : Type 0 where
-  pub ahead_right : (length x.packets == 0) ≡ false → ahead ≡ ahead_with closed (x.units + 1) total
+pub record HoldsPackets (ahead : List ℕ) (aggregation : ℕ) (closed : Bool) (total : ℕ) (x : LiveKey) : Type 0 where
+  pub ahead_right : (length x.packets == 0) ≡ false → ahead ≡ total_ahead closed (x.units + 1) total
   pub posted : posted_sum x.packets ≤ 255 * length x.packets
-  pub fits : length x.packets < mode
+  pub fits : length x.packets < aggregation
 
 abbrev pub HoldsRight : List ℕ → ℕ → Bool → ℕ → LaneSlot → Type 0
-HoldsRight ahead mode closed total (Live x) = HoldsPackets ahead mode closed total x
-HoldsRight ahead mode closed total slot = Unit {0}
+HoldsRight ahead aggregation closed total (Live x) = HoldsPackets ahead aggregation closed total x
+HoldsRight ahead aggregation closed total slot = Unit {0}
 
 pub record IsReceiveLane (rx : Receiver) (closed : Bool) (sum got total : ℕ) : Type 0 where
-  pub some_mode : 0 < rx.mode
-  pub small_mode : rx.mode ≤ 8
-  pub first : HoldsRight rx.ahead rx.mode closed total rx.slots.first
-  pub second : HoldsRight rx.ahead rx.mode closed total rx.slots.second
+  pub some_aggregation : 0 < rx.aggregation
+  pub small_aggregation : rx.aggregation ≤ 8
+  pub first : HoldsRight rx.ahead rx.aggregation closed total rx.slots.first
+  pub second : HoldsRight rx.ahead rx.aggregation closed total rx.slots.second
   pub few : rx.takes ≤ 2 ^ 40
   pub few_sum : sum ≤ 2040 * rx.takes
   pub few_got : got ≤ 255 * rx.takes
@@ -103,15 +105,15 @@ abbrev pub is_fail : Answer → Bool
 is_fail (answers.Fail cause) = true
 is_fail answer = false
 
-abbrev pub lent_after : SubKind → Answer → Option SubKind
-lent_after u (answers.Accepted draw unit count) = Some u
-lent_after u answer = None
+abbrev pub lent_lane : SubKind → Answer → Option SubKind
+lent_lane u (answers.Accepted draw unit count) = Some u
+lent_lane u answer = None
 
 -- ---- three sub-streams
 
 -- `delivered` are the packets that are lent
 pub record ReceiveEnds : Type 0 where
-  pub mode : ℕ
+  pub aggregation : ℕ
   pub closed : Bool
   pub rx : Three RxSub
   pub delivered : List Packet
@@ -121,24 +123,25 @@ abbrev pub no_receivers : Three RxSub
 no_receivers = record { pr = no_rx; npr = no_rx; cpl = no_rx }
 
 abbrev pub new_receive_ends : ℕ → Bool → ReceiveEnds
-new_receive_ends mode closed = record { mode = mode; closed = closed; rx = no_receivers; delivered = []; takes = 0 }
+new_receive_ends aggregation closed = record
+    { aggregation = aggregation; closed = closed; rx = no_receivers; delivered = []; takes = 0 }
 
 -- the one of a sub-stream
-abbrev pub picked : {A : Type 0} → SubKind → A → A → A → A
-picked Pr a b c = a
-picked Npr a b c = b
-picked Cpl a b c = c
+abbrev pub value_of_kind : {A : Type 0} → SubKind → A → A → A → A
+value_of_kind Pr a b c = a
+value_of_kind Npr a b c = b
+value_of_kind Cpl a b c = c
 
-abbrev pub lent_from : Option SubKind → ReceiveEnd → ReceiveEnd → ReceiveEnd → List Packet
-lent_from None pr npr cpl = []
-lent_from (Some u) pr npr cpl = (picked u pr npr cpl).delivered
+abbrev pub lent_lane_packets : Option SubKind → ReceiveEnd → ReceiveEnd → ReceiveEnd → List Packet
+lent_lane_packets None pr npr cpl = []
+lent_lane_packets (Some u) pr npr cpl = (value_of_kind u pr npr cpl).delivered
 
 pub record IsReceiveLanes (pr npr cpl : ReceiveEnd) (takes : ℕ) : Type 0 where
   pub is_pr : pr.sub ≡ Pr
   pub is_npr : npr.sub ≡ Npr
   pub is_cpl : cpl.sub ≡ Cpl
-  pub npr_mode : npr.mode ≡ pr.mode
-  pub cpl_mode : cpl.mode ≡ pr.mode
+  pub npr_aggregation : npr.aggregation ≡ pr.aggregation
+  pub cpl_aggregation : cpl.aggregation ≡ pr.aggregation
   pub npr_closed : npr.closed ≡ pr.closed
   pub cpl_closed : cpl.closed ≡ pr.closed
   pub npr_order : npr.kept.sum ≤ pr.kept.got
@@ -149,22 +152,22 @@ pub record IsReceiveLanes (pr npr cpl : ReceiveEnd) (takes : ℕ) : Type 0 where
   pub few : takes ≤ 2 ^ 40
 
 -- an accepted unit, decrypted
-abbrev pub opened_after : StreamState → Packet → Taken → List Packet
-opened_after st p (Accepted draw unit packets) =
-    opened_under (live_in (slot_in_set (at_sub st.rx p.prefix.sub).slots p.prefix.k)) p.prefix.sub packets
-opened_after st p taken = []
+abbrev pub opened_if_accepted : StreamState → Packet → Taken → List Packet
+opened_if_accepted st p (Accepted draw unit packets) =
+    opened_unit (live_in (slot_in_set (at_sub st.rx p.prefix.sub).slots p.prefix.k)) p.prefix.sub packets
+opened_if_accepted st p taken = []
 
 -- a stream with these receivers and nothing else
 abbrev pub receiving_state : ReceiveEnds → StreamState
 receiving_state x = record no_stream { rx = x.rx }
 
-abbrev pub taken_among : ReceiveEnds → Packet → Taken
-taken_among x p = taken_by x.mode x.closed (receiving_state x) p
+abbrev pub lanes_outcome : ReceiveEnds → Packet → Taken
+lanes_outcome x p = stream_outcome x.aggregation x.closed (receiving_state x) p
 
-abbrev pub ends_after : ReceiveEnds → Packet → Taken → ReceiveEnds
-ends_after x p taken = record x {
+abbrev pub receive_ends_after : ReceiveEnds → Packet → Taken → ReceiveEnds
+receive_ends_after x p taken = record x {
   rx = (state_after (receiving_state x) p taken).rx;
-  delivered = opened_after (receiving_state x) p taken;
+  delivered = opened_if_accepted (receiving_state x) p taken;
   takes = x.takes + 1;
 }
 

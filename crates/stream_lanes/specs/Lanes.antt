@@ -6,10 +6,10 @@ use Rattle.ide_types.specs.declared.sub.SubKind.TheVariants.{Pr, Npr, Cpl}
 use Rattle.ide_types.specs.declared.port.Side.TheVariants.{Host}
 use Rattle.link_verdicts.specs.declared.verdict.SealedPacket.{SealedPacket as Described}
 use Rattle.ide_prefix.specs.Packet.{Packet, packet_bytes}
-use Rattle.stream_rules.specs.Sending.{Lane, Lanes, is_posted, begins_unit, no_key, ahead_with}
-use Rattle.stream_rules.specs.Stream.{LiveKey, LaneSlots, TxSub, Three, at_sub, set_sub, each_sub, live_sender, lane_of}
-use Rattle.stream_rules.specs.Stream.{packet_under, sealed_slots, sealed_one}
-use Rattle.stream_rules.specs.Slots.{is_live_slot, any_live}
+use Rattle.spec_stream.specs.Sending.{Lane, Lanes, is_posted, begins_unit, no_key, total_ahead}
+use Rattle.spec_stream.specs.Stream.{LiveKey, LaneSlots, TxSub, Three, at_sub, set_sub, each_sub, live_sender, lane_of}
+use Rattle.spec_stream.specs.Stream.{packet_under, sealed_slots, sealed_one}
+use Rattle.spec_stream.specs.Slots.{is_live_slot, any_live}
 use Rattle.key_slots.specs.{KeyCall}
 use Rattle.sub_stream.specs.{Sender, no_slots, open_packets, packets_under, with_length}
 use Rattle.sub_stream.specs.declared.answer.MeasuredPacket.{MeasuredPacket}
@@ -39,12 +39,12 @@ abbrev pub is_spent : SendEnd → Bool
 is_spent e = begins_unit (sealing_lane e) && ((sealing_lane e).units == e.fixed.limit)
 
 -- what is said of a packet, but for its port and its number
-abbrev pub said : SendEnd → Bool → Bool → Bool → Described
-said e m t sync =
+abbrev pub described_packet : SendEnd → Bool → Bool → Bool → Described
+described_packet e m t sync =
     let key = unwrap_or (sealing_lane e).key no_key in
     record {
       number = 0;
-      port = record { side = Host; link = 0 };
+      port = record { side = Host; line = 0 };
       stream = e.fixed.stream;
       sub = e.sub;
       draw = key.draw;
@@ -58,14 +58,15 @@ said e m t sync =
 
 -- a TLP's packet, which goes on with its unit if that has room and `more` is said; and a sync packet
 abbrev pub tlp_said : SendEnd → Bool → Bool → Described
-tlp_said e more t = said e (not more || (length (sealing_lane e).unfinished + 1 == e.fixed.mode)) t false
+tlp_said e more t = described_packet e (not more || (length (sealing_lane e).unfinished + 1 == e.fixed.aggregation)) t
+    false
 
 abbrev pub sync_said : SendEnd → Described
-sync_said e = said e true false true
+sync_said e = described_packet e true false true
 
 -- the packet that is said, with this header and payload
 abbrev pub packet_said : SendEnd → List ℕ → List ℕ → Described → Packet
-packet_said e head payload d = packet_under (ahead_with e.fixed.closed d.unit e.kept.total) (live_sender e.kept.slots)
+packet_said e head payload d = packet_under (total_ahead e.fixed.closed d.unit e.kept.total) (live_sender e.kept.slots)
     d head payload
 
 -- its own posted count begins again, and a finished unit counts
@@ -95,11 +96,11 @@ open_unit_number (Some x) = x.1.units + 1
 -- what comes before an open unit is what the rules say; a posted packet has no posted count
 pub record IsSendLane (tx : Sender) (limit : ℕ) (closed : Bool) (posted total : ℕ) : Type 0 where
   pub same_limit : limit ≡ tx.limit
-  pub some_mode : 0 < tx.mode
+  pub some_aggregation : 0 < tx.aggregation
   pub one_live : (is_live_slot tx.slots.first && is_live_slot tx.slots.second) ≡ false
-  pub fits : length (open_packets tx) < tx.mode
+  pub fits : length (open_packets tx) < tx.aggregation
   pub ahead : (length (open_packets tx) == 0) ≡ false → tx.ahead
-      ≡ ahead_with closed (open_unit_number (live_sender tx.slots)) total
+      ≡ total_ahead closed (open_unit_number (live_sender tx.slots)) total
   pub no_count : is_posted tx.sub ≡ true → posted ≡ 0
 
 -- ---- three sub-streams
@@ -114,13 +115,13 @@ no_senders = record { pr = no_tx; npr = no_tx; cpl = no_tx }
 abbrev pub new_send_ends : Fixed → SendEnds
 new_send_ends fixed = record { fixed = fixed; tx = no_senders }
 
-abbrev pub end_at : SendEnds → SubKind → SendEnd
-end_at x u = record { fixed = x.fixed; sub = u; kept = at_sub x.tx u }
+abbrev pub send_end_at : SendEnds → SubKind → SendEnd
+send_end_at x u = record { fixed = x.fixed; sub = u; kept = at_sub x.tx u }
 
 -- what the rules of sealing see of them, while the stream has not failed
 abbrev pub sealing_lanes : SendEnds → Lanes
 sealing_lanes x = record {
-  mode = x.fixed.mode;
+  aggregation = x.fixed.aggregation;
   limit = x.fixed.limit;
   failed = false;
   lane = λ u. lane_of (at_sub x.tx u).posted (live_sender (at_sub x.tx u).slots);
@@ -133,16 +134,17 @@ abbrev pub sealed_ends : SendEnds → List ℕ → List ℕ → Described → Se
 sealed_ends x head payload d = record x { tx = (sealed_one x.fixed.closed head payload d x.tx).1 }
 
 -- a packet with its length
-abbrev pub measured : Described → Packet → MeasuredPacket
-measured d p = with_length d (length (packet_bytes p))
+abbrev pub measured_packet : Described → Packet → MeasuredPacket
+measured_packet d p = with_length d (length (packet_bytes p))
 
 -- the packets of an open unit of these slots
 abbrev pub open_in : LaneSlots → List Packet
 open_in slots = packets_under (live_sender slots)
 
--- the posted packets that may still join an open unit of this mode leave the count within a byte
+-- the posted packets that may still join an open unit of this aggregation leave the count within a byte
 abbrev pub HasPostedRoom : ℕ → TxSub → TxSub → Type 0
-HasPostedRoom mode pr tx = (length (open_in pr.slots) == 0) ≡ false → tx.posted + mode ≤ 255 + length (open_in pr.slots)
+HasPostedRoom aggregation pr tx = (length (open_in pr.slots) == 0) ≡ false
+    → tx.posted + aggregation ≤ 255 + length (open_in pr.slots)
 
 -- what is open stays open, or goes whole
 abbrev pub KeepsUnit : TxSub → TxSub → Type 0
@@ -152,9 +154,9 @@ pub record IsSendLanes (fixed : Fixed) (pr npr cpl : SendEnd) : Type 0 where
   pub is_pr : pr ≡ record { fixed = fixed; sub = Pr; kept = pr.kept }
   pub is_npr : npr ≡ record { fixed = fixed; sub = Npr; kept = npr.kept }
   pub is_cpl : cpl ≡ record { fixed = fixed; sub = Cpl; kept = cpl.kept }
-  pub small_mode : fixed.mode ≤ 8
-  pub npr_room : HasPostedRoom fixed.mode pr.kept npr.kept
-  pub cpl_room : HasPostedRoom fixed.mode pr.kept cpl.kept
+  pub small_aggregation : fixed.aggregation ≤ 8
+  pub npr_room : HasPostedRoom fixed.aggregation pr.kept npr.kept
+  pub cpl_room : HasPostedRoom fixed.aggregation pr.kept cpl.kept
 
 abbrev pub any_out : Three TxSub → Bool
 any_out tx = any_live tx.pr.slots || any_live tx.npr.slots || any_live tx.cpl.slots
@@ -163,8 +165,8 @@ abbrev pub all_out : Three TxSub → Bool
 all_out tx = any_live tx.pr.slots && any_live tx.npr.slots && any_live tx.cpl.slots
 
 -- they count from 0 if none has a Live slot
-abbrev pub settled_out : Three TxSub → Three TxSub
-settled_out tx =
+abbrev pub settled_senders : Three TxSub → Three TxSub
+settled_senders tx =
     let out = any_out tx in
     each_sub (λ u. record {
       slots = (at_sub tx u).slots;
@@ -180,12 +182,13 @@ called_ends x u call =
 -- ---- a send
 
 -- a sync packet goes first in this sub-stream, if one is needed
-abbrev pub synced : Bool → SubKind → SendEnds → SendEnds
-synced needed u x = if needed then sealed_ends x [] [] (sync_said (end_at x u)) else x
+abbrev pub ends_after_sync : Bool → SubKind → SendEnds → SendEnds
+ends_after_sync needed u x = if needed then sealed_ends x [] [] (sync_said (send_end_at x u)) else x
 
 abbrev pub sync_packets : Bool → SubKind → SendEnds → List MeasuredPacket
 sync_packets needed u x =
-    if needed then measured (sync_said (end_at x u)) (packet_said_at x [] [] (sync_said (end_at x u))) ∷ [] else []
+    if needed then measured_packet (sync_said (send_end_at x u)) (packet_said_at x [] [] (sync_said (send_end_at x u)))
+    ∷ [] else []
 
 abbrev pub sync_bytes : Bool → SubKind → SendEnds → List ℕ
-sync_bytes needed u x = if needed then packet_bytes (packet_said_at x [] [] (sync_said (end_at x u))) else []
+sync_bytes needed u x = if needed then packet_bytes (packet_said_at x [] [] (sync_said (send_end_at x u))) else []

@@ -5,9 +5,9 @@ use Rattle.link_verdicts.specs.declared.verdict.Verdict.{Verdict}
 use Rattle.link_verdicts.specs.declared.verdict.Verdict.TheVariants as v
 use Rattle.link_verdicts.specs.declared.verdict.SealedPacket.{SealedPacket as Described}
 use Rattle.ide_prefix.specs.Packet.{Packet, packet_bytes}
-use Rattle.stream_rules.specs.Sending.{Sending, sealed_by, refusals, first_that_holds}
-use Rattle.stream_rules.specs.Stream.{sealed_all}
-use Rattle.sub_stream.specs.{numbered}
+use Rattle.spec_stream.specs.Sending.{Sending, sealed_with_syncs, refusals, first_that_holds}
+use Rattle.spec_stream.specs.Stream.{sealed_all}
+use Rattle.sub_stream.specs.{numbered_packet}
 use Rattle.sub_stream.specs.declared.answer.MeasuredPacket.{MeasuredPacket}
 use Rattle.stream_lanes.specs.declared.refusal.SendRefusal.{SendRefusal}
 use Rattle.stream_lanes.specs.declared.refusal.SendRefusal.TheVariants.{NoKey, Worn, Unfinished, Insecure}
@@ -23,7 +23,7 @@ refusal_verdict Insecure = v.RefusedInsecure
 -- sealed packets as a port describes them, numbered from this number on
 abbrev pub numbered_from : PortName → ℕ → List MeasuredPacket → List Described
 numbered_from port number [] = []
-numbered_from port number (p ∷ ps) = numbered port number p ∷ numbered_from port (number + 1) ps
+numbered_from port number (p ∷ ps) = numbered_packet port number p ∷ numbered_from port (number + 1) ps
 
 abbrev pub joined_packets : List Packet → List ℕ
 joined_packets [] = []
@@ -35,13 +35,13 @@ packet_lengths ps = map (λ p. length (packet_bytes p)) ps
 -- what the senders make of a TLP that is not refused
 pub record IsSealed (old : SendEnds) (head payload : List ℕ) (s : Sending) (number : ℕ) (sealed : List MeasuredPacket)
     (before after : List ℕ) (new : SendEnds) : Type 0 where
-  pub answered : numbered_from s.port number sealed ≡ sealed_by (sealing_lanes old) s number
+  pub answered : numbered_from s.port number sealed ≡ sealed_with_syncs (sealing_lanes old) s number
   pub lengths : map (λ (p : MeasuredPacket). p.length) sealed ≡ packet_lengths (sealed_all old.fixed.closed head payload
-      (sealed_by (sealing_lanes old) s number) old.tx).0
+      (sealed_with_syncs (sealing_lanes old) s number) old.tx).0
   pub bytes : after ≡ before ++ joined_packets (sealed_all old.fixed.closed head payload
-      (sealed_by (sealing_lanes old) s number) old.tx).0
+      (sealed_with_syncs (sealing_lanes old) s number) old.tx).0
   pub senders : new ≡ record old
-      { tx = (sealed_all old.fixed.closed head payload (sealed_by (sealing_lanes old) s number) old.tx).1 }
+      { tx = (sealed_all old.fixed.closed head payload (sealed_with_syncs (sealing_lanes old) s number) old.tx).1 }
 
 -- what they make of any TLP: a refusal changes nothing
 abbrev pub IsSealedOrRefused : SendEnds → List ℕ → List ℕ → Sending → ℕ → Result (List MeasuredPacket) SendRefusal

@@ -5,21 +5,21 @@ ghost use Rattle.std.specs.Prelude.{◌-◌, ◌*◌, ◌==◌};
 ghost use Rattle.ide_types.specs.Sub.{is_same_sub, sub_bits};
 ghost use Rattle.ide_types.specs.declared.sub.SubKind.TheVariants.{Pr, Npr, Cpl};
 ghost use Rattle.ide_prefix.specs.Cut.{packet_of_view, IsView};
-ghost use Rattle.key_slots.specs.{is_one, is_empty, program_answer, slot_in as key_slot_in, Program, Go, Halt};
-ghost use Rattle.stream_rules.specs.Stream.{at_sub, dropped_held, slot_in_set};
-ghost use Rattle.stream_rules.specs.Slots.{receiving_draw, any_live};
-ghost use Rattle.sub_stream.specs.{answer_of, slot_pair};
-ghost use Rattle.stream_lanes.specs.Arrivals.{new_receive_ends, picked, taken_here, end_after, taken_among};
-ghost use Rattle.stream_lanes.specs.Arrivals.{ends_after, is_fail, lent_after, any_into, all_into, rested_into};
+ghost use Rattle.key_slots.specs.{is_one, is_empty, program_answer, slot_in as key_slot_in, Program, Go, Stop};
+ghost use Rattle.spec_stream.specs.Stream.{at_sub, dropped_held, slot_in_set};
+ghost use Rattle.spec_stream.specs.Slots.{receiving_draw, any_live};
+ghost use Rattle.sub_stream.specs.{answer_taken, slot_pair};
+ghost use Rattle.stream_lanes.specs.Arrivals.{new_receive_ends, value_of_kind, lane_outcome, end_after, lanes_outcome};
+ghost use Rattle.stream_lanes.specs.Arrivals.{receive_ends_after, is_fail, lent_lane, any_into, all_into, rested_into};
 ghost use Rattle.stream_lanes.specs.Arrivals.{called_receivers, no_receivers, new_receive_end, no_rx, called_into};
 ghost use Rattle.stream_lanes.specs.Arrivals.{count_in};
-ghost use Rattle.stream_rules.specs.Sending.{is_posted};
+ghost use Rattle.spec_stream.specs.Sending.{is_posted};
 ghost use Rattle.sub_stream.specs.Facts.{held_packets, receiver_facts};
 ghost use Rattle.sub_stream.specs.Receivers.{is_accepted};
 
 use crate::fixed::{Fixed, lent_total};
 use ide_prefix::PacketView;
-use ide_types::{KeySet, Memory, SubKind};
+use ide_types::{KeySet, OutOfMemory, SubKind};
 use key_slots::{Key, OnlyLive, SlotEmpty};
 use std::alloc::Global;
 use std::marker::Model;
@@ -46,7 +46,7 @@ impl Model for ReceiveLane {
 
     ghost view = { λ r. record {
       sub = r.sub;
-      mode = r.rx.mode;
+      aggregation = r.rx.aggregation;
       closed = r.closed;
       kept = record {
         slots = r.rx.slots;
@@ -99,14 +99,14 @@ impl ReceiveLane {
         fixed: Fixed,
         sub: SubKind,
         buf: UnitBuf,
-    ) -> Result<ReceiveLane, Memory>
-        requires some { 1 ≤ fixed.mode }
-        requires few { fixed.mode ≤ 8 }
-        requires same { buf.mode ≡ fixed.mode }
-        ensures { IfOk result (λ s. s ≡ new_receive_end sub fixed.mode fixed.closed) }
+    ) -> Result<ReceiveLane, OutOfMemory>
+        requires some { 1 ≤ fixed.aggregation }
+        requires few { fixed.aggregation ≤ 8 }
+        requires same { buf.aggregation ≡ fixed.aggregation }
+        ensures { IfOk result (λ s. s ≡ new_receive_end sub fixed.aggregation fixed.closed) }
     {
         Ok(ReceiveLane {
-            rx: Rx::make(alloc, fixed.stream, sub, fixed.mode, buf)?,
+            rx: Rx::make(alloc, fixed.stream, sub, fixed.aggregation, buf)?,
             sub,
             closed: fixed.closed,
             sum: 0,
@@ -142,9 +142,9 @@ impl ReceiveLane {
         requires sub { packet.now.prefix.sub ≡ self.old.sub }
         requires few { self.old.takes < 2 ^ 40 }
         requires order { is_posted self.old.sub ≡ false → self.old.kept.sum ≤ got }
-        ensures answer { Some result ≡ answer_of (taken_here self.old got (packet_of_view packet.now)) }
+        ensures answer { Some result ≡ answer_taken (lane_outcome self.old got (packet_of_view packet.now)) }
         ensures lane { self.new ≡ end_after self.old (packet_of_view packet.now)
-            (taken_here self.old got (packet_of_view packet.now)) }
+            (lane_outcome self.old got (packet_of_view packet.now)) }
     {
         let total = self.total.to_be_bytes();
         let lent = lent_total(self.closed, &total);
@@ -214,11 +214,11 @@ impl ReceiveLane {
     }
 
     /// STOP: empties the slot, whose held packets go.
-    pub fn halt(&mut self, set: KeySet)
-        ensures kept { self.new.kept ≡ called_into self.old (Halt (is_one set)) }
+    pub fn stop(&mut self, set: KeySet)
+        ensures kept { self.new.kept ≡ called_into self.old (Stop (is_one set)) }
         ensures rest { self.new ≡ record self.old { kept = self.new.kept; delivered = self.new.delivered } }
     {
-        self.rx.halt(set);
+        self.rx.stop(set);
     }
 
     /// Empties both slots, drops what is held, and counts from 0 again.
@@ -245,19 +245,19 @@ pub struct ReceiveLanes {
 }
 
 impl Model for ReceiveLanes {
-    ghost use Rattle.stream_lanes.specs.Arrivals.{ReceiveEnds, IsReceiveLanes, lent_from};
+    ghost use Rattle.stream_lanes.specs.Arrivals.{ReceiveEnds, IsReceiveLanes, lent_lane_packets};
 
     ghost Value = { ReceiveEnds };
 
     ghost view = { λ r. record {
-      mode = r.pr.mode;
+      aggregation = r.pr.aggregation;
       closed = r.pr.closed;
       rx = record {
         pr = r.pr.kept;
         npr = r.npr.kept;
         cpl = r.cpl.kept;
       };
-      delivered = lent_from r.lent r.pr r.npr r.cpl;
+      delivered = lent_lane_packets r.lent r.pr r.npr r.cpl;
       takes = r.takes;
     } };
 
@@ -271,7 +271,7 @@ fn pick<'a>(
     npr: &'a ReceiveLane,
     cpl: &'a ReceiveLane,
 ) -> &'a ReceiveLane
-    ensures { result.now ≡ picked sub pr.now npr.now cpl.now }
+    ensures { result.now ≡ value_of_kind sub pr.now npr.now cpl.now }
 {
     match sub {
         SubKind::Pr => pr,
@@ -297,14 +297,14 @@ fn take_in(
     requires npr_order { npr.old.kept.sum ≤ pr.old.kept.got }
     requires cpl_order { cpl.old.kept.sum ≤ pr.old.kept.got }
     ensures answer { let p = packet_of_view packet.now in
-        Some result ≡ answer_of (taken_here (picked p.prefix.sub pr.old npr.old cpl.old) pr.old.kept.got p) }
+        Some result ≡ answer_taken (lane_outcome (value_of_kind p.prefix.sub pr.old npr.old cpl.old) pr.old.kept.got p) }
     ensures pr { let p = packet_of_view packet.now in
-        pr.new ≡ (if is_same_sub p.prefix.sub Pr then end_after pr.old p (taken_here pr.old pr.old.kept.got p)
+        pr.new ≡ (if is_same_sub p.prefix.sub Pr then end_after pr.old p (lane_outcome pr.old pr.old.kept.got p)
         else pr.old) }
     ensures npr { let p = packet_of_view packet.now in npr.new ≡ (if is_same_sub p.prefix.sub Npr then end_after npr.old
-        p (taken_here npr.old pr.old.kept.got p) else npr.old) }
+        p (lane_outcome npr.old pr.old.kept.got p) else npr.old) }
     ensures cpl { let p = packet_of_view packet.now in cpl.new ≡ (if is_same_sub p.prefix.sub Cpl then end_after cpl.old
-        p (taken_here cpl.old pr.old.kept.got p) else cpl.old) }
+        p (lane_outcome cpl.old pr.old.kept.got p) else cpl.old) }
 {
     let got = pr.got();
     match packet.prefix.sub {
@@ -334,7 +334,7 @@ fn drop_failed(taken: &Taken, lane: &mut ReceiveLane)
 
 // The sub-stream whose unit was accepted.
 fn lends(sub: SubKind, taken: &Taken) -> Option<SubKind>
-    ensures { result ≡ lent_after sub taken.now }
+    ensures { result ≡ lent_lane sub taken.now }
 {
     match taken {
         Taken::Accepted { .. } => Some(sub),
@@ -344,14 +344,14 @@ fn lends(sub: SubKind, taken: &Taken) -> Option<SubKind>
 
 impl ReceiveLanes {
     /// Receivers with no keys.
-    pub fn make(alloc: Global, fixed: Fixed) -> Result<ReceiveLanes, Memory>
-        requires some { 1 ≤ fixed.mode }
-        requires few { fixed.mode ≤ 8 }
-        ensures { IfOk result (λ r. r ≡ new_receive_ends fixed.mode fixed.closed) }
+    pub fn make(alloc: Global, fixed: Fixed) -> Result<ReceiveLanes, OutOfMemory>
+        requires some { 1 ≤ fixed.aggregation }
+        requires few { fixed.aggregation ≤ 8 }
+        ensures { IfOk result (λ r. r ≡ new_receive_ends fixed.aggregation fixed.closed) }
     {
-        let pr = UnitBuf::reserve(alloc, fixed.mode)?;
-        let npr = UnitBuf::reserve(alloc, fixed.mode)?;
-        let cpl = UnitBuf::reserve(alloc, fixed.mode)?;
+        let pr = UnitBuf::reserve(alloc, fixed.aggregation)?;
+        let npr = UnitBuf::reserve(alloc, fixed.aggregation)?;
+        let cpl = UnitBuf::reserve(alloc, fixed.aggregation)?;
         Ok(ReceiveLanes {
             pr: ReceiveLane::make(alloc, fixed, SubKind::Pr, pr)?,
             npr: ReceiveLane::make(alloc, fixed, SubKind::Npr, npr)?,
@@ -386,9 +386,9 @@ impl ReceiveLanes {
     pub fn take(&mut self, packet: &PacketView) -> Taken
         requires view { IsView packet.now }
         requires few { self.old.takes < 2 ^ 40 }
-        ensures answer { Some result ≡ answer_of (taken_among self.old (packet_of_view packet.now)) }
-        ensures lanes { self.new ≡ ends_after self.old (packet_of_view packet.now)
-            (taken_among self.old (packet_of_view packet.now)) }
+        ensures answer { Some result ≡ answer_taken (lanes_outcome self.old (packet_of_view packet.now)) }
+        ensures lanes { self.new ≡ receive_ends_after self.old (packet_of_view packet.now)
+            (lanes_outcome self.old (packet_of_view packet.now)) }
     {
         let sub = packet.prefix.sub;
         self.takes += 1;
@@ -463,14 +463,14 @@ impl ReceiveLanes {
     }
 
     /// STOP: empties a slot of a sub-stream's receiver, whose held packets go.
-    pub fn halt(&mut self, sub: SubKind, set: KeySet)
-        ensures { self.new ≡ called_receivers self.old sub (Halt (is_one set)) }
+    pub fn stop(&mut self, sub: SubKind, set: KeySet)
+        ensures { self.new ≡ called_receivers self.old sub (Stop (is_one set)) }
     {
         self.lent = None;
         match sub {
-            SubKind::Pr => self.pr.halt(set),
-            SubKind::Npr => self.npr.halt(set),
-            SubKind::Cpl => self.cpl.halt(set),
+            SubKind::Pr => self.pr.stop(set),
+            SubKind::Npr => self.npr.stop(set),
+            SubKind::Cpl => self.cpl.stop(set),
         }
     }
 

@@ -7,24 +7,25 @@ ghost use Rattle.ide_types.specs.declared.sub.SubKind.{SubKind};
 ghost use Rattle.ide_types.specs.declared.sub.SubKind.TheVariants.{Pr, Npr, Cpl};
 ghost use Rattle.ide_prefix.specs.Packet.{packet_bytes};
 ghost use Rattle.key_slots.specs.{is_one, is_empty, program_answer, live_set, slot_in as key_slot_in, Program, Go};
-ghost use Rattle.key_slots.specs.{Halt};
-ghost use Rattle.stream_rules.specs.Sending.{Sending, is_posted, is_keyless, is_worn, begins_unit, needs_sync};
-ghost use Rattle.stream_rules.specs.Sending.{refusals, first_that_holds, sets_trusted};
-ghost use Rattle.stream_rules.specs.Stream.{at_sub};
-ghost use Rattle.stream_rules.specs.Slots.{any_live, sealing_draw};
+ghost use Rattle.key_slots.specs.{Stop};
+ghost use Rattle.spec_stream.specs.Sending.{Sending, is_posted, is_keyless, is_worn, begins_unit, needs_sync};
+ghost use Rattle.spec_stream.specs.Sending.{refusals, first_that_holds, sets_trusted};
+ghost use Rattle.spec_stream.specs.Stream.{at_sub};
+ghost use Rattle.spec_stream.specs.Slots.{any_live, sealing_draw};
 ghost use Rattle.sub_stream.specs.{slot_pair};
 ghost use Rattle.sub_stream.specs.Facts.{sender_facts};
 ghost use Rattle.stream_lanes.specs.Sends.{refusal_verdict, IsSealed, IsSealedOrRefused};
-ghost use Rattle.stream_lanes.specs.Lanes.{new_send_ends, end_at, sealing_lanes, sealing_lane, is_spent, tlp_said};
-ghost use Rattle.stream_lanes.specs.Lanes.{packet_said_at, sealed_ends, measured, open_in, any_out, all_out};
-ghost use Rattle.stream_lanes.specs.Lanes.{settled_out, called_ends, synced, sync_packets, sync_bytes, new_send_end};
+ghost use Rattle.stream_lanes.specs.Lanes.{new_send_ends, send_end_at, sealing_lanes, sealing_lane, is_spent, tlp_said};
+ghost use Rattle.stream_lanes.specs.Lanes.{packet_said_at, sealed_ends, measured_packet, open_in, any_out, all_out};
+ghost use Rattle.stream_lanes.specs.Lanes.{settled_senders, called_ends, ends_after_sync, sync_packets, sync_bytes};
+ghost use Rattle.stream_lanes.specs.Lanes.{new_send_end};
 ghost use Rattle.stream_lanes.specs.Lanes.{sync_said, packet_said, sealed_end, posted_end, forgotten_end};
 ghost use Rattle.stream_lanes.specs.Lanes.{called_send_end, KeepsUnit};
 
 use crate::fixed::{Fixed, lent_total};
 use crate::list::MeasuredPackets;
 use crate::refusal::SendRefusal;
-use ide_types::{KeySet, Memory, SubKind};
+use ide_types::{KeySet, OutOfMemory, SubKind};
 use key_slots::{Key, OnlyLive, SlotEmpty};
 use std::alloc::Global;
 use std::marker::Model;
@@ -51,7 +52,7 @@ impl Model for SendLane {
     ghost view = { λ s. record {
       fixed = record {
         stream = s.tx.stream;
-        mode = s.tx.mode;
+        aggregation = s.tx.aggregation;
         limit = s.tx.limit;
         closed = s.closed;
       };
@@ -81,14 +82,26 @@ fn count(m: bool, posted: &mut u8, total: &mut u64)
 
 impl SendLane {
     /// A sender with no key, for whose units `buf` was reserved.
-    pub fn make(alloc: Global, fixed: Fixed, sub: SubKind, buf: UnitBuf) -> Result<SendLane, Memory>
-        requires some { 1 ≤ fixed.mode }
-        requires few { fixed.mode ≤ 8 }
-        requires same { buf.mode ≡ fixed.mode }
+    pub fn make(
+        alloc: Global,
+        fixed: Fixed,
+        sub: SubKind,
+        buf: UnitBuf,
+    ) -> Result<SendLane, OutOfMemory>
+        requires some { 1 ≤ fixed.aggregation }
+        requires few { fixed.aggregation ≤ 8 }
+        requires same { buf.aggregation ≡ fixed.aggregation }
         ensures { IfOk result (λ s. s ≡ new_send_end fixed sub) }
     {
         Ok(SendLane {
-            tx: Tx::make(alloc, fixed.stream, sub, fixed.mode, fixed.limit, buf)?,
+            tx: Tx::make(
+                alloc,
+                fixed.stream,
+                sub,
+                fixed.aggregation,
+                fixed.limit,
+                buf,
+            )?,
             limit: fixed.limit,
             closed: fixed.closed,
             posted: 0,
@@ -158,13 +171,13 @@ impl SendLane {
         requires head_short { length head.now ≤ 16 }
         requires payload_short { length payload.now ≤ 4096 }
         requires room { vec_len out.old + PACKET_ROOM ≤ vec_capacity out.old }
-        ensures answer { result ≡ measured (tlp_said self.old more t) (packet_said self.old head.now payload.now
+        ensures answer { result ≡ measured_packet (tlp_said self.old more t) (packet_said self.old head.now payload.now
             (tlp_said self.old more t)) }
         ensures lane { self.new ≡ sealed_end self.old head.now payload.now (tlp_said self.old more t) }
         ensures bytes { out.new.items ≡ out.old.items ++ packet_bytes (packet_said self.old head.now payload.now
             (tlp_said self.old more t)) }
         ensures capacity { vec_capacity out.old ≤ vec_capacity out.new }
-        ensures fits { length (sealing_lane self.old).unfinished < self.old.fixed.mode }
+        ensures fits { length (sealing_lane self.old).unfinished < self.old.fixed.aggregation }
     {
         let total = self.total.to_be_bytes();
         let lent = lent_total(self.closed, &total);
@@ -181,7 +194,7 @@ impl SendLane {
         requires unworn { is_spent self.old ≡ false }
         requires few { self.old.kept.total < 2 ^ 40 }
         requires room { vec_len out.old + SYNC_ROOM ≤ vec_capacity out.old }
-        ensures answer { result ≡ measured (sync_said self.old) (packet_said self.old [] [] (sync_said self.old)) }
+        ensures answer { result ≡ measured_packet (sync_said self.old) (packet_said self.old [] [] (sync_said self.old)) }
         ensures lane { self.new ≡ sealed_end self.old [] [] (sync_said self.old) }
         ensures bytes { out.new.items ≡ out.old.items ++ packet_bytes
             (packet_said self.old [] [] (sync_said self.old)) }
@@ -236,11 +249,11 @@ impl SendLane {
     }
 
     /// STOP: empties the slot, and drops an open unit under its key; a key that waited for that unit's end is Live.
-    pub fn halt(&mut self, set: KeySet)
-        ensures lane { self.new ≡ called_send_end self.old (Halt (is_one set)) }
+    pub fn stop(&mut self, set: KeySet)
+        ensures lane { self.new ≡ called_send_end self.old (Stop (is_one set)) }
         ensures unit { KeepsUnit self.old.kept self.new.kept }
     {
-        self.tx.halt(set);
+        self.tx.stop(set);
     }
 
     /// Empties both slots, drops an open unit, and counts from 0 again.
@@ -279,22 +292,22 @@ impl Model for SendLanes {
 }
 
 // Whether a posted count passes what a byte holds within one unit.
-fn may_overflow(posted: u8, mode: u8) -> bool
-    ensures { result ≡ nat_lt 255 (posted + mode) }
+fn may_overflow(posted: u8, aggregation: u8) -> bool
+    ensures { result ≡ nat_lt 255 (posted + aggregation) }
 {
-    u16::from(posted) + u16::from(mode) > 255
+    u16::from(posted) + u16::from(aggregation) > 255
 }
 
 impl SendLanes {
     /// Senders with no keys.
-    pub fn make(alloc: Global, fixed: Fixed) -> Result<SendLanes, Memory>
-        requires some { 1 ≤ fixed.mode }
-        requires few { fixed.mode ≤ 8 }
+    pub fn make(alloc: Global, fixed: Fixed) -> Result<SendLanes, OutOfMemory>
+        requires some { 1 ≤ fixed.aggregation }
+        requires few { fixed.aggregation ≤ 8 }
         ensures { IfOk result (λ s. s ≡ new_send_ends fixed) }
     {
-        let pr = UnitBuf::reserve(alloc, fixed.mode)?;
-        let npr = UnitBuf::reserve(alloc, fixed.mode)?;
-        let cpl = UnitBuf::reserve(alloc, fixed.mode)?;
+        let pr = UnitBuf::reserve(alloc, fixed.aggregation)?;
+        let npr = UnitBuf::reserve(alloc, fixed.aggregation)?;
+        let cpl = UnitBuf::reserve(alloc, fixed.aggregation)?;
         Ok(SendLanes {
             fixed,
             pr: SendLane::make(alloc, fixed, SubKind::Pr, pr)?,
@@ -312,7 +325,7 @@ impl SendLanes {
 
     // The sender of a sub-stream.
     fn lane(&self, sub: SubKind) -> &SendLane
-        ensures { result.now ≡ end_at self.now sub }
+        ensures { result.now ≡ send_end_at self.now sub }
     {
         match sub {
             SubKind::Pr => &self.pr,
@@ -355,10 +368,10 @@ impl SendLanes {
         ensures value { result ≡ needs_sync (sealing_lanes self.now) class sub }
         // The posted packets of the unit that goes on, or begins, leave the count within a byte.
         ensures room { is_posted class ≡ true → (if result then 0 else (at_sub self.now.tx sub).posted)
-            + self.now.fixed.mode ≤ 255 + length (open_in self.now.tx.pr.slots) }
+            + self.now.fixed.aggregation ≤ 255 + length (open_in self.now.tx.pr.slots) }
     {
         let begins = self.lane(class).begins();
-        let many = may_overflow(self.lane(sub).posted(), self.fixed.mode);
+        let many = may_overflow(self.lane(sub).posted(), self.fixed.aggregation);
         class == SubKind::Pr && begins && many
     }
 
@@ -416,11 +429,11 @@ impl SendLanes {
     // Seals a sync packet in the non-posted sub-stream, if one is needed.
     fn sync_npr(&mut self, needed: bool, sealed: &mut MeasuredPackets, out: &mut Vec<u8>)
         requires live { needed ≡ true → any_live self.old.tx.npr.slots ≡ true }
-        requires unworn { needed ≡ true → is_spent (end_at self.old Npr) ≡ false }
+        requires unworn { needed ≡ true → is_spent (send_end_at self.old Npr) ≡ false }
         requires few { self.old.tx.npr.total < 2 ^ 40 }
         requires count { length sealed.old < 3 }
         requires room { vec_len out.old + SYNC_ROOM ≤ vec_capacity out.old }
-        ensures lanes { self.new ≡ synced needed Npr self.old }
+        ensures lanes { self.new ≡ ends_after_sync needed Npr self.old }
         ensures sealed { sealed.new ≡ sealed.old ++ sync_packets needed Npr self.old }
         ensures bytes { out.new.items ≡ out.old.items ++ sync_bytes needed Npr self.old }
         ensures count { length sealed.new ≤ length sealed.old + 1 }
@@ -436,11 +449,11 @@ impl SendLanes {
     // Seals a sync packet in the completion sub-stream, if one is needed.
     fn sync_cpl(&mut self, needed: bool, sealed: &mut MeasuredPackets, out: &mut Vec<u8>)
         requires live { needed ≡ true → any_live self.old.tx.cpl.slots ≡ true }
-        requires unworn { needed ≡ true → is_spent (end_at self.old Cpl) ≡ false }
+        requires unworn { needed ≡ true → is_spent (send_end_at self.old Cpl) ≡ false }
         requires few { self.old.tx.cpl.total < 2 ^ 40 }
         requires count { length sealed.old < 3 }
         requires room { vec_len out.old + SYNC_ROOM ≤ vec_capacity out.old }
-        ensures lanes { self.new ≡ synced needed Cpl self.old }
+        ensures lanes { self.new ≡ ends_after_sync needed Cpl self.old }
         ensures sealed { sealed.new ≡ sealed.old ++ sync_packets needed Cpl self.old }
         ensures bytes { out.new.items ≡ out.old.items ++ sync_bytes needed Cpl self.old }
         ensures count { length sealed.new ≤ length sealed.old + 1 }
@@ -463,18 +476,20 @@ impl SendLanes {
         out: &mut Vec<u8>,
     ) -> MeasuredPacket
         requires live { any_live self.old.tx.pr.slots ≡ true }
-        requires unworn { is_spent (end_at self.old Pr) ≡ false }
+        requires unworn { is_spent (send_end_at self.old Pr) ≡ false }
         requires few { self.old.tx.pr.total < 2 ^ 40 }
-        requires npr_room { self.old.tx.npr.posted + self.old.fixed.mode ≤ 255 + length (open_in self.old.tx.pr.slots) }
-        requires cpl_room { self.old.tx.cpl.posted + self.old.fixed.mode ≤ 255 + length (open_in self.old.tx.pr.slots) }
+        requires npr_room { self.old.tx.npr.posted + self.old.fixed.aggregation ≤ 255 + length
+            (open_in self.old.tx.pr.slots) }
+        requires cpl_room { self.old.tx.cpl.posted + self.old.fixed.aggregation ≤ 255 + length
+            (open_in self.old.tx.pr.slots) }
         requires head_short { length head.now ≤ 16 }
         requires payload_short { length payload.now ≤ 4096 }
         requires room { vec_len out.old + PACKET_ROOM ≤ vec_capacity out.old }
-        ensures answer { let d = tlp_said (end_at self.old Pr) more t in
-            result ≡ measured d (packet_said_at self.old head.now payload.now d) }
-        ensures lanes { self.new ≡ sealed_ends self.old head.now payload.now (tlp_said (end_at self.old Pr) more t) }
+        ensures answer { let d = tlp_said (send_end_at self.old Pr) more t in
+            result ≡ measured_packet d (packet_said_at self.old head.now payload.now d) }
+        ensures lanes { self.new ≡ sealed_ends self.old head.now payload.now (tlp_said (send_end_at self.old Pr) more t) }
         ensures bytes { out.new.items ≡ out.old.items ++ packet_bytes (packet_said_at self.old head.now payload.now
-            (tlp_said (end_at self.old Pr) more t)) }
+            (tlp_said (send_end_at self.old Pr) more t)) }
         ensures capacity { vec_capacity out.old ≤ vec_capacity out.new }
     {
         let packet = self.pr.seal(head, payload, more, t, out);
@@ -494,20 +509,21 @@ impl SendLanes {
         out: &mut Vec<u8>,
     ) -> MeasuredPacket
         requires live { any_live (at_sub self.old.tx sub).slots ≡ true }
-        requires unworn { is_spent (end_at self.old sub) ≡ false }
+        requires unworn { is_spent (send_end_at self.old sub) ≡ false }
         requires few { (at_sub self.old.tx sub).total < 2 ^ 40 }
-        requires npr_room { is_posted sub ≡ true → self.old.tx.npr.posted + self.old.fixed.mode ≤ 255 + length
+        requires npr_room { is_posted sub ≡ true → self.old.tx.npr.posted + self.old.fixed.aggregation ≤ 255 + length
             (open_in self.old.tx.pr.slots) }
-        requires cpl_room { is_posted sub ≡ true → self.old.tx.cpl.posted + self.old.fixed.mode ≤ 255 + length
+        requires cpl_room { is_posted sub ≡ true → self.old.tx.cpl.posted + self.old.fixed.aggregation ≤ 255 + length
             (open_in self.old.tx.pr.slots) }
         requires head_short { length head.now ≤ 16 }
         requires payload_short { length payload.now ≤ 4096 }
         requires room { vec_len out.old + PACKET_ROOM ≤ vec_capacity out.old }
-        ensures answer { let d = tlp_said (end_at self.old sub) more t in
-            result ≡ measured d (packet_said_at self.old head.now payload.now d) }
-        ensures lanes { self.new ≡ sealed_ends self.old head.now payload.now (tlp_said (end_at self.old sub) more t) }
+        ensures answer { let d = tlp_said (send_end_at self.old sub) more t in
+            result ≡ measured_packet d (packet_said_at self.old head.now payload.now d) }
+        ensures lanes { self.new ≡ sealed_ends self.old head.now payload.now
+            (tlp_said (send_end_at self.old sub) more t) }
         ensures bytes { out.new.items ≡ out.old.items ++ packet_bytes (packet_said_at self.old head.now payload.now
-            (tlp_said (end_at self.old sub) more t)) }
+            (tlp_said (send_end_at self.old sub) more t)) }
         ensures capacity { vec_capacity out.old ≤ vec_capacity out.new }
     {
         match sub {
@@ -532,9 +548,9 @@ impl SendLanes {
         requires npr { npr ≡ needs_sync (sealing_lanes self.old) sub Npr }
         requires cpl { cpl ≡ needs_sync (sealing_lanes self.old) sub Cpl }
         requires npr_room { is_posted sub ≡ true → (if npr then 0 else (at_sub self.old.tx Npr).posted)
-            + self.old.fixed.mode ≤ 255 + length (open_in self.old.tx.pr.slots) }
+            + self.old.fixed.aggregation ≤ 255 + length (open_in self.old.tx.pr.slots) }
         requires cpl_room { is_posted sub ≡ true → (if cpl then 0 else (at_sub self.old.tx Cpl).posted)
-            + self.old.fixed.mode ≤ 255 + length (open_in self.old.tx.pr.slots) }
+            + self.old.fixed.aggregation ≤ 255 + length (open_in self.old.tx.pr.slots) }
         requires clear { first_that_holds (refusals (sealing_lanes self.old) sub) ≡ None }
         requires few { (u : SubKind) → (at_sub self.old.tx u).total < 2 ^ 40 }
         requires head_short { length head.now ≤ 16 }
@@ -587,7 +603,7 @@ impl SendLanes {
 
     /// Lets them count from 0 again if none has a Live slot.
     pub fn settle(&mut self)
-        ensures { self.new ≡ record self.old { tx = settled_out self.old.tx } }
+        ensures { self.new ≡ record self.old { tx = settled_senders self.old.tx } }
     {
         if !self.any_live() {
             self.pr.forget();
@@ -630,13 +646,13 @@ impl SendLanes {
 
     /// STOP: empties a slot of a sub-stream's sender, and drops an open unit under its key; a key that waited for that
     /// unit's end is Live.
-    pub fn halt(&mut self, sub: SubKind, set: KeySet)
-        ensures { self.new ≡ called_ends self.old sub (Halt (is_one set)) }
+    pub fn stop(&mut self, sub: SubKind, set: KeySet)
+        ensures { self.new ≡ called_ends self.old sub (Stop (is_one set)) }
     {
         match sub {
-            SubKind::Pr => self.pr.halt(set),
-            SubKind::Npr => self.npr.halt(set),
-            SubKind::Cpl => self.cpl.halt(set),
+            SubKind::Pr => self.pr.stop(set),
+            SubKind::Npr => self.npr.stop(set),
+            SubKind::Cpl => self.cpl.stop(set),
         }
     }
 

@@ -9,34 +9,34 @@ use Rattle.std.proofs.lemmas.Option.{slice_get-map}
 use Rattle.std.proofs.lemmas.List.{length-map}
 use Rattle.std.proofs.lemmas.List.Sums.{sum_by-cons}
 use Rattle.std.proofs.lemmas.Grind.{common_steps}
-use Rattle.gcm_seal.specs.Gcm.{masked}
-use Rattle.gcm_seal.proofs.Sealing.{masked-append, length-masked}
+use Rattle.gcm_seal.specs.Gcm.{masked_bytes}
+use Rattle.gcm_seal.proofs.Sealing.{masked_bytes-append, length-masked_bytes}
 use Rattle.ide_prefix.specs.declared.packet.Prefix.{Prefix}
 use Rattle.ide_prefix.specs.Packet.{Packet, prefix_bytes, begins_sync}
-use Rattle.ide_prefix.specs.Units.{clear_bytes, authenticated, encrypted}
-use Rattle.stream_rules.specs.Stream.{posted_sum}
-use Rattle.unit_aggregation.specs.{heads_of, bodies_of, overwritten, rebodied}
-use Rattle.sub_stream.specs.Gathered.{packets_in, parts_of, opened_from, lent_parts, mark_of}
+use Rattle.ide_prefix.specs.Units.{clear_bytes, authenticated_bytes, encrypted_bytes}
+use Rattle.spec_stream.specs.Stream.{posted_sum}
+use Rattle.unit_aggregation.specs.{heads_of, bodies_of, overwritten_bytes, packets_with_bodies}
+use Rattle.sub_stream.specs.Gathered.{packets_in, parts_of, opened_from_byte, lent_parts, mark_of}
 
 abbrev pub Parts : Type 0
 Parts = List ℕ × List ℕ
 
 -- ---- joined
 
-pub heads-parts : (ps : List Packet) → heads_of (map parts_of ps) ≡ authenticated ps
+pub heads-parts : (ps : List Packet) → heads_of (map parts_of ps) ≡ authenticated_bytes ps
 heads-parts [] = refl
 heads-parts (p ∷ ps) = ap (λ x. clear_bytes p ++ x) (heads-parts ps)
 
-pub bodies-parts : (ps : List Packet) → bodies_of (map parts_of ps) ≡ encrypted ps
+pub bodies-parts : (ps : List Packet) → bodies_of (map parts_of ps) ≡ encrypted_bytes ps
 bodies-parts [] = refl
 bodies-parts (p ∷ ps) = ap (λ x. p.body ++ x) (bodies-parts ps)
 
 pub heads_in : (xs : List Parts) (ps : List Prefix) → map parts_of (packets_in xs ps) ≡ xs → heads_of xs
-    ≡ authenticated (packets_in xs ps)
+    ≡ authenticated_bytes (packets_in xs ps)
 heads_in xs ps e = ap heads_of (sym e) ∙ heads-parts (packets_in xs ps)
 
 pub bodies_in : (xs : List Parts) (ps : List Prefix) → map parts_of (packets_in xs ps) ≡ xs → bodies_of xs
-    ≡ encrypted (packets_in xs ps)
+    ≡ encrypted_bytes (packets_in xs ps)
 bodies_in xs ps e = ap bodies_of (sym e) ∙ bodies-parts (packets_in xs ps)
 
 pub length-packets_in : (xs : List Parts) (ps : List Prefix) → map parts_of (packets_in xs ps) ≡ xs
@@ -58,32 +58,33 @@ packets-added (x ∷ xs) (q ∷ ps) p h b lt =
 
 -- ---- decrypted
 
-pub length-rebodied : (xs : List Parts) (bytes : List ℕ) → length (rebodied xs bytes) ≡ length xs
-length-rebodied [] bytes = refl
-length-rebodied (x ∷ xs) bytes = ap (λ n. suc n) (length-rebodied xs (drop (length x.1) bytes))
+pub length-packets_with_bodies : (xs : List Parts) (bytes : List ℕ) → length (packets_with_bodies xs bytes) ≡ length xs
+length-packets_with_bodies [] bytes = refl
+length-packets_with_bodies (x ∷ xs) bytes = ap (λ n. suc n) (length-packets_with_bodies xs (drop (length x.1) bytes))
 
 pub posted-cons : (p : Packet) (ps : List Packet) → posted_sum (p ∷ ps) ≡ p.prefix.posted + posted_sum ps
 posted-cons p ps = sum_by-cons (λ (x : Packet). x.prefix.posted) p ps
 
-pub posted-rebodied : (xs : List Parts) (ps : List Prefix) (bytes : List ℕ)
-    → posted_sum (packets_in (rebodied xs bytes) ps) ≡ posted_sum (packets_in xs ps)
-posted-rebodied [] ps bytes = refl
-posted-rebodied (x ∷ xs) [] bytes = refl
-posted-rebodied (x ∷ xs) (p ∷ ps) bytes =
+pub posted-packets_with_bodies : (xs : List Parts) (ps : List Prefix) (bytes : List ℕ)
+    → posted_sum (packets_in (packets_with_bodies xs bytes) ps) ≡ posted_sum (packets_in xs ps)
+posted-packets_with_bodies [] ps bytes = refl
+posted-packets_with_bodies (x ∷ xs) [] bytes = refl
+posted-packets_with_bodies (x ∷ xs) (p ∷ ps) bytes =
     let q : List ℕ → Packet = λ b. record { prefix = p; head = drop 4 x.0; body = b; tag = [] } in
-    posted-cons (q (take (length x.1) bytes)) (packets_in (rebodied xs (drop (length x.1) bytes)) ps)
-    ∙ ap (λ n. p.posted + n) (posted-rebodied xs ps (drop (length x.1) bytes))
+    posted-cons (q (take (length x.1) bytes)) (packets_in (packets_with_bodies xs (drop (length x.1) bytes)) ps)
+    ∙ ap (λ n. p.posted + n) (posted-packets_with_bodies xs ps (drop (length x.1) bytes))
     ∙ sym (posted-cons (q x.1) (packets_in xs ps))
 
-pub parts-rebodied : (xs : List Parts) (ps : List Prefix) (bytes : List ℕ) → map parts_of (packets_in xs ps) ≡ xs
-    → map parts_of (packets_in (rebodied xs bytes) ps) ≡ rebodied xs bytes
-parts-rebodied [] ps bytes e = refl
-parts-rebodied (x ∷ xs) [] bytes e = absurd (cc)
-parts-rebodied (x ∷ xs) (p ∷ ps) bytes e =
+pub parts-packets_with_bodies : (xs : List Parts) (ps : List Prefix) (bytes : List ℕ) → map parts_of (packets_in xs ps)
+    ≡ xs
+    → map parts_of (packets_in (packets_with_bodies xs bytes) ps) ≡ packets_with_bodies xs bytes
+parts-packets_with_bodies [] ps bytes e = refl
+parts-packets_with_bodies (x ∷ xs) [] bytes e = absurd (cc)
+parts-packets_with_bodies (x ∷ xs) (p ∷ ps) bytes e =
     let rest : map parts_of (packets_in xs ps) ≡ xs = cc in
     let first : parts_of (record { prefix = p; head = drop 4 x.0; body = x.1; tag = [] }) ≡ x = cc in
     let head : prefix_bytes p ++ drop 4 x.0 ≡ x.0 = ap (λ (y : Parts). y.0) first in
-    λ i. (head i, take (length x.1) bytes) ∷ parts-rebodied xs ps (drop (length x.1) bytes) rest i
+    λ i. (head i, take (length x.1) bytes) ∷ parts-packets_with_bodies xs ps (drop (length x.1) bytes) rest i
 
 cut_front : (a b : List ℕ) (n : ℕ) → n ≡ length a → take n (a ++ b) ≡ a
 cut_front a b n e = rw e (take-append_seam a b)
@@ -91,24 +92,27 @@ cut_front a b n e = rw e (take-append_seam a b)
 cut_back : (a b : List ℕ) (n : ℕ) → n ≡ length a → drop n (a ++ b) ≡ b
 cut_back a b n e = rw e (drop-append_seam a b)
 
-pub opened-rebodied : (key iv : List ℕ) (n : ℕ) (xs : List Parts) (ps : List Prefix)
-    → packets_in (rebodied xs (masked key iv n (bodies_of xs))) ps ≡ opened_from key iv n (packets_in xs ps)
-opened-rebodied key iv n [] ps = refl
-opened-rebodied key iv n (x ∷ xs) [] = refl
-opened-rebodied key iv n (x ∷ xs) (p ∷ ps) =
-    let both = masked-append key iv n x.1 (bodies_of xs) in
-    let a = masked key iv n x.1 in
-    let b = masked key iv (n + length x.1) (bodies_of xs) in
-    let la : length x.1 ≡ length a = sym (length-masked key iv n x.1) in
-    let front : take (length x.1) (masked key iv n (x.1 ++ bodies_of xs))
+pub opened_packets-packets_with_bodies : (key iv : List ℕ) (n : ℕ) (xs : List Parts) (ps : List Prefix)
+    → packets_in (packets_with_bodies xs (masked_bytes key iv n (bodies_of xs))) ps
+    ≡ opened_from_byte key iv n (packets_in xs ps)
+opened_packets-packets_with_bodies key iv n [] ps = refl
+opened_packets-packets_with_bodies key iv n (x ∷ xs) [] = refl
+opened_packets-packets_with_bodies key iv n (x ∷ xs) (p ∷ ps) =
+    let both = masked_bytes-append key iv n x.1 (bodies_of xs) in
+    let a = masked_bytes key iv n x.1 in
+    let b = masked_bytes key iv (n + length x.1) (bodies_of xs) in
+    let la : length x.1 ≡ length a = sym (length-masked_bytes key iv n x.1) in
+    let front : take (length x.1) (masked_bytes key iv n (x.1 ++ bodies_of xs))
     ≡ a = rw both (cut_front a b (length x.1) la) in
-    let back : drop (length x.1) (masked key iv n (x.1 ++ bodies_of xs)) ≡ b = rw both (cut_back a b (length x.1) la) in
-    (λ i. record { prefix = p; head = drop 4 x.0; body = front i; tag = [] } ∷ packets_in (rebodied xs (back i)) ps)
+    let back : drop (length x.1) (masked_bytes key iv n (x.1 ++ bodies_of xs))
+    ≡ b = rw both (cut_back a b (length x.1) la) in
+    (λ i. record { prefix = p; head = drop 4 x.0; body = front i; tag = [] }
+    ∷ packets_in (packets_with_bodies xs (back i)) ps)
     ∙ ap (λ y. record { prefix = p; head = drop 4 x.0; body = a; tag = [] } ∷ y)
-    (opened-rebodied key iv (n + length x.1) xs ps)
+    (opened_packets-packets_with_bodies key iv (n + length x.1) xs ps)
 
-pub overwritten-all : (old new : List ℕ) → length new ≡ length old → overwritten old new ≡ new
-overwritten-all old new e = grind (arith, common_steps)
+pub overwritten_bytes-all : (old new : List ℕ) → length new ≡ length old → overwritten_bytes old new ≡ new
+overwritten_bytes-all old new e = grind (arith, common_steps)
 
 -- ---- lent
 

@@ -6,16 +6,17 @@ use denote.Ref.{Bor}
 use Rattle.std.proofs.lemmas.Bool.{lt-ltb}
 use Rattle.ide_types.specs.declared.sub.FailCause.TheVariants as fail
 use Rattle.ide_prefix.specs.Packet.{Packet}
-use Rattle.stream_rules.specs.Stream.{LiveKey, slot_in_set as seen_slot, live_in, holds_any}
+use Rattle.spec_stream.specs.Stream.{LiveKey, slot_in_set as seen_slot, live_in, holds_any}
 use Rattle.key_slots.specs.declared.slot.Slot.{Slot as KeySlot}
 use Rattle.key_slots.specs.declared.slot.Slot.TheVariants.{Empty, Programmed, Armed, Live}
 use Rattle.key_slots.specs.{KeySet, DrawnKey, SlotPair, slot_in, is_one, is_live, live_held, shown_key}
 use Rattle.sub_stream.specs.declared.answer.Taken.{Taken as Answer}
 use Rattle.sub_stream.specs.declared.answer.Taken.TheVariants as answers
 use Rattle.sub_stream.specs.declared.receiver.Holds.{Holds}
-use Rattle.sub_stream.specs.declared.receiver.Holds.TheVariants.{Nothing, Zero, One, Delivered}
-use Rattle.sub_stream.specs.Seen.{slot_as_seen, live_with}
-use Rattle.sub_stream.specs.Receivers.{held_zero, held_one, seen_in, HoldsFew, holds_some, holds_apart, fits_held}
+use Rattle.sub_stream.specs.declared.receiver.Holds.TheVariants.{Nothing, HeldZero, HeldOne, Delivered}
+use Rattle.sub_stream.specs.Seen.{slot_as_seen, live_key_seen}
+use Rattle.sub_stream.specs.Receivers.{held_zero, held_one, receiver_slots_seen, HoldsFew, holds_some, holds_apart}
+use Rattle.sub_stream.specs.Receivers.{fits_held}
 use Rattle.sub_stream.specs.Receivers.{fits_unit, early_answer}
 
 -- the units and the packets of a key set
@@ -26,14 +27,15 @@ abbrev pub held_of : Bool → Holds → List Packet → List Packet
 held_of k h ps = if k then held_one h ps else held_zero h ps
 
 live_seen : (slot : KeySlot) (units : ℕ) (ps : List Packet) → live_in (slot_as_seen units ps slot)
-    ≡ option_map (live_with units ps) (live_held slot)
+    ≡ option_map (live_key_seen units ps) (live_held slot)
 live_seen Empty units ps = refl
 live_seen (Programmed held) units ps = refl
 live_seen (Armed held) units ps = refl
 live_seen (Live held) units ps = refl
 
 pub key_seen : (k : Bool) (pair : SlotPair) (u0 u1 : ℕ) (h : Holds) (ps : List Packet)
-    → live_in (seen_slot (seen_in pair u0 u1 h ps) k) ≡ option_map (live_with (units_of k u0 u1) (held_of k h ps))
+    → live_in (seen_slot (receiver_slots_seen pair u0 u1 h ps) k)
+    ≡ option_map (live_key_seen (units_of k u0 u1) (held_of k h ps))
     (live_held (slot_in pair k))
 key_seen true pair u0 u1 h ps = live_seen pair.one u1 (held_one h ps)
 key_seen false pair u0 u1 h ps = live_seen pair.zero u0 (held_zero h ps)
@@ -54,41 +56,45 @@ holds_in (Armed held) units ps true some none = absurd (let no = (some refl).0 i
 holds_in (Live held) units ps true some none = lt-ltb 0 (length ps) (some refl).1
 
 -- the other key set holds packets
-pub other_holds : (k : Bool) (pair : SlotPair) (u0 u1 : ℕ) (h : Holds) (mode : ℕ) (ps : List Packet)
-    → HoldsFew pair mode h ps
-    → holds_any (live_in (seen_slot (seen_in pair u0 u1 h ps) (not k))) ≡ holds_apart k h
-other_holds true pair u0 u1 Zero mode ps few = holds_in pair.zero u0 ps true (λ _. (few.0, few.1)) (λ no. absurd (cc))
-other_holds true pair u0 u1 One mode ps few = holds_in pair.zero u0 [] false (λ no. absurd (cc)) (λ _. refl)
-other_holds true pair u0 u1 Nothing mode ps few = holds_in pair.zero u0 [] false (λ no. absurd (cc)) (λ _. refl)
-other_holds true pair u0 u1 Delivered mode ps few = holds_in pair.zero u0 [] false (λ no. absurd (cc)) (λ _. refl)
-other_holds false pair u0 u1 Zero mode ps few = holds_in pair.one u1 [] false (λ no. absurd (cc)) (λ _. refl)
-other_holds false pair u0 u1 One mode ps few = holds_in pair.one u1 ps true (λ _. (few.0, few.1)) (λ no. absurd (cc))
-other_holds false pair u0 u1 Nothing mode ps few = holds_in pair.one u1 [] false (λ no. absurd (cc)) (λ _. refl)
-other_holds false pair u0 u1 Delivered mode ps few = holds_in pair.one u1 [] false (λ no. absurd (cc)) (λ _. refl)
+pub other_holds : (k : Bool) (pair : SlotPair) (u0 u1 : ℕ) (h : Holds) (aggregation : ℕ) (ps : List Packet)
+    → HoldsFew pair aggregation h ps
+    → holds_any (live_in (seen_slot (receiver_slots_seen pair u0 u1 h ps) (not k))) ≡ holds_apart k h
+other_holds true pair u0 u1 HeldZero aggregation ps few = holds_in pair.zero u0 ps true (λ _. (few.0, few.1))
+    (λ no. absurd (cc))
+other_holds true pair u0 u1 HeldOne aggregation ps few = holds_in pair.zero u0 [] false (λ no. absurd (cc)) (λ _. refl)
+other_holds true pair u0 u1 Nothing aggregation ps few = holds_in pair.zero u0 [] false (λ no. absurd (cc)) (λ _. refl)
+other_holds true pair u0 u1 Delivered aggregation ps few = holds_in pair.zero u0 [] false (λ no. absurd (cc))
+    (λ _. refl)
+other_holds false pair u0 u1 HeldZero aggregation ps few = holds_in pair.one u1 [] false (λ no. absurd (cc)) (λ _. refl)
+other_holds false pair u0 u1 HeldOne aggregation ps few = holds_in pair.one u1 ps true (λ _. (few.0, few.1))
+    (λ no. absurd (cc))
+other_holds false pair u0 u1 Nothing aggregation ps few = holds_in pair.one u1 [] false (λ no. absurd (cc)) (λ _. refl)
+other_holds false pair u0 u1 Delivered aggregation ps few = holds_in pair.one u1 [] false (λ no. absurd (cc))
+    (λ _. refl)
 
 -- how many packets are held in a set, if none are in the other
 count_held : (k : Bool) (h : Holds) (ps : List Packet) → holds_apart k h ≡ false → length (held_of k h ps)
     ≡ (if holds_some h then length ps else 0)
-count_held true Zero ps e = absurd (cc)
-count_held true One ps e = refl
+count_held true HeldZero ps e = absurd (cc)
+count_held true HeldOne ps e = refl
 count_held true Nothing ps e = refl
 count_held true Delivered ps e = refl
-count_held false Zero ps e = refl
-count_held false One ps e = absurd (cc)
+count_held false HeldZero ps e = refl
+count_held false HeldOne ps e = absurd (cc)
 count_held false Nothing ps e = refl
 count_held false Delivered ps e = refl
 
-pub fits_seen : (k : Bool) (pair : SlotPair) (u0 u1 : ℕ) (h : Holds) (mode : ℕ) (ps : List Packet) (p : Packet)
+pub fits_seen : (k : Bool) (pair : SlotPair) (u0 u1 : ℕ) (h : Holds) (aggregation : ℕ) (ps : List Packet) (p : Packet)
     (x : LiveKey)
-    → HoldsFew pair mode h ps → x.packets ≡ held_of k h ps
-    → fits_unit mode x (live_in (seen_slot (seen_in pair u0 u1 h ps) (not k))) p
-    ≡ fits_held h (length ps) mode k p.prefix.m
-fits_seen k pair u0 u1 h mode ps p x few is =
-    rw (other_holds k pair u0 u1 h mode ps few) (by_apart (holds_apart k h) refl)
+    → HoldsFew pair aggregation h ps → x.packets ≡ held_of k h ps
+    → fits_unit aggregation x (live_in (seen_slot (receiver_slots_seen pair u0 u1 h ps) (not k))) p
+    ≡ fits_held h (length ps) aggregation k p.prefix.m
+fits_seen k pair u0 u1 h aggregation ps p x few is =
+    rw (other_holds k pair u0 u1 h aggregation ps few) (by_apart (holds_apart k h) refl)
   where
     by_apart : (b : Bool) → holds_apart k h ≡ b
-        → not (holds_apart k h || (not p.prefix.m && nat_le mode (length x.packets + 1)))
-        ≡ fits_held h (length ps) mode k p.prefix.m
+        → not (holds_apart k h || (not p.prefix.m && nat_le aggregation (length x.packets + 1)))
+        ≡ fits_held h (length ps) aggregation k p.prefix.m
     by_apart true e = rw e refl
     by_apart false e = rw (is, count_held k h ps e) refl
 
@@ -99,28 +105,29 @@ early_by None None fits = Some answers.NotKeyed
 early_by None (Some y) fits = Some (answers.Fail fail.Key)
 early_by (Some x) other fits = if fits then None else Some (answers.Fail fail.Unit)
 
-pub early_seen : (k : Bool) (pair : SlotPair) (u0 u1 : ℕ) (h : Holds) (mode : ℕ) (ps : List Packet) (p : Packet)
-    → HoldsFew pair mode h ps
-    → early_answer mode p (live_in (seen_slot (seen_in pair u0 u1 h ps) k))
-    (live_in (seen_slot (seen_in pair u0 u1 h ps) (not k)))
+pub early_seen : (k : Bool) (pair : SlotPair) (u0 u1 : ℕ) (h : Holds) (aggregation : ℕ) (ps : List Packet) (p : Packet)
+    → HoldsFew pair aggregation h ps
+    → early_answer aggregation p (live_in (seen_slot (receiver_slots_seen pair u0 u1 h ps) k))
+    (live_in (seen_slot (receiver_slots_seen pair u0 u1 h ps) (not k)))
     ≡ early_by (live_held (slot_in pair k)) (live_held (slot_in pair (not k)))
-    (fits_held h (length ps) mode k p.prefix.m)
-early_seen k pair u0 u1 h mode ps p few =
+    (fits_held h (length ps) aggregation k p.prefix.m)
+early_seen k pair u0 u1 h aggregation ps p few =
     rw (key_seen k pair u0 u1 h ps) (by_key (live_held (slot_in pair k)))
   where
     other : Option LiveKey
-    other = live_in (seen_slot (seen_in pair u0 u1 h ps) (not k))
+    other = live_in (seen_slot (receiver_slots_seen pair u0 u1 h ps) (not k))
 
-    by_key : (o : Option DrawnKey) → early_answer mode p (option_map (live_with (units_of k u0 u1) (held_of k h ps)) o)
-        (live_in (seen_slot (seen_in pair u0 u1 h ps) (not k)))
-        ≡ early_by o (live_held (slot_in pair (not k))) (fits_held h (length ps) mode k p.prefix.m)
+    by_key : (o : Option DrawnKey) → early_answer aggregation p
+        (option_map (live_key_seen (units_of k u0 u1) (held_of k h ps)) o)
+        (live_in (seen_slot (receiver_slots_seen pair u0 u1 h ps) (not k)))
+        ≡ early_by o (live_held (slot_in pair (not k))) (fits_held h (length ps) aggregation k p.prefix.m)
     by_key (Some x) = ap (λ f. if f then None else Some (answers.Fail fail.Unit))
-        (fits_seen k pair u0 u1 h mode ps p (live_with (units_of k u0 u1) (held_of k h ps) x) few refl)
+        (fits_seen k pair u0 u1 h aggregation ps p (live_key_seen (units_of k u0 u1) (held_of k h ps) x) few refl)
     by_key None = rw (key_seen (not k) pair u0 u1 h ps) (by_other (live_held (slot_in pair (not k))))
       where
-        by_other : (o : Option DrawnKey) → early_answer mode p None
-            (option_map (live_with (units_of (not k) u0 u1) (held_of (not k) h ps)) o)
-            ≡ early_by None o (fits_held h (length ps) mode k p.prefix.m)
+        by_other : (o : Option DrawnKey) → early_answer aggregation p None
+            (option_map (live_key_seen (units_of (not k) u0 u1) (held_of (not k) h ps)) o)
+            ≡ early_by None o (fits_held h (length ps) aggregation k p.prefix.m)
         by_other None = refl
         by_other (Some y) = refl
 

@@ -6,21 +6,21 @@ use Rattle.std.proofs.Common.{◌≡◌, ℕ, ◌+◌, ◌<◌, ◌≤◌, Bool,
 use Rattle.std.proofs.Common.{◌∷◌, ◌++◌, length, Ok, Err, refl, sym, ap, ◌∙◌, arith, append_assoc, append-nil}
 use Rattle.std.proofs.Common.{drop, length-append}
 use Rattle.std.proofs.lemmas.Grind.{common_steps}
-use Rattle.gcm_seal.specs.Gcm.{masked, tag_of}
+use Rattle.gcm_seal.specs.Gcm.{masked_bytes, tag_of}
 use Rattle.ide_prefix.specs.declared.packet.Prefix.{Prefix}
 use Rattle.ide_prefix.specs.Iv.{iv_of}
 use Rattle.ide_prefix.specs.Packet.{Packet, prefix_bytes, packet_bytes, packet_first, sync_head}
-use Rattle.ide_prefix.specs.Units.{authenticated, encrypted}
-use Rattle.stream_rules.specs.Stream.{LaneSlots, LiveKey, live_sender, sealed_slots, ended_slots}
+use Rattle.ide_prefix.specs.Units.{authenticated_bytes, encrypted_bytes}
+use Rattle.spec_stream.specs.Stream.{LaneSlots, LiveKey, live_sender, sealed_slots, ended_slots}
 use Rattle.key_slots.specs.declared.slot.Slot.{Slot as KeySlot}
 use Rattle.key_slots.specs.declared.slot.Slot.TheVariants.{Empty, Programmed, Armed, Live}
 use Rattle.key_slots.specs.{SlotPair}
 use Rattle.sub_stream.specs.declared.answer.TxRefusal.TheVariants.{Worn}
-use Rattle.sub_stream.specs.Seen.{seen_out, has_live, both_live}
+use Rattle.sub_stream.specs.Seen.{sender_slots_seen, has_live, both_live}
 use Rattle.sub_stream.specs.Gathered.{Gathered, with_packet, clear_of, no_packets}
 use Rattle.sub_stream.specs.Masked.{masked_packet, packet_with_tag}
 use Rattle.sub_stream.specs.Senders.{Sender, Content, ready_of, ready_under, sealing_of, sealing_under, sealing_as}
-use Rattle.sub_stream.specs.Senders.{tagged_packet, ends, ahead_for, IsSender}
+use Rattle.sub_stream.specs.Senders.{tagged_packet, ends, sender_ahead, IsSender}
 
 pub sealing_with : (tx : Sender) (total : List ℕ) (c : Content) (more : Bool) (x : Bool × LiveKey) → Ok x ≡ ready_of tx
     → sealing_of tx total c more ≡ Ok (sealing_as tx total x c (ends tx x.1 more))
@@ -29,7 +29,7 @@ sealing_with tx total c more x e = ap (sealing_under tx total c more) (sym e)
 -- it is the rules' packet
 pub packet-tagged : (tx : Sender) (total : List ℕ) (x : Bool × LiveKey) (c : Content) (m : Bool) (unit : Gathered)
     (prefix : Prefix) (iv : List ℕ)
-    → unit.packets ≡ x.1.packets → unit.ahead ≡ ahead_for tx x.1 total
+    → unit.packets ≡ x.1.packets → unit.ahead ≡ sender_ahead tx x.1 total
     → (if c.sync then sync_head else c.head) ≡ c.head → (if c.sync then [] else c.payload) ≡ c.payload
     → prefix ≡ record { m = m; k = x.0; t = c.t; sub = tx.sub; stream = tx.stream; posted = c.posted }
     → iv ≡ iv_of tx.sub (x.1.units + 1)
@@ -39,17 +39,18 @@ packet-tagged tx total x c m unit prefix iv ps ahead head payload is_prefix is_i
     rw (ps, ahead, is_prefix, is_iv, head, payload) refl
 
 pub bytes-sealed : (key iv out0 out1 out2 head payload : List ℕ) (prefix : Prefix) (unit unit2 : Gathered) (m : Bool)
-    → out1 ≡ out0 ++ (prefix_bytes prefix ++ (head ++ masked key iv (length (encrypted unit.packets)) payload))
+    → out1 ≡ out0 ++ (prefix_bytes prefix ++
+    (head ++ masked_bytes key iv (length (encrypted_bytes unit.packets)) payload))
     → unit2 ≡ with_packet unit (masked_packet key iv unit.packets prefix head payload)
-    → out2 ≡ out1 ++ (if m then tag_of key iv (clear_of unit2) (encrypted unit2.packets) else [])
+    → out2 ≡ out1 ++ (if m then tag_of key iv (clear_of unit2) (encrypted_bytes unit2.packets) else [])
     → out2 ≡ out0 ++ packet_bytes
     (packet_with_tag m key iv unit (masked_packet key iv unit.packets prefix head payload))
 bytes-sealed key iv out0 out1 out2 head payload prefix unit unit2 m is1 is_unit is2 =
     let t : List ℕ = if m then tag_of key iv
     (clear_of (with_packet unit (masked_packet key iv unit.packets prefix head payload)))
-    (encrypted (with_packet unit (masked_packet key iv unit.packets prefix head payload)).packets) else [] in
+    (encrypted_bytes (with_packet unit (masked_packet key iv unit.packets prefix head payload)).packets) else [] in
     rw (is2, is1, is_unit)
-    (regroup out0 (prefix_bytes prefix) head (masked key iv (length (encrypted unit.packets)) payload) t)
+    (regroup out0 (prefix_bytes prefix) head (masked_bytes key iv (length (encrypted_bytes unit.packets)) payload) t)
   where
     regroup : (a p h b t : List ℕ) → (a ++ (p ++ (h ++ b))) ++ t ≡ a ++ (p ++ (h ++ (b ++ t)))
     regroup a p h b t = simp append_assoc
@@ -59,25 +60,27 @@ pub parts-appended : (key iv out0 out1 bytes head payload bodies first second : 
     (ps : List Packet) (n : ℕ)
     → ((before front rest : List ℕ) → bytes ≡ before ++ (front ++ rest) → length before ≡ n
     → length front ≡ 4 + length head → (first ≡ front) × (second ≡ rest))
-    → n ≡ length out0 → bytes ≡ out1 → bodies ≡ encrypted ps
-    → out1 ≡ out0 ++ (prefix_bytes prefix ++ (head ++ masked key iv (length bodies) payload))
-    → (first ≡ prefix_bytes prefix ++ head) × (second ≡ masked key iv (length (encrypted ps)) payload)
-    × (out1 ≡ out0 ++ (prefix_bytes prefix ++ (head ++ masked key iv (length (encrypted ps)) payload)))
+    → n ≡ length out0 → bytes ≡ out1 → bodies ≡ encrypted_bytes ps
+    → out1 ≡ out0 ++ (prefix_bytes prefix ++ (head ++ masked_bytes key iv (length bodies) payload))
+    → (first ≡ prefix_bytes prefix ++ head) × (second ≡ masked_bytes key iv (length (encrypted_bytes ps)) payload)
+    × (out1 ≡ out0 ++ (prefix_bytes prefix ++ (head ++ masked_bytes key iv (length (encrypted_bytes ps)) payload)))
 parts-appended key iv out0 out1 bytes head payload bodies first second prefix ps n cut start is_bytes is_bodies is =
     let long : length (prefix_bytes prefix ++ head) ≡ 4 + length head = length-append (prefix_bytes prefix) head in
-    let p = cut out0 (prefix_bytes prefix ++ head) (masked key iv (length bodies) payload) (is_bytes ∙ is) (sym start)
+    let p = cut out0 (prefix_bytes prefix ++ head) (masked_bytes key iv (length bodies) payload) (is_bytes ∙ is)
+    (sym start)
     long in (
       p.0,
-      p.1 ∙ ap (λ b. masked key iv (length b) payload) is_bodies,
-      is ∙ ap (λ b. out0 ++ (prefix_bytes prefix ++ (head ++ masked key iv (length b) payload))) is_bodies,
+      p.1 ∙ ap (λ b. masked_bytes key iv (length b) payload) is_bodies,
+      is ∙ ap (λ b. out0 ++ (prefix_bytes prefix ++ (head ++ masked_bytes key iv (length b) payload))) is_bodies,
     )
 
 -- before a packet that is alone in its unit nothing is authenticated
 pub bytes-alone : (key iv out0 out1 out2 clear body head payload tag : List ℕ) (prefix : Prefix) (unit : Gathered)
     (m : Bool)
     → (length (clear_of unit) == 0) ≡ true → m ≡ true
-    → out1 ≡ out0 ++ (prefix_bytes prefix ++ (head ++ masked key iv (length (encrypted unit.packets)) payload))
-    → clear ≡ prefix_bytes prefix ++ head → body ≡ masked key iv (length (encrypted unit.packets)) payload
+    → out1 ≡ out0 ++ (prefix_bytes prefix ++
+    (head ++ masked_bytes key iv (length (encrypted_bytes unit.packets)) payload))
+    → clear ≡ prefix_bytes prefix ++ head → body ≡ masked_bytes key iv (length (encrypted_bytes unit.packets)) payload
     → tag ≡ tag_of key iv clear body → out2 ≡ out1 ++ tag
     → out2 ≡ out0 ++ packet_bytes (packet_with_tag m key iv unit (masked_packet key iv unit.packets prefix head
     payload))
@@ -90,33 +93,35 @@ bytes-alone key iv out0 out1 out2 clear body head payload tag prefix unit m none
     some : (n : ℕ) (ns : List ℕ) → (length (n ∷ ns) == 0) ≡ true → ⊥
     some n ns e = let no : (length (n ∷ ns) == 0) ≡ false = grind (arith, common_steps) in absurd (cc)
 
-    by_unit : (ahead : List ℕ) (ps : List Packet) → (length (ahead ++ authenticated ps) == 0) ≡ true
-        → body ≡ masked key iv (length (encrypted ps)) payload
-        → out1 ≡ out0 ++ (prefix_bytes prefix ++ (head ++ masked key iv (length (encrypted ps)) payload))
+    by_unit : (ahead : List ℕ) (ps : List Packet) → (length (ahead ++ authenticated_bytes ps) == 0) ≡ true
+        → body ≡ masked_bytes key iv (length (encrypted_bytes ps)) payload
+        → out1 ≡ out0 ++ (prefix_bytes prefix ++ (head ++ masked_bytes key iv (length (encrypted_bytes ps)) payload))
         → out2 ≡ out0 ++ packet_bytes (packet_with_tag m key iv
-        (record { mode = unit.mode; ahead = ahead; packets = ps }) (masked_packet key iv ps prefix head payload))
+        (record { aggregation = unit.aggregation; ahead = ahead; packets = ps })
+        (masked_packet key iv ps prefix head payload))
     by_unit [] [] e b1 o1 =
         let c : clear ≡ (prefix_bytes prefix ++ head) ++ [] = is_clear ∙ sym (append-nil (prefix_bytes prefix ++ head))
         in
-        let d : body ≡ masked key iv 0 payload ++ [] = b1 ∙ sym (append-nil (masked key iv 0 payload)) in
+        let d : body ≡ masked_bytes key iv 0 payload ++ [] = b1 ∙ sym (append-nil (masked_bytes key iv 0 payload)) in
         is2 ∙ (λ i. o1 i ++ (is_tag ∙ (λ j. tag_of key iv (c j) (d j))) i)
-        ∙ regroup out0 (prefix_bytes prefix) head (masked key iv 0 payload)
-        (tag_of key iv ((prefix_bytes prefix ++ head) ++ []) (masked key iv 0 payload ++ []))
+        ∙ regroup out0 (prefix_bytes prefix) head (masked_bytes key iv 0 payload)
+        (tag_of key iv ((prefix_bytes prefix ++ head) ++ []) (masked_bytes key iv 0 payload ++ []))
         ∙ ap (λ b. out0 ++ packet_bytes (packet_with_tag b key iv
-        (record { mode = unit.mode; ahead = []; packets = [] }) (masked_packet key iv [] prefix head payload)))
+        (record { aggregation = unit.aggregation; ahead = []; packets = [] })
+        (masked_packet key iv [] prefix head payload)))
         (sym is_m)
     by_unit [] (p ∷ ps) e b1 o1 =
-        absurd (some packet_first (drop 1 (prefix_bytes p.prefix) ++ p.head ++ authenticated ps) e)
-    by_unit (n ∷ ns) ps e b1 o1 = absurd (some n (ns ++ authenticated ps) e)
+        absurd (some packet_first (drop 1 (prefix_bytes p.prefix) ++ p.head ++ authenticated_bytes ps) e)
+    by_unit (n ∷ ns) ps e b1 o1 = absurd (some n (ns ++ authenticated_bytes ps) e)
 
 -- ---- the slots after it
 
-ended-open : (pair : SlotPair) (units : ℕ) (ps qs : List Packet) → ended_slots (seen_out pair units ps)
-    ≡ ended_slots (seen_out pair units qs)
+ended-open : (pair : SlotPair) (units : ℕ) (ps qs : List Packet) → ended_slots (sender_slots_seen pair units ps)
+    ≡ ended_slots (sender_slots_seen pair units qs)
 ended-open pair units ps qs = by_slots pair.zero pair.one
   where
-    by_slots : (a b : KeySlot) → ended_slots (seen_out (record { sender = true; zero = a; one = b }) units ps)
-        ≡ ended_slots (seen_out (record { sender = true; zero = a; one = b }) units qs)
+    by_slots : (a b : KeySlot) → ended_slots (sender_slots_seen (record { sender = true; zero = a; one = b }) units ps)
+        ≡ ended_slots (sender_slots_seen (record { sender = true; zero = a; one = b }) units qs)
     by_slots Empty Empty = refl
     by_slots Empty (Programmed h) = refl
     by_slots Empty (Armed h) = refl
@@ -134,12 +139,12 @@ ended-open pair units ps qs = by_slots pair.zero pair.one
     by_slots (Live g) (Armed h) = refl
     by_slots (Live g) (Live h) = refl
 
-goes_on : (pair : SlotPair) (units : ℕ) (ps : List Packet) (p : Packet) → seen_out pair units (ps ++ p ∷ [])
-    ≡ sealed_slots false p (seen_out pair units ps)
+goes_on : (pair : SlotPair) (units : ℕ) (ps : List Packet) (p : Packet) → sender_slots_seen pair units (ps ++ p ∷ [])
+    ≡ sealed_slots false p (sender_slots_seen pair units ps)
 goes_on pair units ps p = by_slots pair.zero pair.one
   where
-    by_slots : (a b : KeySlot) → seen_out (record { sender = true; zero = a; one = b }) units (ps ++ p ∷ [])
-        ≡ sealed_slots false p (seen_out (record { sender = true; zero = a; one = b }) units ps)
+    by_slots : (a b : KeySlot) → sender_slots_seen (record { sender = true; zero = a; one = b }) units (ps ++ p ∷ [])
+        ≡ sealed_slots false p (sender_slots_seen (record { sender = true; zero = a; one = b }) units ps)
     by_slots Empty Empty = refl
     by_slots Empty (Programmed h) = refl
     by_slots Empty (Armed h) = refl
@@ -160,16 +165,16 @@ goes_on pair units ps p = by_slots pair.zero pair.one
 pub slots-sealed : (m : Bool) (pair : SlotPair) (units : ℕ) (ps qs : List Packet) (key iv : List ℕ) (unit : Gathered)
     (q : Packet) (slots : LaneSlots)
     → q.tag ≡ [] → (m ≡ false → qs ≡ ps ++ q ∷ [])
-    → slots ≡ (if m then ended_slots (seen_out pair units qs) else seen_out pair units qs)
-    → slots ≡ sealed_slots m (packet_with_tag m key iv unit q) (seen_out pair units ps)
+    → slots ≡ (if m then ended_slots (sender_slots_seen pair units qs) else sender_slots_seen pair units qs)
+    → slots ≡ sealed_slots m (packet_with_tag m key iv unit q) (sender_slots_seen pair units ps)
 slots-sealed true pair units ps qs key iv unit q slots bare_tag more is = is ∙ ended-open pair units qs ps
 slots-sealed false pair units ps qs key iv unit q slots bare_tag more is =
     let same : q ≡ packet_with_tag false key iv unit q = rw bare_tag refl in
-    is ∙ ap (λ xs. seen_out pair units xs) (more refl) ∙ goes_on pair units ps q
-    ∙ ap (λ p. sealed_slots false p (seen_out pair units ps)) same
+    is ∙ ap (λ xs. sender_slots_seen pair units xs) (more refl) ∙ goes_on pair units ps q
+    ∙ ap (λ p. sealed_slots false p (sender_slots_seen pair units ps)) same
 
 pub ahead-sealed : (m : Bool) (unit2 unit' : Gathered) (front : List ℕ)
-    → unit' ≡ (if m then no_packets unit2.mode else unit2) → (m ≡ false → unit2.ahead ≡ front)
+    → unit' ≡ (if m then no_packets unit2.aggregation else unit2) → (m ≡ false → unit2.ahead ≡ front)
     → unit'.ahead ≡ (if m then [] else front)
 ahead-sealed true unit2 unit' front is same = ap (λ (u : Gathered). u.ahead) is
 ahead-sealed false unit2 unit' front is same = ap (λ (u : Gathered). u.ahead) is ∙ same refl
@@ -184,12 +189,13 @@ not_worn false b x y n e h = absurd (cc)
 
 -- a unit that begins is one of those that the key may seal
 begins_within : (pair : SlotPair) (units limit : ℕ) (ps : List Packet) (x : Bool × LiveKey)
-    → Ok x ≡ ready_under limit (live_sender (seen_out pair units ps)) → (length ps == 0) ≡ true → (units == limit)
+    → Ok x ≡ ready_under limit (live_sender (sender_slots_seen pair units ps)) → (length ps == 0) ≡ true
+    → (units == limit)
     ≡ false
 begins_within pair units limit ps x = by_slots pair.zero pair.one
   where
     by_slots : (a b : KeySlot) → Ok x ≡ ready_under limit
-        (live_sender (seen_out (record { sender = true; zero = a; one = b }) units ps))
+        (live_sender (sender_slots_seen (record { sender = true; zero = a; one = b }) units ps))
         → (length ps == 0) ≡ true → (units == limit) ≡ false
     by_slots (Live g) b e h = not_worn (length ps == 0) (units == limit) x _ limit e h
     by_slots Empty (Live g) e h = not_worn (length ps == 0) (units == limit) x _ limit e h
@@ -207,11 +213,11 @@ begins_within pair units limit ps x = by_slots pair.zero pair.one
 
 -- a key that seals is Live
 pub keyed_live : (pair : SlotPair) (units limit : ℕ) (ps : List Packet) (x : Bool × LiveKey)
-    → Ok x ≡ ready_under limit (live_sender (seen_out pair units ps)) → has_live pair ≡ true
+    → Ok x ≡ ready_under limit (live_sender (sender_slots_seen pair units ps)) → has_live pair ≡ true
 keyed_live pair units limit ps x = by_slots pair.zero pair.one
   where
     by_slots : (a b : KeySlot) → Ok x ≡ ready_under limit
-        (live_sender (seen_out (record { sender = true; zero = a; one = b }) units ps))
+        (live_sender (sender_slots_seen (record { sender = true; zero = a; one = b }) units ps))
         → has_live (record { sender = true; zero = a; one = b }) ≡ true
     by_slots (Live g) b e = refl
     by_slots Empty (Live g) e = refl
@@ -227,10 +233,10 @@ keyed_live pair units limit ps x = by_slots pair.zero pair.one
     by_slots (Armed f) (Programmed g) e = absurd (cc)
     by_slots (Armed f) (Armed g) e = absurd (cc)
 
-within_limit : (mode limit units : ℕ) (pair : SlotPair) (unit : Gathered) (x : Bool × LiveKey)
-    → IsSender mode limit units pair unit → has_live pair ≡ true
-    → Ok x ≡ ready_under limit (live_sender (seen_out pair units unit.packets)) → units < limit
-within_limit mode limit units pair unit x inv live e = by_open (length unit.packets == 0) refl
+within_limit : (aggregation limit units : ℕ) (pair : SlotPair) (unit : Gathered) (x : Bool × LiveKey)
+    → IsSender aggregation limit units pair unit → has_live pair ≡ true
+    → Ok x ≡ ready_under limit (live_sender (sender_slots_seen pair units unit.packets)) → units < limit
+within_limit aggregation limit units pair unit x inv live e = by_open (length unit.packets == 0) refl
   where
     by_open : (b : Bool) → (length unit.packets == 0) ≡ b → units < limit
     by_open false h = inv.room h
@@ -239,46 +245,49 @@ within_limit mode limit units pair unit x inv live e = by_open (length unit.pack
         let other : (units == limit) ≡ false = begins_within pair units limit unit.packets x e h in
         grind (arith, common_steps)
 
-pub sender-sealed : (mode limit units units' : ℕ) (pair pair' : SlotPair) (unit unit2 unit' : Gathered) (m more : Bool)
+pub sender-sealed : (aggregation limit units units' : ℕ) (pair pair' : SlotPair) (unit unit2 unit' : Gathered)
+    (m more : Bool)
     (x : Bool × LiveKey)
-    → IsSender mode limit units pair unit
-    → Ok x ≡ ready_under limit (live_sender (seen_out pair units unit.packets))
-    → m ≡ (not more || (length unit.packets + 1 == mode))
-    → (m ≡ false → length unit2.packets ≡ length unit.packets + 1) → unit2.mode ≡ unit.mode
-    → unit' ≡ (if m then no_packets unit2.mode else unit2)
+    → IsSender aggregation limit units pair unit
+    → Ok x ≡ ready_under limit (live_sender (sender_slots_seen pair units unit.packets))
+    → m ≡ (not more || (length unit.packets + 1 == aggregation))
+    → (m ≡ false → length unit2.packets ≡ length unit.packets + 1) → unit2.aggregation ≡ unit.aggregation
+    → unit' ≡ (if m then no_packets unit2.aggregation else unit2)
     → pair'.sender ≡ pair.sender → has_live pair' ≡ true → (both_live pair ≡ false → both_live pair' ≡ false)
     → units' ≤ (if m then units + 1 else units)
-    → IsSender mode limit units' pair' unit'
-sender-sealed mode limit units units' pair pair' unit unit2 unit' true more x inv e is_m more_packets same is sender
+    → IsSender aggregation limit units' pair' unit'
+sender-sealed aggregation limit units units' pair pair' unit unit2 unit' true more x inv e is_m more_packets same is
+    sender
     live' one few =
-    let less : units < limit = within_limit mode limit units pair unit x inv
+    let less : units < limit = within_limit aggregation limit units pair unit x inv
     (keyed_live pair units limit unit.packets x e) e in
     let none : unit'.packets ≡ [] = ap (λ (u : Gathered). u.packets) is in
     record {
       sender = sender ∙ inv.sender;
       one_live = one inv.one_live;
-      some_mode = inv.some_mode;
-      small_mode = inv.small_mode;
-      same_mode = ap (λ (u : Gathered). u.mode) is ∙ same ∙ inv.same_mode;
-      fits = rw none inv.some_mode;
+      some_aggregation = inv.some_aggregation;
+      small_aggregation = inv.small_aggregation;
+      same_aggregation = ap (λ (u : Gathered). u.aggregation) is ∙ same ∙ inv.same_aggregation;
+      fits = rw none inv.some_aggregation;
       worn = λ _. omega (arith, few, less);
       room = rw none (λ no. absurd (cc));
       closed = λ no. absurd (cc);
     }
-sender-sealed mode limit units units' pair pair' unit unit2 unit' false more x inv e is_m more_packets same is sender
+sender-sealed aggregation limit units units' pair pair' unit unit2 unit' false more x inv e is_m more_packets same is
+    sender
     live' one few =
-    let less : units < limit = within_limit mode limit units pair unit x inv
+    let less : units < limit = within_limit aggregation limit units pair unit x inv
     (keyed_live pair units limit unit.packets x e) e in
     let count : length unit'.packets ≡ length unit.packets + 1 = ap (λ (u : Gathered). length u.packets) is ∙
     more_packets refl in
-    let not_full : (length unit.packets + 1 == mode) ≡ false = last_false (not more) _ (sym is_m) in
+    let not_full : (length unit.packets + 1 == aggregation) ≡ false = last_false (not more) _ (sym is_m) in
     record {
       sender = sender ∙ inv.sender;
       one_live = one inv.one_live;
-      some_mode = inv.some_mode;
-      small_mode = inv.small_mode;
-      same_mode = ap (λ (u : Gathered). u.mode) is ∙ same ∙ inv.same_mode;
-      fits = (let f : length unit.packets < mode = inv.fits in grind (arith, common_steps));
+      some_aggregation = inv.some_aggregation;
+      small_aggregation = inv.small_aggregation;
+      same_aggregation = ap (λ (u : Gathered). u.aggregation) is ∙ same ∙ inv.same_aggregation;
+      fits = (let f : length unit.packets < aggregation = inv.fits in grind (arith, common_steps));
       worn = λ _. omega (arith, few, less);
       room = λ _. omega (arith, few, less);
       closed = λ no. absurd (cc);

@@ -3,11 +3,11 @@ use Rattle.std.proofs.Common.{◌≡◌, ℕ, Bool, true, false, not, ◌&&◌, 
 use Rattle.std.proofs.Common.{length, refl, sym, ap, ◌∙◌, subst, arith}
 use Rattle.std.proofs.lemmas.Grind.{common_steps}
 use Rattle.ide_prefix.specs.Packet.{Packet}
-use Rattle.stream_rules.specs.Slots.{is_busy}
+use Rattle.spec_stream.specs.Slots.{is_busy}
 use Rattle.key_slots.specs.declared.slot.Slot.{Slot as KeySlot}
 use Rattle.key_slots.specs.declared.slot.Slot.TheVariants.{Empty, Programmed, Armed, Live}
-use Rattle.key_slots.specs.{DrawnKey, SlotPair, slot_in, with_both, after_go, armed, is_live}
-use Rattle.sub_stream.specs.Seen.{slot_as_seen, seen_out, has_live, is_programmed}
+use Rattle.key_slots.specs.{DrawnKey, SlotPair, slot_in, with_both, after_go, armed_pair, is_live}
+use Rattle.sub_stream.specs.Seen.{slot_as_seen, sender_slots_seen, has_live, is_programmed}
 use Rattle.sub_stream.specs.Senders.{gone_slots}
 
 pub some_or_none : (ps : List Packet) → nat_lt 0 (length ps) ≡ not (length ps == 0)
@@ -25,9 +25,9 @@ busy-seen units ps (Live held) b e h = some_or_none ps ∙ ap not e
 
 abbrev pub Goes : Bool → SlotPair → ℕ → List Packet → Type 0
 Goes k pair units ps =
-    seen_out (armed pair k (not (length ps == 0)))
+    sender_slots_seen (armed_pair pair k (not (length ps == 0)))
     (if is_programmed (slot_in pair k) && not (not (length ps == 0)) then 0 else units) ps
-    ≡ gone_slots (seen_out pair units ps) k
+    ≡ gone_slots (sender_slots_seen pair units ps) k
 
 none_open : (ps : List Packet) → ps ≡ [] → (length ps == 0) ≡ true
 none_open ps e = rw e refl

@@ -5,76 +5,84 @@ use Rattle.std.proofs.Math.ListN.{set}
 use Rattle.std.proofs.lemmas.Bool.{lt-ltb}
 use Rattle.std.proofs.lemmas.List.{length-set, map-append}
 use Rattle.std.proofs.lemmas.List.Sums.{sum_by-append}
-use Rattle.gcm_seal.specs.Gcm.{masked}
-use Rattle.gcm_seal.proofs.Sealing.{length-masked}
+use Rattle.gcm_seal.specs.Gcm.{masked_bytes}
+use Rattle.gcm_seal.proofs.Sealing.{length-masked_bytes}
 use Rattle.ide_prefix.specs.declared.packet.Prefix.{Prefix}
 use Rattle.ide_prefix.specs.Packet.{Packet, prefix_bytes}
-use Rattle.stream_rules.specs.Stream.{posted_sum}
-use Rattle.unit_aggregation.specs.{Collected, unit_with_packet as with_parts, has_room, rebodied, with_bodies, body_of}
-use Rattle.sub_stream.specs.Gathered.{Gathered, packets_in, parts_of, opened, with_packet, IsGathered}
-use Rattle.sub_stream.proofs.Packets.{length-packets_in, packets-added, length-rebodied, posted-rebodied}
-use Rattle.sub_stream.proofs.Packets.{parts-rebodied, opened-rebodied, overwritten-all}
+use Rattle.spec_stream.specs.Stream.{posted_sum}
+use Rattle.unit_aggregation.specs.{Collected, unit_with_packet as with_parts, has_room, packets_with_bodies}
+use Rattle.unit_aggregation.specs.{with_bodies, body_of}
+use Rattle.sub_stream.specs.Gathered.{Gathered, packets_in, parts_of, opened_packets, with_packet, IsGathered}
+use Rattle.sub_stream.proofs.Packets.{length-packets_in, packets-added, length-packets_with_bodies}
+use Rattle.sub_stream.proofs.Packets.{posted-packets_with_bodies}
+use Rattle.sub_stream.proofs.Packets.{parts-packets_with_bodies, opened_packets-packets_with_bodies}
+use Rattle.sub_stream.proofs.Packets.{overwritten_bytes-all}
 
 -- the packets that are seen of these fields
 abbrev pub view : List Prefix → Collected → Gathered
-view ps buf = record { mode = buf.mode; ahead = buf.ahead; packets = packets_in buf.packets ps }
+view ps buf = record { aggregation = buf.aggregation; ahead = buf.ahead; packets = packets_in buf.packets ps }
 
 -- ---- decrypted
 
 abbrev pub masked_bodies : List ℕ → List ℕ → Collected → Collected
-masked_bodies key iv buf = with_bodies buf (masked key iv 0 (body_of buf))
+masked_bodies key iv buf = with_bodies buf (masked_bytes key iv 0 (body_of buf))
 
-rebodied-masked : (key iv : List ℕ) (buf : Collected) → masked_bodies key iv buf
-    ≡ record buf { packets = rebodied buf.packets (masked key iv 0 (body_of buf)) }
-rebodied-masked key iv buf =
-    ap (λ x. record buf { packets = rebodied buf.packets x })
-    (overwritten-all (body_of buf) (masked key iv 0 (body_of buf)) (length-masked key iv 0 (body_of buf)))
+packets_with_bodies-masked_bytes : (key iv : List ℕ) (buf : Collected) → masked_bodies key iv buf
+    ≡ record buf { packets = packets_with_bodies buf.packets (masked_bytes key iv 0 (body_of buf)) }
+packets_with_bodies-masked_bytes key iv buf =
+    ap (λ x. record buf { packets = packets_with_bodies buf.packets x })
+    (overwritten_bytes-all (body_of buf) (masked_bytes key iv 0 (body_of buf))
+    (length-masked_bytes key iv 0 (body_of buf)))
 
-pub gathered-masked : (key iv : List ℕ) (ps : List Prefix) (n : ℕ) (buf new : Collected) → IsGathered ps n buf → new
+pub gathered-masked_bytes : (key iv : List ℕ) (ps : List Prefix) (n : ℕ) (buf new : Collected) → IsGathered ps n buf
+    → new
     ≡ masked_bodies key iv buf → IsGathered ps n new
-gathered-masked key iv ps n buf new g is =
-    let bytes = masked key iv 0 (body_of buf) in
+gathered-masked_bytes key iv ps n buf new g is =
+    let bytes = masked_bytes key iv 0 (body_of buf) in
     let P : Collected → Type 0 = λ x. IsGathered ps n x in
-    let fine : P (record buf { packets = rebodied buf.packets bytes }) = record {
+    let fine : P (record buf { packets = packets_with_bodies buf.packets bytes }) = record {
       places = g.places;
-      small_mode = g.small_mode;
-      fits = omega (arith, length-rebodied buf.packets bytes, g.fits);
-      parts = parts-rebodied buf.packets ps bytes g.parts;
-      sum = g.sum ∙ sym (posted-rebodied buf.packets ps bytes);
-      few = omega (arith, length-rebodied buf.packets bytes, g.few);
+      small_aggregation = g.small_aggregation;
+      fits = omega (arith, length-packets_with_bodies buf.packets bytes, g.fits);
+      parts = parts-packets_with_bodies buf.packets ps bytes g.parts;
+      sum = g.sum ∙ sym (posted-packets_with_bodies buf.packets ps bytes);
+      few = omega (arith, length-packets_with_bodies buf.packets bytes, g.few);
     } in
-    subst P (sym (is ∙ rebodied-masked key iv buf)) fine
+    subst P (sym (is ∙ packets_with_bodies-masked_bytes key iv buf)) fine
 
-pub view-masked : (key iv : List ℕ) (ps : List Prefix) (buf new : Collected) (old : Gathered) → view ps buf ≡ old → new
+pub view-masked_bytes : (key iv : List ℕ) (ps : List Prefix) (buf new : Collected) (old : Gathered) → view ps buf ≡ old
+    → new
     ≡ masked_bodies key iv buf
-    → view ps new ≡ record old { packets = opened key iv old.packets }
-view-masked key iv ps buf new old was is =
-    ap (view ps) (is ∙ rebodied-masked key iv buf)
-    ∙ ap (λ x. record { mode = buf.mode; ahead = buf.ahead; packets = x }) (opened-rebodied key iv 0 buf.packets ps)
-    ∙ ap (λ (u : Gathered). record u { packets = opened key iv u.packets }) was
+    → view ps new ≡ record old { packets = opened_packets key iv old.packets }
+view-masked_bytes key iv ps buf new old was is =
+    ap (view ps) (is ∙ packets_with_bodies-masked_bytes key iv buf)
+    ∙ ap (λ x. record { aggregation = buf.aggregation; ahead = buf.ahead; packets = x })
+    (opened_packets-packets_with_bodies key iv 0 buf.packets ps)
+    ∙ ap (λ (u : Gathered). record u { packets = opened_packets key iv u.packets }) was
 
 -- ---- one more
 
 pub has_place : (ps : List Prefix) (n : ℕ) (buf : Collected) (old : Gathered) → IsGathered ps n buf → view ps buf ≡ old
-    → length old.packets < old.mode
-    → length buf.packets < buf.mode
+    → length old.packets < old.aggregation
+    → length buf.packets < buf.aggregation
 has_place ps n buf old g was lt =
     let count : length (packets_in buf.packets ps) ≡ length old.packets = ap (λ (u : Gathered). length u.packets) was in
-    let mode : buf.mode ≡ old.mode = ap (λ (u : Gathered). u.mode) was in
-    omega (arith, count, mode, length-packets_in buf.packets ps g.parts, lt)
+    let aggregation : buf.aggregation ≡ old.aggregation = ap (λ (u : Gathered). u.aggregation) was in
+    omega (arith, count, aggregation, length-packets_in buf.packets ps g.parts, lt)
 
-added : (buf new : Collected) (head body : List ℕ) → length buf.packets < buf.mode → new ≡ with_parts buf head body
+added : (buf new : Collected) (head body : List ℕ) → length buf.packets < buf.aggregation → new
+    ≡ with_parts buf head body
     → new ≡ record buf { packets = buf.packets ++ (head, body) ∷ [] }
 added buf new head body lt is =
-    let room : has_room buf ≡ true = lt-ltb (length buf.packets) buf.mode lt in
+    let room : has_room buf ≡ true = lt-ltb (length buf.packets) buf.aggregation lt in
     rw (is, room) refl
 
 pub gathered-added : (ps : List Prefix) (n i : ℕ) (buf new : Collected) (p : Prefix) (h b head : List ℕ)
-    → IsGathered ps n buf → length buf.packets < buf.mode → i ≡ length buf.packets → p.posted < 256 → head
+    → IsGathered ps n buf → length buf.packets < buf.aggregation → i ≡ length buf.packets → p.posted < 256 → head
     ≡ prefix_bytes p ++ h
     → new ≡ with_parts buf head b → IsGathered (set ps i p) (n + p.posted) new
 gathered-added ps n i buf new p h b head g lt at small clear is =
-    let room : length buf.packets < length ps = omega (arith, lt, g.places, g.small_mode) in
+    let room : length buf.packets < length ps = omega (arith, lt, g.places, g.small_aggregation) in
     let xs = buf.packets ++ (prefix_bytes p ++ h, b) ∷ [] in
     let q : Packet = record { prefix = p; head = h; body = b; tag = [] } in
     let packets : packets_in xs (set ps (length buf.packets) p) ≡ packets_in buf.packets ps ++ q
@@ -83,7 +91,7 @@ gathered-added ps n i buf new p h b head g lt at small clear is =
     let P : Collected → Type 0 = λ x. IsGathered (set ps (length buf.packets) p) (n + p.posted) x in
     let fine : P (record buf { packets = xs }) = record {
       places = length-set ps (length buf.packets) p ∙ g.places;
-      small_mode = g.small_mode;
+      small_aggregation = g.small_aggregation;
       fits = omega (arith, more, lt);
       parts = ap (map parts_of) packets ∙ map-append parts_of (packets_in buf.packets ps) (q ∷ []) ∙ ap
           (λ x. x ++ parts_of q ∷ []) g.parts;
@@ -98,16 +106,17 @@ gathered-added ps n i buf new p h b head g lt at small clear is =
     rw at (subst P (sym here) fine)
 
 pub view-added : (ps : List Prefix) (n i : ℕ) (buf new : Collected) (old : Gathered) (p : Prefix) (h b head : List ℕ)
-    → IsGathered ps n buf → view ps buf ≡ old → length buf.packets < buf.mode → i ≡ length buf.packets → head
+    → IsGathered ps n buf → view ps buf ≡ old → length buf.packets < buf.aggregation → i ≡ length buf.packets → head
     ≡ prefix_bytes p ++ h
     → new ≡ with_parts buf head b
     → view (set ps i p) new ≡ with_packet old (record { prefix = p; head = h; body = b; tag = [] })
 view-added ps n i buf new old p h b head g was lt at clear is =
-    let room : length buf.packets < length ps = omega (arith, lt, g.places, g.small_mode) in
+    let room : length buf.packets < length ps = omega (arith, lt, g.places, g.small_aggregation) in
     let q : Packet = record { prefix = p; head = h; body = b; tag = [] } in
     let here : new ≡ record buf { packets = buf.packets ++ (prefix_bytes p ++ h, b) ∷ [] } = rw clear at
     (added buf new head b lt is) in
     rw at
     (ap (view (set ps (length buf.packets) p)) here
-    ∙ ap (λ x. record { mode = buf.mode; ahead = buf.ahead; packets = x }) (packets-added buf.packets ps p h b room)
+    ∙ ap (λ x. record { aggregation = buf.aggregation; ahead = buf.ahead; packets = x })
+    (packets-added buf.packets ps p h b room)
     ∙ ap (λ (u : Gathered). with_packet u q) was)

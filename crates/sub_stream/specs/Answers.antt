@@ -2,15 +2,15 @@
 use Rattle.std.specs.Prelude.{ℕ, length, Option, Some, None}
 use Rattle.ide_types.specs.declared.port.PortName.{PortName}
 use Rattle.link_verdicts.specs.declared.verdict.SealedPacket.{SealedPacket as Described}
-use Rattle.stream_rules.specs.Stream.{Taken as Answer, Insecure, NotKeyed as Keyless, Failed, Held as HeldBack}
-use Rattle.stream_rules.specs.Stream.{Accepted as Whole}
+use Rattle.spec_stream.specs.Stream.{Taken as Answer, Insecure, NotKeyed as Keyless, Failed, Held as HeldBack}
+use Rattle.spec_stream.specs.Stream.{Accepted as Whole}
 use Rattle.sub_stream.specs.declared.answer.MeasuredPacket.{MeasuredPacket}
 use Rattle.sub_stream.specs.declared.answer.Taken.{Taken}
 use Rattle.sub_stream.specs.declared.answer.Taken.TheVariants.{NotKeyed, Held, Accepted, Fail}
 
 -- a sealed packet as a port describes it, with its number over the run
-abbrev pub numbered : PortName → ℕ → MeasuredPacket → Described
-numbered port number p = record {
+abbrev pub numbered_packet : PortName → ℕ → MeasuredPacket → Described
+numbered_packet port number p = record {
   number = number;
   port = port;
   stream = p.stream;
@@ -25,9 +25,9 @@ numbered port number p = record {
 }
 
 -- what is answered to a packet; none if the stream is insecure
-abbrev pub answer_of : Answer → Option Taken
-answer_of Insecure = None
-answer_of Keyless = Some NotKeyed
-answer_of (Failed cause) = Some (Fail cause)
-answer_of (HeldBack draw unit) = Some (Held draw unit)
-answer_of (Whole draw unit packets) = Some (Accepted draw unit (length packets))
+abbrev pub answer_taken : Answer → Option Taken
+answer_taken Insecure = None
+answer_taken Keyless = Some NotKeyed
+answer_taken (Failed cause) = Some (Fail cause)
+answer_taken (HeldBack draw unit) = Some (Held draw unit)
+answer_taken (Whole draw unit packets) = Some (Accepted draw unit (length packets))

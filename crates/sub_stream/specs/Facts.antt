@@ -3,9 +3,9 @@ use Rattle.std.specs.Prelude.{Bool, List, [], length}
 use Rattle.ide_prefix.specs.Packet.{Packet}
 use Rattle.ide_types.specs.declared.sub.SubKind.{SubKind}
 use Rattle.ide_types.specs.declared.sub.SubKind.TheVariants.{Pr, Npr, Cpl}
-use Rattle.stream_rules.specs.Stream.{LaneSlot, Empty, Programmed, Armed, Live, LaneSlots, TxSub, RxSub, StreamState}
-use Rattle.stream_rules.specs.Stream.{at_sub}
-use Rattle.stream_rules.specs.Slots.{stream_status}
+use Rattle.spec_stream.specs.Stream.{LaneSlot, Empty, Programmed, Armed, Live, LaneSlots, TxSub, RxSub, StreamState}
+use Rattle.spec_stream.specs.Stream.{at_sub}
+use Rattle.spec_stream.specs.Slots.{stream_status}
 use Rattle.sub_stream.specs.declared.facts.SlotFacts.{SlotFacts}
 use Rattle.sub_stream.specs.declared.facts.SlotFacts.TheVariants as fact
 use Rattle.sub_stream.specs.declared.facts.SetFacts.{SetFacts}

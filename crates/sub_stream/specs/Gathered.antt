@@ -2,37 +2,37 @@
 -- this profile).
 use Rattle.std.specs.Prelude.{◌≡◌, ℕ, ◌+◌, ◌*◌, ◌≤◌, List, [], ◌∷◌, ◌++◌, length, map, drop, Option, Some, None}
 use Rattle.std.specs.Borrow.{Bor}
-use Rattle.gcm_seal.specs.Gcm.{masked}
+use Rattle.gcm_seal.specs.Gcm.{masked_bytes}
 use Rattle.ide_prefix.specs.declared.packet.Prefix.{Prefix}
 use Rattle.ide_prefix.specs.Packet.{Packet, is_sync_packet}
-use Rattle.ide_prefix.specs.Units.{clear_bytes, authenticated}
-use Rattle.stream_rules.specs.Stream.{posted_sum}
+use Rattle.ide_prefix.specs.Units.{clear_bytes, authenticated_bytes}
+use Rattle.spec_stream.specs.Stream.{posted_sum}
 use Rattle.unit_aggregation.specs.{Collected}
 use Rattle.sub_stream.specs.declared.answer.PacketMark.{PacketMark}
 
 -- at most how many packets, the bytes before what they have in clear, and the packets, without a tag
 pub record Gathered : Type 0 where
-  pub mode : ℕ
+  pub aggregation : ℕ
   pub ahead : List ℕ
   pub packets : List Packet
 
 abbrev pub no_packets : ℕ → Gathered
-no_packets mode = record { mode = mode; ahead = []; packets = [] }
+no_packets aggregation = record { aggregation = aggregation; ahead = []; packets = [] }
 
 -- a unit that begins, after these bytes
 abbrev pub begun_unit : ℕ → List ℕ → Gathered
-begun_unit mode total = record { mode = mode; ahead = total; packets = [] }
+begun_unit aggregation total = record { aggregation = aggregation; ahead = total; packets = [] }
 
 abbrev pub with_packet : Gathered → Packet → Gathered
 with_packet unit p = record unit { packets = unit.packets ++ p ∷ [] }
 
 -- what is authenticated in clear
 abbrev pub clear_of : Gathered → List ℕ
-clear_of unit = unit.ahead ++ authenticated unit.packets
+clear_of unit = unit.ahead ++ authenticated_bytes unit.packets
 
-abbrev pub lent_ahead : Option (Bor (List ℕ)) → List ℕ
-lent_ahead None = []
-lent_ahead (Some total) = total.now
+abbrev pub lent_totals : Option (Bor (List ℕ)) → List ℕ
+lent_totals None = []
+lent_totals (Some total) = total.now
 
 -- ---- packets in a buffer
 
@@ -48,8 +48,8 @@ parts_of p = (clear_bytes p, p.body)
 -- the buffer has the packets of these prefixes, whose posted counts have this sum
 pub record IsGathered (prefixes : List Prefix) (posted : ℕ) (buf : Collected) : Type 0 where
   pub places : length prefixes ≡ 8
-  pub small_mode : buf.mode ≤ 8
-  pub fits : length buf.packets ≤ buf.mode
+  pub small_aggregation : buf.aggregation ≤ 8
+  pub fits : length buf.packets ≤ buf.aggregation
   pub parts : map parts_of (packets_in buf.packets prefixes) ≡ buf.packets
   pub sum : posted ≡ posted_sum (packets_in buf.packets prefixes)
   pub few : posted ≤ 255 * length buf.packets
@@ -57,14 +57,14 @@ pub record IsGathered (prefixes : List Prefix) (posted : ℕ) (buf : Collected) 
 -- ---- decrypted
 
 -- with their bodies decrypted; the first begins at byte n of the unit's plaintext
-abbrev pub opened_from : List ℕ → List ℕ → ℕ → List Packet → List Packet
-opened_from key iv n [] = []
-opened_from key iv n (p ∷ ps) =
-    record { prefix = p.prefix; head = p.head; body = masked key iv n p.body; tag = [] }
-    ∷ opened_from key iv (n + length p.body) ps
+abbrev pub opened_from_byte : List ℕ → List ℕ → ℕ → List Packet → List Packet
+opened_from_byte key iv n [] = []
+opened_from_byte key iv n (p ∷ ps) =
+    record { prefix = p.prefix; head = p.head; body = masked_bytes key iv n p.body; tag = [] }
+    ∷ opened_from_byte key iv (n + length p.body) ps
 
-abbrev pub opened : List ℕ → List ℕ → List Packet → List Packet
-opened key iv unit = opened_from key iv 0 unit
+abbrev pub opened_packets : List ℕ → List ℕ → List Packet → List Packet
+opened_packets key iv unit = opened_from_byte key iv 0 unit
 
 -- the packets of a unit that is lent, if one is
 abbrev pub lent_packets : Option (Bor Gathered) → List Packet

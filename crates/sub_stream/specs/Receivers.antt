@@ -7,74 +7,84 @@ use Rattle.ide_types.specs.declared.sub.FailCause.TheVariants as fail
 use Rattle.gcm_seal.specs.Gcm.{verifies}
 use Rattle.ide_prefix.specs.Packet.{Packet}
 use Rattle.ide_prefix.specs.Iv.{iv_of}
-use Rattle.ide_prefix.specs.Units.{authenticated, encrypted, untagged}
-use Rattle.stream_rules.specs.Stream.{Empty, Programmed, LaneSlots, LiveKey, Taken, NotKeyed, Failed, Held, Accepted}
-use Rattle.stream_rules.specs.Stream.{slot_in_set, with_slot, live_in, holds_any, posted_sum, checked, dropped, gone_on}
-use Rattle.stream_rules.specs.Stream.{accepted_slots}
-use Rattle.stream_rules.specs.Slots.{begun}
+use Rattle.ide_prefix.specs.Units.{authenticated_bytes, encrypted_bytes, packet_without_tag}
+use Rattle.spec_stream.specs.Stream.{Empty, Programmed, LaneSlots, LiveKey, Taken, NotKeyed, Failed, Held, Accepted}
+use Rattle.spec_stream.specs.Stream.{slot_in_set, with_slot, live_in, holds_any, posted_sum, outcome_of_checks}
+use Rattle.spec_stream.specs.Stream.{slot_without_packets, gone_on}
+use Rattle.spec_stream.specs.Stream.{accepted_slots}
+use Rattle.spec_stream.specs.Slots.{begun}
 use Rattle.key_slots.specs.{SlotPair, slot_in as key_slot_in, with_both, live_draw, is_only_live}
 use Rattle.key_slots.specs.{is_live as is_live_key}
 use Rattle.key_slots.specs.declared.slot.Slot.TheVariants as key
 use Rattle.sub_stream.specs.declared.answer.Taken.{Taken as Answer}
 use Rattle.sub_stream.specs.declared.answer.Taken.TheVariants as answers
 use Rattle.sub_stream.specs.declared.receiver.Holds.{Holds}
-use Rattle.sub_stream.specs.declared.receiver.Holds.TheVariants.{Nothing, Zero, One, Delivered}
+use Rattle.sub_stream.specs.declared.receiver.Holds.TheVariants.{Nothing, HeldZero, HeldOne, Delivered}
 use Rattle.sub_stream.specs.Seen.{slot_as_seen, slot_pair, has_armed}
-use Rattle.stream_rules.specs.Slots.{no_slots}
-use Rattle.sub_stream.specs.Gathered.{Gathered, with_packet, opened}
-use Rattle.sub_stream.specs.Senders.{ahead_of}
+use Rattle.spec_stream.specs.Slots.{no_slots}
+use Rattle.sub_stream.specs.Gathered.{Gathered, with_packet, opened_packets}
+use Rattle.sub_stream.specs.Senders.{unit_ahead}
 
--- units of at most `mode` packets; `ahead` comes before what the held packets authenticate, `delivered` are the packets
--- of the last accepted unit, decrypted, until the next change, and `takes` how many packets it was given
+-- units of at most `aggregation` packets; `ahead` comes before what the held packets authenticate, `delivered` are the
+-- packets of the last accepted unit, decrypted, until the next change, and `takes` how many packets it was given
 pub record Receiver : Type 0 where
   pub stream : ℕ
   pub sub : SubKind
-  pub mode : ℕ
+  pub aggregation : ℕ
   pub ahead : List ℕ
   pub slots : LaneSlots
   pub delivered : List Packet
   pub takes : ℕ
 
 abbrev pub new_receiver : ℕ → SubKind → ℕ → Receiver
-new_receiver stream sub mode =
-    record { stream = stream; sub = sub; mode = mode; ahead = []; slots = no_slots; delivered = []; takes = 0 }
+new_receiver stream sub aggregation =
+    record {
+      stream = stream;
+      sub = sub;
+      aggregation = aggregation;
+      ahead = [];
+      slots = no_slots;
+      delivered = [];
+      takes
+          = 0;
+    }
 
 -- ---- what is kept, as the code keeps it
 
 -- the packets of a buffer that are held in key set 0, in key set 1, and those that were delivered
 abbrev pub held_zero : Holds → List Packet → List Packet
-held_zero Zero ps = ps
+held_zero HeldZero ps = ps
 held_zero h ps = []
 
 abbrev pub held_one : Holds → List Packet → List Packet
-held_one One ps = ps
+held_one HeldOne ps = ps
 held_one h ps = []
 
-abbrev pub lent_by : Holds → List Packet → List Packet
-lent_by Delivered ps = ps
-lent_by h ps = []
+abbrev pub packets_if_delivered : Holds → List Packet → List Packet
+packets_if_delivered Delivered ps = ps
+packets_if_delivered h ps = []
 
-abbrev pub ahead_by : Holds → List ℕ → List ℕ
-ahead_by Zero total = total
-ahead_by One total = total
-ahead_by h total = []
+abbrev pub ahead_if_held : Holds → List ℕ → List ℕ
+ahead_if_held HeldZero total = total
+ahead_if_held HeldOne total = total
+ahead_if_held h total = []
 
 abbrev pub holds_some : Holds → Bool
-holds_some Zero = true
-holds_some One = true
+holds_some HeldZero = true
+holds_some HeldOne = true
 holds_some h = false
 
 -- packets are held in another set than this
 abbrev pub holds_apart : Bool → Holds → Bool
-holds_apart k Zero = k
-holds_apart k One = not k
+holds_apart k HeldZero = k
+holds_apart k HeldOne = not k
 holds_apart k h = false
 
-abbrev pub held_in : Bool → Holds
-held_in k = if k then One else Zero
+abbrev pub held_set : Bool → Holds
+held_set k = if k then HeldOne else HeldZero
 
 abbrev pub holds_after : Bool → Answer → Holds
-holds_after k (answers.Held draw unit) = held_in k
+holds_after k (answers.Held draw unit) = held_set k
 holds_after k (answers.Accepted draw unit count) = Delivered
 holds_after k answer = Nothing
 
@@ -108,17 +118,17 @@ held_alone h = h
 
 -- a packet of this key set, with this M, joins what is held and leaves room for the last of its unit
 abbrev pub fits_held : Holds → ℕ → ℕ → Bool → Bool → Bool
-fits_held h n mode k m =
-    not (holds_apart k h || (not m && nat_le mode ((if holds_some h then n else 0) + 1)))
+fits_held h n aggregation k m =
+    not (holds_apart k h || (not m && nat_le aggregation ((if holds_some h then n else 0) + 1)))
 
 -- what is held if a slot is emptied
-abbrev pub left_without : Bool → Holds → Holds
-left_without k Zero = if k then Zero else Nothing
-left_without k One = if k then Nothing else One
-left_without k h = Nothing
+abbrev pub holds_without : Bool → Holds → Holds
+holds_without k HeldZero = if k then HeldZero else Nothing
+holds_without k HeldOne = if k then Nothing else HeldOne
+holds_without k h = Nothing
 
-abbrev pub seen_in : SlotPair → ℕ → ℕ → Holds → List Packet → LaneSlots
-seen_in pair units_zero units_one h ps =
+abbrev pub receiver_slots_seen : SlotPair → ℕ → ℕ → Holds → List Packet → LaneSlots
+receiver_slots_seen pair units_zero units_one h ps =
     record {
       first = slot_as_seen units_zero (held_zero h ps) pair.zero;
       second = slot_as_seen units_one (held_one h ps)
@@ -127,84 +137,88 @@ seen_in pair units_zero units_one h ps =
 
 -- packets are held in a Live slot, fewer than the mode
 abbrev pub HoldsFew : SlotPair → ℕ → Holds → List Packet → Type 0
-HoldsFew pair mode Zero ps = (is_live_key pair.zero ≡ true) × (0 < length ps) × (length ps < mode)
-HoldsFew pair mode One ps = (is_live_key pair.one ≡ true) × (0 < length ps) × (length ps < mode)
-HoldsFew pair mode h ps = Unit {0}
+HoldsFew pair aggregation HeldZero ps = (is_live_key pair.zero ≡ true) × (0 < length ps) × (length ps < aggregation)
+HoldsFew pair aggregation HeldOne ps = (is_live_key pair.one ≡ true) × (0 < length ps) × (length ps < aggregation)
+HoldsFew pair aggregation h ps = Unit {0}
 
-pub record IsReceiver (mode units_zero units_one takes : ℕ) (pair : SlotPair) (h : Holds)
+pub record IsReceiver (aggregation units_zero units_one takes : ℕ) (pair : SlotPair) (h : Holds)
     (unit : Gathered) : Type 0 where
   pub sender : pair.sender ≡ false
   pub never_armed : has_armed pair ≡ false
-  pub some_mode : 1 ≤ mode
-  pub small_mode : mode ≤ 8
-  pub same_mode : unit.mode ≡ mode
+  pub some_aggregation : 1 ≤ aggregation
+  pub small_aggregation : aggregation ≤ 8
+  pub same_aggregation : unit.aggregation ≡ aggregation
   pub few_zero : units_zero ≤ takes
   pub few_one : units_one ≤ takes
-  pub few : HoldsFew pair mode h unit.packets
+  pub few : HoldsFew pair aggregation h unit.packets
 
 -- ---- packets
 
 abbrev pub key_for : Receiver → Bool → Option LiveKey
 key_for rx k = live_in (slot_in_set rx.slots k)
 
-abbrev pub ahead_in : Receiver → LiveKey → List ℕ → List ℕ
-ahead_in rx x total = if length x.packets == 0 then ahead_of total (x.units + 1) else rx.ahead
+abbrev pub receiver_ahead : Receiver → LiveKey → List ℕ → List ℕ
+receiver_ahead rx x total = if length x.packets == 0 then unit_ahead total (x.units + 1) else rx.ahead
 
 -- the tag is that of the unit
 abbrev pub is_tagged_behind : List ℕ → LiveKey → Packet → Bool
 is_tagged_behind ahead x p =
     let unit = x.packets ++ p ∷ [] in
-    verifies x.key (iv_of p.prefix.sub (x.units + 1)) (ahead ++ authenticated unit) (encrypted unit) p.tag
+    verifies x.key (iv_of p.prefix.sub (x.units + 1)) (ahead ++ authenticated_bytes unit) (encrypted_bytes unit) p.tag
 
 -- no packets of the other set are held, and one without M finds room for the last of its unit
 abbrev pub fits_unit : ℕ → LiveKey → Option LiveKey → Packet → Bool
-fits_unit mode x other p = not (holds_any other || (not p.prefix.m && nat_le mode (length x.packets + 1)))
+fits_unit aggregation x other p = not (holds_any other || (not p.prefix.m && nat_le aggregation (length x.packets + 1)))
 
 abbrev pub judged_packet : List ℕ → ℕ → LiveKey → Packet → Taken
 judged_packet ahead allowed x p =
-    if p.prefix.m then checked (is_tagged_behind ahead x p) (nat_le (posted_sum (x.packets ++ p ∷ [])) allowed) x p
+    if p.prefix.m then outcome_of_checks (is_tagged_behind ahead x p)
+    (nat_le (posted_sum (x.packets ++ p ∷ [])) allowed) x p
     else Held x.draw (x.units + 1)
 
-abbrev pub taken_with : Receiver → ℕ → List ℕ → Packet → Option LiveKey → Option LiveKey → Taken
-taken_with rx allowed total p None None = NotKeyed
-taken_with rx allowed total p None (Some y) = Failed fail.Key
-taken_with rx allowed total p (Some x) other =
-    if fits_unit rx.mode x other p then judged_packet (ahead_in rx x total) allowed x p else Failed fail.Unit
+abbrev pub receiver_outcome_by_keys : Receiver → ℕ → List ℕ → Packet → Option LiveKey → Option LiveKey → Taken
+receiver_outcome_by_keys rx allowed total p None None = NotKeyed
+receiver_outcome_by_keys rx allowed total p None (Some y) = Failed fail.Key
+receiver_outcome_by_keys rx allowed total p (Some x) other =
+    if fits_unit rx.aggregation x other p then judged_packet (receiver_ahead rx x total) allowed x p else Failed
+    fail.Unit
 
 -- the answers that come before a look at the tag
 abbrev pub early_answer : ℕ → Packet → Option LiveKey → Option LiveKey → Option Answer
-early_answer mode p None None = Some answers.NotKeyed
-early_answer mode p None (Some y) = Some (answers.Fail fail.Key)
-early_answer mode p (Some x) other = if fits_unit mode x other p then None else Some (answers.Fail fail.Unit)
+early_answer aggregation p None None = Some answers.NotKeyed
+early_answer aggregation p None (Some y) = Some (answers.Fail fail.Key)
+early_answer aggregation p (Some x) other = if fits_unit aggregation x other p then None else Some
+    (answers.Fail fail.Unit)
 
 abbrev pub early_of : Receiver → Packet → Option Answer
-early_of rx p = early_answer rx.mode p (key_for rx p.prefix.k) (key_for rx (not p.prefix.k))
+early_of rx p = early_answer rx.aggregation p (key_for rx p.prefix.k) (key_for rx (not p.prefix.k))
 
 -- the buffer after an answer under a key: the packet is with the held ones, or the unit is decrypted
 abbrev pub BufferAfter : Gathered → LiveKey → Packet → Taken → Gathered → Type 0
-BufferAfter begun x p (Held draw unit) new = new ≡ with_packet begun (untagged p)
+BufferAfter begun x p (Held draw unit) new = new ≡ with_packet begun (packet_without_tag p)
 BufferAfter begun x p (Accepted draw unit packets) new =
-    new ≡ record begun { packets = opened x.key (iv_of p.prefix.sub (x.units + 1)) packets }
+    new ≡ record begun { packets = opened_packets x.key (iv_of p.prefix.sub (x.units + 1)) packets }
 BufferAfter begun x p answer new = Unit {0}
 
 -- the answer to a packet of the sub-stream, whose unit's posted counts may sum to `allowed` at most
-abbrev pub taken_of : Receiver → ℕ → List ℕ → Packet → Taken
-taken_of rx allowed total p = taken_with rx allowed total p (key_for rx p.prefix.k) (key_for rx (not p.prefix.k))
+abbrev pub receiver_outcome : Receiver → ℕ → List ℕ → Packet → Taken
+receiver_outcome rx allowed total p = receiver_outcome_by_keys rx allowed total p (key_for rx p.prefix.k)
+    (key_for rx (not p.prefix.k))
 
 abbrev pub dropped_slots : LaneSlots → LaneSlots
-dropped_slots s = record { first = dropped s.first; second = dropped s.second }
+dropped_slots s = record { first = slot_without_packets s.first; second = slot_without_packets s.second }
 
 abbrev pub dropped_receiver : Receiver → Receiver
 dropped_receiver rx = record rx { ahead = []; slots = dropped_slots rx.slots; delivered = [] }
 
 abbrev pub ahead_held : Receiver → Option LiveKey → List ℕ → List ℕ
 ahead_held rx None total = []
-ahead_held rx (Some x) total = ahead_in rx x total
+ahead_held rx (Some x) total = receiver_ahead rx x total
 
 -- an accepted unit, decrypted under its key
-abbrev pub opened_under : Option LiveKey → SubKind → List Packet → List Packet
-opened_under None sub unit = []
-opened_under (Some x) sub unit = opened x.key (iv_of sub (x.units + 1)) unit
+abbrev pub opened_unit : Option LiveKey → SubKind → List Packet → List Packet
+opened_unit None sub unit = []
+opened_unit (Some x) sub unit = opened_packets x.key (iv_of sub (x.units + 1)) unit
 
 -- what is kept after an answer: only an accepted unit moves a counter or empties a slot
 abbrev pub after_answer : Receiver → List ℕ → Packet → Taken → Receiver
@@ -219,21 +233,21 @@ after_answer rx total p (Accepted draw unit packets) =
     record rx {
       ahead = [];
       slots = accepted_slots draw p.prefix.k rx.slots;
-      delivered = opened_under (key_for rx p.prefix.k) p.prefix.sub packets;
+      delivered = opened_unit (key_for rx p.prefix.k) p.prefix.sub packets;
     }
 after_answer rx total p answer = rx
 
 abbrev pub receiver_after : Receiver → ℕ → List ℕ → Packet → Receiver
-receiver_after rx allowed total p = record (after_answer rx total p (taken_of rx allowed total p))
+receiver_after rx allowed total p = record (after_answer rx total p (receiver_outcome rx allowed total p))
     { takes = rx.takes + 1 }
 
 -- ---- keys: the held packets go with their slot, and what was delivered is lent no more
 
-abbrev pub ahead_at : LaneSlots → List ℕ → List ℕ
-ahead_at slots ahead = if holds_any (live_in slots.first) || holds_any (live_in slots.second) then ahead else []
+abbrev pub slots_ahead : LaneSlots → List ℕ → List ℕ
+slots_ahead slots ahead = if holds_any (live_in slots.first) || holds_any (live_in slots.second) then ahead else []
 
 abbrev pub with_slots : Receiver → LaneSlots → Receiver
-with_slots rx slots = record rx { ahead = ahead_at slots rx.ahead; slots = slots; delivered = [] }
+with_slots rx slots = record rx { ahead = slots_ahead slots rx.ahead; slots = slots; delivered = [] }
 
 abbrev pub programmed_receiver : Receiver → Bool → List ℕ → ℕ → Receiver
 programmed_receiver rx k key draw =
@@ -242,5 +256,5 @@ programmed_receiver rx k key draw =
 abbrev pub gone_receiver : Receiver → Bool → Receiver
 gone_receiver rx k = with_slots rx (with_slot rx.slots k (begun (slot_in_set rx.slots k)))
 
-abbrev pub halted_receiver : Receiver → Bool → Receiver
-halted_receiver rx k = with_slots rx (with_slot rx.slots k Empty)
+abbrev pub stopped_receiver : Receiver → Bool → Receiver
+stopped_receiver rx k = with_slots rx (with_slot rx.slots k Empty)

@@ -3,7 +3,7 @@ use Rattle.std.specs.Prelude.{ℕ, Bool, true, false, ◌&&◌, ◌||◌, List, 
 use Rattle.std.specs.Option.{option_map}
 use denote.Ref.{Bor}
 use Rattle.ide_prefix.specs.Packet.{Packet}
-use Rattle.stream_rules.specs.Stream.{LaneSlot, Empty, Programmed, Armed, Live, LiveKey, LaneSlots}
+use Rattle.spec_stream.specs.Stream.{LaneSlot, Empty, Programmed, Armed, Live, LiveKey, LaneSlots}
 use Rattle.key_slots.specs.declared.slot.Slot.{Slot as KeySlot}
 use Rattle.key_slots.specs.{SlotPair, DrawnKey, live_held, is_live, is_armed}
 use Rattle.key_slots.specs.declared.slot.Slot.TheVariants as key
@@ -37,8 +37,8 @@ is_programmed slot = false
 
 -- ---- a sender's slots, at most one of which is Live
 
-abbrev pub seen_out : SlotPair → ℕ → List Packet → LaneSlots
-seen_out pair units packets
+abbrev pub sender_slots_seen : SlotPair → ℕ → List Packet → LaneSlots
+sender_slots_seen pair units packets
     = record { first = slot_as_seen units packets pair.zero; second = slot_as_seen units packets pair.one }
 
 abbrev pub has_live : SlotPair → Bool
@@ -64,5 +64,5 @@ abbrev pub shown_in_use : Option (Bool × Bor (List ℕ) × ℕ) → Option (Boo
 shown_in_use shown = option_map (λ x. (x.0, record { key = x.1.now; draw = x.2 })) shown
 
 -- with the units and the packets that are kept beside it
-abbrev pub live_with : ℕ → List Packet → DrawnKey → LiveKey
-live_with units packets held = record { draw = held.draw; key = held.key; units = units; packets = packets }
+abbrev pub live_key_seen : ℕ → List Packet → DrawnKey → LiveKey
+live_key_seen units packets held = record { draw = held.draw; key = held.key; units = units; packets = packets }

@@ -7,42 +7,43 @@ use Rattle.ide_types.specs.declared.sub.SubKind.{SubKind}
 use Rattle.ide_types.specs.declared.port.Side.TheVariants.{Host}
 use Rattle.link_verdicts.specs.declared.verdict.SealedPacket.{SealedPacket as Described}
 use Rattle.ide_prefix.specs.Packet.{Packet, packet_bytes, sync_head}
-use Rattle.stream_rules.specs.Stream.{Empty, Programmed, LaneSlots, LiveKey, live_sender, untagged_under, tagged_under}
-use Rattle.stream_rules.specs.Stream.{sealed_slots, slot_in_set, with_slot}
-use Rattle.stream_rules.specs.Slots.{both_slots, slot_gone, woken_slot, is_live_slot}
+use Rattle.spec_stream.specs.Stream.{Empty, Programmed, LaneSlots, LiveKey, live_sender, untagged_under, tagged_under}
+use Rattle.spec_stream.specs.Stream.{sealed_slots, slot_in_set, with_slot}
+use Rattle.spec_stream.specs.Slots.{both_slots, slot_gone, woken_slot, is_live_slot}
 use Rattle.key_slots.specs.{SlotPair, is_only_live}
 use Rattle.sub_stream.specs.declared.answer.MeasuredPacket.{MeasuredPacket}
 use Rattle.sub_stream.specs.declared.answer.TxRefusal.{TxRefusal}
 use Rattle.sub_stream.specs.declared.answer.TxRefusal.TheVariants.{NoKey, Worn}
-use Rattle.sub_stream.specs.declared.sender.Carried.{Carried}
+use Rattle.sub_stream.specs.declared.sender.PacketParts.{PacketParts}
 use Rattle.sub_stream.specs.Seen.{slot_pair, has_live, both_live}
-use Rattle.stream_rules.specs.Slots.{no_slots}
+use Rattle.spec_stream.specs.Slots.{no_slots}
 use Rattle.sub_stream.specs.Gathered.{Gathered}
 
--- units of at most `mode` packets, and at most `limit` units under one key; `ahead` comes before what the open unit
--- authenticates
+-- units of at most `aggregation` packets, and at most `limit` units under one key; `ahead` comes before what the open
+-- unit authenticates
 pub record Sender : Type 0 where
   pub stream : ℕ
   pub sub : SubKind
-  pub mode : ℕ
+  pub aggregation : ℕ
   pub limit : ℕ
   pub ahead : List ℕ
   pub slots : LaneSlots
 
 abbrev pub new_sender : ℕ → SubKind → ℕ → ℕ → Sender
-new_sender stream sub mode limit =
-    record { stream = stream; sub = sub; mode = mode; limit = limit; ahead = []; slots = no_slots }
+new_sender stream sub aggregation limit =
+    record { stream = stream; sub = sub; aggregation = aggregation; limit = limit; ahead = []; slots = no_slots }
 
 -- ---- what is kept, as the code keeps it
 
--- a unit is open only under a Live key; it has fewer packets than the mode, and is one of those that the key may seal
-pub record IsSender (mode limit units : ℕ) (pair : SlotPair) (unit : Gathered) : Type 0 where
+-- a unit is open only under a Live key; it has fewer packets than the aggregation, and is one of those that the key may
+-- seal
+pub record IsSender (aggregation limit units : ℕ) (pair : SlotPair) (unit : Gathered) : Type 0 where
   pub sender : pair.sender ≡ true
   pub one_live : both_live pair ≡ false
-  pub some_mode : 1 ≤ mode
-  pub small_mode : mode ≤ 8
-  pub same_mode : unit.mode ≡ mode
-  pub fits : length unit.packets < mode
+  pub some_aggregation : 1 ≤ aggregation
+  pub small_aggregation : aggregation ≤ 8
+  pub same_aggregation : unit.aggregation ≡ aggregation
+  pub fits : length unit.packets < aggregation
   pub worn : has_live pair ≡ true → units ≤ limit
   pub room : (length unit.packets == 0) ≡ false → units < limit
   pub closed : has_live pair ≡ false → unit.packets ≡ []
@@ -75,7 +76,7 @@ pub record Content : Type 0 where
   pub t : Bool
   pub sync : Bool
 
-abbrev pub carried_content : Carried → Content
+abbrev pub carried_content : PacketParts → Content
 carried_content c = record { head = c.head.now; payload = c.payload.now; posted = c.posted; t = c.t; sync = c.sync }
 
 abbrev pub tlp_content : List ℕ → List ℕ → ℕ → Bool → Content
@@ -85,10 +86,10 @@ abbrev pub sync_content : ℕ → Content
 sync_content posted = record { head = sync_head; payload = []; posted = posted; t = false; sync = true }
 
 -- the packet as it is described, but for its port and its number
-abbrev pub noted : Sender → Bool × LiveKey → Content → Bool → Described
-noted tx x c m = record {
+abbrev pub described_content : Sender → Bool × LiveKey → Content → Bool → Described
+described_content tx x c m = record {
   number = 0;
-  port = record { side = Host; link = 0 };
+  port = record { side = Host; line = 0 };
   stream = tx.stream;
   sub = tx.sub;
   draw = x.1.draw;
@@ -115,25 +116,26 @@ with_length d n = record {
 }
 
 -- what comes before unit n, if this is given for the first
-abbrev pub ahead_of : List ℕ → ℕ → List ℕ
-ahead_of total n = if n == 1 then total else []
+abbrev pub unit_ahead : List ℕ → ℕ → List ℕ
+unit_ahead total n = if n == 1 then total else []
 
 -- a unit that begins if no packet is there; what comes before it is set then
 abbrev pub begun_where_empty : Gathered → List ℕ → ℕ → Gathered
 begun_where_empty unit total n =
-    record unit { ahead = if length unit.packets == 0 then ahead_of total n else unit.ahead }
+    record unit { ahead = if length unit.packets == 0 then unit_ahead total n else unit.ahead }
 
-abbrev pub ahead_for : Sender → LiveKey → List ℕ → List ℕ
-ahead_for tx x total = if length x.packets == 0 then ahead_of total (x.units + 1) else tx.ahead
+abbrev pub sender_ahead : Sender → LiveKey → List ℕ → List ℕ
+sender_ahead tx x total = if length x.packets == 0 then unit_ahead total (x.units + 1) else tx.ahead
 
 abbrev pub tagged_packet : Sender → List ℕ → Bool × LiveKey → Content → Bool → Packet
 tagged_packet tx total x c m =
-    let d = noted tx x c m in
-    tagged_under (ahead_for tx x.1 total) x.1.key x.1.packets d (untagged_under x.1.key x.1.packets d c.head c.payload)
+    let d = described_content tx x c m in
+    tagged_under (sender_ahead tx x.1 total) x.1.key x.1.packets d
+    (untagged_under x.1.key x.1.packets d c.head c.payload)
 
 -- whether a packet ends its unit
 abbrev pub ends : Sender → LiveKey → Bool → Bool
-ends tx x more = not more || (length x.packets + 1 == tx.mode)
+ends tx x more = not more || (length x.packets + 1 == tx.aggregation)
 
 -- a packet that was sealed: what is said of it, the packet, and the sender after it
 pub record Sealing : Type 0 where
@@ -145,9 +147,9 @@ abbrev pub sealing_as : Sender → List ℕ → Bool × LiveKey → Content → 
 sealing_as tx total x c m =
     let p = tagged_packet tx total x c m in
     record {
-      description = with_length (noted tx x c m) (length (packet_bytes p));
+      description = with_length (described_content tx x c m) (length (packet_bytes p));
       packet = p;
-      sender = record tx { ahead = (if m then [] else ahead_for tx x.1 total); slots = sealed_slots m p tx.slots };
+      sender = record tx { ahead = (if m then [] else sender_ahead tx x.1 total); slots = sealed_slots m p tx.slots };
     }
 
 abbrev pub sealing_under : Sender → List ℕ → Content → Bool → Result (Bool × LiveKey) TxRefusal
@@ -175,8 +177,8 @@ sender_after tx (Ok s) = s.sender
 abbrev pub gone_slots : LaneSlots → Bool → LaneSlots
 gone_slots slots k = slot_gone k (slot_in_set slots k) (slot_in_set slots (not k))
 
-abbrev pub halted_slots : LaneSlots → Bool → LaneSlots
-halted_slots slots k = both_slots k Empty (woken_slot (slot_in_set slots (not k)))
+abbrev pub stopped_slots : LaneSlots → Bool → LaneSlots
+stopped_slots slots k = both_slots k Empty (woken_slot (slot_in_set slots (not k)))
 
 abbrev pub programmed_sender : Sender → Bool → List ℕ → ℕ → Sender
 programmed_sender tx k key draw =
@@ -187,10 +189,10 @@ abbrev pub gone_sender : Sender → Bool → Sender
 gone_sender tx k = record tx { slots = gone_slots tx.slots k }
 
 -- an open unit goes with its key
-abbrev pub halted_sender : Sender → Bool → Sender
-halted_sender tx k =
+abbrev pub stopped_sender : Sender → Bool → Sender
+stopped_sender tx k =
     record tx {
       ahead = (if is_live_slot (slot_in_set tx.slots k) then [] else tx.ahead);
-      slots = halted_slots tx.slots
+      slots = stopped_slots tx.slots
           k;
     }

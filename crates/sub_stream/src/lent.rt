@@ -1,7 +1,7 @@
 //! The packets of a unit, lent.
 
 ghost use Rattle.std.specs.Prelude.{◌≡◌, ◌<◌, ◌≤◌, [], Some, length, slice_get, map};
-ghost use Rattle.stream_rules.specs.Stream.{posted_sum};
+ghost use Rattle.spec_stream.specs.Stream.{posted_sum};
 
 use crate::answer::PacketMark;
 use crate::unit_packets::UnitPackets;

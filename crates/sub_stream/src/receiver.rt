@@ -4,17 +4,17 @@ ghost use Rattle.std.specs.Prelude.{◌≡◌, ◌+◌, ◌<◌, ◌≤◌, ◌^
 ghost use Rattle.std.specs.Prelude.{[], length, nat_lt, if◌then◌else◌, IfOk};
 ghost use Rattle.gcm_seal.specs.Gcm.{verifies};
 ghost use Rattle.ide_prefix.specs.Cut.{packet_of_view, lent_tag, IsView};
-ghost use Rattle.ide_prefix.specs.Units.{encrypted};
+ghost use Rattle.ide_prefix.specs.Units.{encrypted_bytes};
 ghost use Rattle.key_slots.specs.{slot_in as key_slot_in, is_one, is_empty, is_live, program_answer};
-ghost use Rattle.stream_rules.specs.Slots.{receiving_draw};
-ghost use Rattle.stream_rules.specs.Stream.{slot_in_set, posted_sum};
-ghost use Rattle.sub_stream.specs.Answers.{answer_of};
+ghost use Rattle.spec_stream.specs.Slots.{receiving_draw};
+ghost use Rattle.spec_stream.specs.Stream.{slot_in_set, posted_sum};
+ghost use Rattle.sub_stream.specs.Answers.{answer_taken};
 ghost use Rattle.sub_stream.specs.Facts.{held_packets, set_facts};
-ghost use Rattle.sub_stream.specs.Gathered.{lent_ahead, clear_of, no_packets};
-ghost use Rattle.sub_stream.specs.Seen.{slot_pair, key_slot, is_programmed, live_with};
+ghost use Rattle.sub_stream.specs.Gathered.{lent_totals, clear_of, no_packets};
+ghost use Rattle.sub_stream.specs.Seen.{slot_pair, key_slot, is_programmed, live_key_seen};
 ghost use Rattle.sub_stream.specs.Senders.{begun_where_empty};
 ghost use Rattle.sub_stream.specs.Receivers.{fits_held, judged_packet, BufferAfter, holds_some, holds_apart};
-ghost use Rattle.sub_stream.specs.Receivers.{holds_after, held_alone, held_unless_failed, left_without, is_accepted};
+ghost use Rattle.sub_stream.specs.Receivers.{holds_after, held_alone, held_unless_failed, holds_without, is_accepted};
 ghost use Rattle.sub_stream.specs.Receivers.{without_older, slots_after, held_zero, held_one};
 
 use crate::answer::Taken;
@@ -24,7 +24,7 @@ use crate::sender::begin_where_empty;
 use crate::unit_packets::UnitPackets;
 use gcm_seal::Gcm;
 use ide_prefix::{PacketView, carried_head, unit_iv};
-use ide_types::{FailCause, KeySet, Memory, SubKind};
+use ide_types::{FailCause, KeySet, OutOfMemory, SubKind};
 use key_slots::{Key, OnlyLive, SlotEmpty, SlotState, Slots};
 use std::alloc::Global;
 use std::marker::Model;
@@ -35,8 +35,8 @@ use unit_aggregation::UnitBuf;
 #[derive(Clone, Copy, PartialEq, Eq)]
 pub enum Holds {
     Nothing,
-    Zero,
-    One,
+    HeldZero,
+    HeldOne,
     Delivered,
 }
 
@@ -46,7 +46,7 @@ impl Holds {
         ensures { result ≡ holds_some self }
     {
         match self {
-            Holds::Zero | Holds::One => true,
+            Holds::HeldZero | Holds::HeldOne => true,
             Holds::Nothing | Holds::Delivered => false,
         }
     }
@@ -56,8 +56,8 @@ impl Holds {
         ensures { result ≡ holds_apart k self }
     {
         match self {
-            Holds::Zero => k,
-            Holds::One => !k,
+            Holds::HeldZero => k,
+            Holds::HeldOne => !k,
             Holds::Nothing | Holds::Delivered => false,
         }
     }
@@ -84,11 +84,11 @@ impl Holds {
 
     /// What is held once this key set's slot is emptied.
     pub fn without(self, k: bool) -> Holds
-        ensures { result ≡ left_without k self }
+        ensures { result ≡ holds_without k self }
     {
         match self {
-            Holds::Zero if k => Holds::Zero,
-            Holds::One if !k => Holds::One,
+            Holds::HeldZero if k => Holds::HeldZero,
+            Holds::HeldOne if !k => Holds::HeldOne,
             _ => Holds::Nothing,
         }
     }
@@ -98,8 +98,8 @@ impl Holds {
         ensures { result ≡ holds_after k taken.now }
     {
         match taken {
-            Taken::Held { .. } if k => Holds::One,
-            Taken::Held { .. } => Holds::Zero,
+            Taken::Held { .. } if k => Holds::HeldOne,
+            Taken::Held { .. } => Holds::HeldZero,
             Taken::Accepted { .. } => Holds::Delivered,
             _ => Holds::Nothing,
         }
@@ -113,7 +113,7 @@ impl Holds {
 pub struct Rx {
     stream: u8,
     sub: SubKind,
-    mode: u8,
+    aggregation: u8,
     // the units accepted under the Live key of set 0, and of set 1
     zero: u64,
     one: u64,
@@ -124,21 +124,22 @@ pub struct Rx {
 }
 
 impl Model for Rx {
-    ghost use Rattle.sub_stream.specs.Receivers.{Receiver, IsReceiver, seen_in, lent_by, ahead_by};
+    ghost use Rattle.sub_stream.specs.Receivers.{Receiver, IsReceiver, receiver_slots_seen, packets_if_delivered};
+    ghost use Rattle.sub_stream.specs.Receivers.{ahead_if_held};
 
     ghost Value = { Receiver };
 
     ghost view = { λ r. record {
       stream = r.stream;
       sub = r.sub;
-      mode = r.mode;
-      ahead = ahead_by r.holds r.unit.ahead;
-      slots = seen_in r.slots r.zero r.one r.holds r.unit.packets;
-      delivered = lent_by r.holds r.unit.packets;
+      aggregation = r.aggregation;
+      ahead = ahead_if_held r.holds r.unit.ahead;
+      slots = receiver_slots_seen r.slots r.zero r.one r.holds r.unit.packets;
+      delivered = packets_if_delivered r.holds r.unit.packets;
       takes = r.takes;
     } };
 
-    ghost invariant = { λ r. IsReceiver r.mode r.zero r.one r.takes r.slots r.holds r.unit };
+    ghost invariant = { λ r. IsReceiver r.aggregation r.zero r.one r.takes r.slots r.holds r.unit };
 }
 
 // No unit is counted yet under a Programmed key of this set.
@@ -169,43 +170,36 @@ fn greater(zero: u32, one: u32) -> u32
 }
 
 // Whether the packet joins what is held, and leaves room for the last of its unit.
-fn fits(holds: Holds, unit: &UnitPackets, mode: u8, packet: &PacketView) -> bool
-    ensures { result ≡ fits_held holds (length unit.now.packets) mode packet.now.prefix.k packet.now.prefix.m }
+fn fits(holds: Holds, unit: &UnitPackets, aggregation: u8, packet: &PacketView) -> bool
+    ensures { result ≡ fits_held holds (length unit.now.packets) aggregation packet.now.prefix.k packet.now.prefix.m }
 {
     let held = if holds.some() { unit.count() } else { 0 };
-    let full = mode as usize <= held + 1;
+    let full = aggregation as usize <= held + 1;
     !(holds.apart(packet.prefix.k) || !packet.prefix.m && full)
 }
 
 impl Rx {
-    ghost use Rattle.sub_stream.specs.Receivers.{
-      new_receiver,
-      early_of,
-      taken_of,
-      receiver_after,
-      dropped_receiver,
-      programmed_receiver,
-      gone_receiver,
-      halted_receiver,
-    };
+    ghost use Rattle.sub_stream.specs.Receivers.{new_receiver, early_of, receiver_outcome, receiver_after};
+    ghost use Rattle.sub_stream.specs.Receivers.{dropped_receiver, programmed_receiver, gone_receiver};
+    ghost use Rattle.sub_stream.specs.Receivers.{stopped_receiver};
 
-    /// A receiver with no key. `mode` is 1, 2, 4 or 8, with which `buf` was reserved.
+    /// A receiver with no key. `aggregation` is 1, 2, 4 or 8, with which `buf` was reserved.
     pub fn make(
         alloc: Global,
         stream: u8,
         sub: SubKind,
-        mode: u8,
+        aggregation: u8,
         buf: UnitBuf,
-    ) -> Result<Rx, Memory>
-        requires some { 1 ≤ mode }
-        requires few { mode ≤ 8 }
-        requires same { buf.mode ≡ mode }
-        ensures { IfOk result (λ s. s ≡ new_receiver stream sub mode) }
+    ) -> Result<Rx, OutOfMemory>
+        requires some { 1 ≤ aggregation }
+        requires few { aggregation ≤ 8 }
+        requires same { buf.aggregation ≡ aggregation }
+        ensures { IfOk result (λ s. s ≡ new_receiver stream sub aggregation) }
     {
         Ok(Rx {
             stream,
             sub,
-            mode,
+            aggregation,
             zero: 0,
             one: 0,
             slots: Slots::make(alloc, false)?,
@@ -224,7 +218,7 @@ impl Rx {
         match (self.slots.live_key(set), self.slots.live_key(set.other())) {
             (None, None) => Some(Taken::NotKeyed),
             (None, Some(_)) => Some(Taken::Fail(FailCause::Key)),
-            (Some(_), _) if fits(self.holds, &self.unit, self.mode, packet) => None,
+            (Some(_), _) if fits(self.holds, &self.unit, self.aggregation, packet) => None,
             (Some(_), _) => Some(Taken::Fail(FailCause::Unit)),
         }
     }
@@ -236,9 +230,9 @@ impl Rx {
     pub fn take(&mut self, packet: &PacketView, allowed: u64, total: Option<&[u8; 8]>) -> Taken
         requires view { IsView packet.now }
         requires few { self.old.takes < 2 ^ 40 }
-        ensures answer { Some result ≡ answer_of (taken_of self.old allowed (lent_ahead total.entry)
+        ensures answer { Some result ≡ answer_taken (receiver_outcome self.old allowed (lent_totals total.entry)
             (packet_of_view packet.now)) }
-        ensures receiver { self.new ≡ receiver_after self.old allowed (lent_ahead total.entry)
+        ensures receiver { self.new ≡ receiver_after self.old allowed (lent_totals total.entry)
             (packet_of_view packet.now) }
     {
         match self.early(packet) {
@@ -256,9 +250,9 @@ impl Rx {
         requires view { IsView packet.now }
         requires few { self.old.takes < 2 ^ 40 }
         requires early { early_of self.old (packet_of_view packet.now) ≡ None }
-        ensures answer { Some result ≡ answer_of (taken_of self.old allowed (lent_ahead total.entry)
+        ensures answer { Some result ≡ answer_taken (receiver_outcome self.old allowed (lent_totals total.entry)
             (packet_of_view packet.now)) }
-        ensures receiver { self.new ≡ receiver_after self.old allowed (lent_ahead total.entry)
+        ensures receiver { self.new ≡ receiver_after self.old allowed (lent_totals total.entry)
             (packet_of_view packet.now) }
     {
         let k = packet.prefix.k;
@@ -328,16 +322,16 @@ impl Rx {
     }
 
     /// STOP: empties the slot, whose held packets go.
-    pub fn halt(&mut self, set: KeySet)
-        ensures { self.new ≡ halted_receiver self.old (is_one set) }
+    pub fn stop(&mut self, set: KeySet)
+        ensures { self.new ≡ stopped_receiver self.old (is_one set) }
     {
         self.holds = self.holds.without(set.is_one());
-        self.slots.halt(set);
+        self.slots.stop(set);
     }
 
     /// Empties both slots, and drops what is held.
     pub fn clear(&mut self)
-        ensures { self.new ≡ record (new_receiver self.old.stream self.old.sub self.old.mode)
+        ensures { self.new ≡ record (new_receiver self.old.stream self.old.sub self.old.aggregation)
             { takes = self.old.takes } }
     {
         self.holds = Holds::Nothing;
@@ -371,7 +365,7 @@ impl Rx {
 
 // Leaves the held packets alone.
 fn keep_held(unit: &mut UnitPackets, holds: Holds)
-    ensures { unit.new ≡ (if holds_some holds then unit.old else no_packets unit.old.mode) }
+    ensures { unit.new ≡ (if holds_some holds then unit.old else no_packets unit.old.aggregation) }
 {
     if !holds.some() {
         unit.clear();
@@ -380,7 +374,7 @@ fn keep_held(unit: &mut UnitPackets, holds: Holds)
 
 // Whether there is a tag, and it is that of the unit.
 fn is_tagged(cipher: &Gcm, iv: &[u8; 12], unit: &UnitPackets, tag: Option<&[u8; 12]>) -> bool
-    ensures { result ≡ verifies cipher.now iv.now (clear_of unit.now) (encrypted unit.now.packets)
+    ensures { result ≡ verifies cipher.now iv.now (clear_of unit.now) (encrypted_bytes unit.now.packets)
         (lent_tag tag.entry) }
 {
     match tag {
@@ -402,15 +396,15 @@ fn take_under(
 ) -> Taken
     requires view { IsView packet.now }
     requires few { units < 2 ^ 40 }
-    requires room { length unit.old.packets < unit.old.mode }
-    ensures answer { let x = live_with units unit.old.packets (record { key = cipher.now; draw = draw }) in
-        let begun = begun_where_empty unit.old (lent_ahead total.entry) (units + 1) in
-        Some result ≡ answer_of (judged_packet begun.ahead allowed x (packet_of_view packet.now)) }
-    ensures buffer { let x = live_with units unit.old.packets (record { key = cipher.now; draw = draw }) in
-        let begun = begun_where_empty unit.old (lent_ahead total.entry) (units + 1) in
+    requires room { length unit.old.packets < unit.old.aggregation }
+    ensures answer { let x = live_key_seen units unit.old.packets (record { key = cipher.now; draw = draw }) in
+        let begun = begun_where_empty unit.old (lent_totals total.entry) (units + 1) in
+        Some result ≡ answer_taken (judged_packet begun.ahead allowed x (packet_of_view packet.now)) }
+    ensures buffer { let x = live_key_seen units unit.old.packets (record { key = cipher.now; draw = draw }) in
+        let begun = begun_where_empty unit.old (lent_totals total.entry) (units + 1) in
         BufferAfter begun x (packet_of_view packet.now)
         (judged_packet begun.ahead allowed x (packet_of_view packet.now)) unit.new }
-    ensures mode { unit.new.mode ≡ unit.old.mode }
+    ensures aggregation { unit.new.aggregation ≡ unit.old.aggregation }
 {
     carried_head();
     let n = units + 1;
@@ -441,7 +435,7 @@ fn retire_older(slots: &mut Slots, set: KeySet, draw: u32)
 {
     if let Some((_, other)) = slots.live_key(set.other()) {
         if other < draw {
-            slots.halt(set.other());
+            slots.stop(set.other());
         }
     }
 }
@@ -472,8 +466,8 @@ fn held_count(holds: Holds, k: bool, unit: &UnitPackets) -> u8
     ensures { result ≡ length (if k then held_one holds unit.now.packets else held_zero holds unit.now.packets) }
 {
     match holds {
-        Holds::Zero if !k => unit.count() as u8,
-        Holds::One if k => unit.count() as u8,
+        Holds::HeldZero if !k => unit.count() as u8,
+        Holds::HeldOne if k => unit.count() as u8,
         _ => 0,
     }
 }
@@ -496,8 +490,8 @@ impl Rx {
         ensures { result ≡ held_packets (slot_in_set self.now.slots k) }
     {
         match self.holds {
-            Holds::Zero if !k => Delivered::of(&self.unit),
-            Holds::One if k => Delivered::of(&self.unit),
+            Holds::HeldZero if !k => Delivered::of(&self.unit),
+            Holds::HeldOne if k => Delivered::of(&self.unit),
             _ => Delivered::none(),
         }
     }

@@ -3,18 +3,19 @@
 ghost use Rattle.std.specs.Prelude.{◌≡◌, ◌==◌, ◌&&◌, ◌||◌, ◌^◌, false, ℕ, ◌+◌, ◌<◌, ◌≤◌, List, ◌++◌, [], length};
 ghost use Rattle.std.specs.Prelude.{vec_len, vec_capacity, is_ok, not, true, if◌then◌else◌, IfOk};
 ghost use Rattle.std.specs.Result.{result_map_both};
-ghost use Rattle.gcm_seal.specs.Gcm.{masked, tag_of};
+ghost use Rattle.gcm_seal.specs.Gcm.{masked_bytes, tag_of};
 ghost use Rattle.ide_prefix.specs.Packet.{packet_bytes, prefix_bytes, sync_head};
-ghost use Rattle.ide_prefix.specs.Units.{encrypted};
+ghost use Rattle.ide_prefix.specs.Units.{encrypted_bytes};
 ghost use Rattle.key_slots.specs.{slot_in as key_slot_in, is_one, is_empty, is_live, is_armed as is_armed_key};
 ghost use Rattle.key_slots.specs.{program_answer};
-ghost use Rattle.stream_rules.specs.Slots.{sealing_draw};
-ghost use Rattle.stream_rules.specs.Stream.{ended_slots, live_sender, slot_in_set};
+ghost use Rattle.spec_stream.specs.Slots.{sealing_draw};
+ghost use Rattle.spec_stream.specs.Stream.{ended_slots, live_sender, slot_in_set};
 ghost use Rattle.sub_stream.specs.Facts.{set_facts};
-ghost use Rattle.sub_stream.specs.Gathered.{clear_of, lent_ahead, with_packet};
+ghost use Rattle.sub_stream.specs.Gathered.{clear_of, lent_totals, with_packet};
 ghost use Rattle.sub_stream.specs.Masked.{masked_packet, packet_with_tag};
 ghost use Rattle.sub_stream.specs.Gathered as gathered;
-ghost use Rattle.sub_stream.specs.Seen.{shown_in_use, in_use, live_with, seen_out, has_live, both_live, has_armed};
+ghost use Rattle.sub_stream.specs.Seen.{shown_in_use, in_use, live_key_seen, sender_slots_seen, has_live, both_live};
+ghost use Rattle.sub_stream.specs.Seen.{has_armed};
 ghost use Rattle.sub_stream.specs.Seen.{is_programmed, slot_pair, key_slot};
 ghost use Rattle.sub_stream.specs.Senders.{ready_under, begun_where_empty, carried_content, tlp_content, sync_content};
 
@@ -23,7 +24,7 @@ use crate::facts::{SetFacts, slot_facts};
 use crate::unit_packets::UnitPackets;
 use gcm_seal::{Gcm, MAX_BYTES};
 use ide_prefix::{Prefix, SYNC_FIRST, unit_iv, write_prefix};
-use ide_types::{KeySet, Memory, SubKind};
+use ide_types::{KeySet, OutOfMemory, SubKind};
 use key_slots::{Key, OnlyLive, SlotEmpty, SlotState, Slots};
 use std::alloc::Global;
 use std::marker::Model;
@@ -50,14 +51,14 @@ const TAG_BYTES: usize = 12;
 // The header of a sync packet (this profile).
 const SYNC_HEAD: [u8; 12] = [SYNC_FIRST, 0, 0, 0, 0, 0, 0, 0, 0, 0, 0, 0];
 
-/// A sender of one sub-stream: it seals units of at most `mode` packets under the Live key, and at most as many as its
-/// limit under one key. A newer key waits for the end of an open unit (PCI Express Base 6.0 section 6.33, in this
-/// profile).
+/// A sender of one sub-stream: it seals units of at most `aggregation` packets under the Live key, and at most as many
+/// as its limit under one key. A newer key waits for the end of an open unit (PCI Express Base 6.0 section 6.33, in
+/// this profile).
 #[derive(Drop)]
 pub struct Tx {
     stream: u8,
     sub: SubKind,
-    mode: u8,
+    aggregation: u8,
     limit: u64,
     // the units finished under the Live key
     units: u64,
@@ -66,7 +67,7 @@ pub struct Tx {
 }
 
 impl Model for Tx {
-    ghost use Rattle.sub_stream.specs.Seen.{seen_out};
+    ghost use Rattle.sub_stream.specs.Seen.{sender_slots_seen};
     ghost use Rattle.sub_stream.specs.Senders.{Sender, IsSender};
 
     ghost Value = { Sender };
@@ -74,13 +75,13 @@ impl Model for Tx {
     ghost view = { λ s. record {
       stream = s.stream;
       sub = s.sub;
-      mode = s.mode;
+      aggregation = s.aggregation;
       limit = s.limit;
       ahead = s.unit.ahead;
-      slots = seen_out s.slots s.units s.unit.packets;
+      slots = sender_slots_seen s.slots s.units s.unit.packets;
     } };
 
-    ghost invariant = { λ s. IsSender s.mode s.limit s.units s.slots s.unit };
+    ghost invariant = { λ s. IsSender s.aggregation s.limit s.units s.slots s.unit };
 }
 
 // The Live key of a sender: its set, its prepared form, lent, and its draw.
@@ -101,8 +102,8 @@ fn sealing_key<'a>(
     unit: &UnitPackets,
     limit: u64,
 ) -> Result<(bool, &'a Gcm, u32), TxRefusal>
-    ensures { result_map_both (λ x. (x.0, live_with units unit.now.packets (record { key = x.1.now; draw = x.2 })))
-        (λ e. e) result ≡ ready_under limit (live_sender (seen_out slots.now units unit.now.packets)) }
+    ensures { result_map_both (λ x. (x.0, live_key_seen units unit.now.packets (record { key = x.1.now; draw = x.2 })))
+        (λ e. e) result ≡ ready_under limit (live_sender (sender_slots_seen slots.now units unit.now.packets)) }
 {
     match live_of(slots) {
         None => Err(TxRefusal::NoKey),
@@ -119,7 +120,7 @@ fn is_armed(slots: &Slots) -> bool
 
 /// Begins unit `n` if no packet is there; the total comes before the first unit.
 pub fn begin_where_empty(unit: &mut UnitPackets, total: Option<&[u8; 8]>, n: u64)
-    ensures { unit.new ≡ begun_where_empty unit.old (lent_ahead total.entry) n }
+    ensures { unit.new ≡ begun_where_empty unit.old (lent_totals total.entry) n }
 {
     if unit.count() == 0 {
         unit.begin(if n == 1 { total } else { None });
@@ -127,10 +128,10 @@ pub fn begin_where_empty(unit: &mut UnitPackets, total: Option<&[u8; 8]>, n: u64
 }
 
 // Whether the next packet is the last of its unit.
-fn is_last(unit: &UnitPackets, mode: u8, more: bool) -> bool
-    ensures { result ≡ (not more || (length unit.now.packets + 1 == mode)) }
+fn is_last(unit: &UnitPackets, aggregation: u8, more: bool) -> bool
+    ensures { result ≡ (not more || (length unit.now.packets + 1 == aggregation)) }
 {
-    let full = unit.count() + 1 == mode as usize;
+    let full = unit.count() + 1 == aggregation as usize;
     !more || full
 }
 
@@ -138,10 +139,11 @@ fn is_last(unit: &UnitPackets, mode: u8, more: bool) -> bool
 fn end_unit(slots: &mut Slots, units: &mut u64, unit: &mut UnitPackets, last: bool)
     requires live { has_live slots.old ≡ true }
     requires few { units.old + 1 < 2 ^ 64 }
-    ensures slots { seen_out slots.new units.new unit.new.packets
-        ≡ (if last then ended_slots (seen_out slots.old units.old unit.old.packets) else seen_out slots.old units.old
+    ensures slots { sender_slots_seen slots.new units.new unit.new.packets
+        ≡ (if last then ended_slots (sender_slots_seen slots.old units.old unit.old.packets) else sender_slots_seen
+        slots.old units.old
         unit.old.packets) }
-    ensures unit { unit.new ≡ (if last then gathered.no_packets unit.old.mode else unit.old) }
+    ensures unit { unit.new ≡ (if last then gathered.no_packets unit.old.aggregation else unit.old) }
     ensures sender { slots.new.sender ≡ slots.old.sender }
     ensures live { has_live slots.new ≡ true }
     ensures one_live { both_live slots.old ≡ false → both_live slots.new ≡ false }
@@ -163,7 +165,7 @@ fn units_after_go(slots: &Slots, set: KeySet, unfinished: bool, units: u64) -> u
 }
 
 // The units under the Live key after a STOP, which takes an Armed key of the other set into use.
-fn units_after_halt(slots: &Slots, set: KeySet, units: u64) -> u64
+fn units_after_stop(slots: &Slots, set: KeySet, units: u64) -> u64
     ensures { result ≡ (if is_armed_key (key_slot_in slots.now (not (is_one set))) then 0 else units) }
 {
     if slots.slot(set.other()).0 == SlotState::Armed {
@@ -175,7 +177,7 @@ fn units_after_halt(slots: &Slots, set: KeySet, units: u64) -> u64
 
 // Drops an open unit under the key of this slot.
 fn drop_unit(slots: &Slots, set: KeySet, unit: &mut UnitPackets)
-    ensures { unit.new ≡ (if is_live (key_slot_in slots.now (is_one set)) then gathered.no_packets unit.old.mode
+    ensures { unit.new ≡ (if is_live (key_slot_in slots.now (is_one set)) then gathered.no_packets unit.old.aggregation
         else unit.old) }
 {
     if slots.slot(set).0 == SlotState::Live {
@@ -184,39 +186,29 @@ fn drop_unit(slots: &Slots, set: KeySet, unit: &mut UnitPackets)
 }
 
 impl Tx {
-    ghost use Rattle.sub_stream.specs.Senders.{
-      Content,
-      new_sender,
-      ready_of,
-      is_unfinished,
-      sealing_of,
-      sealing_answer,
-      sealing_bytes,
-      sender_after,
-      programmed_sender,
-      gone_sender,
-      halted_sender,
-    };
+    ghost use Rattle.sub_stream.specs.Senders.{Content, new_sender, ready_of, is_unfinished, sealing_of};
+    ghost use Rattle.sub_stream.specs.Senders.{sealing_answer, sealing_bytes, sender_after, programmed_sender};
+    ghost use Rattle.sub_stream.specs.Senders.{gone_sender, stopped_sender};
 
-    /// A sender with no key. `mode` is 1, 2, 4 or 8, with which `buf` was reserved; `limit` is how many units one key
-    /// may seal.
+    /// A sender with no key. `aggregation` is 1, 2, 4 or 8, with which `buf` was reserved; `limit` is how many units
+    /// one key may seal.
     pub fn make(
         alloc: Global,
         stream: u8,
         sub: SubKind,
-        mode: u8,
+        aggregation: u8,
         limit: u64,
         buf: UnitBuf,
-    ) -> Result<Tx, Memory>
-        requires some { 1 ≤ mode }
-        requires few { mode ≤ 8 }
-        requires same { buf.mode ≡ mode }
-        ensures { IfOk result (λ s. s ≡ new_sender stream sub mode limit) }
+    ) -> Result<Tx, OutOfMemory>
+        requires some { 1 ≤ aggregation }
+        requires few { aggregation ≤ 8 }
+        requires same { buf.aggregation ≡ aggregation }
+        ensures { IfOk result (λ s. s ≡ new_sender stream sub aggregation limit) }
     {
         Ok(Tx {
             stream,
             sub,
-            mode,
+            aggregation,
             limit,
             units: 0,
             slots: Slots::make(alloc, true)?,
@@ -244,7 +236,7 @@ impl Tx {
     // Seals what is carried, and appends its packet.
     fn seal_carried(
         &mut self,
-        carried: &Carried,
+        carried: &PacketParts,
         more: bool,
         total: Option<&[u8; 8]>,
         out: &mut Vec<u8>,
@@ -255,11 +247,11 @@ impl Tx {
         requires payload_short { length carried.now.payload.now ≤ PAYLOAD_BYTES }
         requires room { vec_len out.old + PREFIX_BYTES + length carried.now.head.now + length carried.now.payload.now
             + TAG_BYTES ≤ vec_capacity out.old }
-        ensures answer { result ≡ sealing_answer (sealing_of self.old (lent_ahead total.entry)
+        ensures answer { result ≡ sealing_answer (sealing_of self.old (lent_totals total.entry)
             (carried_content carried.now) more) }
-        ensures sender { self.new ≡ sender_after self.old (sealing_of self.old (lent_ahead total.entry)
+        ensures sender { self.new ≡ sender_after self.old (sealing_of self.old (lent_totals total.entry)
             (carried_content carried.now) more) }
-        ensures bytes { out.new.items ≡ out.old.items ++ sealing_bytes (sealing_of self.old (lent_ahead total.entry)
+        ensures bytes { out.new.items ≡ out.old.items ++ sealing_bytes (sealing_of self.old (lent_totals total.entry)
             (carried_content carried.now) more) }
         ensures capacity { vec_capacity out.old ≤ vec_capacity out.new }
     {
@@ -267,7 +259,7 @@ impl Tx {
             Ok(key) => key,
             Err(refusal) => return Err(refusal),
         };
-        let m = is_last(&self.unit, self.mode, more);
+        let m = is_last(&self.unit, self.aggregation, more);
         let unit = self.units + 1;
         let prefix = Prefix {
             m,
@@ -321,15 +313,15 @@ impl Tx {
         requires head_short { length head.now ≤ TLP_HEAD_BYTES }
         requires payload_short { length payload.now ≤ PAYLOAD_BYTES }
         requires room { vec_len out.old + PACKET_ROOM ≤ vec_capacity out.old }
-        ensures answer { result ≡ sealing_answer (sealing_of self.old (lent_ahead total.entry)
+        ensures answer { result ≡ sealing_answer (sealing_of self.old (lent_totals total.entry)
             (tlp_content head.now payload.now posted t) more) }
-        ensures sender { self.new ≡ sender_after self.old (sealing_of self.old (lent_ahead total.entry)
+        ensures sender { self.new ≡ sender_after self.old (sealing_of self.old (lent_totals total.entry)
             (tlp_content head.now payload.now posted t) more) }
-        ensures bytes { out.new.items ≡ out.old.items ++ sealing_bytes (sealing_of self.old (lent_ahead total.entry)
+        ensures bytes { out.new.items ≡ out.old.items ++ sealing_bytes (sealing_of self.old (lent_totals total.entry)
             (tlp_content head.now payload.now posted t) more) }
         ensures capacity { vec_capacity out.old ≤ vec_capacity out.new }
     {
-        let carried = Carried {
+        let carried = PacketParts {
             head,
             payload,
             posted,
@@ -348,15 +340,15 @@ impl Tx {
         out: &mut Vec<u8>,
     ) -> Result<MeasuredPacket, TxRefusal>
         requires { vec_len out.old + SYNC_ROOM ≤ vec_capacity out.old }
-        ensures answer { result ≡ sealing_answer (sealing_of self.old (lent_ahead total.entry)
+        ensures answer { result ≡ sealing_answer (sealing_of self.old (lent_totals total.entry)
             (sync_content posted) false) }
-        ensures sender { self.new ≡ sender_after self.old (sealing_of self.old (lent_ahead total.entry)
+        ensures sender { self.new ≡ sender_after self.old (sealing_of self.old (lent_totals total.entry)
             (sync_content posted) false) }
-        ensures bytes { out.new.items ≡ out.old.items ++ sealing_bytes (sealing_of self.old (lent_ahead total.entry)
+        ensures bytes { out.new.items ≡ out.old.items ++ sealing_bytes (sealing_of self.old (lent_totals total.entry)
             (sync_content posted) false) }
         ensures capacity { vec_capacity out.old ≤ vec_capacity out.new }
     {
-        let carried = Carried {
+        let carried = PacketParts {
             head: &SYNC_HEAD,
             payload: &[],
             posted,
@@ -387,17 +379,17 @@ impl Tx {
     }
 
     /// STOP: empties the slot, and drops an open unit under its key; a key that waited for that unit's end is Live.
-    pub fn halt(&mut self, set: KeySet)
-        ensures { self.new ≡ halted_sender self.old (is_one set) }
+    pub fn stop(&mut self, set: KeySet)
+        ensures { self.new ≡ stopped_sender self.old (is_one set) }
     {
         drop_unit(&self.slots, set, &mut self.unit);
-        self.units = units_after_halt(&self.slots, set, self.units);
-        self.slots.halt(set);
+        self.units = units_after_stop(&self.slots, set, self.units);
+        self.slots.stop(set);
     }
 
     /// Empties both slots, and drops an open unit.
     pub fn clear(&mut self)
-        ensures { self.new ≡ new_sender self.old.stream self.old.sub self.old.mode self.old.limit }
+        ensures { self.new ≡ new_sender self.old.stream self.old.sub self.old.aggregation self.old.limit }
     {
         self.units = 0;
         self.unit.clear();
@@ -426,7 +418,7 @@ impl Tx {
 
 /// What a packet carries: a TLP's header and payload, or a sync packet's header alone, with the posted count and T.
 #[derive(Clone, Copy)]
-pub struct Carried<'a> {
+pub struct PacketParts<'a> {
     pub head: &'a [u8],
     pub payload: &'a [u8],
     pub posted: u8,
@@ -459,7 +451,7 @@ fn append_clear(out: &mut Vec<u8>, prefix: &Prefix, head: &[u8])
 fn append_masked(out: &mut Vec<u8>, cipher: &Gcm, iv: &[u8; 12], from: u32, payload: &[u8])
     requires room { vec_len out.old + length payload.now ≤ vec_capacity out.old }
     requires short { from + length payload.now ≤ MAX_BYTES }
-    ensures items { out.new.items ≡ out.old.items ++ masked cipher.now iv.now from payload.now }
+    ensures items { out.new.items ≡ out.old.items ++ masked_bytes cipher.now iv.now from payload.now }
     ensures len { vec_len out.new ≡ vec_len out.old + length payload.now }
     ensures capacity { vec_capacity out.old ≤ vec_capacity out.new }
 {
@@ -481,7 +473,7 @@ fn append_untagged(
     requires room { vec_len out.old + 4 + length head.now + length payload.now ≤ vec_capacity out.old }
     requires short { from + length payload.now ≤ MAX_BYTES }
     ensures items { out.new.items ≡ out.old.items
-        ++ (prefix_bytes prefix.now ++ (head.now ++ masked cipher.now iv.now from payload.now)) }
+        ++ (prefix_bytes prefix.now ++ (head.now ++ masked_bytes cipher.now iv.now from payload.now)) }
     ensures len { vec_len out.new ≡ vec_len out.old + 4 + length head.now + length payload.now }
     ensures capacity { vec_capacity out.old ≤ vec_capacity out.new }
 {
@@ -511,7 +503,7 @@ fn append_packet(
     payload: &[u8],
     unit: &mut UnitPackets,
 )
-    requires unit_room { length unit.old.packets < unit.old.mode }
+    requires unit_room { length unit.old.packets < unit.old.aggregation }
     requires head_short { length head.now ≤ TLP_HEAD_BYTES }
     requires payload_short { length payload.now ≤ PAYLOAD_BYTES }
     requires room { vec_len out.old + PREFIX_BYTES + length head.now + length payload.now + TAG_BYTES
@@ -520,7 +512,7 @@ fn append_packet(
         unit.old (masked_packet cipher.now iv.now unit.old.packets prefix.now head.now payload.now)) }
     ensures unit { prefix.now.m ≡ false → unit.new ≡ with_packet unit.old
         (masked_packet cipher.now iv.now unit.old.packets prefix.now head.now payload.now) }
-    ensures mode { unit.new.mode ≡ unit.old.mode }
+    ensures aggregation { unit.new.aggregation ≡ unit.old.aggregation }
     ensures capacity { vec_capacity out.old ≤ vec_capacity out.new }
 {
     let start = out.len();
@@ -540,7 +532,7 @@ fn append_packet(
 fn append_tag(out: &mut Vec<u8>, cipher: &Gcm, iv: &[u8; 12], unit: &UnitPackets, last: bool)
     requires { vec_len out.old + TAG_BYTES ≤ vec_capacity out.old }
     ensures items { out.new.items ≡ out.old.items ++ (if last then tag_of cipher.now iv.now (clear_of unit.now)
-        (encrypted unit.now.packets) else []) }
+        (encrypted_bytes unit.now.packets) else []) }
     ensures capacity { vec_capacity out.old ≤ vec_capacity out.new }
 {
     if last {

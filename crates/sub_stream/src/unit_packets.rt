@@ -1,10 +1,10 @@
 //! The packets of one unit, each with its prefix.
 
 ghost use Rattle.std.specs.Prelude.{◌≡◌, [], ◌+◌, ◌<◌, ◌≤◌, ◌++◌, Some, length, slice_get, slice_index, map};
-ghost use Rattle.gcm_seal.specs.Gcm.{masked};
+ghost use Rattle.gcm_seal.specs.Gcm.{masked_bytes};
 ghost use Rattle.ide_prefix.specs.Packet.{prefix_bytes, begins_sync};
-ghost use Rattle.ide_prefix.specs.Units.{encrypted};
-ghost use Rattle.stream_rules.specs.Stream.{posted_sum};
+ghost use Rattle.ide_prefix.specs.Units.{encrypted_bytes};
+ghost use Rattle.spec_stream.specs.Stream.{posted_sum};
 ghost use Rattle.unit_aggregation.specs.{with_bodies, body_of};
 
 use crate::answer::PacketMark;
@@ -26,7 +26,7 @@ const BLANK: Prefix = Prefix {
 };
 
 /// The packets of one unit in a buffer: those of an open unit as they are sent, those of an accepted one decrypted.
-/// Contracts see the mode, what comes ahead and the packets, without a tag.
+/// Contracts see the aggregation, what comes ahead and the packets, without a tag.
 #[derive(Drop)]
 pub struct UnitPackets {
     prefixes: [Prefix; 8],
@@ -41,7 +41,7 @@ impl Model for UnitPackets {
     ghost Value = { Gathered };
 
     ghost view = { λ u. record {
-      mode = u.buf.mode;
+      aggregation = u.buf.aggregation;
       ahead = u.buf.ahead;
       packets = packets_in u.buf.packets u.prefixes;
     } };
@@ -51,7 +51,7 @@ impl Model for UnitPackets {
 
 // Decrypts the bodies, joined.
 fn mask_bodies(buf: &mut UnitBuf, cipher: &Gcm, iv: &[u8; 12])
-    ensures { buf.new ≡ with_bodies buf.old (masked cipher.now iv.now 0 (body_of buf.old)) }
+    ensures { buf.new ≡ with_bodies buf.old (masked_bytes cipher.now iv.now 0 (body_of buf.old)) }
 {
     cipher.mask(iv, 0, buf.body_mut());
 }
@@ -74,21 +74,13 @@ fn mark_in(prefix: &Prefix, clear: &[u8]) -> PacketMark
 }
 
 impl UnitPackets {
-    ghost use Rattle.sub_stream.specs.Gathered.{
-      no_packets,
-      begun_unit,
-      with_packet,
-      clear_of,
-      lent_ahead,
-      opened,
-      lent_parts,
-      mark_of,
-    };
+    ghost use Rattle.sub_stream.specs.Gathered.{no_packets, begun_unit, with_packet, clear_of, lent_totals};
+    ghost use Rattle.sub_stream.specs.Gathered.{opened_packets, lent_parts, mark_of};
 
     /// No packets, in a buffer for at most 8; what it holds is not used.
     pub fn new(mut buf: UnitBuf) -> UnitPackets
-        requires { buf.mode ≤ 8 }
-        ensures { result ≡ no_packets buf.mode }
+        requires { buf.aggregation ≤ 8 }
+        ensures { result ≡ no_packets buf.aggregation }
     {
         buf.clear();
         UnitPackets {
@@ -101,7 +93,7 @@ impl UnitPackets {
     /// How many packets there are.
     pub fn count(&self) -> usize
         ensures count { result ≡ length self.now.packets }
-        ensures fits { result ≤ self.now.mode }
+        ensures fits { result ≤ self.now.aggregation }
         ensures few { result ≤ 8 }
     {
         self.buf.count()
@@ -125,7 +117,7 @@ impl UnitPackets {
 
     /// The bodies, joined.
     pub fn body(&self) -> &[u8]
-        ensures value { result.now ≡ encrypted self.now.packets }
+        ensures value { result.now ≡ encrypted_bytes self.now.packets }
         ensures short { length result.now ≤ 0x8000 }
     {
         self.buf.body()
@@ -133,7 +125,7 @@ impl UnitPackets {
 
     /// Drops the packets and what comes ahead.
     pub fn clear(&mut self)
-        ensures { self.new ≡ no_packets self.old.mode }
+        ensures { self.new ≡ no_packets self.old.aggregation }
     {
         self.posted = 0;
         self.buf.clear();
@@ -141,7 +133,7 @@ impl UnitPackets {
 
     /// Begins a unit with these bytes ahead.
     pub fn begin(&mut self, ahead: Option<&[u8; 8]>)
-        ensures { self.new ≡ begun_unit self.old.mode (lent_ahead ahead.entry) }
+        ensures { self.new ≡ begun_unit self.old.aggregation (lent_totals ahead.entry) }
     {
         self.clear();
         if let Some(ahead) = ahead {
@@ -151,7 +143,7 @@ impl UnitPackets {
 
     /// Adds a packet: a header of at most 16 bytes, and a body of at most 4,096.
     pub fn push(&mut self, prefix: &Prefix, head: &[u8], body: &[u8])
-        requires room { length self.old.packets < self.old.mode }
+        requires room { length self.old.packets < self.old.aggregation }
         requires head_short { length head.now ≤ TLP_HEAD_BYTES }
         requires body_short { length body.now ≤ PAYLOAD_BYTES }
         ensures { self.new ≡ with_packet self.old (record {
@@ -169,7 +161,7 @@ impl UnitPackets {
 
     /// Decrypts the bodies of a whole unit.
     pub fn open(&mut self, cipher: &Gcm, iv: &[u8; 12])
-        ensures { self.new ≡ record self.old { packets = opened cipher.now iv.now self.old.packets } }
+        ensures { self.new ≡ record self.old { packets = opened_packets cipher.now iv.now self.old.packets } }
     {
         mask_bodies(&mut self.buf, cipher, iv);
     }

@@ -8,7 +8,7 @@ use Rattle.std.proofs.lemmas.Bool.Decides.{nat_tests}
 use Rattle.std.proofs.lemmas.Bool.{cases_lt, eq-eqb, ne_eqb, le-ltb, eqb-true}
 use Rattle.byteorder.specs.Endian.{little_bytes}
 use Rattle.byteorder.specs.Numbers.{little_number-reads_back}
-use Rattle.first_fault.proofs.Cells.{IsBytes, cells}
+use Rattle.ide_types.proofs.Cells.{IsBytes, cells}
 use Rattle.tdisp_codec.specs.declared.fault.TdispFault.TheVariants.{Version, Kind}
 use Rattle.tdisp_codec.specs.Messages.{Ignored, message_bytes, SpellsMessage, type_in, function_in, body_in}
 use Rattle.tdisp_codec.specs.Messages.{message_fault, message_fault_at}

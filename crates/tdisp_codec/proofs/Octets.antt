@@ -10,7 +10,7 @@ use Rattle.std.proofs.lemmas.List.Elements.{All-append, All-cons, All-from_recur
 use Rattle.std.proofs.lemmas.Nat.{le_bytes_2, le_bytes_4, le_bytes_8}
 use Rattle.byteorder.specs.Endian.{little_bytes, little_number}
 use Rattle.byteorder.specs.Numbers.{little_from-lt}
-use Rattle.first_fault.proofs.Cells.{IsBytes, cells, drop_cells, all_bytes}
+use Rattle.ide_types.proofs.Cells.{IsBytes, cells, drop_cells, all_bytes}
 use Rattle.tdisp_codec.specs.Messages.{Ignored}
 
 abbrev pub IsByte : ℕ → Type 0

@@ -7,7 +7,7 @@ use Rattle.std.proofs.lemmas.List.{nil_from_length, drop-drop}
 use Rattle.std.proofs.lemmas.List.Elements.{All-from_recursion}
 use Rattle.byteorder.specs.Endian.{little_bytes}
 use Rattle.byteorder.specs.Numbers.{little_number-reads_back}
-use Rattle.first_fault.proofs.Cells.{IsBytes, cells}
+use Rattle.ide_types.proofs.Cells.{IsBytes, cells}
 use Rattle.tdisp_codec.specs.declared.report.ReportRange.{ReportRange}
 use Rattle.tdisp_codec.specs.Ranges.{range_bytes, FitsRange, range_from, first_ranges, ranges_in}
 use Rattle.tdisp_codec.proofs.Octets.{AreOctets, joins, drop_octets, drop_split_cells, number_2, number_4, number_8}

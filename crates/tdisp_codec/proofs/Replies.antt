@@ -7,7 +7,7 @@ use Rattle.std.proofs.lemmas.Bool.{ne_eqb}
 use Rattle.std.proofs.lemmas.List.{drop_at}
 use Rattle.byteorder.specs.Endian.{little_bytes, little_number}
 use Rattle.byteorder.specs.Numbers.{little_number-reads_back}
-use Rattle.first_fault.proofs.Cells.{IsBytes, cells}
+use Rattle.ide_types.proofs.Cells.{IsBytes, cells}
 use Rattle.tdisp_codec.specs.Messages.{Ignored}
 use Rattle.tdisp_codec.specs.Replies.{Reply, Version, Capabilities, LockInterface, DeviceInterfaceReport}
 use Rattle.tdisp_codec.specs.Replies.{DeviceInterfaceState, StartInterface, StopInterface, BindP2p, UnbindP2p, Error}

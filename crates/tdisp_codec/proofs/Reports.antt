@@ -7,7 +7,7 @@ use Rattle.std.proofs.lemmas.Bool.{eq-eqb, ne_eqb}
 use Rattle.std.proofs.lemmas.List.{drop_at, drop-drop}
 use Rattle.byteorder.specs.Endian.{little_bytes, little_number}
 use Rattle.byteorder.specs.Numbers.{little_number-reads_back}
-use Rattle.first_fault.proofs.Cells.{IsBytes, cells, all_bytes}
+use Rattle.ide_types.proofs.Cells.{IsBytes, cells, all_bytes}
 use Rattle.tdisp_codec.specs.declared.report.ReportView.{ReportView}
 use Rattle.tdisp_codec.specs.Messages.{length_fault}
 use Rattle.tdisp_codec.specs.Ranges.{range_bytes, ranges_in}

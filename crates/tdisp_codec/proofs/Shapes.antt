@@ -8,9 +8,9 @@ use Rattle.std.proofs.lemmas.Bool.{cases_lt, cases_eq, cases_Bool, eq-eqb, ne_eq
 use Rattle.std.specs.Prelude.{All, ◌↔◌}
 use Rattle.std.proofs.lemmas.List.{get_or_past, drop_all, get_or_append_left, get_or-append_right, length-replicate}
 use Rattle.std.proofs.lemmas.List.{get_or-replicate}
-use Rattle.first_fault.specs.Fronts.{Begins, IsFaultPlace}
-use Rattle.first_fault.proofs.Fronts.{same_place}
-use Rattle.first_fault.proofs.Cells.{IsBytes, all_bytes}
+use Rattle.ide_types.specs.Fronts.{Begins, IsFaultPlace}
+use Rattle.ide_types.proofs.Fronts.{same_place}
+use Rattle.ide_types.proofs.Cells.{IsBytes, all_bytes}
 use Rattle.tdisp_codec.specs.declared.fault.TdispFault.{TdispFault}
 use Rattle.tdisp_codec.specs.declared.fault.TdispFault.TheVariants.{Short, Trailing}
 use Rattle.tdisp_codec.proofs.Octets.{IsByte}

@@ -17,7 +17,7 @@ pub use Rattle.tdisp_codec.specs.Requests.{SpellsRequest, is_request, request_si
 pub use Rattle.tdisp_codec.specs.Requests.{request_reading}
 pub use Rattle.tdisp_codec.specs.Replies.{Reply, reply_shown, reply_answer, reply_type, reply_function, reply_body}
 pub use Rattle.tdisp_codec.specs.Replies.{reply_spelling, IsCountedReply, FitsReply, SpellsReply, is_reply, reply_size}
-pub use Rattle.tdisp_codec.specs.Replies.{reply_of_type, reply_in, reply_reading}
+pub use Rattle.tdisp_codec.specs.Replies.{reply_of_type, decoded_reply, reply_reading}
 pub use Rattle.tdisp_codec.specs.Ranges.{range_bytes, FitsRange, range_from, ranges_in}
 pub use Rattle.tdisp_codec.specs.Reports.{Report, report_shown, report_answer, report_spelling, IsCountedReport}
 pub use Rattle.tdisp_codec.specs.Reports.{FitsReport, SpellsReport, report_size, report_in, report_reading}

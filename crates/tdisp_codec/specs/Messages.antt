@@ -2,7 +2,7 @@
 use Rattle.std.specs.Prelude.{ℕ, ◌≡◌, ◌<◌, Bool, not, ◌==◌, nat_lt, List, ◌∷◌, ◌++◌, length, drop, slice_index}
 use Rattle.std.specs.Prelude.{replicate, All, Option, Some, None, Result, Ok, Err, if◌then◌else◌}
 use Rattle.byteorder.specs.Endian.{little_bytes, little_number}
-use Rattle.first_fault.specs.Fronts.{IsFaultPlace}
+use Rattle.ide_types.specs.Fronts.{IsFaultPlace}
 use Rattle.tdisp_codec.specs.declared.fault.TdispFault.{TdispFault}
 use Rattle.tdisp_codec.specs.declared.fault.TdispFault.TheVariants.{Short, Trailing, Version, Kind}
 

@@ -148,11 +148,11 @@ reply_of_type type function body =
     else if type == 0x7f then Error function (little_number 4 body) (little_number 4 (drop 4 body))
     else StopInterface function
 
-abbrev pub reply_in : List ℕ → Reply
-reply_in bytes = reply_of_type (type_in bytes) (function_in bytes) (body_in bytes)
+abbrev pub decoded_reply : List ℕ → Reply
+decoded_reply bytes = reply_of_type (type_in bytes) (function_in bytes) (body_in bytes)
 
 -- the reply, or the first fault
 abbrev pub reply_reading : List ℕ → Result Reply TdispFault
 reply_reading bytes =
-    read_or (reply_in bytes) (message_fault (is_reply (type_in bytes))
+    read_or (decoded_reply bytes) (message_fault (is_reply (type_in bytes))
     (17 + reply_size (type_in bytes) (body_in bytes)) bytes)

@@ -7,10 +7,10 @@ use Rattle.tlp_layout.specs.{Layout, HeadView, body_size, TlpFault, SpellsHead, 
 use Rattle.tlp_layout.specs.{IsHeadFault, head_of, rest_size, whole_size, may_follow, SpellsTlp, with_payload}
 use Rattle.tlp_layout.specs.declared.fault.TlpFault.TheVariants as faults
 use Rattle.tlp_layout.specs.Inside.{Agrees, Stops, StopsAt}
-use Rattle.first_fault.proofs.Cells.{IsBytes}
+use Rattle.ide_types.proofs.Cells.{IsBytes}
 use Rattle.tlp_layout.proofs.Heads.{back, head_size_at_least}
 use Rattle.tlp_layout.proofs.Walk.{IsWalked, fits_from, agrees_there}
-use Rattle.first_fault.proofs.Fronts.{EndsAt, place_of}
+use Rattle.ide_types.proofs.Fronts.{EndsAt, place_of}
 use Rattle.tlp_layout.proofs.Grammar.{heads, tlps, take_right, parts_spell}
 
 -- ---- a header that goes wrong

@@ -13,10 +13,10 @@ use Rattle.tlp_layout.specs.{body, with_payload}
 use Rattle.tlp_layout.specs.Terms.{Tlp}
 use Rattle.tlp_layout.specs.Terms.layouts
 use Rattle.tlp_layout.specs.Reading.{fields_of}
-use Rattle.first_fault.proofs.Cells.{IsBytes, all_bytes}
+use Rattle.ide_types.proofs.Cells.{IsBytes, all_bytes}
 use Rattle.tlp_layout.proofs.Heads.{IsRight, back, kept, again, head_size_at_least}
 use Rattle.tlp_layout.proofs.Walk.{IsWalked, whole_front, fits_from, walked_in, next_fits}
-use Rattle.first_fault.proofs.Fronts.{IsGrammar}
+use Rattle.ide_types.proofs.Fronts.{IsGrammar}
 
 -- ---- headers
 

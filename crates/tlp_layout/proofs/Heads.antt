@@ -11,10 +11,11 @@ use Rattle.std.proofs.lemmas.List.Elements.{All-from_get_or}
 use Rattle.std.proofs.lemmas.Nat.{be_bytes_2, be_bytes_4, be_bytes_8}
 use Rattle.byteorder.specs.Endian.{big_bytes, big_number}
 use Rattle.byteorder.specs.Numbers.{big_from-lt, big_number-reads_back}
-use Rattle.first_fault.proofs.Cells.{IsBytes, cells, drop_cells, all_bytes}
+use Rattle.ide_types.proofs.Cells.{IsBytes, cells, drop_cells, all_bytes}
 use Rattle.tlp_layout.specs.{Layout, Lead, HeadView, Fields, Routing, bit, routing_bits, routing_from, status_bits}
-use Rattle.tlp_layout.specs.{status_from, head_bytes, FitsLead, FitsFields, FitsHead, SpellsHead, is_wide, has_data}
-use Rattle.tlp_layout.specs.{head_size, layout_at, allowed, reserved, layout_of, head_of}
+use Rattle.tlp_layout.specs.{completion_status, head_bytes, FitsLead, FitsFields, FitsHead, SpellsHead, is_wide}
+use Rattle.tlp_layout.specs.{has_data}
+use Rattle.tlp_layout.specs.{head_size, layout_at, is_allowed_byte, reserved, layout_of, head_of}
 use Rattle.tlp_layout.specs.Terms.layouts
 use Rattle.tlp_layout.specs.declared.head.MemoryFields.{MemoryFields}
 use Rattle.tlp_layout.specs.declared.head.ConfigFields.{ConfigFields}
@@ -152,12 +153,13 @@ two_and ea eb es = cc
 bit_is : (x : ℕ) → x < 2 → bit (eqb x 1) ≡ x
 bit_is x lt = grind (arith, nat_tests)
 
-status_back : (n : ℕ) → n < 8 → status_bits (status_from n) ≡ n
+status_back : (n : ℕ) → n < 8 → status_bits (completion_status n) ≡ n
 status_back n lt =
-    eqb-true _ _ (agree_below_at (λ n. eqb (status_bits (status_from n)) n) (λ n. true) 8 n refl lt)
+    eqb-true _ _ (agree_below_at (λ n. eqb (status_bits (completion_status n)) n) (λ n. true) 8 n refl lt)
 
 status_byte_back : (b6 b7 : ℕ) → b6 < 256 → b7 < 256
-    → 0x20 * status_bits (status_from (b6 / 32)) + 0x10 * bit (eqb (b6 / 16 % 2) 1) + (256 * (b6 % 16) + b7) / 256 ≡ b6
+    → 0x20 * status_bits (completion_status (b6 / 32)) + 0x10 * bit (eqb (b6 / 16 % 2) 1) + (256 * (b6 % 16) + b7) / 256
+    ≡ b6
 status_byte_back b6 b7 lt less =
     omega (arith, bit_is (b6 / 16 % 2) (omega arith), status_back (b6 / 32) (omega arith))
 
@@ -184,7 +186,8 @@ last_in : (w : Bool) (b0 b1 b2 b3 b4 b5 b6 b7 : ℕ) (t : List ℕ)
 last_in true b0 b1 b2 b3 b4 b5 b6 b7 t = refl
 last_in false b0 b1 b2 b3 b4 b5 b6 b7 t = refl
 
-early_clear : (k : Layout) (size b1 b2 : ℕ) → b1 < 256 → b2 < 256 → allowed k size 1 b1 ≡ true → allowed k size 2 b2
+early_clear : (k : Layout) (size b1 b2 : ℕ) → b1 < 256 → b2 < 256 → is_allowed_byte k size 1 b1 ≡ true
+    → is_allowed_byte k size 2 b2
     ≡ true
     → (b1 % 4 ≡ 0) × (b2 < 64)
 early_clear layouts.Memory size b1 b2 f1 f2 a1 a2 =
@@ -280,7 +283,7 @@ back_8 layouts.Completion b0 b1 b2 b3 b4 b5 b6 b7 t r size number behind =
     (two_and (status_byte_back b6 b7 f6 f7) (low_back (b6 % 16) b7 f7) tail) (
       wide,
       number,
-      (omega (arith, status), ap status_from status),
+      (omega (arith, status), ap completion_status status),
       omega arith,
       number_below t behind,
       tag_fits b1 (get_or t 2 0) (r.fit 1) (r.fit 10),
@@ -302,10 +305,10 @@ back k s r =
 -- the bytes from place i on may stand in a header of this layout and size
 abbrev FitFrom : Layout → ℕ → ℕ → List ℕ → Type 0
 FitFrom k size i [] = Unit {0}
-FitFrom k size i (b ∷ bs) = (b < 256) × (allowed k size i b ≡ true) × FitFrom k size (suc i) bs
+FitFrom k size i (b ∷ bs) = (b < 256) × (is_allowed_byte k size i b ≡ true) × FitFrom k size (suc i) bs
 
 fit_at : (k : Layout) (size i : ℕ) (bs : List ℕ) → FitFrom k size i bs → (j : ℕ) → j < length bs
-    → (get_or bs j 0 < 256) × (allowed k size (i + j) (get_or bs j 0) ≡ true)
+    → (get_or bs j 0 < 256) × (is_allowed_byte k size (i + j) (get_or bs j 0) ≡ true)
 fit_at k size i [] f j lt = absurd (omega arith)
 fit_at k size i (b ∷ bs) f zero lt = rw add-zero (f.0, f.1)
 fit_at k size i (b ∷ bs) f (suc j) lt = rw add-suc (rw suc-add at (fit_at k size (suc i) bs f.2 j (omega arith)))
@@ -362,9 +365,9 @@ low_byte n = omega arith
 
 -- bytes 1 to 3 of a header, and then the fields
 lead_fit : (k : Layout) (size : ℕ) (l : Lead) (tag : ℕ) (fields : List ℕ)
-    → ((b : ℕ) → b < 256 → b % 4 ≡ 0 → allowed k size 1 b ≡ true)
-    → allowed k size 2 (0x10 * (l.attr % 4) + 0x04 * l.at + l.length / 256) ≡ true
-    → allowed k size 3 (l.length % 256) ≡ true
+    → ((b : ℕ) → b < 256 → b % 4 ≡ 0 → is_allowed_byte k size 1 b ≡ true)
+    → is_allowed_byte k size 2 (0x10 * (l.attr % 4) + 0x04 * l.at + l.length / 256) ≡ true
+    → is_allowed_byte k size 3 (l.length % 256) ≡ true
     → FitsLead l → tag < 1024 → FitFrom k size 4 fields → FitFrom k size 1 (lead_bytes l tag ++ fields)
 lead_fit k size l tag fields a1 a2 a3 fl lt more =
     let small : 0x80 * (tag / 512) + 0x10 * l.tc + 0x08 * (tag / 256 % 2) + 0x04 * (l.attr / 4) < 256 =
@@ -565,7 +568,7 @@ again_fields l p (Completion f) more fl ff =
     let k = first_is p l.wide 0x0a (omega arith) in
     let lead = lead_again _ f.tag l (field_bytes l.wide (Completion f) ++ more) fl ff.5 k.0 in
     let s = status_again (status_bits f.status) f.bcm f.count ff.2.0 ff.3 in
-    let status = ap status_from s.0 ∙ ff.2.1 in
+    let status = ap completion_status s.0 ∙ ff.2.1 in
     head_is lead k.1 (λ i. Completion
     (record {
       completer = number_again f.completer ff.1 i;

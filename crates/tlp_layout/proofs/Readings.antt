@@ -3,7 +3,7 @@ use Rattle.std.proofs.Common.{◌≡◌, ℕ, ◌≤◌, Bool, List, [], ◌++�
 use Rattle.std.proofs.Common.{Result, Ok, Err, refl, sym, ap, ◌∙◌, arith, append-nil, ◌<◌}
 use Rattle.std.specs.Prelude.{All, ◌↔◌, IfOk, IfErr, MatchResult}
 use Rattle.std.proofs.Math.Seq.{drop-append_seam, take-append_seam}
-use Rattle.first_fault.proofs.Walks.{reads_iff, refuses_iff}
+use Rattle.ide_types.proofs.Walks.{reads_iff, refuses_iff}
 use Rattle.tlp_layout.specs.{Layout, TlpFault, HeadView, TlpView, head_bytes, head_length, FitsHead, SpellsHead}
 use Rattle.tlp_layout.specs.{body_size, FitsTlp, tlp_bytes, SpellsTlp, header, body, with_payload, viewed_tlp, viewed}
 use Rattle.tlp_layout.specs.{head_size, fault_at, IsFault, IsHeadFault, head_of, head_read, tlp_read, read_head_of}

@@ -6,9 +6,9 @@ use Rattle.std.proofs.Common.{List, [], ◌∷◌, length, get_or, take, Option,
 use Rattle.std.proofs.Common.{arith, length-take, get_or-take}
 use Rattle.std.proofs.lemmas.Bool.{cases_lt, ltb-true, lt-ltb, le-ltb, ne_eqb, and_parts, and_from, cases_eq, eq-eqb}
 use Rattle.std.proofs.lemmas.Nat.{and_comm}
-use Rattle.first_fault.proofs.Fronts.{Fitting}
+use Rattle.ide_types.proofs.Fronts.{Fitting}
 use Rattle.tlp_layout.specs.{Layout, may_follow, rest_size, whole_size, is_wide, head_size, layout_at, reserved}
-use Rattle.tlp_layout.specs.{allowed, body_size}
+use Rattle.tlp_layout.specs.{is_allowed_byte, body_size}
 use Rattle.tlp_layout.specs.Terms.layouts
 pub use Rattle.tlp_layout.proofs.Heads.{head_size_at_least}
 
@@ -40,12 +40,12 @@ pub record IsWalked (k : Layout) (s : List ℕ) (n : ℕ) : Type 0 where
   pub fit : (i : ℕ) → i < n → get_or s i 0 < 256
   pub kind : layout_at (get_or s 0 0) ≡ Some k
   pub agrees : (i : ℕ) → 0 < i → i < n → i < head_size (get_or s 0 0)
-      → allowed k (head_size (get_or s 0 0)) i (get_or s i 0) ≡ true
+      → is_allowed_byte k (head_size (get_or s 0 0)) i (get_or s i 0) ≡ true
 
 -- after byte 0 of a layout, what may follow a prefix goes by its place
 follow_is : (k : Layout) (s : List ℕ) → layout_at (get_or s 0 0) ≡ Some k → (i b : ℕ) → 0 < i → i ≤ length s
     → may_follow (take i s) b ≡
-    (ltb b 256 && cond (ltb i (head_size (get_or s 0 0))) (allowed k (head_size (get_or s 0 0)) i b) true)
+    (ltb b 256 && cond (ltb i (head_size (get_or s 0 0))) (is_allowed_byte k (head_size (get_or s 0 0)) i b) true)
 follow_is k s kind zero b pos le = absurd (omega arith)
 follow_is k s kind (suc i) b pos le =
     let long : length (take (suc i) s) ≡ suc i = omega (arith, length-take (suc i) s) in
@@ -68,10 +68,10 @@ some_of (Some k) e = (k, refl)
 
 pub agrees_there : (k : Layout) (s : List ℕ) → layout_at (get_or s 0 0) ≡ Some k → (i : ℕ) → i < length s → 0 < i
     → i < head_size (get_or s 0 0) → IsTrue (may_follow (take i s) (get_or s i 0))
-    → allowed k (head_size (get_or s 0 0)) i (get_or s i 0) ≡ true
+    → is_allowed_byte k (head_size (get_or s 0 0)) i (get_or s i 0) ≡ true
 agrees_there k s kind i lt pos less f =
     let there = rw (follow_is k s kind i (get_or s i 0) pos (omega arith), lt-ltb _ _ less) at f in
-    (and_parts (ltb (get_or s i 0) 256) (allowed k (head_size (get_or s 0 0)) i (get_or s i 0)) there).1
+    (and_parts (ltb (get_or s i 0) 256) (is_allowed_byte k (head_size (get_or s 0 0)) i (get_or s i 0)) there).1
 
 pub walked_in : (s : List ℕ) → 0 < length s → Fitting may_follow s (length s) → (k : Layout) × IsWalked k s (length s)
 walked_in s pos f =
@@ -92,7 +92,7 @@ zero_clear : (m : ℕ) → eqb (bit_and m 0) 0 ≡ true
 zero_clear m = rw and_comm refl
 
 -- a byte that may stand at a place
-next_allowed : (k : Layout) (size i : ℕ) → (b : ℕ) × (b < 256) × (allowed k size i b ≡ true)
+next_allowed : (k : Layout) (size i : ℕ) → (b : ℕ) × (b < 256) × (is_allowed_byte k size i b ≡ true)
 next_allowed layouts.Config size i = elim (cases_eq i 3) [
   | inl e ↦ (1, omega arith, rw e refl)
   | inr ne ↦ (0, omega arith, and_from _ _ (zero_clear (reserved layouts.Config size i)) (rw (ne_eqb i 3 ne) refl))

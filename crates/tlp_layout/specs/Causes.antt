@@ -49,8 +49,8 @@ abbrev pub has_length : Layout → ℕ → ℕ → Bool
 has_length Config place b = if place == 3 then b == 1 else true
 has_length _ place b = true
 
-abbrev pub allowed : Layout → ℕ → ℕ → ℕ → Bool
-allowed layout size place b = (bit_and (reserved layout size place) b == 0) && has_length layout place b
+abbrev pub is_allowed_byte : Layout → ℕ → ℕ → ℕ → Bool
+is_allowed_byte layout size place b = (bit_and (reserved layout size place) b == 0) && has_length layout place b
 
 -- ---- why the byte at a place ends the reading, the first cause
 

@@ -1,6 +1,6 @@
 -- Where bytes first go off the grammar, and why.
 use Rattle.std.specs.Prelude.{◌≡◌, ℕ, List}
-use Rattle.first_fault.specs.Fronts.{IsFaultPlace}
+use Rattle.ide_types.specs.Fronts.{IsFaultPlace}
 use Rattle.tlp_layout.specs.Terms.{TlpFault, Short, Kind, Bit, Length, Trailing}
 use Rattle.tlp_layout.specs.Head.{IsHead}
 use Rattle.tlp_layout.specs.Tlp.{IsTlp}

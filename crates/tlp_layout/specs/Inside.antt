@@ -1,12 +1,12 @@
 -- What the reader's inner functions show of the bytes.
 use Rattle.std.specs.Prelude.{◌≡◌, ℕ, ◌<◌, ◌≤◌, true, false, List, length, slice_index, Some, None}
 use Rattle.tlp_layout.specs.Terms.{Layout, TlpFault}
-use Rattle.tlp_layout.specs.Causes.{head_size, layout_at, allowed, fault_at}
+use Rattle.tlp_layout.specs.Causes.{head_size, layout_at, is_allowed_byte, fault_at}
 
 -- after byte 0 the bytes below n are those of a header of this layout
 abbrev pub Agrees : Layout → List ℕ → ℕ → Type 0
 Agrees layout s n =
-    (i : ℕ) → 0 < i → i < n → allowed layout (head_size (slice_index s 0)) i (slice_index s i) ≡ true
+    (i : ℕ) → 0 < i → i < n → is_allowed_byte layout (head_size (slice_index s 0)) i (slice_index s i) ≡ true
 
 -- the bytes go off a header at this place
 pub record StopsAt (s : List ℕ) (fault : TlpFault) (place : ℕ) : Type 0 where
@@ -15,7 +15,7 @@ pub record StopsAt (s : List ℕ) (fault : TlpFault) (place : ℕ) : Type 0 wher
   pub first : place ≡ 0 → place < length s → layout_at (slice_index s 0) ≡ None
   pub behind : 0 < place → (layout : Layout) × (layout_at (slice_index s 0) ≡ Some layout)
       × (place < head_size (slice_index s 0)) × Agrees layout s place
-      × (place < length s → allowed layout (head_size (slice_index s 0)) place (slice_index s place) ≡ false)
+      × (place < length s → is_allowed_byte layout (head_size (slice_index s 0)) place (slice_index s place) ≡ false)
 
 abbrev pub Stops : List ℕ → TlpFault → Type 0
 Stops s fault = (place : ℕ) × StopsAt s fault place

@@ -31,8 +31,8 @@ status_bits statuses.UnsupportedRequest = 1
 status_bits statuses.CompleterAbort = 4
 status_bits (statuses.Other n) = n
 
-abbrev pub status_from : ℕ → CompletionStatus
-status_from n =
+abbrev pub completion_status : ℕ → CompletionStatus
+completion_status n =
     if n == 0 then statuses.Successful
     else if n == 1 then statuses.UnsupportedRequest
     else if n == 4 then statuses.CompleterAbort
@@ -40,4 +40,4 @@ status_from n =
 
 -- 3 bits; a number that has a name goes by its name
 abbrev pub FitsStatus : CompletionStatus → Type 0
-FitsStatus s = (status_bits s < 8) × (status_from (status_bits s) ≡ s)
+FitsStatus s = (status_bits s < 8) × (completion_status (status_bits s) ≡ s)

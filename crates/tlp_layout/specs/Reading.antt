@@ -3,11 +3,11 @@ use Rattle.std.specs.Prelude.{ℕ, zero, suc, ◌+◌, ◌*◌, ◌/◌, ◌%◌
 use Rattle.std.specs.Prelude.{slice_index, Option, Some, None, is_some, unwrap_or, Result, nat_lt, ◌==◌, ◌&&◌}
 use Rattle.std.specs.Prelude.{if◌then◌else◌}
 use Rattle.byteorder.specs.Endian.{big_number}
-use Rattle.first_fault.specs.Walks.{reading}
+use Rattle.ide_types.specs.Walks.{reading}
 use Rattle.tlp_layout.specs.Terms.{Layout, TlpFault, Lead, HeadView, Fields, Memory, Config, Message, Completion, Tlp}
 use Rattle.tlp_layout.specs.Terms.layouts
-use Rattle.tlp_layout.specs.Causes.{is_wide, has_data, head_size, layout_at, allowed, fault_at}
-use Rattle.tlp_layout.specs.Numbers.{routing_from, status_from}
+use Rattle.tlp_layout.specs.Causes.{is_wide, has_data, head_size, layout_at, is_allowed_byte, fault_at}
+use Rattle.tlp_layout.specs.Numbers.{routing_from, completion_status}
 use Rattle.tlp_layout.specs.Tlp.{body_size, with_payload}
 
 -- ---- the fields of bytes
@@ -60,7 +60,7 @@ fields_of layouts.Message s = Message (record {
 })
 fields_of layouts.Completion s = Completion (record {
   completer = number_at s 4;
-  status = status_from (slice_index s 6 / 0x20);
+  status = completion_status (slice_index s 6 / 0x20);
   bcm = slice_index s 6 / 0x10 % 2 == 1;
   count = 256 * (slice_index s 6 % 0x10) + slice_index s 7;
   requester = number_at s 8;
@@ -84,7 +84,7 @@ tlp_read s = with_payload (head_read s) (drop (head_size (slice_index s 0)) s)
 
 abbrev pub layout_allows : Option Layout → ℕ → ℕ → ℕ → Bool
 layout_allows None size place b = false
-layout_allows (Some layout) size place b = allowed layout size place b
+layout_allows (Some layout) size place b = is_allowed_byte layout size place b
 
 -- the byte may stand at this place, after a prefix of that length: byte 0 names a layout, the header's others are those
 -- of that layout, and a payload has any

@@ -211,7 +211,7 @@ impl Routing {
 
 impl CompletionStatus {
     ghost use Rattle.std.specs.Prelude.{◌≡◌};
-    ghost use Rattle.tlp_layout.specs.Numbers.{status_bits, status_from};
+    ghost use Rattle.tlp_layout.specs.Numbers.{status_bits, completion_status};
 
     /// Its number on the link.
     pub fn number(self) -> u8
@@ -227,7 +227,7 @@ impl CompletionStatus {
 
     /// The status of this number.
     pub(crate) fn of(number: u8) -> CompletionStatus
-        ensures { result ≡ status_from number }
+        ensures { result ≡ completion_status number }
     {
         match number {
             0 => CompletionStatus::Successful,

@@ -3,7 +3,7 @@
 
 ghost use Rattle.std.specs.Prelude.{◌≡◌, ◌<◌};
 ghost use Rattle.tlp_layout.specs.Causes.{layout_at as layout_named, head_size as size_named, reserved as reserved_at};
-ghost use Rattle.tlp_layout.specs.Causes.{allowed, cause_at};
+ghost use Rattle.tlp_layout.specs.Causes.{is_allowed_byte, cause_at};
 ghost use Rattle.tlp_layout.specs.Class.{kind_with, kind_at as kind_named};
 
 use crate::fault::TlpFault;
@@ -107,7 +107,7 @@ pub fn reserved(layout: Layout, size: usize, place: usize) -> u8
 /// Whether the byte may stand at this place of a header.
 pub fn allows(layout: Layout, size: usize, place: usize, byte: u8) -> bool
     requires { place < 16 }
-    ensures { result ≡ allowed layout size place byte }
+    ensures { result ≡ is_allowed_byte layout size place byte }
 {
     if reserved(layout, size, place) & byte != 0 {
         return false;

@@ -21,7 +21,7 @@ pub use head::{
     CompletionFields, CompletionStatus, ConfigFields, Fields, HeadView, Lead, MemoryFields,
     MessageFields, Routing, TlpKind,
 };
-pub use ide_types::{Memory, SubKind};
+pub use ide_types::{OutOfMemory, SubKind};
 pub use laws::{head_reading_is_grammar, one_spelling, parts_of_spelling, reading_is_grammar};
 pub use layout::{head_size, kind_at};
 pub use reading::{read, read_head};

@@ -14,7 +14,7 @@ use crate::head::{
 use crate::tlp::Tlp;
 use arrayvec::ArrayVec;
 use byteorder::{BigEndian, ByteOrder};
-use ide_types::Memory;
+use ide_types::OutOfMemory;
 
 /// The bytes of a header, up to 16.
 type Header = ArrayVec<u8, 16>;
@@ -174,8 +174,8 @@ fn header_bytes(head: &HeadView) -> Header
 
 /// Appends the TLP's one spelling to `out` (PCI Express Base 6.0 section 2.2, as this profile has it). That
 /// it has one, its fields in range and its payload as long as Length says, is the caller's condition. After
-/// `Memory` the bytes of `out` are as before; it comes from this call's one `reserve` alone.
-pub fn write(tlp: &Tlp, out: &mut Vec<u8>) -> Result<(), Memory>
+/// `OutOfMemory` the bytes of `out` are as before; it comes from this call's one `reserve` alone.
+pub fn write(tlp: &Tlp, out: &mut Vec<u8>) -> Result<(), OutOfMemory>
     requires { FitsTlp tlp.now }
     ensures ok { OnOk result (out.new.items ≡ out.old.items ++ tlp_bytes tlp.now) }
     ensures err { OnErr result (out.new.items ≡ out.old.items) }

@@ -12,14 +12,15 @@ use Rattle.hex.specs.declared.error.FromHexError.{FromHexError}
 use Rattle.hex.proofs.HexLemmas.{decode_of-ok, decode_sized-ok, decode_sized-twice}
 use Rattle.toml.specs.Data.{Data, Members, get_member, as_table}
 use Rattle.toml_walk.specs.declared.bounds.Bounds.{Bounds}
-use Rattle.toml_walk.specs.declared.list.Span.{Span}
+use Rattle.toml_walk.specs.declared.list.CountRange.{CountRange}
 use Rattle.toml_walk.specs.declared.fault.PlanFault.{PlanFault}
 use Rattle.toml_walk.specs.declared.fault.PlanFault.TheVariants.{Range, Limit}
 use Rattle.toml_walk.specs.Fault.{◌>>=◌, or_fault}
 use Rattle.toml_walk.specs.Bounds.{admits, has_form}
 use Rattle.toml_walk.specs.Walk.{Text, Reader, place, required, found_or, optional, table, values_of, is_past}
 use Rattle.toml_walk.specs.Walk.{within_span, each, list, given}
-use Rattle.toml_walk.specs.Values.{integer, bounded, number, text, or_length, key_bytes, hex_bytes, both, two_in, two}
+use Rattle.toml_walk.specs.Values.{integer, bounded_number, number, text, or_length, key_bytes, hex_bytes, both, two_in}
+use Rattle.toml_walk.specs.Values.{two}
 
 -- what a reading gives, if it gives a value
 pub record Holds {A : Type 0} (P : A → Type 0) (r : Result A PlanFault) : Type 0 where
@@ -69,12 +70,12 @@ admitted b n h =
     let high = both_true (nat_le n b.most) _ low.1 in
     record { least = leb-true _ _ low.0; most = leb-true _ _ high.0; form = high.1 }
 
-bounded_holds : (b : Bounds) (path : Text) (z : ℤ) → Holds (Admitted b) (bounded b path z)
+bounded_holds : (b : Bounds) (path : Text) (z : ℤ) → Holds (Admitted b) (bounded_number b path z)
 bounded_holds b path (pos n) = checked (Admitted b) (admits b n) n _ (admitted b n)
 bounded_holds b path (negsuc n) = faulty (Admitted b) _
 
 pub number_holds : (b : Bounds) (path : Text) (d : Data) → Holds (Admitted b) (number b path d)
-number_holds b path d = next (λ _. Unit {0}) (Admitted b) (integer path d) (bounded b path) (anything _)
+number_holds b path d = next (λ _. Unit {0}) (Admitted b) (integer path d) (bounded_number b path) (anything _)
     (λ z _. bounded_holds b path z)
 
 or_fault_holds : {A : Type 0} (P : A → Type 0) (o : Option A) (f : PlanFault) → ((x : A) → o ≡ Some x → P x)
@@ -145,7 +146,7 @@ table_holds P keys h path d = next (λ _. Unit {0}) P (or_fault (as_table d) _) 
     (λ ms _. h _ ms)
 
 -- the elements of a list
-pub record Listed {A : Type 0} (span : Span) (P : A → Type 0) (xs : List A) : Type 0 where
+pub record Listed {A : Type 0} (span : CountRange) (P : A → Type 0) (xs : List A) : Type 0 where
   pub least : span.least ≤ length xs
   pub most : is_past span.most (length xs) ≡ false
   pub each : All P xs
@@ -163,7 +164,8 @@ neither : (a b : Bool) → (a || b) ≡ false → a ≡ false
 neither true b h = cc
 neither false b h = refl
 
-counted_holds : (span : Span) (path : Text) (ds : List Data) (past few : Bool) → is_past span.most (length ds) ≡ past
+counted_holds : (span : CountRange) (path : Text) (ds : List Data) (past few : Bool) → is_past span.most (length ds)
+    ≡ past
     → (nat_lt (length ds) span.least || (not span.allowed && nat_lt 0 (length ds))) ≡ few
     → Holds (λ (es : List Data). (span.least ≤ length es) × (is_past span.most (length es) ≡ false))
     (cond past (Err (Limit path)) (cond few (Err (Range path (pos (length ds)))) (Ok ds)))
@@ -171,7 +173,7 @@ counted_holds span path ds true few p f = faulty _ _
 counted_holds span path ds false true p f = faulty _ _
 counted_holds span path ds false false p f = gives _ ds (ltb-false (length ds) span.least (neither _ _ f), p)
 
-pub list_holds : {A : Type 0} (span : Span) (P : A → Type 0) (one : Reader A)
+pub list_holds : {A : Type 0} (span : CountRange) (P : A → Type 0) (one : Reader A)
     → ((path : Text) (d : Data) → Holds P (one path d)) → (path : Text) (d : Data)
     → Holds (Listed span P) (list span one path d)
 list_holds {A} span P one h path d =

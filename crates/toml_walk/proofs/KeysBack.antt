@@ -11,7 +11,7 @@ use Rattle.std.proofs.lemmas.Bool.{true≢false, and_parts, and_from, le-leb, eq
 use Rattle.std.proofs.lemmas.Bool.Decides.{nat_tests}
 use Rattle.toml_walk.specs.Shown.{is_bare, is_bare_byte, is_quoted_byte, upper_digit, four_digits}
 use Rattle.ide_types.specs.Names.{is_printable}
-use Rattle.toml_walk.specs.Shown.{numbered_escape, shown_char, quoted, spelled_key}
+use Rattle.toml_walk.specs.Shown.{numbered_escape, shown_char, quoted_text, spelled_key}
 
 -- ---- a reader of what is shown of characters
 
@@ -168,7 +168,7 @@ bare_first k rest bare e =
     let there : is_bare (34 ∷ rest) ≡ true = subst (λ (t : List ℕ). is_bare t ≡ true) e bare in
     no_bare (length (34 ∷ rest) == 0) there
 
-quoted_apart : (k l : List ℕ) → IsUtf8 k → IsUtf8 l → quoted (chars k) ≡ quoted (chars l) → k ≡ l
+quoted_apart : (k l : List ℕ) → IsUtf8 k → IsUtf8 l → quoted_text (chars k) ≡ quoted_text (chars l) → k ≡ l
 quoted_apart k l one two e =
     let inner : flat_map shown_char (chars k) ++ 34 ∷ [] ≡ flat_map shown_char (chars l) ++ 34 ∷ [] = ap tail e in
     let same : chars k ≡ chars l = same_chars (chars k) (chars l) (scalars-chars k one) (scalars-chars l two) inner in
@@ -183,10 +183,10 @@ pub keys_apart : (a b : Bool) (k l : List ℕ) → is_bare k ≡ a → is_bare l
     ≡ spelled_key l → k ≡ l
 keys_apart true true k l is at one two e = rw (is, at) at e
 keys_apart true false k l is at one two e =
-    let begins : k ≡ quoted (chars l) = rw (is, at) at e in
+    let begins : k ≡ quoted_text (chars l) = rw (is, at) at e in
     absurd (bare_first k (flat_map shown_char (chars l) ++ codes "\"") is begins)
 keys_apart false true k l is at one two e =
-    let begins : quoted (chars k) ≡ l = rw (is, at) at e in
+    let begins : quoted_text (chars k) ≡ l = rw (is, at) at e in
     absurd (bare_first l (flat_map shown_char (chars k) ++ codes "\"") at (sym begins))
 keys_apart false false k l is at one two e = quoted_apart k l one two (rw (is, at) at e)
 
@@ -254,7 +254,7 @@ chars_printable (c ∷ cs) = All-append (λ b. is_printable b ≡ true) (shown_c
 quote_printable : Printable (34 ∷ [])
 quote_printable = All-from_recursion (λ b. is_printable b ≡ true) (34 ∷ []) (refl, tt)
 
-quoted_printable : (cs : List ℕ) → Printable (quoted cs)
+quoted_printable : (cs : List ℕ) → Printable (quoted_text cs)
 quoted_printable cs =
     All-append (λ b. is_printable b ≡ true) (34 ∷ []) (flat_map shown_char cs ++ 34 ∷ []) quote_printable
     (All-append (λ b. is_printable b ≡ true) (flat_map shown_char cs) (34 ∷ []) (chars_printable cs) quote_printable)

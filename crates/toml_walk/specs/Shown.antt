@@ -48,9 +48,9 @@ shown_char c =
     else numbered_escape c
 
 -- the characters as a basic string
-abbrev pub quoted : List ℕ → List ℕ
-quoted cs = codes "\"" ++ flat_map shown_char cs ++ codes "\""
+abbrev pub quoted_text : List ℕ → List ℕ
+quoted_text cs = codes "\"" ++ flat_map shown_char cs ++ codes "\""
 
 -- a bare key as it is, and any other as a basic string
 abbrev pub spelled_key : List ℕ → List ℕ
-spelled_key key = if is_bare key then key else quoted (chars key)
+spelled_key key = if is_bare key then key else quoted_text (chars key)

@@ -15,15 +15,15 @@ use Rattle.toml_walk.specs.Walk.{Text, Reader, place, values_of}
 abbrev pub integer : Reader ℤ
 integer path d = or_fault (as_integer d) (Kind path)
 
-abbrev pub bounded : Bounds → Text → ℤ → Result ℕ PlanFault
-bounded b path (pos n) = if admits b n then Ok n else Err (Range path (pos n))
-bounded b path (negsuc n) = Err (Range path (negsuc n))
+abbrev pub bounded_number : Bounds → Text → ℤ → Result ℕ PlanFault
+bounded_number b path (pos n) = if admits b n then Ok n else Err (Range path (pos n))
+bounded_number b path (negsuc n) = Err (Range path (negsuc n))
 
 -- a number within bounds
 abbrev pub number : Bounds → Reader ℕ
 number b path d = do
   z ← integer path d
-  bounded b path z
+  bounded_number b path z
 
 -- true or false
 abbrev pub truth : Reader Bool

@@ -12,7 +12,7 @@ use Rattle.std.specs.declared.cmp.Ordering.TheVariants.{Less}
 use Rattle.toml.specs.Data.{Data, Items, no_items, item, Members, no_members, member, get_member, as_array, as_table}
 use Rattle.toml_walk.specs.declared.fault.PlanFault.{PlanFault}
 use Rattle.toml_walk.specs.declared.fault.PlanFault.TheVariants.{Missing, Kind, Range, Unknown, Limit}
-use Rattle.toml_walk.specs.declared.list.Span.{Span}
+use Rattle.toml_walk.specs.declared.list.CountRange.{CountRange}
 use Rattle.toml_walk.specs.Fault.{◌>>=◌, or_fault}
 use Rattle.toml_walk.specs.Shown.{spelled_key}
 pub use Rattle.ide_types.specs.{Text}
@@ -94,7 +94,7 @@ is_past None n = false
 is_past (Some most) n = nat_lt most n
 
 -- a list may have so many elements: more are Limit; fewer are Range, and so is any at all if none are allowed
-abbrev pub within_span : Span → Text → List Data → Result (List Data) PlanFault
+abbrev pub within_span : CountRange → Text → List Data → Result (List Data) PlanFault
 within_span span path ds =
     if is_past span.most (length ds) then Err (Limit path)
     else if nat_lt (length ds) span.least || (not span.allowed && nat_lt 0 (length ds))
@@ -110,15 +110,15 @@ each one path i (d ∷ ds) = do
   Ok (x ∷ xs)
 
 -- a list of so many elements, by how an element is read
-abbrev pub list : {A : Type 0} → Span → Reader A → Reader (List A)
+abbrev pub list : {A : Type 0} → CountRange → Reader A → Reader (List A)
 list span one path d = do
   ds ← values_of path d
   counted_ds ← within_span span path ds
   each one path 0 counted_ds
 
 -- so many elements, or any number from the least on
-abbrev pub between : ℕ → ℕ → Span
+abbrev pub between : ℕ → ℕ → CountRange
 between least most = record { least = least; most = Some most; allowed = true }
 
-abbrev pub any_number : Span
+abbrev pub any_number : CountRange
 any_number = record { least = 0; most = None; allowed = true }

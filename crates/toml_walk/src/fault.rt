@@ -49,10 +49,10 @@ impl<T: Drop> From<AllocFailed<T>> for PlanError {
     }
 }
 
-impl From<ide_types::Memory> for PlanError {
+impl From<ide_types::OutOfMemory> for PlanError {
     ghost from_gives = { λ _ e. e ≡ Memory };
 
-    fn from(_e: ide_types::Memory) -> PlanError {
+    fn from(_e: ide_types::OutOfMemory) -> PlanError {
         PlanError::Memory
     }
 }

@@ -15,7 +15,7 @@ mod texts;
 pub use bounds::{Bounds, Form, GREATEST};
 pub use fault::{PlanError, PlanFault};
 pub use laws::{shown_keys_are_apart, unknown_is_least};
-pub use list::{ListOf, Span, items_of};
+pub use list::{CountRange, ListOf, items_of};
 pub use numbers::{Byte, Long, Wide, Word, integer_of, two_numbers};
 pub use path::{key_path, place_path};
 pub use reader::{Given, Reader};

@@ -13,7 +13,7 @@ use toml::Value;
 
 /// How many elements a list may have.
 #[derive(Clone, Copy, PartialEq, Eq)]
-pub struct Span {
+pub struct CountRange {
     pub least: usize,
     /// No bound if there is none.
     pub most: Option<usize>,
@@ -21,12 +21,12 @@ pub struct Span {
     pub allowed: bool,
 }
 
-impl Span {
+impl CountRange {
     /// From `least` to `most` elements.
-    pub fn between(least: usize, most: usize) -> Span
+    pub fn between(least: usize, most: usize) -> CountRange
         ensures { result ≡ between least most }
     {
-        Span {
+        CountRange {
             least,
             most: Some(most),
             allowed: true,
@@ -34,10 +34,10 @@ impl Span {
     }
 
     /// Any number of elements.
-    pub fn any_number() -> Span
+    pub fn any_number() -> CountRange
         ensures { result ≡ any_number }
     {
-        Span {
+        CountRange {
             least: 0,
             most: None,
             allowed: true,
@@ -76,7 +76,12 @@ pub fn items_of(path: Bytes, value: &Value) -> Result<&[Value], PlanError>
 }
 
 // Refuses too many elements, and then too few.
-fn refuse_count(alloc: Global, span: &Span, path: &[u8], items: &[Value]) -> Result<(), PlanError>
+fn refuse_count(
+    alloc: Global,
+    span: &CountRange,
+    path: &[u8],
+    items: &[Value],
+) -> Result<(), PlanError>
     ensures { Gives (λ _. map view items.now) result (within_span span.now path.now (map view items.now)) }
 {
     let count = items.len();
@@ -110,7 +115,7 @@ fn each_of<R: Reader>(
 /// it has too many elements, `Range` with their number if it has too few, then by the first element that is refused.
 #[derive(Clone, Copy)]
 pub struct ListOf<R> {
-    pub span: Span,
+    pub span: CountRange,
     pub element: R,
 }
 
@@ -121,7 +126,7 @@ impl<R> ListOf<R> {
         ensures element { result.element ≡ element }
     {
         ListOf {
-            span: Span::between(least, most),
+            span: CountRange::between(least, most),
             element,
         }
     }

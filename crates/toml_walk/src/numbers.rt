@@ -5,7 +5,7 @@ ghost use Rattle.toml.specs.View.{view};
 ghost use Rattle.toml_walk.specs.Bounds.{greatest, within, formed};
 ghost use Rattle.toml_walk.specs.Fault.{Gives};
 ghost use Rattle.toml_walk.specs.Walk.{values_of};
-ghost use Rattle.toml_walk.specs.Values.{integer, bounded, number, both, two_in, two};
+ghost use Rattle.toml_walk.specs.Values.{integer, bounded_number, number, both, two_in, two};
 
 use crate::list::items_of;
 use crate::{Bounds, Form, GREATEST, PlanError, PlanFault, Reader, place_path};
@@ -24,7 +24,7 @@ pub fn integer_of(alloc: Global, path: &[u8], value: &Value) -> Result<i64, Plan
 }
 
 fn bounded_of(alloc: Global, bounds: &Bounds, path: &[u8], z: i64) -> Result<u64, PlanError>
-    ensures gives { Gives (λ n. n) result (bounded bounds.now path.now z) }
+    ensures gives { Gives (λ n. n) result (bounded_number bounds.now path.now z) }
     ensures most { IfOk result (λ n. n ≤ bounds.now.most) }
 {
     if z >= 0 && bounds.admit(z as u64) {

@@ -3,15 +3,9 @@
 ghost use Rattle.std.specs.Prelude.{◌≡◌, ◌<◌, ◌++◌, ◌∷◌, [], IfOk, OnOk, codes, flat_map};
 ghost use Rattle.std.specs.List.{list_any};
 ghost use Rattle.std.specs.Str.{chars};
-ghost use Rattle.toml_walk.specs.Shown.{
-  is_bare_byte,
-  is_quoted_byte,
-  is_bare,
-  upper_digit,
-  four_digits,
-  numbered_escape,
-};
-ghost use Rattle.toml_walk.specs.Shown.{shown_char, quoted, spelled_key};
+ghost use Rattle.toml_walk.specs.Shown.{is_bare_byte, is_quoted_byte, is_bare, upper_digit, four_digits};
+ghost use Rattle.toml_walk.specs.Shown.{numbered_escape};
+ghost use Rattle.toml_walk.specs.Shown.{shown_char, quoted_text, spelled_key};
 
 use ide_types::Bytes;
 use std::alloc::{AllocError, Global};
@@ -117,7 +111,7 @@ fn chars_of(alloc: Global, key: &str) -> Result<Vec<u8>, AllocError>
 }
 
 fn push_quoted(alloc: Global, key: &str, path: &mut Vec<u8>) -> Result<(), AllocError>
-    ensures { OnOk result (path.new.items ≡ path.old.items ++ quoted (chars key.now)) }
+    ensures { OnOk result (path.new.items ≡ path.old.items ++ quoted_text (chars key.now)) }
 {
     let text = chars_of(alloc, key)?;
     path.extend_from_slice(b"\"")?;

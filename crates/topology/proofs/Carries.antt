@@ -3,7 +3,7 @@ use Rattle.std.proofs.Common.{◌≡◌, refl, subst, ℕ, ◌+◌, List, [], �
 use Rattle.toml.specs.Data.{Data, Members, as_table}
 use Rattle.toml_walk.specs.declared.fault.PlanFault.{PlanFault}
 use Rattle.toml_walk.specs.declared.fault.PlanFault.TheVariants.{Kind}
-use Rattle.toml_walk.specs.declared.list.Span.{Span}
+use Rattle.toml_walk.specs.declared.list.CountRange.{CountRange}
 use Rattle.toml_walk.specs.Fault.{◌>>=◌, or_fault}
 use Rattle.toml_walk.specs.Walk.{Text, Reader, place, values_of, within_span, each, list, table, found_or}
 
@@ -53,7 +53,7 @@ each_extends {A} r s h path i (d ∷ ds) =
     (λ xs ys es.
     gives Same (x ∷ xs) (y ∷ ys) cc))
 
-pub list_extends : {A : Type 0} (span : Span) (r s : Reader A) → Extends r s → Extends (list span r) (list span s)
+pub list_extends : {A : Type 0} (span : CountRange) (r s : Reader A) → Extends r s → Extends (list span r) (list span s)
 list_extends span r s h path d =
     then Same (values_of path d) _ _ (λ ds.
     then Same (within_span span path ds) _ _ (λ cs. each_extends r s h path 0 cs))

@@ -19,7 +19,7 @@ use Rattle.toml.specs.Data.{items_are_sorted, members_are_sorted}
 use Rattle.toml_walk.specs.declared.bounds.Bounds.{Bounds}
 use Rattle.toml_walk.specs.declared.bounds.Form.TheVariants.{Pages, Mebibytes, LastOfMebibyte, UnitMode}
 use Rattle.toml_walk.specs.declared.fault.PlanFault.{PlanFault}
-use Rattle.toml_walk.specs.declared.list.Span.{Span}
+use Rattle.toml_walk.specs.declared.list.CountRange.{CountRange}
 use Rattle.toml_walk.specs.Fault.{◌>>=◌, or_fault}
 use Rattle.toml_walk.specs.Bounds.{greatest, within, formed}
 use Rattle.toml_walk.specs.Values.{integer as any_integer, number, truth, text, key_bytes, hex_bytes, two, two_in}
@@ -27,7 +27,7 @@ use Rattle.toml_walk.specs.Walk.{Text, Reader, place, is_known, key_names, unkno
 use Rattle.toml_walk.specs.Walk.{table, list_of, values_of, is_past, within_span, each, list, between}
 use Rattle.toml_walk.specs.Walk.{any_number, given as walk_given}
 use Rattle.toml_walk.specs.Bounds.{admits}
-use Rattle.toml_walk.specs.Values.{bounded}
+use Rattle.toml_walk.specs.Values.{bounded_number}
 use Rattle.toml_walk.specs.declared.fault.PlanFault.TheVariants.{Missing, Kind, Range}
 use Rattle.std.specs.Option.{option_and_then}
 use Rattle.std.specs.Prelude.{if◌then◌else◌, pos, negsuc}
@@ -36,15 +36,15 @@ use Rattle.topology.specs.Tables.{stream_names, stream_keys, bar_names, bar_keys
 use Rattle.topology.specs.Tables.{link_names, link_keys, region_names, region_keys, peer_names, peer_keys, is_two}
 use Rattle.topology.specs.Tables.{is_newer, top_names, top_keys}
 use Rattle.topology.specs.Rules.{rules}
-use Rattle.ide_plan.specs.declared.interface.BarPlan.{BarPlan}
-use Rattle.ide_plan.specs.declared.plan.PeerPlan.{PeerPlan}
-use Rattle.ide_plan.specs.declared.plan.Region.{Region}
-use Rattle.ide_plan.specs.declared.stream.StreamPlan.{StreamPlan}
+use Rattle.ide_types.specs.declared.interface.BarPlan.{BarPlan}
+use Rattle.ide_types.specs.declared.plan.PeerPlan.{PeerPlan}
+use Rattle.ide_types.specs.declared.plan.Region.{Region}
+use Rattle.ide_types.specs.declared.stream.StreamPlan.{StreamPlan}
 use Rattle.topology.specs.declared.draft.InterfaceDraft.{InterfaceDraft}
 use Rattle.topology.specs.declared.draft.LinkDraft.{LinkDraft}
 use Rattle.topology.specs.declared.draft.PlanDraft.{PlanDraft}
 use Rattle.topology.specs.Meaning.{plan_from, plan_in}
-use Rattle.ide_plan.specs.declared.plan.Plan.{Plan}
+use Rattle.ide_types.specs.declared.plan.Plan.{Plan}
 use Rattle.topology.proofs.Versions.{none_refused}
 use Rattle.topology.proofs.MigratedPlan.{equal_texts}
 
@@ -168,7 +168,7 @@ same_count true few f g ds cs e = absurd cc
 same_count false true f g ds cs e = absurd cc
 same_count false false f g ds cs e = cc
 
-list_deep : {A : Type 0} (n : ℕ) (span : Span) (one : Reader A) → Deep n one → Deep (suc n) (list span one)
+list_deep : {A : Type 0} (n : ℕ) (span : CountRange) (one : Reader A) → Deep n one → Deep (suc n) (list span one)
 list_deep n span one h path d x s e =
     let a = first (values_of path d) _ x e in
     let (items, is, those) = array_of path d a.0 a.1 in
@@ -362,8 +362,8 @@ stream_deep t ms x s e =
     let k = first (only_known t stream_names ms) _ x e in
     let id = first (required t ms (codes "id") (number (within 0 255))) _ x k.2 in
     let kind = first (required t ms (codes "kind") stream_kind) _ x id.2 in
-    let mode = first (optional t ms (codes "mode") 1 (number (formed 1 8 UnitMode))) _ x kind.2 in
-    let rid = first (optional t ms (codes "rid") None (id_range (is_selective_kind kind.0))) _ x mode.2 in
+    let aggregation = first (optional t ms (codes "mode") 1 (number (formed 1 8 UnitMode))) _ x kind.2 in
+    let rid = first (optional t ms (codes "rid") None (id_range (is_selective_kind kind.0))) _ x aggregation.2 in
     let ranges = first (optional t ms (codes "ranges") []
     (list (only_if (is_selective_kind kind.0) (between 0 8)) address_range)) _ x rid.2 in
     let default = first (optional t ms (codes "default") false (truth_if (is_selective_kind kind.0))) _ x ranges.2 in
@@ -376,8 +376,8 @@ stream_deep t ms x s e =
       (
         of_required 2 t ms (codes "kind") stream_kind kind.0 (kind_deep 2) kind.1,
         (
-          of_optional 2 t ms (codes "mode") 1 (number (formed 1 8 UnitMode)) mode.0
-              (number_deep 2 (formed 1 8 UnitMode)) mode.1,
+          of_optional 2 t ms (codes "mode") 1 (number (formed 1 8 UnitMode)) aggregation.0
+              (number_deep 2 (formed 1 8 UnitMode)) aggregation.1,
           (
             of_optional 2 t ms (codes "rid") None (id_range (is_selective_kind kind.0)) rid.0
                 (deeper 1 2 (id_range (is_selective_kind kind.0)) (lit≤ tt) (ids_deep (is_selective_kind kind.0)))
@@ -526,7 +526,7 @@ peer_deep t ms x s e =
     let id = first (required t ms (codes "id") (number (within 0 255))) _ x k.2 in
     let near = first (required t ms (codes "a") (number (within 0 7))) _ x id.2 in
     let far = first (required t ms (codes "b") (number (within 0 7))) _ x near.2 in
-    let mode = first (optional t ms (codes "mode") 1 (number (formed 1 8 UnitMode))) _ x far.2 in
+    let aggregation = first (optional t ms (codes "mode") 1 (number (formed 1 8 UnitMode))) _ x far.2 in
     known_deep 0 peer_names ms s (none_refused t (unknown_in peer_names (key_names ms)) k.1)
     (each_name 0 ms peer_names (
       of_required 0 t ms (codes "id") (number (within 0 255)) id.0 (number_deep 0 (within 0 255)) id.1,
@@ -535,9 +535,9 @@ peer_deep t ms x s e =
         (
           of_required 0 t ms (codes "b") (number (within 0 7)) far.0 (number_deep 0 (within 0 7)) far.1,
           (
-            of_optional 0 t ms (codes "mode") 1 (number (formed 1 8 UnitMode)) mode.0
+            of_optional 0 t ms (codes "mode") 1 (number (formed 1 8 UnitMode)) aggregation.0
                 (number_deep 0 (formed 1 8 UnitMode))
-                mode.1,
+                aggregation.1,
             tt,
           ),
         ),
@@ -550,7 +550,8 @@ two_read : (t : Text) (o : Option Data) → (or_fault o (Missing (t ++ codes "ve
 two_read t None e = absurd cc
 two_read t (Some d) e = by (as_integer d) e
   where
-    by : (z : Option ℤ) → (or_fault z (Kind (t ++ codes "version")) >>= bounded (within 1 2) (t ++ codes "version"))
+    by : (z : Option ℤ) →
+        (or_fault z (Kind (t ++ codes "version")) >>= bounded_number (within 1 2) (t ++ codes "version"))
         ≡ Ok 2
         → is_two z ≡ true
     by None e = absurd cc

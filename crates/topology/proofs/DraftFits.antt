@@ -6,9 +6,9 @@ use Rattle.std.specs.List.{All}
 use Rattle.std.proofs.lemmas.Bool.{ltb-false, eqb-true, eq-eqb, le-leb, and_parts, and_from, or_cases}
 use Rattle.std.proofs.lemmas.List.Elements.{All-nil, All-head, All-tail}
 use Rattle.toml.specs.Data.{Data, Members}
-use Rattle.ide_plan.specs.declared.stream.StreamPlan.{StreamPlan}
-use Rattle.ide_plan.specs.Plans.{has_selective, is_selective}
-use Rattle.ide_plan.specs.Fits.{AreBytes, IsKey, FitsStream, FitsBar, FitsInterface, FitsRegion}
+use Rattle.ide_types.specs.declared.stream.StreamPlan.{StreamPlan}
+use Rattle.ide_types.specs.Plans.{has_selective, is_selective}
+use Rattle.ide_types.specs.Fits.{AreBytes, IsKey, FitsStream, FitsBar, FitsInterface, FitsRegion}
 use Rattle.toml_walk.specs.declared.bounds.Form.TheVariants.{Pages}
 use Rattle.toml_walk.specs.Bounds.{greatest, within, formed}
 use Rattle.toml_walk.specs.Walk.{Text, only_known, required, optional, table, list, between, any_number, given}

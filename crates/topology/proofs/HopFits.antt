@@ -8,12 +8,12 @@ use Rattle.std.proofs.lemmas.Bool.{eqb-false, eqb-true, eq-eqb}
 use Rattle.std.proofs.lemmas.List.{length-map}
 use Rattle.std.proofs.lemmas.List.Elements.{All-nil, All-cons}
 use Rattle.std.proofs.lemmas.Option.{slice_get-get_or, slice_get-map}
-use Rattle.ide_plan.specs.declared.stream.StreamPlan.{StreamPlan}
-use Rattle.ide_plan.specs.declared.plan.PeerPlan.{PeerPlan}
-use Rattle.ide_plan.specs.Plans.{has_stream_id, lists_class, hop_has_id, link_has_id, links_have_id}
-use Rattle.ide_plan.specs.Fits.{FitsHopIf, FitsPeer}
+use Rattle.ide_types.specs.declared.stream.StreamPlan.{StreamPlan}
+use Rattle.ide_types.specs.declared.plan.PeerPlan.{PeerPlan}
+use Rattle.ide_types.specs.Plans.{has_stream_id, lists_class, hop_has_id, link_has_id, links_have_id}
+use Rattle.ide_types.specs.Fits.{FitsHopIf, FitsPeer}
 use Rattle.topology.specs.declared.draft.LinkDraft.{LinkDraft}
-use Rattle.topology.specs.Rules.{link_has, streams_of, ends_with, refused_class, classes_apart}
+use Rattle.topology.specs.Rules.{link_has, draft_streams, is_peer_with_id, refused_class, classes_apart}
 use Rattle.topology.specs.Meaning.{hop_of, link_of}
 use Rattle.topology.proofs.TableFits.{Upto, PeerHolds}
 use Rattle.topology.proofs.RuleFits.{PeerRuled, HopRuled, HopIsRuled, or_parts}
@@ -85,10 +85,10 @@ hop_fits peers link streams (Some id) classes h c r =
 
 -- ---- streams between devices
 
-ends_near : (link id : ℕ) (p : PeerPlan) → p.near ≡ link → p.id ≡ id → ends_with link id p ≡ true
+ends_near : (link id : ℕ) (p : PeerPlan) → p.near ≡ link → p.id ≡ id → is_peer_with_id link id p ≡ true
 ends_near link id p near same = rw (eq-eqb p.id id same, eq-eqb p.near link near) refl
 
-ends_far : (link id : ℕ) (p : PeerPlan) → p.far ≡ link → p.id ≡ id → ends_with link id p ≡ true
+ends_far : (link id : ℕ) (p : PeerPlan) → p.far ≡ link → p.id ≡ id → is_peer_with_id link id p ≡ true
 ends_far link id p far same = rw (eq-eqb p.id id same, eq-eqb p.far link far) (or_true (p.near == link))
   where
     or_true : (b : Bool) → (b || true) ≡ true
@@ -110,7 +110,7 @@ hop_other (Some n) classes id other = apart_test n id (other n refl)
 
 -- no stream and no hop of the link has the ID
 no_id : (links : List LinkDraft) (link id : ℕ) (o : Option LinkDraft) → slice_get links link ≡ o
-    → has_stream_id (streams_of o) id ≡ false
+    → has_stream_id (draft_streams o) id ≡ false
     → ((l : LinkDraft) → o ≡ Some l → (n : ℕ) → l.hop ≡ Some n → n ≢ id)
     → link_has_id (option_map link_of o) id ≡ false
 no_id links link id None is own other = refl
@@ -134,13 +134,13 @@ peer_fits links peers earlier k p is h r hops = record {
   near = rw (length-map links link_of) r.near;
   far = rw (length-map links link_of) r.far;
   apart = λ same. eqb-false p.far p.near r.apart (sym same);
-  mode = h.mode;
+  aggregation = h.aggregation;
   near_id_is_new = links_have_not links p.near p.id r.near_new (λ l there n hop same.
       true_false (sym (ends_near p.near n p refl (sym same))
-      ∙ none_any (ends_with p.near n) peers (hops p.near l there n hop).peers_new k p is));
+      ∙ none_any (is_peer_with_id p.near n) peers (hops p.near l there n hop).peers_new k p is));
   far_id_is_new = links_have_not links p.far p.id r.far_new (λ l there n hop same.
       true_false (sym (ends_far p.far n p refl (sym same))
-      ∙ none_any (ends_with p.far n) peers (hops p.far l there n hop).peers_new k p is));
+      ∙ none_any (is_peer_with_id p.far n) peers (hops p.far l there n hop).peers_new k p is));
 }
 
 pub ids_differ : (links : List LinkDraft) (peers : List PeerPlan)

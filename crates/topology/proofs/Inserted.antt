@@ -14,12 +14,12 @@ use Rattle.toml.specs.declared.value.Value.TheVariants.{Integer}
 use Rattle.toml.proofs.Views.{Entry, view-Integer}
 use Rattle.std.specs.Prelude.{IfOk}
 use Rattle.ide_types.specs.declared.bytes.Bytes.{Bytes}
-use Rattle.ide_plan.specs.declared.plan.Plan.{Plan}
+use Rattle.ide_types.specs.declared.plan.Plan.{Plan}
 use Rattle.toml_walk.specs.Bounds.{within}
 use Rattle.toml_walk.specs.Values.{number}
 use Rattle.toml_walk.specs.Walk.{Text, required}
 use Rattle.topology.specs.Meaning.{document, plan_in}
-use Rattle.topology.specs.Migration.{IsMigrated, MigText, with_member, migrated}
+use Rattle.topology.specs.Migration.{IsMigrated, MigText, with_member, migrated_members}
 use Rattle.topology.proofs.Migrated.{own_value}
 use Rattle.topology.proofs.MigratedPlan.{plan_is}
 use Rattle.topology.proofs.Depths.{plan_deep}
@@ -38,19 +38,19 @@ inserted k v [] = refl
 inserted k v (e ∷ es) = inserted_at (string_cmp k e.0) k v e es refl (inserted k v es)
 
 -- the version of a table in version 2
-version_read : (ms : Members) → required [] (migrated ms) (codes "version") (number (within 1 2)) ≡ Ok 2
+version_read : (ms : Members) → required [] (migrated_members ms) (codes "version") (number (within 1 2)) ≡ Ok 2
 version_read ms = rw (own_value (codes "version") (integer (pos 2)) ms refl) refl
 
 -- a topology in version 2 is not deep
-pub migrated_deep : (ms : Members) → members_are_sorted (migrated ms) ≡ true → (p : Plan) × (plan_in ms ≡ Ok p)
-    → members_depth (migrated ms) ≤ 80
+pub migrated_deep : (ms : Members) → members_are_sorted (migrated_members ms) ≡ true → (p : Plan) × (plan_in ms ≡ Ok p)
+    → members_depth (migrated_members ms) ≤ 80
 migrated_deep ms sorted means =
     let there = (plan_is ms).given means.0 means.1 in
-    let few = plan_deep (migrated ms) there.0 sorted (version_read ms) there.1 in
+    let few = plan_deep (migrated_members ms) there.0 sorted (version_read ms) there.1 in
     omega (arith, few)
 
 pub set_is : (k : String Global) (es new : List Entry) → new ≡ insert_entry string_cmp es k (Integer (pos 2))
-    → string_bytes k ≡ codes "version" → members_view new ≡ migrated (members_view es)
+    → string_bytes k ≡ codes "version" → members_view new ≡ migrated_members (members_view es)
 set_is k es new is name =
     let there : members_view (insert_entry string_cmp es k (Integer (pos 2)))
     ≡ with_member (string_bytes k) (view (Integer (pos 2))) (members_view es) = inserted k (Integer (pos 2)) es in

@@ -10,8 +10,8 @@ use Rattle.std.proofs.lemmas.Bool.{leb-true, le-leb, true≢false}
 use Rattle.std.proofs.lemmas.Map.Text.{is_eq-slice_cmp}
 use Rattle.std.proofs.lemmas.Slice.Eq.{bytes_eq-Decides}
 use Rattle.toml.specs.Data.{Data, integer, Members, get_member}
-use Rattle.ide_plan.specs.declared.plan.Plan.{Plan}
-use Rattle.ide_plan.specs.Plans.{interface_limit}
+use Rattle.ide_types.specs.declared.plan.Plan.{Plan}
+use Rattle.ide_types.specs.Plans.{interface_limit}
 use Rattle.toml_walk.specs.declared.fault.PlanFault.TheVariants.{Missing}
 use Rattle.toml_walk.specs.Fault.{◌>>=◌, or_fault}
 use Rattle.toml_walk.specs.Bounds.{within}
@@ -22,7 +22,7 @@ use Rattle.topology.specs.declared.draft.PlanDraft.{PlanDraft}
 use Rattle.topology.specs.Tables.{is_newer, top_names, link_keys, region_keys, peer_keys, top_keys}
 use Rattle.topology.specs.Rules.{in_sixes, no_clash, each_link, at_most, interface_count, rules}
 use Rattle.topology.specs.Meaning.{plan_from, plan_in}
-use Rattle.topology.specs.Migration.{migrated, in_version_2}
+use Rattle.topology.specs.Migration.{migrated_members, in_version_2}
 use Rattle.topology.proofs.Carries.{Carries, Same, Extends, gives, next, then, itself}
 use Rattle.topology.proofs.Versions.{more_known, links_extend}
 use Rattle.topology.proofs.Migrated.{Apart, other_value, own_value, same_unknown}
@@ -39,14 +39,15 @@ apart name other key here there =
     let same : bytes_eq name (codes "version") ≡ true = (bytes_eq-Decides name (codes "version")).1 (two ∙ sym one) in
     true≢false (sym same ∙ other)
 
-value_is : (name : Text) (ms : Members) → bytes_eq name (codes "version") ≡ false → get_member name (migrated ms)
+value_is : (name : Text) (ms : Members) → bytes_eq name (codes "version") ≡ false
+    → get_member name (migrated_members ms)
     ≡ get_member name ms
 value_is name ms other = other_value name (codes "version") (integer (pos 2)) ms refl (apart name other)
 
 -- a key's value is read as before
 optional_is : {A : Type 0} (name : Text) (default : A) (read : Reader A) (ms : Members)
     → bytes_eq name (codes "version") ≡ false → Carries Same (optional [] ms name default read)
-    (optional [] (migrated ms) name default read)
+    (optional [] (migrated_members ms) name default read)
 optional_is name default read ms other = rw (value_is name ms other) (itself _)
 
 from_value : {A : Type 0} (path : Text) (read again : Reader A) (o : Option Data) → Extends read again
@@ -55,10 +56,11 @@ from_value path read again None h = record { given = λ x e. absurd cc }
 from_value path read again (Some d) h = h path d
 
 required_is : {A : Type 0} (name : Text) (read again : Reader A) (ms : Members) → bytes_eq name (codes "version")
-    ≡ false → Extends read again → Carries Same (required [] ms name read) (required [] (migrated ms) name again)
+    ≡ false → Extends read again → Carries Same (required [] ms name read)
+    (required [] (migrated_members ms) name again)
 required_is name read again ms other h = rw (value_is name ms other) (from_value _ read again (get_member name ms) h)
 
-newer_is : (ms : Members) → is_newer (migrated ms) ≡ true
+newer_is : (ms : Members) → is_newer (migrated_members ms) ≡ true
 newer_is ms = rw (own_value (codes "version") (integer (pos 2)) ms refl) refl
 
 top_known : (b : Bool) (k : Text) → is_known (top_names b) k ≡ true → is_known (top_names true) k ≡ true
@@ -70,45 +72,45 @@ top_known false k h = or_right _ _ h
     or_right false b h = h
 
 known_is : (ms : Members) → Carries Same (only_known [] (top_names (is_newer ms)) ms)
-    (only_known [] (top_names (is_newer (migrated ms))) (migrated ms))
+    (only_known [] (top_names (is_newer (migrated_members ms))) (migrated_members ms))
 known_is ms =
     rw (newer_is ms, same_unknown (top_names true) (codes "version") (integer (pos 2)) ms refl)
     (more_known (top_names (is_newer ms)) (top_names true) [] ms (top_known (is_newer ms)))
 
 version_is : (ms : Members) → Carries (λ (v w : ℕ). w ≡ 2) (required [] ms (codes "version") (number (within 1 2)))
-    (required [] (migrated ms) (codes "version") (number (within 1 2)))
+    (required [] (migrated_members ms) (codes "version") (number (within 1 2)))
 version_is ms = record { given = λ v e. (2, rw (own_value (codes "version") (integer (pos 2)) ms refl) refl, refl) }
 
 abbrev pub InVersion2 : PlanDraft → PlanDraft → Type 0
 InVersion2 d e = e ≡ record d { version = 2 }
 
-top_is : (ms : Members) → Carries InVersion2 (top_keys [] ms) (top_keys [] (migrated ms))
+top_is : (ms : Members) → Carries InVersion2 (top_keys [] ms) (top_keys [] (migrated_members ms))
 unfolding top_keys
 top_is ms =
     next Same InVersion2 (only_known [] (top_names (is_newer ms)) ms)
-    (only_known [] (top_names (is_newer (migrated ms))) (migrated ms)) _ _ (known_is ms)
+    (only_known [] (top_names (is_newer (migrated_members ms))) (migrated_members ms)) _ _ (known_is ms)
     (λ _ _ _.
     next (λ (v w : ℕ). w ≡ 2) InVersion2 (required [] ms (codes "version") (number (within 1 2)))
-    (required [] (migrated ms) (codes "version") (number (within 1 2))) _ _ (version_is ms) (λ v w two.
+    (required [] (migrated_members ms) (codes "version") (number (within 1 2))) _ _ (version_is ms) (λ v w two.
     next Same InVersion2 (optional [] ms (codes "portion") 64 (number (within 16 65535)))
-    (optional [] (migrated ms) (codes "portion") 64 (number (within 16 65535))) _ _
+    (optional [] (migrated_members ms) (codes "portion") 64 (number (within 16 65535))) _ _
     (optional_is (codes "portion") 64 (number (within 16 65535)) ms refl) (λ p q portion.
     next Same InVersion2 (optional [] ms (codes "units_per_key") 4294967296 (number (within 1 4294967296)))
-    (optional [] (migrated ms) (codes "units_per_key") 4294967296 (number (within 1 4294967296))) _ _
+    (optional [] (migrated_members ms) (codes "units_per_key") 4294967296 (number (within 1 4294967296))) _ _
     (optional_is (codes "units_per_key") 4294967296 (number (within 1 4294967296)) ms refl) (λ u w2 units.
     next Same InVersion2 (required [] ms (codes "pool") (list (between 6 6144) key_bytes))
-    (required [] (migrated ms) (codes "pool") (list (between 6 6144) key_bytes)) _ _
+    (required [] (migrated_members ms) (codes "pool") (list (between 6 6144) key_bytes)) _ _
     (required_is (codes "pool") (list (between 6 6144) key_bytes) (list (between 6 6144) key_bytes) ms refl
     (λ path d. itself _)) (λ k l pool.
     next Same InVersion2 (required [] ms (codes "link") (list (between 1 8) (table (link_keys v))))
-    (required [] (migrated ms) (codes "link") (list (between 1 8) (table (link_keys w)))) _ _
+    (required [] (migrated_members ms) (codes "link") (list (between 1 8) (table (link_keys w)))) _ _
     (rw two (required_is (codes "link") (list (between 1 8) (table (link_keys v)))
     (list (between 1 8) (table (link_keys 2))) ms refl (links_extend v))) (λ x y links.
     next Same InVersion2 (optional [] ms (codes "memory") [] (list (between 0 16) (table region_keys)))
-    (optional [] (migrated ms) (codes "memory") [] (list (between 0 16) (table region_keys))) _ _
+    (optional [] (migrated_members ms) (codes "memory") [] (list (between 0 16) (table region_keys))) _ _
     (optional_is (codes "memory") [] (list (between 0 16) (table region_keys)) ms refl) (λ r s memory.
     next Same InVersion2 (optional [] ms (codes "p2p") [] (list (between 0 8) (table peer_keys)))
-    (optional [] (migrated ms) (codes "p2p") [] (list (between 0 8) (table peer_keys))) _ _
+    (optional [] (migrated_members ms) (codes "p2p") [] (list (between 0 8) (table peer_keys))) _ _
     (optional_is (codes "p2p") [] (list (between 0 8) (table peer_keys)) ms refl) (λ x2 y2 peers.
     gives InVersion2 _ _ (rw (two, portion, units, pool, links, memory, peers) refl)))))))))
 
@@ -145,9 +147,9 @@ rules_are d =
 abbrev pub PlanInVersion2 : Plan → Plan → Type 0
 PlanInVersion2 p q = q ≡ in_version_2 p
 
-pub plan_is : (ms : Members) → Carries PlanInVersion2 (plan_in ms) (plan_in (migrated ms))
+pub plan_is : (ms : Members) → Carries PlanInVersion2 (plan_in ms) (plan_in (migrated_members ms))
 plan_is ms =
-    next InVersion2 PlanInVersion2 (top_keys [] ms) (top_keys [] (migrated ms)) _ _ (top_is ms) (λ d e same.
+    next InVersion2 PlanInVersion2 (top_keys [] ms) (top_keys [] (migrated_members ms)) _ _ (top_is ms) (λ d e same.
     rw same (next Same PlanInVersion2 (rules d) (rules (record d { version = 2 })) (λ _. Ok (plan_from d))
     (λ _. Ok (plan_from (record d { version = 2 }))) (rules_are d) (λ _ _ _.
     gives PlanInVersion2 (plan_from d) (plan_from (record d { version = 2 })) refl)))

@@ -12,12 +12,12 @@ use Rattle.std.proofs.lemmas.List.Elements.{All-map}
 use Rattle.std.proofs.lemmas.List.Sums.{sum_by-cons}
 use Rattle.std.proofs.lemmas.Slice.Eq.{bytes_eq-Decides}
 use Rattle.toml.specs.Data.{Members}
-use Rattle.ide_plan.specs.declared.interface.InterfacePlan.{InterfacePlan}
-use Rattle.ide_plan.specs.declared.plan.LinkPlan.{LinkPlan}
-use Rattle.ide_plan.specs.declared.plan.PeerPlan.{PeerPlan}
-use Rattle.ide_plan.specs.declared.plan.Plan.{Plan}
-use Rattle.ide_plan.specs.Plans.{same_id, both_default, share_class, overlap}
-use Rattle.ide_plan.specs.Fits.{FitsInterface, FitsLink, FitsPlan}
+use Rattle.ide_types.specs.declared.interface.InterfacePlan.{InterfacePlan}
+use Rattle.ide_types.specs.declared.plan.LinkPlan.{LinkPlan}
+use Rattle.ide_types.specs.declared.plan.PeerPlan.{PeerPlan}
+use Rattle.ide_types.specs.declared.plan.Plan.{Plan}
+use Rattle.ide_types.specs.Plans.{same_id, both_default, share_class, overlap}
+use Rattle.ide_types.specs.Fits.{FitsInterface, FitsLink, FitsPlan}
 use Rattle.toml_walk.specs.declared.fault.PlanError.{PlanError}
 use Rattle.toml_walk.specs.Fault.{◌>>=◌, Gives}
 use Rattle.toml_walk.proofs.Holds.{Holds, next, gives}

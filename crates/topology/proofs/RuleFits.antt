@@ -8,10 +8,10 @@ use Rattle.std.specs.Str.{bytes_eq}
 use Rattle.std.proofs.lemmas.Bool.{leb-true, ltb-true, eqb-true, and_parts}
 use Rattle.std.proofs.lemmas.List.Elements.{All-nil, All-cons}
 use Rattle.std.proofs.lemmas.List.Kept.{AllPairs-cons}
-use Rattle.ide_plan.specs.declared.stream.StreamPlan.{StreamPlan}
-use Rattle.ide_plan.specs.Plans.{interface_limit, same_id, both_default, share_class, overlap}
-use Rattle.ide_plan.specs.Plans.{has_stream_id}
-use Rattle.ide_plan.specs.declared.plan.PeerPlan.{PeerPlan}
+use Rattle.ide_types.specs.declared.stream.StreamPlan.{StreamPlan}
+use Rattle.ide_types.specs.Plans.{interface_limit, same_id, both_default, share_class, overlap}
+use Rattle.ide_types.specs.Plans.{has_stream_id}
+use Rattle.ide_types.specs.declared.plan.PeerPlan.{PeerPlan}
 use Rattle.toml_walk.specs.declared.fault.PlanFault.{PlanFault}
 use Rattle.toml_walk.specs.Fault.{◌>>=◌}
 use Rattle.toml_walk.specs.Walk.{Text, place}
@@ -20,7 +20,7 @@ use Rattle.topology.specs.declared.draft.LinkDraft.{LinkDraft}
 use Rattle.topology.specs.declared.draft.PlanDraft.{PlanDraft}
 use Rattle.topology.specs.Rules.{pair_or, pair_from, refused_pair, no_clash, at_most, in_sixes, same_requester}
 use Rattle.topology.specs.Rules.{is_bound, each_bound, link_rules, each_link, interface_count, allowed, link_has}
-use Rattle.topology.specs.Rules.{peer_rules, each_peer, ends_with, is_hop_taken, classes_apart, hop_rules_of}
+use Rattle.topology.specs.Rules.{peer_rules, each_peer, is_peer_with_id, is_hop_taken, classes_apart, hop_rules_of}
 use Rattle.topology.specs.Rules.{hop_rules, each_hop, rules}
 
 -- both steps gave a value
@@ -188,7 +188,7 @@ pub record HopRuled (peers : List PeerPlan) (link : ℕ) (streams : List StreamP
     (classes : Option (List ℕ)) : Type 0 where
   pub path : Text
   pub id_new : has_stream_id streams id ≡ false
-  pub peers_new : list_any (ends_with link id) peers ≡ false
+  pub peers_new : list_any (is_peer_with_id link id) peers ≡ false
   pub apart : classes_apart path streams classes ≡ Ok tt
 
 abbrev pub HopIsRuled : List PeerPlan → ℕ → LinkDraft → Type 0

@@ -1,30 +1,14 @@
 -- What the tables of a topology give meets every bound of its keys.
-use Rattle.std.proofs.Common.{
-  ◌≡◌,
-  refl,
-  ℕ,
-  ◌+◌,
-  ◌≤◌,
-  nat_le,
-  nat_lt,
-  List,
-  [],
-  length,
-  Bool,
-  true,
-  false,
-  not,
-  Option,
-  Some,
-}
+use Rattle.std.proofs.Common.{◌≡◌, refl, ℕ, ◌+◌, ◌≤◌, nat_le, nat_lt, List, [], length, Bool, true, false, not, Option}
+use Rattle.std.proofs.Common.{Some}
 use Rattle.std.proofs.Common.{None, arith, codes, lit≤}
 use Rattle.std.specs.List.{All}
 use Rattle.std.proofs.lemmas.Bool.{leb-true, ltb-true, ltb-false, eqb-true}
 use Rattle.std.proofs.lemmas.List.Elements.{All-nil}
 use Rattle.toml.specs.Data.{Data, Members}
-use Rattle.ide_plan.specs.declared.stream.IdRange.{IdRange}
-use Rattle.ide_plan.specs.declared.stream.AddressRange.{AddressRange}
-use Rattle.ide_plan.specs.Fits.{is_mode, FitsIds, FitsAddresses, FitsSelector, FitsStream, FitsBar, FitsRegion}
+use Rattle.ide_types.specs.declared.stream.IdRange.{IdRange}
+use Rattle.ide_types.specs.declared.stream.AddressRange.{AddressRange}
+use Rattle.ide_types.specs.Fits.{is_aggregation, FitsIds, FitsAddresses, FitsSelector, FitsStream, FitsBar, FitsRegion}
 use Rattle.toml_walk.specs.declared.bounds.Form.TheVariants.{Pages, Mebibytes, LastOfMebibyte, UnitMode}
 use Rattle.toml_walk.specs.Bounds.{greatest, within, formed}
 use Rattle.toml_walk.specs.Walk.{Text, only_known, required, optional, list, between, any_number}
@@ -36,7 +20,7 @@ use Rattle.topology.specs.declared.draft.StreamKind.TheVariants as kind
 use Rattle.topology.specs.Tables.{stream_kind, is_selective_kind, only_if, id_range, ids_in_order, address_range}
 use Rattle.topology.specs.Tables.{addresses_in_order, truth_if, selector_for, stream_names, stream_keys, bar_names}
 use Rattle.topology.specs.Tables.{bar_keys, region_names, region_keys, peer_names, peer_keys}
-use Rattle.ide_plan.specs.declared.plan.PeerPlan.{PeerPlan}
+use Rattle.ide_types.specs.declared.plan.PeerPlan.{PeerPlan}
 
 -- a number from 0 to the most
 abbrev pub Upto : ℕ → ℕ → Type 0
@@ -95,7 +79,7 @@ stream_holds t ms =
     next (λ _. Unit {0}) FitsStream (required t ms (codes "kind") stream_kind) _ (anything _) (λ k _.
     next (Admitted (formed 1 8 UnitMode)) FitsStream (optional t ms (codes "mode") 1 (number (formed 1 8 UnitMode))) _
     (optional_holds _ t ms (codes "mode") 1 _ (record { least = lit≤ tt; most = lit≤ tt; form = refl })
-    (number_holds _)) (λ mode mode_fits.
+    (number_holds _)) (λ aggregation aggregation_fits.
     next FitsIds FitsStream (optional t ms (codes "rid") None (id_range (is_selective_kind k))) _
     (optional_holds FitsIds t ms (codes "rid") None _ tt (ids_hold (is_selective_kind k))) (λ ids ids_fit.
     next (λ xs. (length xs ≤ 8) × All FitsAddresses xs) FitsStream
@@ -111,7 +95,7 @@ stream_holds t ms =
     next (λ _. Unit {0}) FitsStream (optional t ms (codes "closed") false truth) _ (anything _) (λ closed _.
     gives FitsStream _ (record {
       id = id_fits;
-      mode = mode_fits.form;
+      aggregation = aggregation_fits.form;
       selector = selector_fits k ids addresses default classes ids_fit
           addresses_fit classes_fit;
     }))))))))))
@@ -149,7 +133,7 @@ region_holds t ms =
 
 pub record PeerHolds (p : PeerPlan) : Type 0 where
   pub id : p.id ≤ 255
-  pub mode : is_mode p.mode ≡ true
+  pub aggregation : is_aggregation p.aggregation ≡ true
 
 pub peer_holds : (t : Text) (ms : Members) → Holds PeerHolds (peer_keys t ms)
 unfolding peer_keys
@@ -161,5 +145,5 @@ peer_holds t ms =
     next (λ _. Unit {0}) PeerHolds (required t ms (codes "b") (number (within 0 7))) _ (anything _) (λ far _.
     next (Admitted (formed 1 8 UnitMode)) PeerHolds (optional t ms (codes "mode") 1 (number (formed 1 8 UnitMode))) _
     (optional_holds _ t ms (codes "mode") 1 _ (record { least = lit≤ tt; most = lit≤ tt; form = refl })
-    (number_holds _)) (λ mode mode_fits.
-    gives PeerHolds _ (record { id = id_fits; mode = mode_fits.form }))))))
+    (number_holds _)) (λ aggregation aggregation_fits.
+    gives PeerHolds _ (record { id = id_fits; aggregation = aggregation_fits.form }))))))

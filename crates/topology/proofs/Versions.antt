@@ -2,7 +2,7 @@
 use Rattle.std.proofs.Common.{◌≡◌, refl, ◌∙◌, ℕ, ◌==◌, ◌||◌, Bool, true, false, List, []}
 use Rattle.std.proofs.Common.{◌∷◌, Option, Some, None, Ok, codes}
 use Rattle.toml.specs.Data.{Members, get_member}
-use Rattle.ide_plan.specs.declared.stream.StreamPlan.{StreamPlan}
+use Rattle.ide_types.specs.declared.stream.StreamPlan.{StreamPlan}
 use Rattle.toml_walk.specs.Values.{key_bytes}
 use Rattle.toml_walk.specs.Walk.{Text, is_known, key_names, unknown_in, refused_key, only_known, required, optional}
 use Rattle.toml_walk.specs.Walk.{table, list, between, any_number}

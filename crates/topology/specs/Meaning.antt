@@ -4,9 +4,9 @@ use Rattle.std.specs.Option.{unwrap_or}
 use Rattle.std.specs.Str.{is_utf8}
 use Rattle.toml.specs.Data.{Members}
 use Rattle.toml.specs.Parse.{parse_document}
-use Rattle.ide_plan.specs.declared.plan.HopPlan.{HopPlan}
-use Rattle.ide_plan.specs.declared.plan.LinkPlan.{LinkPlan}
-use Rattle.ide_plan.specs.declared.plan.Plan.{Plan}
+use Rattle.ide_types.specs.declared.plan.HopPlan.{HopPlan}
+use Rattle.ide_types.specs.declared.plan.LinkPlan.{LinkPlan}
+use Rattle.ide_types.specs.declared.plan.Plan.{Plan}
 use Rattle.toml_walk.specs.declared.fault.PlanFault.{PlanFault}
 use Rattle.toml_walk.specs.declared.fault.PlanFault.TheVariants.{NotToml}
 use Rattle.toml_walk.specs.Fault.{◌>>=◌}

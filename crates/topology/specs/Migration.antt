@@ -3,7 +3,7 @@ use Rattle.std.specs.Prelude.{◌≡◌, pos, Some, Ok, codes}
 use Rattle.std.specs.Ordering.{nat_cmp, match_ordering}
 use Rattle.std.specs.Cmp.Lexicographic.{slice_cmp}
 use Rattle.toml.specs.Data.{Data, integer, Members, no_members, member}
-use Rattle.ide_plan.specs.declared.plan.Plan.{Plan}
+use Rattle.ide_types.specs.declared.plan.Plan.{Plan}
 use Rattle.toml_walk.specs.Walk.{Text}
 use Rattle.topology.specs.Meaning.{document, plan_in}
 
@@ -14,12 +14,12 @@ with_member key d (member other e ms) = match_ordering (slice_cmp nat_cmp key ot
     (member other d ms) (member other e (with_member key d ms))
 
 -- the table with `version` 2
-abbrev pub migrated : Members → Members
-migrated ms = with_member (codes "version") (integer (pos 2)) ms
+abbrev pub migrated_members : Members → Members
+migrated_members ms = with_member (codes "version") (integer (pos 2)) ms
 
 -- the text reads to the table with `version` 2
 abbrev pub MigText : Members → Text → Type 0
-MigText ms text = document text ≡ Some (migrated ms)
+MigText ms text = document text ≡ Some (migrated_members ms)
 
 -- the plan, version aside
 abbrev pub in_version_2 : Plan → Plan

@@ -1,30 +1,14 @@
 -- The rules over several values of a topology, in their order.
-use Rattle.std.specs.Prelude.{
-  ◌+◌,
-  ◌%◌,
-  ◌==◌,
-  ◌&&◌,
-  ◌||◌,
-  ℕ,
-  ℤ,
-  pos,
-  negsuc,
-  nat_le,
-  nat_lt,
-  Bool,
-  true,
-  false,
-  not,
-  List,
-}
+use Rattle.std.specs.Prelude.{◌+◌, ◌%◌, ◌==◌, ◌&&◌, ◌||◌, ℕ, ℤ, pos, negsuc, nat_le, nat_lt, Bool, true, false, not}
+use Rattle.std.specs.Prelude.{List}
 use Rattle.std.specs.Prelude.{[], ◌∷◌, ◌++◌, length, take, find, slice_get}
 use Rattle.std.specs.Prelude.{Option, Some, None, Result, Ok, Err, if◌then◌else◌, codes, sum_by}
 use Rattle.std.specs.List.{list_any, position_from}
 use Rattle.std.specs.Str.{bytes_eq}
-use Rattle.ide_plan.specs.declared.stream.StreamPlan.{StreamPlan}
-use Rattle.ide_plan.specs.Plans.{interface_limit, same_id, both_default, share_class, is_selective, overlap}
-use Rattle.ide_plan.specs.Plans.{has_stream_id, lists_class}
-use Rattle.ide_plan.specs.declared.plan.PeerPlan.{PeerPlan}
+use Rattle.ide_types.specs.declared.stream.StreamPlan.{StreamPlan}
+use Rattle.ide_types.specs.Plans.{interface_limit, same_id, both_default, share_class, is_selective, overlap}
+use Rattle.ide_types.specs.Plans.{has_stream_id, lists_class}
+use Rattle.ide_types.specs.declared.plan.PeerPlan.{PeerPlan}
 use Rattle.toml_walk.specs.declared.fault.PlanFault.{PlanFault}
 use Rattle.toml_walk.specs.declared.fault.PlanFault.TheVariants.{Missing, Range, Repeated, Limit}
 use Rattle.toml_walk.specs.Fault.{◌>>=◌}
@@ -102,17 +86,17 @@ abbrev pub allowed : Text → ℕ → Bool → Result (Unit {0}) PlanFault
 allowed path n true = Ok tt
 allowed path n false = Err (Range path (pos n))
 
-abbrev pub streams_of : Option LinkDraft → List StreamPlan
-streams_of None = []
-streams_of (Some l) = l.streams
+abbrev pub draft_streams : Option LinkDraft → List StreamPlan
+draft_streams None = []
+draft_streams (Some l) = l.streams
 
 -- a stream of the link has the ID
 abbrev pub link_has : List LinkDraft → ℕ → ℕ → Bool
-link_has links link id = has_stream_id (streams_of (slice_get links link)) id
+link_has links link id = has_stream_id (draft_streams (slice_get links link)) id
 
 -- a stream of either link, or an earlier stream between devices, has its ID
-abbrev pub is_taken : List LinkDraft → List PeerPlan → PeerPlan → Bool
-is_taken links earlier p =
+abbrev pub is_id_taken : List LinkDraft → List PeerPlan → PeerPlan → Bool
+is_id_taken links earlier p =
     (link_has links p.near p.id || link_has links p.far p.id) || list_any (λ q. q.id == p.id) earlier
 
 -- both links are there, and are two, and the ID is new
@@ -120,7 +104,7 @@ unfoldable pub peer_rules : Text → List LinkDraft → List PeerPlan → PeerPl
 peer_rules path links earlier p = do
   _ ← allowed (path ++ codes ".a") p.near (nat_lt p.near (length links))
   _ ← allowed (path ++ codes ".b") p.far (nat_lt p.far (length links) && not (p.far == p.near))
-  allowed (path ++ codes ".id") p.id (not (is_taken links earlier p))
+  allowed (path ++ codes ".id") p.id (not (is_id_taken links earlier p))
 
 -- the rules of each of all from place i on
 abbrev pub each_peer : List LinkDraft → List PeerPlan → ℕ → List PeerPlan → Result (Unit {0}) PlanFault
@@ -130,12 +114,12 @@ each_peer links all i (p ∷ ps) = do
   each_peer links all (i + 1) ps
 
 -- the stream has the ID, and ends at the device of the link
-abbrev pub ends_with : ℕ → ℕ → PeerPlan → Bool
-ends_with link id p = p.id == id && (p.near == link || p.far == link)
+abbrev pub is_peer_with_id : ℕ → ℕ → PeerPlan → Bool
+is_peer_with_id link id p = p.id == id && (p.near == link || p.far == link)
 
 -- a stream of the link, or one between devices that ends there, has the ID
 abbrev pub is_hop_taken : List PeerPlan → ℕ → List StreamPlan → ℕ → Bool
-is_hop_taken peers link streams id = has_stream_id streams id || list_any (ends_with link id) peers
+is_hop_taken peers link streams id = has_stream_id streams id || list_any (is_peer_with_id link id) peers
 
 abbrev pub refused_class : Text → Option ℕ → Result (Unit {0}) PlanFault
 refused_class path None = Ok tt

@@ -5,16 +5,16 @@ use Rattle.std.specs.Prelude.{Option, Some, None, Result, Ok, Err, if◌then◌e
 use Rattle.std.specs.Str.{bytes_eq}
 use Rattle.std.specs.Option.{option_and_then}
 use Rattle.toml.specs.Data.{Members, get_member, as_integer}
-use Rattle.ide_plan.specs.declared.stream.IdRange.{IdRange}
-use Rattle.ide_plan.specs.declared.stream.AddressRange.{AddressRange}
-use Rattle.ide_plan.specs.declared.stream.Selector.{Selector}
-use Rattle.ide_plan.specs.declared.stream.Selector.TheVariants as selector
-use Rattle.ide_plan.specs.declared.stream.StreamPlan.{StreamPlan}
-use Rattle.ide_plan.specs.declared.interface.BarPlan.{BarPlan}
-use Rattle.ide_plan.specs.declared.plan.PeerPlan.{PeerPlan}
-use Rattle.ide_plan.specs.declared.plan.Region.{Region}
+use Rattle.ide_types.specs.declared.stream.IdRange.{IdRange}
+use Rattle.ide_types.specs.declared.stream.AddressRange.{AddressRange}
+use Rattle.ide_types.specs.declared.stream.Selector.{Selector}
+use Rattle.ide_types.specs.declared.stream.Selector.TheVariants as selector
+use Rattle.ide_types.specs.declared.stream.StreamPlan.{StreamPlan}
+use Rattle.ide_types.specs.declared.interface.BarPlan.{BarPlan}
+use Rattle.ide_types.specs.declared.plan.PeerPlan.{PeerPlan}
+use Rattle.ide_types.specs.declared.plan.Region.{Region}
 use Rattle.toml_walk.specs.declared.bounds.Form.TheVariants.{Pages, Mebibytes, LastOfMebibyte, UnitMode}
-use Rattle.toml_walk.specs.declared.list.Span.{Span}
+use Rattle.toml_walk.specs.declared.list.CountRange.{CountRange}
 use Rattle.toml_walk.specs.declared.fault.PlanFault.{PlanFault}
 use Rattle.toml_walk.specs.declared.fault.PlanFault.TheVariants.{Range}
 use Rattle.toml_walk.specs.Fault.{◌>>=◌}
@@ -45,7 +45,7 @@ is_selective_kind kind.Selective = true
 is_selective_kind kind.Link = false
 
 -- a list that a stream of the other kind may have only without elements
-abbrev pub only_if : Bool → Span → Span
+abbrev pub only_if : Bool → CountRange → CountRange
 only_if allowed span = record span { allowed = allowed }
 
 -- [base, limit] with base at most limit
@@ -93,14 +93,20 @@ stream_keys t ms = do
   _ ← only_known t stream_names ms
   id ← required t ms (codes "id") (number (within 0 255))
   kind ← required t ms (codes "kind") stream_kind
-  mode ← optional t ms (codes "mode") 1 (number (formed 1 8 UnitMode))
+  aggregation ← optional t ms (codes "mode") 1 (number (formed 1 8 UnitMode))
   ids ← optional t ms (codes "rid") None (id_range (is_selective_kind kind))
   addresses ← optional t ms (codes "ranges") [] (list (only_if (is_selective_kind kind) (between 0 8)) address_range)
   default ← optional t ms (codes "default") false (truth_if (is_selective_kind kind))
   classes ← optional t ms (codes "tcs") [] (list (only_if (not (is_selective_kind kind)) any_number)
       (number (within 0 7)))
   closed ← optional t ms (codes "closed") false truth
-  Ok (record { id = id; mode = mode; closed = closed; selector = selector_for kind ids addresses default classes })
+  Ok (record {
+    id = id;
+    aggregation = aggregation;
+    closed = closed;
+    selector = selector_for kind ids addresses default
+        classes;
+  })
 
 abbrev pub bar_names : List Text
 bar_names = codes "base" ∷ codes "pages" ∷ codes "attributes" ∷ []
@@ -211,8 +217,8 @@ peer_keys t ms = do
   id ← required t ms (codes "id") (number (within 0 255))
   near ← required t ms (codes "a") (number (within 0 7))
   far ← required t ms (codes "b") (number (within 0 7))
-  mode ← optional t ms (codes "mode") 1 (number (formed 1 8 UnitMode))
-  Ok (record { id = id; near = near; far = far; mode = mode })
+  aggregation ← optional t ms (codes "mode") 1 (number (formed 1 8 UnitMode))
+  Ok (record { id = id; near = near; far = far; aggregation = aggregation })
 
 abbrev pub common_top_names : List Text
 common_top_names = codes "version" ∷ codes "portion" ∷ codes "units_per_key" ∷ codes "pool" ∷ codes "link"

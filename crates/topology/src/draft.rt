@@ -1,7 +1,6 @@
 //! What the keys of a topology say, before the rules over several values.
 
-use ide_plan::{InterfacePlan, PeerPlan, Region, StreamPlan};
-use ide_types::Items;
+use ide_types::{InterfacePlan, Items, PeerPlan, Region, StreamPlan};
 
 /// What a stream is chosen by.
 #[derive(Clone, Copy, PartialEq, Eq)]

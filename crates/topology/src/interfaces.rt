@@ -9,8 +9,7 @@ ghost use Rattle.toml_walk.specs.Walk.{table};
 ghost use Rattle.topology.specs.Tables.{bar_keys, stream_id_of, interface_names, interface_keys};
 
 use crate::draft::InterfaceDraft;
-use ide_plan::{BarPlan, InterfacePlan};
-use ide_types::{Bytes, Items};
+use ide_types::{BarPlan, Bytes, InterfacePlan, Items};
 use std::alloc::Global;
 use toml::Value;
 use toml_walk::{

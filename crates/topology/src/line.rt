@@ -4,7 +4,7 @@ ghost use Rattle.std.specs.Prelude.{◌≡◌, ◌++◌, IfOk, codes, string_byt
 ghost use Rattle.std.specs.Fmt.{decimal, signed_decimal};
 ghost use Rattle.topology.specs.Lines.{fault_line};
 
-use ide_types::{Bytes, Memory};
+use ide_types::{Bytes, OutOfMemory};
 use std::alloc::{AllocError, Global};
 use toml_walk::PlanFault;
 
@@ -35,7 +35,7 @@ fn repeated_line(alloc: Global, key: &Bytes, i: usize, j: usize) -> Result<Vec<u
 }
 
 /// The line of a fault, without a line feed (this profile).
-pub fn fault_line(alloc: Global, fault: &PlanFault) -> Result<Bytes, Memory>
+pub fn fault_line(alloc: Global, fault: &PlanFault) -> Result<Bytes, OutOfMemory>
     ensures { IfOk result (λ line. line ≡ fault_line fault.now) }
 {
     let line = match fault {

@@ -12,13 +12,12 @@ ghost use Rattle.topology.specs.Tables.{top_names, top_keys};
 use crate::draft::{LinkDraft, PlanDraft};
 use crate::interfaces::Interfaces;
 use crate::streams::Streams;
-use ide_plan::{PeerPlan, Region};
-use ide_types::{Bytes, Items};
+use ide_types::{Bytes, Items, PeerPlan, Region};
 use std::alloc::Global;
 use toml::{Table, Value};
 use toml_walk::{
-    Byte, Form, Given, KeyBytes, Keys, ListOf, PlanError, PlanFault, Reader, Span, Wide, Word,
-    found, key_path, table_of,
+    Byte, CountRange, Form, Given, KeyBytes, Keys, ListOf, PlanError, PlanFault, Reader, Wide,
+    Word, found, key_path, table_of,
 };
 
 // The keys of a link in version 1.
@@ -53,7 +52,7 @@ fn hop_classes_in(keys: &Keys) -> Result<Option<Items<u8>>, PlanError>
 {
     let classes = Given {
         element: ListOf {
-            span: Span::any_number(),
+            span: CountRange::any_number(),
             element: Byte::within(0, 7),
         },
     };
@@ -70,7 +69,7 @@ fn link_of(version: u8, keys: &Keys) -> Result<LinkDraft, PlanError>
     let nonces = keys.optional("nonces", none, &ListOf::between(0, 1024, KeyBytes))?;
     let streams = keys.required("stream", &ListOf::between(1, 16, Streams))?;
     let list = ListOf {
-        span: Span::any_number(),
+        span: CountRange::any_number(),
         element: Interfaces { version },
     };
     let interfaces = keys.optional("interface", Items::new(Vec::new(keys.alloc)), &list)?;
@@ -150,12 +149,12 @@ fn peer_of(keys: &Keys) -> Result<PeerPlan, PlanError>
     let id = keys.required("id", &Byte::within(0, 255))?;
     let near = keys.required("a", &Byte::within(0, 7))?;
     let far = keys.required("b", &Byte::within(0, 7))?;
-    let mode = keys.optional("mode", 1, &Byte::formed(1, 8, Form::UnitMode))?;
+    let aggregation = keys.optional("mode", 1, &Byte::formed(1, 8, Form::UnitMode))?;
     Ok(PeerPlan {
         id,
         near,
         far,
-        mode,
+        aggregation,
     })
 }
 

@@ -3,10 +3,10 @@
 ghost use Rattle.std.specs.Prelude.{◌≡◌, ◌≤◌, true, Some, IfOk, IfErr, List, Ok, OnOk, ℕ};
 ghost use Rattle.toml.specs.Data.{integer, is_sorted, items_are_sorted, members_are_sorted, members_depth};
 ghost use Rattle.toml.specs.View.{view, array_view, table_view};
-ghost use Rattle.ide_plan.specs.declared.plan.Plan.{Plan};
+ghost use Rattle.ide_types.specs.declared.plan.Plan.{Plan};
 ghost use Rattle.toml_walk.specs.Fault.{Fails};
 ghost use Rattle.topology.specs.Meaning.{document, plan_in, plan_of};
-ghost use Rattle.topology.specs.Migration.{IsMigrated, MigText, in_version_2, migrated};
+ghost use Rattle.topology.specs.Migration.{IsMigrated, MigText, in_version_2, migrated_members};
 
 use crate::reading::plan_of_table;
 use ide_types::Bytes;
@@ -46,7 +46,7 @@ fn ascend_in_members(table: &Table)
 
 // Sets `version` to 2.
 fn set_version(alloc: Global, table: &mut Table) -> Result<(), PlanError>
-    ensures set { OnOk result (table_view table.new ≡ migrated (table_view table.old)) }
+    ensures set { OnOk result (table_view table.new ≡ migrated_members (table_view table.old)) }
     ensures memory { IfErr result (λ e. e ≡ PlanError.Memory) }
 {
     let key = String::from_str(alloc, "version")?;

@@ -3,12 +3,12 @@
 ghost use Rattle.std.specs.Prelude.{◌≡◌, ◌+◌, ◌<◌, ◌^◌, nat_lt, Bool, IfOk, length, ℕ};
 ghost use Rattle.std.specs.List.{position_from, list_any};
 ghost use Rattle.std.specs.Str.{bytes_eq};
-ghost use Rattle.ide_plan.specs.Plans.{is_selective, is_default, classes_of, same_id, both_default, is_among};
-ghost use Rattle.ide_plan.specs.Plans.{share_class, overlap};
+ghost use Rattle.ide_types.specs.Plans.{is_selective, is_default, classes_of, same_id, both_default, is_among};
+ghost use Rattle.ide_types.specs.Plans.{share_class, overlap};
 ghost use Rattle.topology.specs.Rules.{pair_from, same_requester};
 
 use crate::draft::InterfaceDraft;
-use ide_plan::{Region, Selector, StreamPlan};
+use ide_types::{Region, Selector, StreamPlan};
 use std::alloc::{AllocError, Global};
 use std::collections::BTreeMap;
 

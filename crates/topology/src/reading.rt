@@ -2,15 +2,14 @@
 
 ghost use Rattle.std.specs.Prelude.{◌≡◌, IfOk, map};
 ghost use Rattle.toml.specs.View.{table_view};
-ghost use Rattle.ide_plan.specs.Fits.{FitsPlan};
+ghost use Rattle.ide_types.specs.Fits.{FitsPlan};
 ghost use Rattle.toml_walk.specs.Fault.{Gives};
 ghost use Rattle.topology.specs.Meaning.{hop_of, link_of, plan_from, plan_in, plan_of};
 
 use crate::draft::{LinkDraft, PlanDraft};
 use crate::links::top_of;
 use crate::rules::check;
-use ide_plan::{HopPlan, LinkPlan, Plan};
-use ide_types::{Bytes, Items};
+use ide_types::{Bytes, HopPlan, Items, LinkPlan, Plan};
 use std::alloc::{AllocError, Global};
 use toml::Table;
 use toml_walk::{Keys, PlanError, PlanFault};

@@ -5,10 +5,12 @@ ghost use Rattle.std.specs.List.{list_any};
 ghost use Rattle.std.specs.Str.{bytes_eq};
 ghost use Rattle.toml_walk.specs.Fault.{Gives};
 ghost use Rattle.toml_walk.specs.declared.fault.PlanFault.TheVariants.{Limit};
-ghost use Rattle.ide_plan.specs.Plans.{interface_limit, is_selective, has_stream_id, lists_class};
+ghost use Rattle.ide_types.specs.Plans.{interface_limit, is_selective, has_stream_id, lists_class};
 ghost use Rattle.topology.specs.Rules.{refused_pair, no_clash, in_sixes, is_id, is_bound, each_bound, link_rules};
-ghost use Rattle.topology.specs.Rules.{each_link, interface_count, allowed, link_has, is_taken, peer_rules, each_peer};
-ghost use Rattle.topology.specs.Rules.{ends_with, refused_class, classes_apart, hop_rules_of, hop_rules, each_hop};
+ghost use Rattle.topology.specs.Rules.{each_link, interface_count, allowed, link_has, is_id_taken, peer_rules};
+ghost use Rattle.topology.specs.Rules.{each_peer};
+ghost use Rattle.topology.specs.Rules.{is_peer_with_id, refused_class, classes_apart, hop_rules_of, hop_rules};
+ghost use Rattle.topology.specs.Rules.{each_hop};
 ghost use Rattle.topology.specs.Rules.{rules};
 
 use crate::draft::{InterfaceDraft, LinkDraft, PlanDraft};
@@ -16,8 +18,7 @@ use crate::pairs::{
     BothDefault, Clash, Overlap, SameId, SameRequester, ShareClass, classes, contains, equal_keys,
     first_pair,
 };
-use ide_plan::{PeerPlan, Region, Selector, StreamPlan};
-use ide_types::{Bytes, Items};
+use ide_types::{Bytes, Items, PeerPlan, Region, Selector, StreamPlan};
 use std::alloc::Global;
 use toml_walk::{PlanError, PlanFault, key_path, place_path};
 
@@ -209,7 +210,7 @@ fn any_has_id(peers: &[PeerPlan], id: u8) -> bool
 }
 
 fn has_taken_id(links: &[LinkDraft], earlier: &[PeerPlan], peer: &PeerPlan) -> bool
-    ensures { result ≡ is_taken links.now earlier.now peer.now }
+    ensures { result ≡ is_id_taken links.now earlier.now peer.now }
 {
     link_has_id(links, peer.near, peer.id)
         || link_has_id(links, peer.far, peer.id)
@@ -248,13 +249,13 @@ fn check_peers(alloc: Global, links: &[LinkDraft], peers: &[PeerPlan]) -> Result
 }
 
 fn does_end_with(peer: &PeerPlan, link: usize, id: u8) -> bool
-    ensures { result ≡ ends_with link id peer.now }
+    ensures { result ≡ is_peer_with_id link id peer.now }
 {
     peer.id == id && (peer.near as usize == link || peer.far as usize == link)
 }
 
 fn any_ends_with(peers: &[PeerPlan], link: usize, id: u8) -> bool
-    ensures { result ≡ list_any (ends_with link id) peers.now }
+    ensures { result ≡ list_any (is_peer_with_id link id) peers.now }
 {
     peers.iter().any(|peer| does_end_with(peer, link, id))
 }

@@ -10,12 +10,11 @@ ghost use Rattle.topology.specs.Tables.{addresses_in_order, address_range, true_
 ghost use Rattle.topology.specs.Tables.{stream_keys};
 
 use crate::draft::StreamKind;
-use ide_plan::{AddressRange, IdRange, Selector, StreamPlan};
-use ide_types::{Bytes, Items};
+use ide_types::{AddressRange, Bytes, IdRange, Items, Selector, StreamPlan};
 use std::alloc::Global;
 use toml::{Table, Value};
 use toml_walk::{
-    Bounds, Byte, Form, GREATEST, Keys, ListOf, PlanError, PlanFault, Reader, Span, Truth,
+    Bounds, Byte, CountRange, Form, GREATEST, Keys, ListOf, PlanError, PlanFault, Reader, Truth,
     key_path, or_length, place_path, table_of, text_of, two_numbers,
 };
 
@@ -150,7 +149,7 @@ impl Reader for TruthIf {
 fn ranges(allowed: bool) -> ListOf<Addresses>
     ensures { result.span ≡ only_if allowed (between 0 8) }
 {
-    let span = Span {
+    let span = CountRange {
         least: 0,
         most: Some(8),
         allowed,
@@ -166,7 +165,7 @@ fn class_list(allowed: bool) -> ListOf<Byte>
     ensures span { result.span ≡ only_if allowed any_number }
     ensures element { result.element.bounds ≡ within 0 7 }
 {
-    let span = Span {
+    let span = CountRange {
         least: 0,
         most: None,
         allowed,
@@ -206,7 +205,7 @@ fn stream_of(keys: &Keys) -> Result<StreamPlan, PlanError>
     ])?;
     let id = keys.required("id", &Byte::within(0, 255))?;
     let kind = keys.required("kind", &Kind)?;
-    let mode = keys.optional("mode", 1, &Byte::formed(1, 8, Form::UnitMode))?;
+    let aggregation = keys.optional("mode", 1, &Byte::formed(1, 8, Form::UnitMode))?;
     let selective = is_selective(kind);
     let ids = keys.optional("rid", None, &Ids { allowed: selective })?;
     let none = Items::new(Vec::new(keys.alloc));
@@ -217,7 +216,7 @@ fn stream_of(keys: &Keys) -> Result<StreamPlan, PlanError>
     let closed = keys.optional("closed", false, &Truth)?;
     Ok(StreamPlan {
         id,
-        mode,
+        aggregation,
         closed,
         selector: selector(kind, ids, addresses, default, classes),
     })

@@ -5,8 +5,8 @@ use Rattle.std.proofs.lemmas.Bool.{cases_Bool, true≢false}
 use Rattle.std.proofs.lemmas.Bool.Decides.{nat_tests}
 use Rattle.std.proofs.lemmas.List.{ext_get_or}
 use Rattle.std.proofs.lemmas.List.Elements.{All-head, All-tail}
-use Rattle.ide_plan.specs.declared.plan.Region.{Region}
-use Rattle.ide_plan.specs.Fits.{FitsRegion}
+use Rattle.ide_types.specs.declared.plan.Region.{Region}
+use Rattle.ide_types.specs.Fits.{FitsRegion}
 use Rattle.trusted_memory.specs.Regions.{is_inside, in_region, holds_all, in_one_region}
 use Rattle.trusted_memory.specs.Memory.{new_memory, byte_in, byte_at, bytes_from}
 use Rattle.trusted_memory.specs.Pages.{contents_seen, memory_seen}

@@ -10,7 +10,7 @@ use Rattle.std.proofs.lemmas.Bool.{cases_Bool, true≢false, eqb-true, eqb-false
 use Rattle.std.proofs.lemmas.Bool.Decides.{nat_tests}
 use Rattle.std.proofs.lemmas.List.{get_or-replicate}
 use Rattle.std.proofs.lemmas.Map.Made.{is_some-lookup}
-use Rattle.ide_plan.specs.declared.plan.Region.{Region}
+use Rattle.ide_types.specs.declared.plan.Region.{Region}
 use Rattle.trusted_memory.specs.declared.span.Span.{Span}
 use Rattle.trusted_memory.specs.Spans.{span_byte_count, is_enabled, reaches, enables, crosses}
 use Rattle.trusted_memory.specs.Writes.{Write, written}

@@ -1,7 +1,7 @@
 -- Which writes are admitted (this profile): the trusted ones of a running interface, on its bound stream, under a draw
 -- from its floor on, whose bytes lie in one region and cross no 4 KiB boundary.
 use Rattle.std.specs.Prelude.{ℕ, ◌==◌, ◌&&◌, nat_le, not, Bool, false, if◌then◌else◌, List, Option, Some, None}
-use Rattle.ide_plan.specs.declared.plan.Region.{Region}
+use Rattle.ide_types.specs.declared.plan.Region.{Region}
 use Rattle.trusted_memory.specs.declared.grant.Grant.{Grant}
 use Rattle.trusted_memory.specs.declared.span.Span.{Span}
 use Rattle.trusted_memory.specs.Spans.{span_byte_count, crosses}

@@ -2,7 +2,7 @@
 -- bytes that it names and of its grant, and of no payload.
 use Rattle.std.specs.Prelude.{ℕ, ◌==◌, nat_lt, not, Bool, true, false, if◌then◌else◌, List, Option, Some, None}
 use Rattle.std.specs.Option.{option_or}
-use Rattle.ide_plan.specs.declared.plan.Region.{Region}
+use Rattle.ide_types.specs.declared.plan.Region.{Region}
 use Rattle.link_verdicts.specs.declared.verdict.BlockCause.{BlockCause}
 use Rattle.link_verdicts.specs.declared.verdict.BlockCause.TheVariants.{NotTrusted, NotRunning, WrongStream, Stale}
 use Rattle.link_verdicts.specs.declared.verdict.BlockCause.TheVariants.{Outside, Crosses}

@@ -5,6 +5,10 @@ pub mod Causes
 pub mod Admitted
 pub mod Memory
 pub mod Pages
+pub mod Requests
+pub mod Completions
+pub mod Waiting
+pub mod Cases
 -- what clauses and crates above cite
 pub use Rattle.trusted_memory.specs.declared.span.Span.{Span}
 pub use Rattle.trusted_memory.specs.declared.write.MemWriteView.{MemWriteView}
@@ -23,3 +27,12 @@ pub use Rattle.trusted_memory.specs.Memory.{MemoryContents, TrustedMemory, new_c
 pub use Rattle.trusted_memory.specs.Memory.{bytes_from}
 pub use Rattle.trusted_memory.specs.Memory.{has_page, takes_page, byte_by, IsLeftBy, Leads}
 pub use Rattle.trusted_memory.specs.Pages.{IsBlank}
+pub use Rattle.trusted_memory.specs.declared.read.MemReadView.{MemReadView}
+pub use Rattle.trusted_memory.specs.declared.queue.WaitingRead.{WaitingRead}
+pub use Rattle.trusted_memory.specs.Requests.{memory_read, FitsRead}
+pub use Rattle.trusted_memory.specs.Completions.{enabled_places, first_and_last, first_or, extent, byte_count}
+pub use Rattle.trusted_memory.specs.Completions.{lower_address, read_bytes, completion_head, completion}
+unfoldable pub use Rattle.trusted_memory.specs.Completions.{completion_bytes}
+pub use Rattle.trusted_memory.specs.Waiting.{most_waiting, read_cause, read_effect, effect_by_read, request_effect}
+pub use Rattle.trusted_memory.specs.Waiting.{waiting_after}
+pub use Rattle.trusted_memory.specs.Cases.{AnswerCases, TableCases}

@@ -2,8 +2,8 @@
 use Rattle.std.specs.Prelude.{◌≡◌, ℕ, ◌/◌, ◌%◌, ◌≤◌, nat_eq, List, length, map, replicate, slice_index, unwrap_or, []}
 use Rattle.std.specs.Prelude.{All}
 use Rattle.std.specs.Map.{lookup, keys_of}
-use Rattle.ide_plan.specs.declared.plan.Region.{Region}
-use Rattle.ide_plan.specs.Fits.{FitsRegion}
+use Rattle.ide_types.specs.declared.plan.Region.{Region}
+use Rattle.ide_types.specs.Fits.{FitsRegion}
 use Rattle.trusted_memory.specs.Writes.{Write, written}
 use Rattle.trusted_memory.specs.Memory.{MemoryContents, TrustedMemory, bytes_from}
 

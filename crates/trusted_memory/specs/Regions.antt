@@ -1,7 +1,7 @@
 -- Which bytes regions of memory hold (this profile).
 use Rattle.std.specs.Prelude.{ℕ, ◌+◌, ◌&&◌, nat_lt, nat_le, Bool, List}
 use Rattle.std.specs.List.{list_any}
-use Rattle.ide_plan.specs.declared.plan.Region.{Region}
+use Rattle.ide_types.specs.declared.plan.Region.{Region}
 
 -- the byte at an address
 abbrev pub is_inside : Region → ℕ → Bool

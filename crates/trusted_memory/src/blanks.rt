@@ -6,11 +6,11 @@ ghost use Rattle.std.specs.HashMap as hash;
 ghost use Rattle.trusted_memory.specs.Pages.{IsBlank};
 
 use crate::page::Page;
-use ide_types::Memory;
+use ide_types::OutOfMemory;
 use std::alloc::Global;
 use std::collections::HashMap;
 
-fn add(alloc: Global, pages: &mut Vec<Page>) -> Result<(), Memory>
+fn add(alloc: Global, pages: &mut Vec<Page>) -> Result<(), OutOfMemory>
     ensures { pages.new.items ≡ (if is_ok result then pages.old.items ++ replicate 4096 0 ∷ [] else pages.old.items) }
 {
     let page = Page::new(alloc)?;
@@ -19,7 +19,7 @@ fn add(alloc: Global, pages: &mut Vec<Page>) -> Result<(), Memory>
 }
 
 /// Adds blank pages until there are `count` at least. For want of memory those that were added stay.
-pub fn fill(alloc: Global, pages: &mut Vec<Page>, count: usize) -> Result<(), Memory>
+pub fn fill(alloc: Global, pages: &mut Vec<Page>, count: usize) -> Result<(), OutOfMemory>
     requires { All IsBlank pages.old.items }
     ensures blank { All IsBlank pages.new.items }
     ensures ok { OnOk result (length pages.new.items ≡ max (length pages.old.items) count) }

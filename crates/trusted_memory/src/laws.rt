@@ -1,7 +1,7 @@
 //! What the definitions of writes imply.
 
 ghost use Rattle.std.specs.Prelude.{◌≡◌, ℕ, Bool, List, [], ◌∷◌, ◌++◌, Option, Some, is_some};
-ghost use Rattle.ide_plan.specs.declared.plan.Region.{Region};
+ghost use Rattle.ide_types.specs.declared.plan.Region.{Region};
 ghost use Rattle.trusted_memory.specs.declared.grant.Grant.{Grant};
 ghost use Rattle.trusted_memory.specs.Writes.{Write, byte_after, written, written_in_turn};
 ghost use Rattle.trusted_memory.specs.Causes.{block_cause, block_effect, is_applied};

@@ -7,7 +7,7 @@ ghost use Rattle.trusted_memory.specs.Writes.{write_of};
 ghost use Rattle.trusted_memory.specs.Pages.{HasWritten};
 
 use crate::MemWriteView;
-use ide_types::Memory;
+use ide_types::OutOfMemory;
 use std::alloc::Global;
 use std::marker::Model;
 
@@ -52,7 +52,7 @@ fn put_all(bytes: &mut [u8], start: usize, write: &MemWriteView<'_>)
 
 impl Page {
     /// A page of bytes 0.
-    pub fn new(alloc: Global) -> Result<Page, Memory>
+    pub fn new(alloc: Global) -> Result<Page, OutOfMemory>
         ensures { IfOk result (λ page. page ≡ replicate 4096 0) }
     {
         let bytes = vec![in alloc; 0; PAGE_BYTES]?;

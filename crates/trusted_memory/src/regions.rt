@@ -3,7 +3,7 @@
 ghost use Rattle.std.specs.Prelude.{◌≡◌};
 ghost use Rattle.trusted_memory.specs.Regions.{is_inside, in_region, holds_all, in_one_region};
 
-use ide_plan::Region;
+use ide_types::Region;
 
 fn is_inside(region: &Region, at: u64) -> bool
     ensures { result ≡ is_inside region.now at }

@@ -1,14 +1,8 @@
 //! The bytes that memory requests name.
 
 ghost use Rattle.std.specs.Prelude.{◌≡◌, ◌<◌};
-ghost use Rattle.trusted_memory.specs.Spans.{
-  span_byte_count,
-  is_enable_set,
-  is_enabled,
-  crosses,
-  double_words,
-  span_of,
-};
+ghost use Rattle.trusted_memory.specs.Spans.{span_byte_count, is_enable_set, is_enabled, crosses, double_words};
+ghost use Rattle.trusted_memory.specs.Spans.{span_of};
 ghost use Rattle.trusted_memory.specs.Spans.{write_span};
 
 use tlp_layout::{Fields, HeadView};

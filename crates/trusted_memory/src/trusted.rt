@@ -3,7 +3,7 @@
 ghost use Rattle.std.specs.Prelude.{◌≡◌, ◌+◌, ◌/◌, ◌^◌, ◌≤◌, ◌==◌, ◌&&◌, ◌||◌, ℕ, List, [], ◌∷◌, true, false, All};
 ghost use Rattle.std.specs.Prelude.{Some, IfOk, IsOk, OnOk, length, max, if◌then◌else◌};
 ghost use Rattle.std.specs.Bool.{OnTrue, OnFalse};
-ghost use Rattle.ide_plan.specs.Fits.{FitsRegion};
+ghost use Rattle.ide_types.specs.Fits.{FitsRegion};
 ghost use Rattle.tlp_layout.specs.Tlp.{viewed_tlp};
 ghost use Rattle.trusted_memory.specs.Spans.{span_byte_count, crosses, write_span};
 ghost use Rattle.trusted_memory.specs.Writes.{Write, written, byte_after, write_in, write_of};
@@ -13,8 +13,7 @@ use crate::causes::block_cause;
 use crate::page::{PAGE_BYTES, Page};
 use crate::regions::{in_one_region, in_region};
 use crate::{Grant, MemWriteView, Span};
-use ide_plan::Region;
-use ide_types::Memory;
+use ide_types::{OutOfMemory, Region};
 use link_verdicts::{BlockCause, Effect};
 use std::alloc::Global;
 use std::collections::HashMap;
@@ -50,21 +49,11 @@ impl Trusted {
     ghost use Rattle.trusted_memory.specs.Regions.{is_inside, in_one_region};
     ghost use Rattle.trusted_memory.specs.Causes.{block_cause, block_effect, is_applied, write_effect};
     ghost use Rattle.trusted_memory.specs.Admitted.{admitted_write};
-    ghost use Rattle.trusted_memory.specs.Memory.{
-      MemoryContents,
-      TrustedMemory,
-      new_memory,
-      byte_at,
-      bytes_from,
-      has_page,
-      takes_page,
-      byte_by,
-      IsLeftBy,
-      Leads,
-    };
+    ghost use Rattle.trusted_memory.specs.Memory.{MemoryContents, TrustedMemory, new_memory, byte_at, bytes_from};
+    ghost use Rattle.trusted_memory.specs.Memory.{has_page, takes_page, byte_by, IsLeftBy, Leads};
 
     /// The regions of a plan, with 0 in every byte, and no page.
-    pub fn make(alloc: Global, regions: &[Region]) -> Result<Trusted, Memory>
+    pub fn make(alloc: Global, regions: &[Region]) -> Result<Trusted, OutOfMemory>
         requires { All FitsRegion regions.now }
         ensures new { IfOk result (λ memory. memory ≡ new_memory regions.now) }
         ensures stands { IfOk result (λ memory. IsLeftBy memory.contents []) }
@@ -79,8 +68,8 @@ impl Trusted {
     }
 
     /// Makes sure that at least `pages` pages are spare, so that as many writes need no memory. The contents are as
-    /// before, also after `Memory`.
-    pub fn spare(&mut self, pages: u8) -> Result<(), Memory>
+    /// before, also after `OutOfMemory`.
+    pub fn spare(&mut self, pages: u8) -> Result<(), OutOfMemory>
         ensures contents { self.new.contents ≡ self.old.contents }
         ensures pages { (n : ℕ) → has_page self.new n ≡ has_page self.old n }
         ensures ok { OnOk result (self.new.spare ≡ max self.old.spare pages) }

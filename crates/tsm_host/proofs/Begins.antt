@@ -6,8 +6,8 @@ use Rattle.std.proofs.lemmas.List.{set-get_or}
 use Rattle.std.proofs.lemmas.List.Quantifiers.{position-Some}
 use Rattle.link_verdicts.specs.declared.verdict.Operation.{Operation}
 use Rattle.key_slots.specs.{Pool}
-use Rattle.key_laws.specs.Operations.{work_of}
-use Rattle.tsm_host.specs.declared.operation.Refusal.{Refusal}
+use Rattle.spec_keys.specs.Operations.{work_of}
+use Rattle.tsm_host.specs.declared.operation.StreamRefusal.{StreamRefusal}
 use Rattle.tsm_host.specs.Streams.{StreamView, new_stream, HostView, is_named, unless, ok_unless, refusal_of}
 use Rattle.tsm_host.specs.Streams.{begun_stream, has_host}
 use Rattle.tsm_host.specs.Managers.{ManagerView, Named, named, named_at, named_in, stream_place, asking_begun}
@@ -27,7 +27,8 @@ found m link id place s at is =
 
 -- a refusal leaves the streams and what is asked
 pub begun_as : (streams : List StreamView) (asking : Option ℕ) (m : ManagerView) (place : ℕ)
-    (s new next_one : StreamView) (refusal : Option Refusal) (answer : Result (Unit {0}) Refusal) (asked : Option ℕ)
+    (s new next_one : StreamView) (refusal : Option StreamRefusal) (answer : Result (Unit {0}) StreamRefusal)
+    (asked : Option ℕ)
     → (let inside : ManagerView = record { streams = streams; asking = asking } in inside) ≡ m → s
     ≡ get_or streams place s → new ≡ unless refusal s next_one → answer ≡ ok_unless refusal
     → asked ≡ asking_begun asking place answer
@@ -42,7 +43,8 @@ begun_as streams asking m place s new next_one (Some refusal) answer asked view 
 
 -- with the operation by its name
 pub begun_by : (streams : List StreamView) (asking : Option ℕ) (m : ManagerView) (place : ℕ) (s new : StreamView)
-    (host : HostView) (pool : Pool) (o operation : Operation) (answer : Result (Unit {0}) Refusal) (asked : Option ℕ)
+    (host : HostView) (pool : Pool) (o operation : Operation) (answer : Result (Unit {0}) StreamRefusal)
+    (asked : Option ℕ)
     → (let inside : ManagerView = record { streams = streams; asking = asking } in inside) ≡ m → s
     ≡ get_or streams place s → o ≡ operation
     → new ≡ unless (refusal_of o s.op host pool) s (begun_stream (has_host s) (work_of o s.op pool.draws) pool s)

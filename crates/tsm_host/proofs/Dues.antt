@@ -10,22 +10,24 @@ use Rattle.link_verdicts.specs.declared.verdict.Operation.TheVariants as op
 use Rattle.link_verdicts.specs.declared.verdict.Verdict.{Verdict}
 use Rattle.link_verdicts.specs.declared.verdict.Verdict.TheVariants as v
 use Rattle.key_slots.specs.{Pool, draws_in}
-use Rattle.key_laws.specs.Places.{KeyPlan}
-use Rattle.key_laws.specs.Operations.{Op, Idle, Establishing, Up, Refreshing, Stopping, Work, work, last_exchange_of}
-use Rattle.key_laws.specs.Operations.{reach_of}
+use Rattle.spec_keys.specs.Places.{KeyPlan}
+use Rattle.spec_keys.specs.Operations.{StreamStage, Idle, Establishing, Up, Refreshing, Stopping, Work, work}
+use Rattle.spec_keys.specs.Operations.{last_exchange_of}
+use Rattle.spec_keys.specs.Operations.{reach_of}
 use Rattle.ide_types.specs.Lines.{is_hosted}
-use Rattle.key_laws.specs.Operations.{op_standing}
-use Rattle.key_laws.specs.Due.{PortView, refusal_at, performed, is_live_sender}
-use Rattle.tsm_host.specs.declared.operation.Refusal.{Refusal}
-use Rattle.tsm_host.specs.declared.operation.Refusal.TheVariants.{PoolEmpty, UnitOpen}
+use Rattle.spec_keys.specs.Operations.{op_standing}
+use Rattle.spec_keys.specs.Due.{PortView, refusal_at, operation_verdict, is_live_sender}
+use Rattle.tsm_host.specs.declared.operation.StreamRefusal.{StreamRefusal}
+use Rattle.tsm_host.specs.declared.operation.StreamRefusal.TheVariants.{PoolEmpty, UnitOpen}
 use Rattle.tsm_host.specs.Exchanges.{WireKeys}
-use Rattle.tsm_host.specs.Streams.{StreamView, HostView, asked_in, first_of, begun_stream}
+use Rattle.tsm_host.specs.Streams.{StreamView, HostView, asked_of_unfinished, first_of, begun_stream}
 use Rattle.tsm_host.specs.Walk.{answers, Walked, walk, walked_unless, verdict_of, op_by, IsAsked, Reads, WalkIsDue}
 use Rattle.tsm_host.specs.Walk.{WalksAreDue}
 use Rattle.tsm_host.proofs.Walks.{WorkFits, walk_comes}
 
 -- what an event gives, with the verdict that is due
-record Both (o : Operation) (w : Work) (link id : ℕ) (loss : Option Loss) (before : Op) (x : Walked) (due : Verdict) :
+record Both (o : Operation) (w : Work) (link id : ℕ) (loss : Option Loss) (before : StreamStage) (x : Walked)
+    (due : Verdict) :
     Type 0 where
   verdict_is : verdict_of o link id loss x.outcome ≡ Some due
   op_is : x.stream.op ≡ op_by (is_hosted link) before w (reach_of o due)
@@ -40,7 +42,7 @@ pooled o w link id loss s x due draws both false = record { verdict_is = refl; o
 
 -- a unit that is unfinished
 opened : (o : Operation) (w : Work) (link id : ℕ) (loss : Option Loss) (s : StreamView) (x : Walked) (due : Verdict)
-    (rest : Option Refusal) → Both o w link id loss s.op (walked_unless rest s x) due
+    (rest : Option StreamRefusal) → Both o w link id loss s.op (walked_unless rest s x) due
     → (a b c : Bool)
     → Both o w link id loss s.op
     (walked_unless (first_of
@@ -52,18 +54,18 @@ opened o w link id loss s x due rest both false true c = record { verdict_is = r
 opened o w link id loss s x due rest both false false true = record { verdict_is = refl; op_is = refl }
 opened o w link id loss s x due rest both false false false = both
 
-abbrev at_op : ℕ → ℕ → Op → WireKeys → StreamView
-at_op link id o keys = record { link = link; id = id; op = o; keys = keys }
+abbrev at_op : ℕ → ℕ → StreamStage → WireKeys → StreamView
+at_op link id o keys = record { line = link; id = id; op = o; keys = keys }
 
 -- the walk of an operation that begins or goes on
 performs : (o : Operation) (set : Bool) (draw f : ℕ) (b : Bool) → WorkFits o set draw
-    → (ports : PortView) (link id : ℕ) (loss : Option Loss) (before : Op) (s : StreamView)
+    → (ports : PortView) (link id : ℕ) (loss : Option Loss) (before : StreamStage) (s : StreamView)
     → f ≤ last_exchange_of (is_hosted link) o
     → s.op ≡ op_standing (work o set draw f b) f
     → Both o (work o set draw f b) link id loss before
     (walk (is_hosted link) (last_exchange_of (is_hosted link) o + 1 - f) (answers loss (refusal_at ports o set link id))
     s)
-    (performed ports link id loss (work o set draw f b))
+    (operation_verdict ports link id loss (work o set draw f b))
 performs o set draw f b fits ports link id loss before s le at =
     let comes = walk_comes o set draw f b fits ports link id loss before s le at in
     record { verdict_is = comes.verdict_is; op_is = comes.op_is }
@@ -73,7 +75,8 @@ one_least hosted o = grind arith
 
 -- by the state of the stream: if the operation is refused the cause is the one that is due, and else its walk is
 pub establishes : (plan : KeyPlan) (ports : PortView) (st : StreamStatus) (host : HostView) (pool : Pool)
-    (loss : Option Loss) (link id : ℕ) (keys : WireKeys) (o : Op) → IsAsked (is_hosted link) (asked_in o)
+    (loss : Option Loss) (link id : ℕ) (keys : WireKeys) (o : StreamStage)
+    → IsAsked (is_hosted link) (asked_of_unfinished o)
     → plan.pool ≡ draws_in pool.keys → WalkIsDue (is_hosted link) op.Establish plan ports st host pool loss
     (at_op link id o keys)
 unfolding WorkFits
@@ -86,7 +89,7 @@ establishes plan ports st host pool loss link id keys Idle asked pool_is =
     let all = pooled op.Establish w link id loss s
     (walk (is_hosted link) (last_exchange_of (is_hosted link) op.Establish + 1 - 1)
     (answers loss (refusal_at ports op.Establish false link id)) (begun_stream (is_hosted link) w pool s))
-    (performed ports link id loss w) pool.draws both (nat_lt pool.draws (draws_in pool.keys)) in
+    (operation_verdict ports link id loss w) pool.draws both (nat_lt pool.draws (draws_in pool.keys)) in
     rw pool_is (record { verdict_is = all.verdict_is; op_is = all.op_is })
 establishes plan ports st host pool loss link id keys (Establishing j n) asked pool_is =
     let both = performs op.Establish false j n false refl ports link id loss (Establishing j n)
@@ -101,7 +104,7 @@ establishes plan ports st host pool loss link id keys (Stopping n) asked pool_is
 
 -- by the state of the stream: a stop begins in each but its own, in which it goes on, and its walk gives what is due
 pub stops : (plan : KeyPlan) (ports : PortView) (st : StreamStatus) (host : HostView) (pool : Pool) (loss : Option Loss)
-    (link id : ℕ) (keys : WireKeys) (o : Op) → IsAsked (is_hosted link) (asked_in o)
+    (link id : ℕ) (keys : WireKeys) (o : StreamStage) → IsAsked (is_hosted link) (asked_of_unfinished o)
     → WalkIsDue (is_hosted link) op.Stop plan ports st host pool loss (at_op link id o keys)
 unfolding WorkFits
 stops plan ports st host pool loss link id keys (Stopping n) asked =
@@ -131,7 +134,7 @@ stops plan ports st host pool loss link id keys (Refreshing k j n) asked =
 
 -- by the state of the stream: if the operation is refused the cause is the one that is due, and else its walk is
 refreshes : (plan : KeyPlan) (ports : PortView) (st : StreamStatus) (host : HostView) (pool : Pool) (loss : Option Loss)
-    (link id : ℕ) (keys : WireKeys) (o : Op) → IsAsked (is_hosted link) (asked_in o)
+    (link id : ℕ) (keys : WireKeys) (o : StreamStage) → IsAsked (is_hosted link) (asked_of_unfinished o)
     → Reads plan ports link id st host pool → WalkIsDue (is_hosted link) op.Refresh plan ports st host pool loss
     (at_op link id o keys)
 unfolding WorkFits
@@ -154,9 +157,9 @@ refreshes plan ports status.Secure host pool loss link id keys (Up k j) asked re
     let both = performs op.Refresh (not k) pool.draws 1 true tt ports link id loss (Up k j)
     (begun_stream (is_hosted link) w pool s)
     (one_least (is_hosted link) op.Refresh) refl in
-    let empty = pooled op.Refresh w link id loss s x (performed ports link id loss w) pool.draws both t in
+    let empty = pooled op.Refresh w link id loss s x (operation_verdict ports link id loss w) pool.draws both t in
     let all = opened op.Refresh w link id loss s x
-    (if t then performed ports link id loss w else v.RefusedPoolEmpty pool.draws)
+    (if t then operation_verdict ports link id loss w else v.RefusedPoolEmpty pool.draws)
     (if not t then Some (PoolEmpty pool.draws) else None) empty
     (is_live_sender ports link id (not k) Pr) (is_live_sender ports link id (not k) Npr)
     (is_live_sender ports link id (not k) Cpl) in
@@ -173,9 +176,9 @@ refreshes plan ports st host pool loss link id keys (Stopping n) asked reads = r
     { verdict_is = refl; op_is = refl }
 
 pub all_due : WalksAreDue
-all_due op.Establish plan ports st host pool loss s asked reads = establishes plan ports st host pool loss s.link s.id
+all_due op.Establish plan ports st host pool loss s asked reads = establishes plan ports st host pool loss s.line s.id
     s.keys s.op asked reads.pool_is
-all_due op.Refresh plan ports st host pool loss s asked reads = refreshes plan ports st host pool loss s.link s.id
+all_due op.Refresh plan ports st host pool loss s asked reads = refreshes plan ports st host pool loss s.line s.id
     s.keys s.op asked reads
-all_due op.Stop plan ports st host pool loss s asked reads = stops plan ports st host pool loss s.link s.id s.keys s.op
+all_due op.Stop plan ports st host pool loss s asked reads = stops plan ports st host pool loss s.line s.id s.keys s.op
     asked

@@ -1,22 +1,6 @@
 -- Keys that are kept until they are acknowledged: what one that is spent leaves.
-use Rattle.std.proofs.Common.{
-  ◌≡◌,
-  ◌≢◌,
-  ℕ,
-  ◌+◌,
-  ◌-◌,
-  ◌<◌,
-  ◌≤◌,
-  Bool,
-  true,
-  false,
-  Option,
-  Some,
-  None,
-  length,
-  refl,
-  arith,
-}
+use Rattle.std.proofs.Common.{◌≡◌, ◌≢◌, ℕ, ◌+◌, ◌-◌, ◌<◌, ◌≤◌, Bool, true, false, Option, Some, None, length, refl}
+use Rattle.std.proofs.Common.{arith}
 use Rattle.std.proofs.Common.{ap, sym, ◌∙◌}
 use Rattle.std.specs.Prelude.{IsSome, slice_set, ◌==◌}
 use Rattle.std.proofs.lemmas.List.{set-append_left, set-append_right, get_or-set_other}
@@ -24,24 +8,16 @@ use Rattle.std.proofs.lemmas.Bool.Decides.{nat_tests}
 use Rattle.link_verdicts.specs.declared.verdict.Operation.{Operation}
 use Rattle.link_verdicts.specs.declared.verdict.Operation.TheVariants as op
 use Rattle.key_slots.specs.{KeySet}
-use Rattle.key_laws.specs.Operations.{last_exchange_of, Op, Establishing, Refreshing, Stopping}
+use Rattle.spec_keys.specs.Operations.{last_exchange_of, StreamStage, Establishing, Refreshing, Stopping}
 use Rattle.tsm_host.specs.declared.exchange.Exchange.{Exchange}
 use Rattle.tsm_host.specs.declared.exchange.Exchange.TheVariants.{Query, Program, Go, Stop}
-use Rattle.tsm_host.specs.declared.stage.Asked.{Asked}
+use Rattle.tsm_host.specs.declared.stage.NextExchange.{NextExchange}
 use Rattle.tsm_host.specs.declared.stage.Stage.{Stage}
 use Rattle.tsm_host.specs.declared.stage.Stage.TheVariants as stage
 use Rattle.tsm_host.specs.Exchanges.{WireKeys, kept_key, exchange_of, end_of, exchange_lane, wire_number}
-use Rattle.tsm_host.specs.Streams.{
-  op_in,
-  stage_keys,
-  asked_in,
-  op_advanced,
-  is_last,
-  exchange_asked,
-  wire_asked,
-  KeysLeft,
-}
-use Rattle.tsm_host.specs.Streams.{StageHolds, IsWithin, key_count, first_program, keys_after}
+use Rattle.tsm_host.specs.Streams.{op_in, stage_keys, asked_of_unfinished, op_advanced, is_last, exchange_asked}
+use Rattle.tsm_host.specs.Streams.{wire_asked, KeysLeft}
+use Rattle.tsm_host.specs.Streams.{StageHolds, IsWithin, key_count, first_program, wire_keys_after}
 use Rattle.tsm_host.specs.Wires.{both_keys, SixEach}
 
 -- ---- a key of the near end, and a key of the far end behind it
@@ -69,7 +45,7 @@ brings (Program set lane) = true
 brings e = false
 
 still_kept : (e : Exchange) (keys : WireKeys) (w i : ℕ) → (brings e ≡ true → i ≢ w) → IsSome (kept_key keys i)
-    → IsSome (kept_key (keys_after e w keys) i)
+    → IsSome (kept_key (wire_keys_after e w keys) i)
 still_kept (Program set lane) keys w i other kept = rw (get_or-set_other keys w i None None (other refl)) kept
 still_kept Query keys w i other kept = kept
 still_kept (Go set lane) keys w i other kept = kept
@@ -88,7 +64,7 @@ brings_at false op.Stop set n low e = grind (arith, nat_tests)
 
 keys_left : (hosted : Bool) (o : Operation) (set : KeySet) (n count : ℕ) (keys : WireKeys) → 1 ≤ n
     → KeysLeft count (first_program hosted o) n keys
-    → KeysLeft count (first_program hosted o) (n + 1) (keys_after (exchange_of hosted o set n)
+    → KeysLeft count (first_program hosted o) (n + 1) (wire_keys_after (exchange_of hosted o set n)
     (wire_number hosted (end_of hosted o n) (exchange_lane (exchange_of hosted o set n))) keys)
 keys_left hosted o set n count keys low left i lt past = still_kept (exchange_of hosted o set n) keys _ i
     (λ e same. let at = brings_at hosted o set n low e in absurd (omega (arith, at, same, past)))
@@ -102,7 +78,7 @@ not_last : (hosted : Bool) (o : Operation) (n : ℕ) → n ≤ last_exchange_of 
 not_last hosted o n le e = grind (arith, nat_tests)
 
 -- the next exchange's number and keys, by the state that stands
-abbrev AtNext : (hosted : Bool) → Op → WireKeys → Type 0
+abbrev AtNext : (hosted : Bool) → StreamStage → WireKeys → Type 0
 AtNext hosted (Establishing draw next) keys =
     IsWithin hosted op.Establish next × KeysLeft (key_count hosted) (first_program hosted op.Establish) next keys
 AtNext hosted (Refreshing set draw next) keys =
@@ -117,27 +93,28 @@ holds_by hosted (stage.Up set draw) at = tt
 holds_by hosted (stage.Refreshing set draw next keys) at = at
 holds_by hosted (stage.Stopping next) at = at
 
-asked_is : (x a : Asked) → (let some : Option Asked = Some x in some) ≡ Some a
+asked_is : (x a : NextExchange) → (let some : Option NextExchange = Some x in some) ≡ Some a
     → (a.operation ≡ x.operation) × (a.exchange ≡ x.exchange)
 asked_is x a e = grind arith
 
-within_next : (hosted : Bool) (o : Operation) (a : Asked) (next : ℕ) → a.operation ≡ o → a.exchange ≡ next
+within_next : (hosted : Bool) (o : Operation) (a : NextExchange) (next : ℕ) → a.operation ≡ o → a.exchange ≡ next
     → IsWithin hosted o next → is_last hosted a ≡ false → IsWithin hosted o (next + 1)
 within_next hosted o a next of_o at within last = (
   omega arith,
   not_last hosted o next within.1 (rw (← of_o, ← at) last),
 )
 
-left_next : (hosted : Bool) (o : Operation) (a : Asked) (next count : ℕ) (keys : WireKeys) → a.operation ≡ o
+left_next : (hosted : Bool) (o : Operation) (a : NextExchange) (next count : ℕ) (keys : WireKeys) → a.operation ≡ o
     → a.exchange ≡ next → 1 ≤ next → KeysLeft count (first_program hosted o) next keys
     → KeysLeft count (first_program hosted o) (next + 1)
-    (keys_after (exchange_asked hosted a) (wire_asked hosted a) keys)
+    (wire_keys_after (exchange_asked hosted a) (wire_asked hosted a) keys)
 left_next hosted o a next count keys of_o at low left = rw (← of_o, ← at)
     (keys_left hosted a.operation a.set a.exchange count keys (rw at low) (rw (of_o, at) left))
 
-pub advances : (hosted : Bool) (old new : Stage) (a : Asked) → StageHolds hosted old → asked_in (op_in old) ≡ Some a
+pub advances : (hosted : Bool) (old new : Stage) (a : NextExchange) → StageHolds hosted old
+    → asked_of_unfinished (op_in old) ≡ Some a
     → is_last hosted a ≡ false → op_in new ≡ op_advanced (op_in old)
-    → stage_keys new ≡ keys_after (exchange_asked hosted a) (wire_asked hosted a) (stage_keys old)
+    → stage_keys new ≡ wire_keys_after (exchange_asked hosted a) (wire_asked hosted a) (stage_keys old)
     → StageHolds hosted new
 advances hosted stage.Idle new a holds asked last ops keys = absurd cc
 advances hosted (stage.Up set draw) new a holds asked last ops keys = absurd cc

@@ -1,12 +1,12 @@
 -- Each local call of the manager leaves slots that fit.
 use Rattle.std.proofs.Common.{◌≡◌, ℕ, ◌<◌, ◌==◌, Bool, true, false, List, refl, sym, subst}
 use Rattle.std.specs.Prelude.{nat_lt, not, ◌&&◌, ◌||◌}
-use Rattle.key_laws.proofs.Tests.{same-true, true-same, lt-true, true-lt, both-true}
+use Rattle.spec_keys.proofs.Tests.{same-true, true-same, lt-true, true-lt, both-true}
 use Rattle.key_slots.specs.declared.slot.Slot.{Slot}
 use Rattle.key_slots.specs.declared.slot.Slot.TheVariants.{Empty, Programmed, Armed, Live}
 use Rattle.key_slots.specs.{SlotPair, DrawnKey, slot_in, is_live, is_only_live, is_last_live, live_draw, programmed}
-use Rattle.key_slots.specs.{after_go, armed, halted}
-use Rattle.key_laws.specs.Operations.{Idle, Establishing, Up, Refreshing, Stopping}
+use Rattle.key_slots.specs.{after_go, armed_pair, stopped_pair}
+use Rattle.spec_keys.specs.Operations.{Idle, Establishing, Up, Refreshing, Stopping}
 use Rattle.tsm_host.specs.Fits.{is_ahead, is_in_use, pair_fits, PairsFit}
 
 abbrev pair_of : Bool → Slot → Slot → SlotPair
@@ -25,7 +25,7 @@ first_set sender (Armed a) one key j fits = absurd cc
 first_set sender (Live a) one key j fits = absurd cc
 
 both_stop : (sender : Bool) (zero one : Slot) → pair_fits (Stopping 1)
-    (halted (halted (pair_of sender zero one) false) true) ≡ true
+    (stopped_pair (stopped_pair (pair_of sender zero one) false) true) ≡ true
 both_stop sender zero Empty = refl
 both_stop sender zero (Programmed b) = refl
 both_stop sender zero (Armed b) = refl
@@ -34,7 +34,7 @@ both_stop sender zero (Live b) = refl
 first_go : (sender : Bool) (zero one : Slot) (j : ℕ) (unfinished : Bool)
     → (unfinished ≡ true → (is_live zero || is_live one) ≡ true)
     → pair_fits (Establishing j 10) (pair_of sender zero one) ≡ true
-    → pair_fits (Establishing j 11) (armed (pair_of sender zero one) false unfinished) ≡ true
+    → pair_fits (Establishing j 11) (armed_pair (pair_of sender zero one) false unfinished) ≡ true
 first_go false (Programmed a) Empty j unfinished live fits = fits
 first_go true (Programmed a) Empty j false live fits = fits
 first_go true (Programmed a) Empty j true live fits = let no_live = live refl in absurd cc
@@ -60,7 +60,7 @@ went sender unfinished (Live a) other j fits = absurd cc
 
 ahead_go : (sender : Bool) (zero one : Slot) (j : ℕ) (k unfinished : Bool)
     → pair_fits (Refreshing k j 9) (pair_of sender zero one) ≡ true
-    → pair_fits (Refreshing k j 10) (armed (pair_of sender zero one) k unfinished) ≡ true
+    → pair_fits (Refreshing k j 10) (armed_pair (pair_of sender zero one) k unfinished) ≡ true
 ahead_go sender zero one j false unfinished fits = went sender unfinished zero one j fits
 ahead_go sender zero one j true unfinished fits = went sender unfinished one zero j fits
 

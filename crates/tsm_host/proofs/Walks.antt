@@ -11,31 +11,23 @@ use Rattle.link_verdicts.specs.declared.verdict.Operation.TheVariants as op
 use Rattle.link_verdicts.specs.declared.verdict.Verdict.{Verdict}
 use Rattle.link_verdicts.specs.declared.verdict.Verdict.TheVariants as v
 use Rattle.ide_types.proofs.KeySets.{one_of_set}
-use Rattle.key_laws.specs.Operations.{
-  Op,
-  Up,
-  Refreshing,
-  Work,
-  work,
-  last_exchange_of,
-  reach,
-  reach_of,
-  whole,
-  op_standing,
-}
-use Rattle.key_laws.specs.Operations.{op_ended}
+use Rattle.spec_keys.specs.Operations.{StreamStage, Up, Refreshing, Work, work, last_exchange_of, reach, reach_of}
+use Rattle.spec_keys.specs.Operations.{whole, op_standing}
+use Rattle.spec_keys.specs.Operations.{op_ended}
 use Rattle.ide_types.specs.Lines.{is_hosted}
-use Rattle.key_laws.specs.Due.{PortView, refusal_at, lost_in, lost_at, cut_at, first_from, done, stays}
-use Rattle.key_laws.proofs.Tests.{lt-true, lt-false, same-true, different-false}
+use Rattle.spec_keys.specs.Due.{PortView, refusal_at, lost_message, lost_at, cut_at, first_from, done, stays}
+use Rattle.spec_keys.proofs.Tests.{lt-true, lt-false, same-true, different-false}
 use Rattle.tsm_host.specs.declared.judge.Judged.{Judged}
 use Rattle.tsm_host.specs.declared.judge.Judged.TheVariants.{Expected}
-use Rattle.tsm_host.specs.declared.operation.Outcome.{Outcome}
-use Rattle.tsm_host.specs.declared.operation.Outcome.TheVariants as outcome
-use Rattle.tsm_host.specs.declared.stage.Asked.{Asked}
-use Rattle.tsm_host.specs.Streams.{StreamView, asked_exchange, asked_in, work_asked, outcome_of, taken_stream}
+use Rattle.tsm_host.specs.declared.operation.StreamOutcome.{StreamOutcome}
+use Rattle.tsm_host.specs.declared.operation.StreamOutcome.TheVariants as outcome
+use Rattle.tsm_host.specs.declared.stage.NextExchange.{NextExchange}
+use Rattle.tsm_host.specs.Streams.{StreamView, asked_exchange, asked_of_unfinished, work_asked, outcome_of}
+use Rattle.tsm_host.specs.Streams.{taken_stream}
 use Rattle.tsm_host.specs.Streams.{acknowledged}
 use Rattle.tsm_host.specs.Streams.{shown_at_end}
-use Rattle.tsm_host.specs.Walk.{answers, carried_as, Walked, outcome_at, stream_after, continued, walk, verdict_of}
+use Rattle.tsm_host.specs.Walk.{answers, exchange_judged, Walked, outcome_at, stream_after, walk_after_outcome, walk}
+use Rattle.tsm_host.specs.Walk.{verdict_of}
 use Rattle.tsm_host.specs.Walk.{op_by}
 use Rattle.tsm_host.specs.Walk.{NoBadReply}
 
@@ -46,7 +38,7 @@ WorkFits op.Refresh set draw = Unit {0}
 WorkFits op.Stop set draw = (set ≡ false) × (draw ≡ 0)
 
 standing_asked : (o : Operation) (set : Bool) (draw f : ℕ) (b : Bool) (n : ℕ) → WorkFits o set draw
-    → asked_in (op_standing (work o set draw f b) n) ≡ Some (asked_exchange o set draw n)
+    → asked_of_unfinished (op_standing (work o set draw f b) n) ≡ Some (asked_exchange o set draw n)
 unfolding WorkFits
 standing_asked op.Establish set draw f b n fits = ap (λ k. Some (asked_exchange op.Establish k draw n)) (sym fits)
 standing_asked op.Refresh set draw f b n fits = refl
@@ -58,7 +50,8 @@ abbrev pub ends_as : ℕ → ℕ → Work → Option Verdict → Verdict
 ends_as link id w rest = unwrap_or rest (done link id w)
 
 -- what the rest of a walk gives
-pub record Comes (o : Operation) (set : Bool) (draw f : ℕ) (b : Bool) (link id : ℕ) (loss : Option Loss) (before : Op)
+pub record Comes (o : Operation) (set : Bool) (draw f : ℕ) (b : Bool) (link id : ℕ) (loss : Option Loss)
+    (before : StreamStage)
     (rest : Option Verdict) (x : Walked) : Type 0 where
   pub verdict_is : verdict_of o link id loss x.outcome ≡ Some (ends_as link id (work o set draw f b) rest)
   pub op_is : x.stream.op ≡ op_by (is_hosted link) before (work o set draw f b)
@@ -76,16 +69,17 @@ cut_lost o Reply n = record { carried = n + 1; says = refl }
 cut_refused : (o : Operation) (status n : ℕ) → CutShort o (v.RefusedDevice n status) n
 cut_refused o status n = record { carried = n + 1; says = refl }
 
-taken : {A : Type 0} (b : Bool) (x y : A) → b ≡ true → (if b then x else y) ≡ x
-taken true x y e = refl
-taken false x y e = absurd cc
+manager_after_reply : {A : Type 0} (b : Bool) (x y : A) → b ≡ true → (if b then x else y) ≡ x
+manager_after_reply true x y e = refl
+manager_after_reply false x y e = absurd cc
 
 not_taken : {A : Type 0} (b : Bool) (x y : A) → b ≡ false → (if b then x else y) ≡ y
 not_taken true x y e = absurd cc
 not_taken false x y e = refl
 
 -- if it is cut off, the operation stays
-stays_there : (link : ℕ) (o : Operation) (set : Bool) (draw f : ℕ) (b : Bool) (verdict : Verdict) (before : Op) (n : ℕ)
+stays_there : (link : ℕ) (o : Operation) (set : Bool) (draw f : ℕ) (b : Bool) (verdict : Verdict) (before : StreamStage)
+    (n : ℕ)
     → n ≤ last_exchange_of (is_hosted link) o → CutShort o verdict n
     → op_by (is_hosted link) before (work o set draw f b) (reach_of o verdict) ≡ op_standing (work o set draw f b) n
 stays_there link o set draw f b verdict before n le cut =
@@ -120,19 +114,20 @@ done_says op.Refresh set draw f b link id = refl
 done_says op.Stop set draw f b link id = refl
 
 -- what an answer makes of the walk
-abbrev answered_by : ℕ → Asked → Judged → (ℕ → Judged) → ℕ → StreamView → Walked
-answered_by link a j carried more s = continued (outcome_of (is_hosted link) a j) (taken_stream (is_hosted link) a j s)
+abbrev answered_by : ℕ → NextExchange → Judged → (ℕ → Judged) → ℕ → StreamView → Walked
+answered_by link a j carried more s = walk_after_outcome (outcome_of (is_hosted link) a j)
+    (taken_stream (is_hosted link) a j s)
     (walk (is_hosted link) more carried (taken_stream (is_hosted link) a j s))
 
 -- an exchange that is lost or refused, or else what is given
-cuts : (o : Operation) (set : Bool) (draw f : ℕ) (b : Bool) (link id : ℕ) (loss : Option Loss) (before : Op)
+cuts : (o : Operation) (set : Bool) (draw f : ℕ) (b : Bool) (link id : ℕ) (loss : Option Loss) (before : StreamStage)
     (carried : ℕ → Judged) (more n : ℕ) (s : StreamView) (rest : Option Verdict)
     → n ≤ last_exchange_of (is_hosted link) o → s.op ≡ op_standing (work o set draw f b) n
     → Comes o set draw f b link id loss before rest
     (answered_by link (asked_exchange o set draw n) Expected carried more s)
-    → (lost : Option LostPart) (status : Option ℕ) → lost_in loss n ≡ lost
+    → (lost : Option LostPart) (status : Option ℕ) → lost_message loss n ≡ lost
     → Comes o set draw f b link id loss before (option_or (cut_at lost status n) rest)
-    (answered_by link (asked_exchange o set draw n) (carried_as lost status) carried more s)
+    (answered_by link (asked_exchange o set draw n) (exchange_judged lost status) carried more s)
 cuts o set draw f b link id loss before carried more n s rest le at goes (Some lost) status e = record {
   verdict_is = ap (option_map (λ (l : LostPart). lost_at l n)) e;
   op_is = at ∙ sym (stays_there link o set draw f b (lost_at lost n) before n le (cut_lost o lost n));
@@ -144,7 +139,7 @@ cuts o set draw f b link id loss before carried more n s rest le at goes None (S
 cuts o set draw f b link id loss before carried more n s rest le at goes None None e = goes
 
 -- after the last exchange
-ends : (o : Operation) (set : Bool) (draw f : ℕ) (b : Bool) (link id : ℕ) (loss : Option Loss) (before : Op)
+ends : (o : Operation) (set : Bool) (draw f : ℕ) (b : Bool) (link id : ℕ) (loss : Option Loss) (before : StreamStage)
     (carried : ℕ → Judged) (n : ℕ) (s : StreamView) → n ≡ last_exchange_of (is_hosted link) o
     → Comes o set draw f b link id loss before None
     (answered_by link (asked_exchange o set draw n) Expected carried zero s)
@@ -158,21 +153,22 @@ ends o set draw f b link id loss before carried n s same =
     ≡ true = lt-true (last_exchange_of (is_hosted link) o) (last_exchange_of (is_hosted link) o + 1) (omega arith) in
     let by_end : op_by (is_hosted link) before (work o set draw f b) (reach_of o (done link id (work o set draw f b)))
     ≡ op_ended (work o set draw f b) =
-    ap (op_by (is_hosted link) before (work o set draw f b)) (done_says o set draw f b link id) ∙ taken
+    ap (op_by (is_hosted link) before (work o set draw f b)) (done_says o set draw f b link id) ∙ manager_after_reply
     (nat_lt (last_exchange_of (is_hosted link) o) (last_exchange_of (is_hosted link) o + 1))
     (op_ended (work o set draw f b))
     (op_standing (work o set draw f b) (last_exchange_of (is_hosted link) o + 1)) end in
     let now : (acknowledged (is_hosted link) (asked_exchange o set draw n) s).op ≡ op_ended (work o set draw f b) =
-    taken (nat_lt (last_exchange_of (is_hosted link) o) (n + 1)) (op_ended (work_asked (asked_exchange o set draw n)))
+    manager_after_reply (nat_lt (last_exchange_of (is_hosted link) o) (n + 1))
+    (op_ended (work_asked (asked_exchange o set draw n)))
     (op_standing (work_asked (asked_exchange o set draw n)) (n + 1)) less ∙ ended_as o set draw n f b in
     subst (λ (t : Bool). Comes o set draw f b link id loss before None
-    (continued (if t then outcome.Done (shown_at_end (asked_exchange o set draw n)) else outcome.Next)
+    (walk_after_outcome (if t then outcome.Done (shown_at_end (asked_exchange o set draw n)) else outcome.Next)
     (acknowledged (is_hosted link) (asked_exchange o set draw n) s)
     (walk (is_hosted link) zero carried (acknowledged (is_hosted link) (asked_exchange o set draw n) s)))) (sym test)
     (record { verdict_is = shows_done o set draw n f b link id loss; op_is = now ∙ sym by_end })
 
 -- after another one the walk goes on
-goes_on : (o : Operation) (set : Bool) (draw f : ℕ) (b : Bool) (link id : ℕ) (loss : Option Loss) (before : Op)
+goes_on : (o : Operation) (set : Bool) (draw f : ℕ) (b : Bool) (link id : ℕ) (loss : Option Loss) (before : StreamStage)
     (carried : ℕ → Judged) (more n : ℕ) (s : StreamView) (rest : Option Verdict)
     → n < last_exchange_of (is_hosted link) o
     → Comes o set draw f b link id loss before rest
@@ -183,7 +179,7 @@ goes_on o set draw f b link id loss before carried more n s rest lt comes =
     let test : (n == last_exchange_of (is_hosted link) o) ≡ false = different-false n
     (last_exchange_of (is_hosted link) o) lt in
     subst (λ (t : Bool). Comes o set draw f b link id loss before rest
-    (continued (if t then outcome.Done (shown_at_end (asked_exchange o set draw n)) else outcome.Next)
+    (walk_after_outcome (if t then outcome.Done (shown_at_end (asked_exchange o set draw n)) else outcome.Next)
     (acknowledged (is_hosted link) (asked_exchange o set draw n) s)
     (walk (is_hosted link) more carried (acknowledged (is_hosted link) (asked_exchange o set draw n) s)))) (sym test)
     comes
@@ -201,44 +197,47 @@ next_standing link o set draw f b n s lt =
 -- by how many exchanges are left: at each the walk ends in a loss or a refusal or goes on to the next, and the last
 -- ends it
 walk_is : (o : Operation) (set : Bool) (draw f : ℕ) (b : Bool) → WorkFits o set draw
-    → (link id : ℕ) (loss : Option Loss) (refusal : ℕ → Option ℕ) (before : Op) (more n : ℕ) (s : StreamView) → n + more
+    → (link id : ℕ) (loss : Option Loss) (refusal : ℕ → Option ℕ) (before : StreamStage) (more n : ℕ) (s : StreamView)
+    → n + more
     ≡ last_exchange_of (is_hosted link) o
     → s.op ≡ op_standing (work o set draw f b) n
-    → Comes o set draw f b link id loss before (first_from (λ x. cut_at (lost_in loss x) (refusal x) x) n (suc more))
+    → Comes o set draw f b link id loss before
+    (first_from (λ x. cut_at (lost_message loss x) (refusal x) x) n (suc more))
     (walk (is_hosted link) (suc more) (answers loss refusal) s)
 walk_is o set draw f b fits link id loss refusal before zero n s count at =
     let le : n ≤ last_exchange_of (is_hosted link) o = omega (arith, count) in
     let same : n ≡ last_exchange_of (is_hosted link) o = omega (arith, count) in
-    subst (λ (q : Option Asked). Comes o set draw f b link id loss before
-    (first_from (λ x. cut_at (lost_in loss x) (refusal x) x) n (suc zero))
-    (continued (outcome_at (is_hosted link) q (answers loss refusal))
+    subst (λ (q : Option NextExchange). Comes o set draw f b link id loss before
+    (first_from (λ x. cut_at (lost_message loss x) (refusal x) x) n (suc zero))
+    (walk_after_outcome (outcome_at (is_hosted link) q (answers loss refusal))
     (stream_after (is_hosted link) q (answers loss refusal) s)
     (walk (is_hosted link) zero (answers loss refusal) (stream_after (is_hosted link) q (answers loss refusal) s))))
-    (sym (ap asked_in at ∙ standing_asked o set draw f b n fits))
+    (sym (ap asked_of_unfinished at ∙ standing_asked o set draw f b n fits))
     (cuts o set draw f b link id loss before (answers loss refusal) zero n s None le at
-    (ends o set draw f b link id loss before (answers loss refusal) n s same) (lost_in loss n) (refusal n) refl)
+    (ends o set draw f b link id loss before (answers loss refusal) n s same) (lost_message loss n) (refusal n) refl)
 walk_is o set draw f b fits link id loss refusal before (suc more) n s count at =
     let lt : n < last_exchange_of (is_hosted link) o = omega (arith, count) in
     let le : n ≤ last_exchange_of (is_hosted link) o = omega (arith, count) in
     let on : (n + 1) + more ≡ last_exchange_of (is_hosted link) o = omega (arith, count) in
     let rest = walk_is o set draw f b fits link id loss refusal before more (n + 1)
     (acknowledged (is_hosted link) (asked_exchange o set draw n) s) on (next_standing link o set draw f b n s lt) in
-    subst (λ (q : Option Asked). Comes o set draw f b link id loss before
-    (first_from (λ x. cut_at (lost_in loss x) (refusal x) x) n (suc (suc more)))
-    (continued (outcome_at (is_hosted link) q (answers loss refusal))
+    subst (λ (q : Option NextExchange). Comes o set draw f b link id loss before
+    (first_from (λ x. cut_at (lost_message loss x) (refusal x) x) n (suc (suc more)))
+    (walk_after_outcome (outcome_at (is_hosted link) q (answers loss refusal))
     (stream_after (is_hosted link) q (answers loss refusal) s)
     (walk (is_hosted link) (suc more) (answers loss refusal)
     (stream_after (is_hosted link) q (answers loss refusal) s))))
-    (sym (ap asked_in at ∙ standing_asked o set draw f b n fits))
+    (sym (ap asked_of_unfinished at ∙ standing_asked o set draw f b n fits))
     (cuts o set draw f b link id loss before (answers loss refusal) (suc more) n s
-    (first_from (λ x. cut_at (lost_in loss x) (refusal x) x) (n + 1) (suc more)) le at
+    (first_from (λ x. cut_at (lost_message loss x) (refusal x) x) (n + 1) (suc more)) le at
     (goes_on o set draw f b link id loss before (answers loss refusal) (suc more) n s
-    (first_from (λ x. cut_at (lost_in loss x) (refusal x) x) (n + 1) (suc more)) lt rest) (lost_in loss n) (refusal n)
+    (first_from (λ x. cut_at (lost_message loss x) (refusal x) x) (n + 1) (suc more)) lt rest) (lost_message loss n)
+    (refusal n)
     refl)
 
 -- from the first exchange of an event on
 pub walk_comes : (o : Operation) (set : Bool) (draw f : ℕ) (b : Bool) → WorkFits o set draw
-    → (ports : PortView) (link id : ℕ) (loss : Option Loss) (before : Op) (s : StreamView)
+    → (ports : PortView) (link id : ℕ) (loss : Option Loss) (before : StreamStage) (s : StreamView)
     → f ≤ last_exchange_of (is_hosted link) o
     → s.op
     ≡ op_standing (work o set draw f b) f
@@ -251,7 +250,7 @@ walk_comes o set draw f b fits ports link id loss before s le at =
     let more : suc (last_exchange_of (is_hosted link) o - f) ≡ last_exchange_of (is_hosted link) o + 1 - f = omega
     (arith, le) in
     subst (λ (k : ℕ). Comes o set draw f b link id loss before
-    (first_from (λ x. cut_at (lost_in loss x) (refusal_at ports o set link id x) x) f k)
+    (first_from (λ x. cut_at (lost_message loss x) (refusal_at ports o set link id x) x) f k)
     (walk (is_hosted link) k (answers loss (refusal_at ports o set link id)) s)) more
     (walk_is o set draw f b fits link id loss (refusal_at ports o set link id) before
     (last_exchange_of (is_hosted link) o - f) f s count
@@ -265,6 +264,6 @@ some_lost n None verdict is = absurd cc
 some_lost n (Some lost) verdict is = refl
 
 -- if a reply was bad, or an exchange was lost but no message of it, there is no verdict
-pub no_bad_reply : (o : Operation) (link stream : ℕ) (loss : Option Loss) (x : Outcome) (verdict : Verdict)
+pub no_bad_reply : (o : Operation) (link stream : ℕ) (loss : Option Loss) (x : StreamOutcome) (verdict : Verdict)
     → verdict_of o link stream loss x ≡ Some verdict → NoBadReply loss x
 no_bad_reply o link stream loss x verdict is = grind (arith, some_lost)

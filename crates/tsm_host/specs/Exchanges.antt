@@ -2,12 +2,12 @@
 use Rattle.std.specs.Prelude.{ℕ, ◌+◌, ◌-◌, ◌*◌, ◌/◌, ◌%◌, ◌==◌, ◌++◌, nat_lt, Bool, true, false, if◌then◌else◌, Option}
 use Rattle.std.specs.Prelude.{Some}
 use Rattle.std.specs.Prelude.{None, List, [], slice_index_or}
-use Rattle.key_slots.specs.{KeySet, set_number, unspent, near_six}
+use Rattle.key_slots.specs.{KeySet, set_number, unspent_keys, near_six}
 use Rattle.ide_types.specs.declared.port.Side.{Side}
 use Rattle.ide_types.specs.declared.port.Side.TheVariants.{Host, Device}
 use Rattle.ide_types.specs.declared.key_set.KeySet.TheVariants.{Zero, One}
-use Rattle.ide_km.specs.declared.object.KmView.{KmView}
-use Rattle.ide_km.specs.declared.object.KmView.TheVariants as km
+use Rattle.key_messages.specs.declared.object.KmView.{KmView}
+use Rattle.key_messages.specs.declared.object.KmView.TheVariants as km
 use Rattle.link_verdicts.specs.declared.verdict.Operation.{Operation}
 use Rattle.link_verdicts.specs.declared.verdict.Operation.TheVariants as op
 use Rattle.tsm_host.specs.declared.exchange.Exchange.{Exchange}
@@ -74,8 +74,8 @@ wire_number hosted end lane = lane
 
 -- the keys of a draw, of which none was acknowledged
 abbrev pub wire_keys : (hosted : Bool) → List (List ℕ) → WireKeys
-wire_keys true six = unspent six
-wire_keys false six = unspent (near_six six) ++ unspent six
+wire_keys true six = unspent_keys six
+wire_keys false six = unspent_keys (near_six six) ++ unspent_keys six
 
 -- the request of an exchange: port index 0, and initial counter 1; i is the number of its lane's key
 abbrev pub request_of : ℕ → WireKeys → ℕ → Exchange → KmView

@@ -3,8 +3,8 @@ use Rattle.std.specs.Prelude.{ℕ, ◌≡◌, ◌<◌, ◌==◌, nat_lt, nat_le,
 use Rattle.std.specs.Prelude.{List}
 use Rattle.key_slots.specs.declared.slot.Slot.{Slot}
 use Rattle.key_slots.specs.declared.slot.Slot.TheVariants.{Empty, Programmed, Armed, Live}
-use Rattle.key_slots.specs.{SlotPair, slot_in, is_live, is_only_live, programmed, armed, halted}
-use Rattle.key_laws.specs.Operations.{Op, Idle, Establishing, Up, Refreshing, Stopping}
+use Rattle.key_slots.specs.{SlotPair, slot_in, is_live, is_only_live, programmed, armed_pair, stopped_pair}
+use Rattle.spec_keys.specs.Operations.{StreamStage, Idle, Establishing, Up, Refreshing, Stopping}
 
 abbrev pub are_empty : Slot → Slot → Bool
 are_empty Empty Empty = true
@@ -29,7 +29,7 @@ is_in_use true j (Armed held) (Live older) = (held.draw == j) && nat_lt older.dr
 is_in_use sender j mine other = false
 
 -- the host's port goes on after the third GO of the device's receivers, exchange 10 of an establish and 9 of a refresh
-abbrev pub pair_fits : Op → SlotPair → Bool
+abbrev pub pair_fits : StreamStage → SlotPair → Bool
 pair_fits Idle pair = are_empty pair.zero pair.one
 pair_fits (Establishing j n) pair = if nat_le n 10 then is_first j pair.zero pair.one else is_in_use pair.sender j
     pair.zero pair.one
@@ -49,10 +49,10 @@ pub record SlotPairFits (pair : SlotPair) (key : List ℕ) (j : ℕ) : Type 0 wh
       × (pair_fits (Refreshing (not k) j 1) (programmed pair (not k) (record { key = key; draw = j })) ≡ true)
   pub goes_first : (unfinished : Bool) → (unfinished ≡ true → (is_live pair.zero || is_live pair.one) ≡ true)
       → pair_fits (Establishing j 10) pair ≡ true
-      → pair_fits (Establishing j 11) (armed pair false unfinished) ≡ true
+      → pair_fits (Establishing j 11) (armed_pair pair false unfinished) ≡ true
   pub goes_ahead : (k unfinished : Bool) → pair_fits (Refreshing k j 9) pair ≡ true → pair_fits (Refreshing k j 10)
-      (armed pair k unfinished) ≡ true
-  pub stops : pair_fits (Stopping 1) (halted (halted pair false) true) ≡ true
+      (armed_pair pair k unfinished) ≡ true
+  pub stops : pair_fits (Stopping 1) (stopped_pair (stopped_pair pair false) true) ≡ true
 
 abbrev pub PairsFit : Type 0
 PairsFit = (pair : SlotPair) (key : List ℕ) (j : ℕ) → SlotPairFits pair key j

@@ -1,13 +1,14 @@
 -- What the manager makes of a reply (this profile).
 use Rattle.std.specs.Prelude.{ℕ, ◌==◌, Bool, false, ◌&&◌, if◌then◌else◌, Some, None, Result, Ok, Err}
-use Rattle.ide_km.specs.declared.object.KmView.{KmView}
-use Rattle.ide_km.specs.declared.object.KmView.TheVariants.{Query, QueryResp, KeyProg, KpAck, SetGo, SetStop, GoStopAck}
-use Rattle.ide_km.specs.declared.object.KmFault.{KmFault}
-use Rattle.ide_km.specs.{object_reading}
+use Rattle.key_messages.specs.declared.object.KmView.{KmView}
+use Rattle.key_messages.specs.declared.object.KmView.TheVariants.{Query, QueryResp, KeyProg, KpAck, SetGo, SetStop}
+use Rattle.key_messages.specs.declared.object.KmView.TheVariants.{GoStopAck}
+use Rattle.key_messages.specs.declared.object.KmFault.{KmFault}
+use Rattle.key_messages.specs.{object_reading}
 use Rattle.tsm_host.specs.declared.judge.Judged.{Judged}
 use Rattle.tsm_host.specs.declared.judge.Judged.TheVariants.{Expected, Lost, Refused, Bad}
-use Rattle.tsm_host.specs.declared.operation.Carried.{Carried}
-use Rattle.tsm_host.specs.declared.operation.Carried.TheVariants as carried
+use Rattle.tsm_host.specs.declared.operation.ExchangeReply.{ExchangeReply}
+use Rattle.tsm_host.specs.declared.operation.ExchangeReply.TheVariants as carried
 
 abbrev pub gives_back : ℕ → ℕ → ℕ → ℕ → ℕ → ℕ → Bool
 gives_back stream selector port s x p = ((s == stream) && (x == selector)) && (p == port)
@@ -44,7 +45,7 @@ judged_reply request (Err fault) = Bad
 judged_reply request (Ok reply) = if is_expected request reply then Expected else refusal_in reply
 
 -- no reply of the device is a bad one
-abbrev pub judged : KmView → Carried → Judged
+abbrev pub judged : KmView → ExchangeReply → Judged
 judged request carried.Lost = Lost
 judged request (carried.Reply None) = Bad
 judged request (carried.Reply (Some bytes)) = judged_reply request (object_reading bytes.now)

@@ -1,18 +1,20 @@
 -- Local calls of the host's port, one after another.
 use Rattle.std.specs.Prelude.{ℕ, ◌≡◌, Bool, false, true, List, [], ◌∷◌, ◌++◌, slice_index_or}
 use Rattle.ide_types.specs.declared.direction.Direction.TheVariants.{Downstream, Upstream}
-use Rattle.key_slots.specs.{Program, Go, Halt}
-use Rattle.ide_km.specs.declared.place.Place.{Place}
-use Rattle.ide_km.specs.{place_at, PlaceCall, place_call, Shown, SlotsAfter}
+use Rattle.key_slots.specs.{Program, Go, Stop}
+use Rattle.key_messages.specs.declared.place.Place.{Place}
+use Rattle.key_messages.specs.{place_at, PlaceCall, place_call, SlotsShown, SlotsAfter}
 
 -- one call: the port moves by its own relation, and its slots by the call
-pub record CallMoves {Port : Type 0} (slots : Port → Shown) (unfinished : Port → Place → Bool) (moves : Port → PlaceCall
+pub record CallMoves {Port : Type 0} (slots : Port → SlotsShown) (unfinished : Port → Place → Bool)
+    (moves : Port → PlaceCall
     → Port → Type 0) (before : Port) (c : PlaceCall) (after : Port) : Type 0 where
   pub moved : moves before c after
   pub kept : SlotsAfter (slots before) (unfinished before) c (slots after)
 
 -- the calls of a list, in order; with none the port is as before
-abbrev pub CallsMove : {Port : Type 0} → (Port → Shown) → (Port → Place → Bool) → (Port → PlaceCall → Port → Type 0)
+abbrev pub CallsMove : {Port : Type 0} → (Port → SlotsShown) → (Port → Place → Bool)
+    → (Port → PlaceCall → Port → Type 0)
     → Port → List PlaceCall → Port → Type 0
 CallsMove slots unfinished moves before [] after = after ≡ before
 CallsMove {Port} slots unfinished moves before (c ∷ cs) after =
@@ -41,12 +43,12 @@ goes stream set =
     ∷ place_call (place_at stream Upstream 2) (Go set) ∷ place_call (place_at stream Downstream 0) (Go set)
     ∷ place_call (place_at stream Downstream 1) (Go set) ∷ place_call (place_at stream Downstream 2) (Go set) ∷ []
 
-abbrev pub halts_in : ℕ → Bool → List PlaceCall
-halts_in stream set =
-    place_call (place_at stream Downstream 0) (Halt set) ∷ place_call (place_at stream Downstream 1) (Halt set)
-    ∷ place_call (place_at stream Downstream 2) (Halt set) ∷ place_call (place_at stream Upstream 0) (Halt set)
-    ∷ place_call (place_at stream Upstream 1) (Halt set) ∷ place_call (place_at stream Upstream 2) (Halt set) ∷ []
+abbrev pub stops_in : ℕ → Bool → List PlaceCall
+stops_in stream set =
+    place_call (place_at stream Downstream 0) (Stop set) ∷ place_call (place_at stream Downstream 1) (Stop set)
+    ∷ place_call (place_at stream Downstream 2) (Stop set) ∷ place_call (place_at stream Upstream 0) (Stop set)
+    ∷ place_call (place_at stream Upstream 1) (Stop set) ∷ place_call (place_at stream Upstream 2) (Stop set) ∷ []
 
 -- all slots of a stream
 abbrev pub halts : ℕ → List PlaceCall
-halts stream = halts_in stream false ++ halts_in stream true
+halts stream = stops_in stream false ++ stops_in stream true

@@ -1,29 +1,30 @@
 -- What the manager keeps of all streams, and what each call makes of it (this profile).
 use Rattle.std.specs.Prelude.{ℕ, ◌+◌, Option, Some, None, List, [], ◌∷◌, ◌++◌, map, Result, Ok, Err, position}
 use Rattle.std.specs.Prelude.{slice_get, slice_set}
-use Rattle.ide_plan.specs.declared.plan.LinkPlan.{LinkPlan}
-use Rattle.ide_plan.specs.declared.plan.HopPlan.{HopPlan}
-use Rattle.ide_plan.specs.declared.plan.PeerPlan.{PeerPlan}
+use Rattle.ide_types.specs.declared.plan.LinkPlan.{LinkPlan}
+use Rattle.ide_types.specs.declared.plan.HopPlan.{HopPlan}
+use Rattle.ide_types.specs.declared.plan.PeerPlan.{PeerPlan}
 use Rattle.ide_types.specs.declared.port.PortName.{PortName}
-use Rattle.ide_plan.specs.declared.stream.StreamPlan.{StreamPlan}
+use Rattle.ide_types.specs.declared.stream.StreamPlan.{StreamPlan}
 use Rattle.key_slots.specs.{Pool}
-use Rattle.ide_km.specs.{PlaceCall}
+use Rattle.key_messages.specs.{PlaceCall}
 use Rattle.link_verdicts.specs.declared.verdict.Operation.{Operation}
-use Rattle.key_laws.specs.Operations.{Op, Work, work_of}
-use Rattle.tsm_host.specs.declared.operation.Carried.{Carried}
-use Rattle.tsm_host.specs.declared.operation.Outcome.{Outcome}
-use Rattle.tsm_host.specs.declared.operation.Outcome.TheVariants.{Next}
-use Rattle.tsm_host.specs.declared.operation.Refusal.{Refusal}
-use Rattle.tsm_host.specs.declared.stage.Asked.{Asked}
+use Rattle.spec_keys.specs.Operations.{StreamStage, Work, work_of}
+use Rattle.tsm_host.specs.declared.operation.ExchangeReply.{ExchangeReply}
+use Rattle.tsm_host.specs.declared.operation.StreamOutcome.{StreamOutcome}
+use Rattle.tsm_host.specs.declared.operation.StreamOutcome.TheVariants.{Next}
+use Rattle.tsm_host.specs.declared.operation.StreamRefusal.{StreamRefusal}
+use Rattle.tsm_host.specs.declared.stage.NextExchange.{NextExchange}
 use Rattle.tsm_host.specs.Judging.{judged}
 use Rattle.tsm_host.specs.Streams.{has_host, key_status}
 use Rattle.ide_types.specs.declared.status.StreamStatus.{StreamStatus}
 use Rattle.ide_types.specs.declared.status.StreamStatus.TheVariants as status
-use Rattle.tsm_host.specs.Streams.{StreamView, new_stream, is_named, reset_stream, asked_in, request_asked, HostView}
+use Rattle.tsm_host.specs.Streams.{StreamView, new_stream, is_named, reset_stream, asked_of_unfinished, request_asked}
+use Rattle.tsm_host.specs.Streams.{HostView}
 use Rattle.tsm_host.specs.Streams.{refusal_of, unless, begun_stream, begun_pool, begun_calls, outcome_of, taken_stream}
 use Rattle.tsm_host.specs.Streams.{taken_calls}
 
--- The streams of all lines, in the order of the lines and of each link's streams, and the place of the one whose
+-- The streams of all lines, in the order of the lines and of each line's streams, and the place of the one whose
 -- exchange is to be asked and taken.
 pub record ManagerView : Type 0 where
   pub streams : List StreamView
@@ -80,7 +81,7 @@ named_in streams (Some place) = named_at place (slice_get streams place)
 abbrev pub named : ManagerView → ℕ → ℕ → Option Named
 named m link id = named_in m.streams (stream_place m link id)
 
-abbrev pub op_named : Option Named → Option Op
+abbrev pub op_named : Option Named → Option StreamStage
 op_named None = None
 op_named (Some n) = Some n.stream.op
 
@@ -94,15 +95,15 @@ status_named (Some n) = key_status n.stream.op
 pub record Current : Type 0 where
   pub place : ℕ
   pub stream : StreamView
-  pub asked : Asked
+  pub asked : NextExchange
 
-abbrev pub current_asked : ℕ → StreamView → Option Asked → Option Current
+abbrev pub current_asked : ℕ → StreamView → Option NextExchange → Option Current
 current_asked place s None = None
 current_asked place s (Some a) = Some (record { place = place; stream = s; asked = a })
 
 abbrev pub current_at : ℕ → Option StreamView → Option Current
 current_at place None = None
-current_at place (Some s) = current_asked place s (asked_in s.op)
+current_at place (Some s) = current_asked place s (asked_of_unfinished s.op)
 
 abbrev pub current_in : List StreamView → Option ℕ → Option Current
 current_in streams None = None
@@ -111,13 +112,13 @@ current_in streams (Some place) = current_at place (slice_get streams place)
 abbrev pub current : ManagerView → Option Current
 current m = current_in m.streams m.asking
 
-abbrev pub asked_now : Option Current → Option Asked
+abbrev pub asked_now : Option Current → Option NextExchange
 asked_now None = None
 asked_now (Some c) = Some c.asked
 
 -- ---- begin
 
-abbrev pub begin_refusal : Operation → HostView → Pool → Named → Option Refusal
+abbrev pub begin_refusal : Operation → HostView → Pool → Named → Option StreamRefusal
 begin_refusal operation host pool n = refusal_of operation n.stream.op host pool
 
 abbrev pub begin_work : Operation → Pool → Named → Work
@@ -142,30 +143,30 @@ calls_begun operation host pool n =
     unless (begin_refusal operation host pool n) []
     (begun_calls (has_host n.stream) (begin_work operation pool n) pool n.stream.id)
 
-abbrev pub asking_begun : Option ℕ → ℕ → Result (Unit {0}) Refusal → Option ℕ
+abbrev pub asking_begun : Option ℕ → ℕ → Result (Unit {0}) StreamRefusal → Option ℕ
 asking_begun asking place (Ok done) = Some place
 asking_begun asking place (Err refusal) = asking
 
 -- ---- take
 
 -- an operation that goes on is asked again
-abbrev pub asking_after : ℕ → Outcome → Option ℕ
+abbrev pub asking_after : ℕ → StreamOutcome → Option ℕ
 asking_after place Next = Some place
 asking_after place outcome = None
 
-abbrev pub outcome_now : Current → Carried → Outcome
+abbrev pub outcome_now : Current → ExchangeReply → StreamOutcome
 outcome_now c carried = outcome_of (has_host c.stream) c.asked
     (judged (request_asked (has_host c.stream) c.asked c.stream) carried)
 
-abbrev pub taken : ManagerView → Current → Carried → ManagerView
-taken m c carried = record {
+abbrev pub manager_after_reply : ManagerView → Current → ExchangeReply → ManagerView
+manager_after_reply m c carried = record {
   streams = slice_set m.streams c.place
       (taken_stream (has_host c.stream) c.asked (judged (request_asked (has_host c.stream) c.asked c.stream) carried)
       c.stream);
   asking = asking_after c.place (outcome_now c carried);
 }
 
-abbrev pub calls_taken : Current → Carried → List PlaceCall
+abbrev pub calls_taken : Current → ExchangeReply → List PlaceCall
 calls_taken c carried = taken_calls (has_host c.stream) c.asked
     (judged (request_asked (has_host c.stream) c.asked c.stream) carried)
     c.stream.id

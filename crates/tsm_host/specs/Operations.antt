@@ -2,16 +2,16 @@
 use Rattle.std.specs.Prelude.{ℕ}
 use Rattle.link_verdicts.specs.declared.verdict.Operation.{Operation}
 use Rattle.link_verdicts.specs.declared.verdict.Operation.TheVariants as op
-use Rattle.tsm_host.specs.declared.operation.Op.{Op}
-use Rattle.tsm_host.specs.declared.operation.Op.TheVariants.{Establish, Refresh, Stop}
+use Rattle.tsm_host.specs.declared.operation.NamedOperation.{NamedOperation}
+use Rattle.tsm_host.specs.declared.operation.NamedOperation.TheVariants.{Establish, Refresh, Stop}
 
--- an operation on a stream of a link
+-- an operation on a stream of a line
 pub record OpName : Type 0 where
   pub operation : Operation
-  pub link : ℕ
+  pub line : ℕ
   pub stream : ℕ
 
-abbrev pub op_name : Op → OpName
-op_name (Establish link stream) = record { operation = op.Establish; link = link; stream = stream }
-op_name (Refresh link stream) = record { operation = op.Refresh; link = link; stream = stream }
-op_name (Stop link stream) = record { operation = op.Stop; link = link; stream = stream }
+abbrev pub op_name : NamedOperation → OpName
+op_name (Establish link stream) = record { operation = op.Establish; line = link; stream = stream }
+op_name (Refresh link stream) = record { operation = op.Refresh; line = link; stream = stream }
+op_name (Stop link stream) = record { operation = op.Stop; line = link; stream = stream }

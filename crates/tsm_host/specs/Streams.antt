@@ -1,20 +1,6 @@
 -- What the manager keeps of a stream, and what each call makes of it (this profile).
-use Rattle.std.specs.Prelude.{
-  ℕ,
-  ◌+◌,
-  ◌<◌,
-  ◌≤◌,
-  ◌==◌,
-  nat_lt,
-  Bool,
-  true,
-  false,
-  not,
-  ◌&&◌,
-  if◌then◌else◌,
-  IsSome,
-  Option,
-}
+use Rattle.std.specs.Prelude.{ℕ, ◌+◌, ◌<◌, ◌≤◌, ◌==◌, nat_lt, Bool, true, false, not, ◌&&◌, if◌then◌else◌, IsSome}
+use Rattle.std.specs.Prelude.{Option}
 use Rattle.std.specs.Prelude.{Some, None, List, [], Result, Ok, Err, slice_set}
 use Rattle.ide_types.specs.declared.sub.SubKind.{SubKind}
 use Rattle.ide_types.specs.declared.sub.SubKind.TheVariants.{Pr, Npr, Cpl}
@@ -23,23 +9,23 @@ use Rattle.ide_types.specs.declared.status.StreamStatus.TheVariants as status
 use Rattle.link_verdicts.specs.declared.verdict.Operation.{Operation}
 use Rattle.link_verdicts.specs.declared.verdict.Operation.TheVariants as op
 use Rattle.key_slots.specs.{KeySet, is_one, key_set, Pool, draws_in, six_keys, pool_after}
-use Rattle.key_laws.specs.Operations.{Op, Idle, Establishing, Up, Refreshing, Stopping, Work, work, work_of}
-use Rattle.key_laws.specs.Operations.{last_exchange_of}
-use Rattle.key_laws.specs.Operations.{makes_draw, reach, op_after, op_cut, op_standing}
-use Rattle.ide_km.specs.declared.object.KmView.{KmView}
-use Rattle.ide_km.specs.{PlaceCall}
+use Rattle.spec_keys.specs.Operations.{StreamStage, Idle, Establishing, Up, Refreshing, Stopping, Work, work, work_of}
+use Rattle.spec_keys.specs.Operations.{last_exchange_of}
+use Rattle.spec_keys.specs.Operations.{makes_draw, reach, op_after, op_cut, op_standing}
+use Rattle.key_messages.specs.declared.object.KmView.{KmView}
+use Rattle.key_messages.specs.{PlaceCall}
 use Rattle.tsm_host.specs.declared.exchange.Exchange.{Exchange}
 use Rattle.tsm_host.specs.declared.exchange.Exchange.TheVariants as exchange
 use Rattle.tsm_host.specs.declared.judge.Judged.{Judged}
 use Rattle.tsm_host.specs.declared.judge.Judged.TheVariants.{Expected, Lost, Refused, Bad}
-use Rattle.tsm_host.specs.declared.operation.Outcome.{Outcome}
-use Rattle.tsm_host.specs.declared.operation.Outcome.TheVariants as outcome
-use Rattle.tsm_host.specs.declared.operation.Refusal.{Refusal}
-use Rattle.tsm_host.specs.declared.operation.Refusal.TheVariants.{NotIdle, NotSecure, PoolEmpty, SessionLost}
-use Rattle.tsm_host.specs.declared.operation.Refusal.TheVariants.{DeviceRefused, BadReply, Busy, UnitOpen}
-use Rattle.tsm_host.specs.declared.operation.Shown.{Shown}
-use Rattle.tsm_host.specs.declared.operation.Shown.TheVariants as shown
-use Rattle.tsm_host.specs.declared.stage.Asked.{Asked}
+use Rattle.tsm_host.specs.declared.operation.StreamOutcome.{StreamOutcome}
+use Rattle.tsm_host.specs.declared.operation.StreamOutcome.TheVariants as outcome
+use Rattle.tsm_host.specs.declared.operation.StreamRefusal.{StreamRefusal}
+use Rattle.tsm_host.specs.declared.operation.StreamRefusal.TheVariants.{NotIdle, NotSecure, PoolEmpty, SessionLost}
+use Rattle.tsm_host.specs.declared.operation.StreamRefusal.TheVariants.{DeviceRefused, BadReply, Busy, UnitOpen}
+use Rattle.tsm_host.specs.declared.operation.StreamResult.{StreamResult}
+use Rattle.tsm_host.specs.declared.operation.StreamResult.TheVariants as shown
+use Rattle.tsm_host.specs.declared.stage.NextExchange.{NextExchange}
 use Rattle.tsm_host.specs.declared.stage.Stage.{Stage}
 use Rattle.tsm_host.specs.declared.stage.Stage.TheVariants as stage
 use Rattle.tsm_host.specs.Exchanges.{exchange_of, end_of, exchange_lane, is_last_receiver_go, WireKeys, kept_key}
@@ -47,37 +33,37 @@ use Rattle.tsm_host.specs.Exchanges.{wire_number, wire_keys, request_of}
 use Rattle.ide_types.specs.Lines.{is_hosted}
 use Rattle.ide_types.specs.declared.port.Side.{Side}
 use Rattle.ide_types.specs.declared.port.PortName.{PortName}
-use Rattle.key_laws.specs.Places.{is_cut}
+use Rattle.spec_keys.specs.Places.{is_cut}
 use Rattle.tsm_host.specs.Local.{programs, goes, halts}
 
 -- A stream of a line, with the state of its operations, and the keys of an establish or refresh that is unfinished, in
 -- the order of their KEY_PROGs: each is kept until its own is acknowledged. There are no others.
 pub record StreamView : Type 0 where
-  pub link : ℕ
+  pub line : ℕ
   pub id : ℕ
-  pub op : Op
+  pub op : StreamStage
   pub keys : WireKeys
 
 abbrev pub new_stream : ℕ → ℕ → StreamView
-new_stream link id = record { link = link; id = id; op = Idle; keys = [] }
+new_stream link id = record { line = link; id = id; op = Idle; keys = [] }
 
 abbrev pub is_named : ℕ → ℕ → StreamView → Bool
-is_named link id s = (s.link == link) && (s.id == id)
+is_named link id s = (s.line == link) && (s.id == id)
 
 -- after a reset that clears these ends: of a line that is cut no keys are on their way
 abbrev pub reset_stream : List PortName → StreamView → StreamView
 reset_stream ends s = record s {
-  op = op_cut ends s.link s.op;
-  keys = if is_cut ends s.link then [] else s.keys;
+  op = op_cut ends s.line s.op;
+  keys = if is_cut ends s.line then [] else s.keys;
 }
 
 -- whether a host's port is at the near end of its line
 abbrev pub has_host : StreamView → Bool
-has_host s = is_hosted s.link
+has_host s = is_hosted s.line
 
 -- ---- as it is kept
 
-abbrev pub op_in : Stage → Op
+abbrev pub op_in : Stage → StreamStage
 op_in stage.Idle = Idle
 op_in (stage.Establishing draw next keys) = Establishing draw next
 op_in (stage.Up set draw) = Up (is_one set) draw
@@ -97,7 +83,7 @@ next_in (stage.Stopping next) = next
 next_in s = 0
 
 -- at the next exchange
-abbrev pub op_advanced : Op → Op
+abbrev pub op_advanced : StreamStage → StreamStage
 op_advanced (Establishing draw next) = Establishing draw (next + 1)
 op_advanced (Refreshing set draw next) = Refreshing set draw (next + 1)
 op_advanced (Stopping next) = Stopping (next + 1)
@@ -134,39 +120,39 @@ StageHolds hosted (stage.Stopping next) = IsWithin hosted op.Stop next
 StageHolds hosted s = Unit {0}
 
 -- what the manager says of a stream by its operations alone: it has keys, or none, or some
-abbrev pub key_status : Op → StreamStatus
+abbrev pub key_status : StreamStage → StreamStatus
 key_status (Up set draw) = status.Secure
 key_status Idle = status.Idle
 key_status o = status.Partial
 
 -- ---- the exchange that is next
 
-abbrev pub asked_exchange : Operation → Bool → ℕ → ℕ → Asked
+abbrev pub asked_exchange : Operation → Bool → ℕ → ℕ → NextExchange
 asked_exchange o set draw n = record { operation = o; set = key_set set; draw = draw; exchange = n }
 
 -- of an unfinished operation
-abbrev pub asked_in : Op → Option Asked
-asked_in (Establishing draw next) = Some (asked_exchange op.Establish false draw next)
-asked_in (Refreshing set draw next) = Some (asked_exchange op.Refresh set draw next)
-asked_in (Stopping next) = Some (asked_exchange op.Stop false 0 next)
-asked_in o = None
+abbrev pub asked_of_unfinished : StreamStage → Option NextExchange
+asked_of_unfinished (Establishing draw next) = Some (asked_exchange op.Establish false draw next)
+asked_of_unfinished (Refreshing set draw next) = Some (asked_exchange op.Refresh set draw next)
+asked_of_unfinished (Stopping next) = Some (asked_exchange op.Stop false 0 next)
+asked_of_unfinished o = None
 
-abbrev pub exchange_asked : (hosted : Bool) → Asked → Exchange
+abbrev pub exchange_asked : (hosted : Bool) → NextExchange → Exchange
 exchange_asked hosted a = exchange_of hosted a.operation a.set a.exchange
 
 -- the end that it is carried to
-abbrev pub end_asked : (hosted : Bool) → Asked → Side
+abbrev pub end_asked : (hosted : Bool) → NextExchange → Side
 end_asked hosted a = end_of hosted a.operation a.exchange
 
 -- the number of its key, if it brings one
-abbrev pub wire_asked : (hosted : Bool) → Asked → ℕ
+abbrev pub wire_asked : (hosted : Bool) → NextExchange → ℕ
 wire_asked hosted a = wire_number hosted (end_asked hosted a) (exchange_lane (exchange_asked hosted a))
 
-abbrev pub work_asked : Asked → Work
+abbrev pub work_asked : NextExchange → Work
 work_asked a = work a.operation (is_one a.set) a.draw a.exchange false
 
 -- its request
-abbrev pub request_asked : (hosted : Bool) → Asked → StreamView → KmView
+abbrev pub request_asked : (hosted : Bool) → NextExchange → StreamView → KmView
 request_asked hosted a s = request_of s.id s.keys (wire_asked hosted a) (exchange_asked hosted a)
 
 -- ---- begin: refusals
@@ -190,25 +176,25 @@ is_set set None = false
 is_set set (Some live) = if set then is_one live else not (is_one live)
 
 -- the first sub-stream, PR first, whose Live key is in the set that is to be programmed
-abbrev pub open_unit_refusal : HostView → Bool → Option Refusal
+abbrev pub open_unit_refusal : HostView → Bool → Option StreamRefusal
 open_unit_refusal host set =
     if is_set set (host.live Pr) then Some (UnitOpen Pr)
     else if is_set set (host.live Npr) then Some (UnitOpen Npr)
     else if is_set set (host.live Cpl) then Some (UnitOpen Cpl)
     else None
 
-abbrev pub unless_secure : StreamStatus → Option Refusal → Option Refusal
+abbrev pub unless_secure : StreamStatus → Option StreamRefusal → Option StreamRefusal
 unless_secure status.Secure refusal = refusal
 unless_secure s refusal = Some (NotSecure s)
 
-abbrev pub establish_refusal : Op → Option Refusal
+abbrev pub establish_refusal : StreamStage → Option StreamRefusal
 establish_refusal Idle = None
 establish_refusal (Establishing draw next) = None
 establish_refusal (Up set draw) = Some NotIdle
 establish_refusal (Refreshing set draw next) = Some (Busy op.Refresh)
 establish_refusal (Stopping next) = Some (Busy op.Stop)
 
-abbrev pub refresh_refusal : Op → HostView → Option Refusal
+abbrev pub refresh_refusal : StreamStage → HostView → Option StreamRefusal
 refresh_refusal Idle host = Some (NotSecure (status_or_idle host.status))
 refresh_refusal (Establishing draw next) host = Some (Busy op.Establish)
 refresh_refusal (Up set draw) host = unless_secure (status_or_idle host.status) (open_unit_refusal host (not set))
@@ -216,13 +202,13 @@ refresh_refusal (Refreshing set draw next) host = None
 refresh_refusal (Stopping next) host = Some (Busy op.Stop)
 
 -- all refusals but that of an empty pool, which comes last
-abbrev pub operation_refusal : Operation → Op → HostView → Option Refusal
+abbrev pub operation_refusal : Operation → StreamStage → HostView → Option StreamRefusal
 operation_refusal op.Establish o host = establish_refusal o
 operation_refusal op.Refresh o host = refresh_refusal o host
 operation_refusal op.Stop o host = None
 
 -- the key set of a keyed stream, else set 0
-abbrev pub current_set : Op → Bool
+abbrev pub current_set : StreamStage → Bool
 current_set (Up set draw) = set
 current_set o = false
 
@@ -230,26 +216,26 @@ current_set o = false
 abbrev pub draws_now : Work → Bool
 draws_now w = w.begins && makes_draw w.operation
 
-abbrev pub pool_refusal : Work → Pool → Option Refusal
+abbrev pub pool_refusal : Work → Pool → Option StreamRefusal
 pool_refusal w pool = if draws_now w && not (nat_lt pool.draws (draws_in pool.keys))
     then Some (PoolEmpty pool.draws) else None
 
-abbrev pub first_of : Option Refusal → Option Refusal → Option Refusal
+abbrev pub first_of : Option StreamRefusal → Option StreamRefusal → Option StreamRefusal
 first_of None second = second
 first_of (Some refusal) second = Some refusal
 
-abbrev pub refusal_of : Operation → Op → HostView → Pool → Option Refusal
+abbrev pub refusal_of : Operation → StreamStage → HostView → Pool → Option StreamRefusal
 refusal_of operation o host pool = first_of (operation_refusal operation o host)
     (pool_refusal (work_of operation o pool.draws) pool)
 
 -- ---- begin: what it does
 
-abbrev pub ok_unless : Option Refusal → Result (Unit {0}) Refusal
+abbrev pub ok_unless : Option StreamRefusal → Result (Unit {0}) StreamRefusal
 ok_unless None = Ok tt
 ok_unless (Some refusal) = Err refusal
 
 -- a refusal changes nothing
-abbrev pub unless : {A : Type 0} → Option Refusal → A → A → A
+abbrev pub unless : {A : Type 0} → Option StreamRefusal → A → A → A
 unless None old new = new
 unless (Some refusal) old new = old
 
@@ -276,37 +262,37 @@ begun_calls false w pool stream = []
 
 -- ---- take
 
-abbrev pub is_last : (hosted : Bool) → Asked → Bool
+abbrev pub is_last : (hosted : Bool) → NextExchange → Bool
 is_last hosted a = a.exchange == last_exchange_of hosted a.operation
 
-abbrev pub shown_at_end : Asked → Shown
+abbrev pub shown_at_end : NextExchange → StreamResult
 shown_at_end a = if makes_draw a.operation then shown.Draw a.draw else shown.Stopped
 
-abbrev pub outcome_of : (hosted : Bool) → Asked → Judged → Outcome
+abbrev pub outcome_of : (hosted : Bool) → NextExchange → Judged → StreamOutcome
 outcome_of hosted a Expected = if is_last hosted a then outcome.Done (shown_at_end a) else outcome.Next
 outcome_of hosted a Lost = outcome.Refused (SessionLost a.exchange)
 outcome_of hosted a (Refused code) = outcome.Refused (DeviceRefused a.exchange code)
 outcome_of hosted a Bad = outcome.Refused (BadReply a.exchange)
 
 -- a key goes if its KEY_PROG is acknowledged
-abbrev pub keys_after : Exchange → ℕ → WireKeys → WireKeys
-keys_after (exchange.Program set lane) i keys = slice_set keys i None
-keys_after e i keys = keys
+abbrev pub wire_keys_after : Exchange → ℕ → WireKeys → WireKeys
+wire_keys_after (exchange.Program set lane) i keys = slice_set keys i None
+wire_keys_after e i keys = keys
 
 -- the exchange is acknowledged
-abbrev pub acknowledged : (hosted : Bool) → Asked → StreamView → StreamView
+abbrev pub acknowledged : (hosted : Bool) → NextExchange → StreamView → StreamView
 acknowledged hosted a s = record s {
   op = op_after hosted (work_asked a) (reach (a.exchange + 1) (a.exchange + 1));
-  keys = if is_last hosted a then [] else keys_after (exchange_asked hosted a) (wire_asked hosted a) s.keys;
+  keys = if is_last hosted a then [] else wire_keys_after (exchange_asked hosted a) (wire_asked hosted a) s.keys;
 }
 
 -- only an expected reply goes on
-abbrev pub taken_stream : (hosted : Bool) → Asked → Judged → StreamView → StreamView
+abbrev pub taken_stream : (hosted : Bool) → NextExchange → Judged → StreamView → StreamView
 taken_stream hosted a Expected s = acknowledged hosted a s
 taken_stream hosted a judged s = s
 
 -- a host's port goes on if the last of the device's receivers did
-abbrev pub taken_calls : (hosted : Bool) → Asked → Judged → ℕ → List PlaceCall
+abbrev pub taken_calls : (hosted : Bool) → NextExchange → Judged → ℕ → List PlaceCall
 taken_calls true a Expected stream =
     if is_last_receiver_go (exchange_asked true a) then goes stream (is_one a.set) else []
 taken_calls hosted a judged stream = []

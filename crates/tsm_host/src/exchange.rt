@@ -3,7 +3,7 @@
 ghost use Rattle.std.specs.Prelude.{◌≡◌, ◌≤◌, ◌<◌, true, false};
 ghost use Rattle.ide_types.specs.declared.key_set.KeySet.TheVariants.{Zero};
 ghost use Rattle.link_verdicts.specs.declared.verdict.Operation.TheVariants.{Establish, Stop};
-ghost use Rattle.key_laws.specs.Operations.{last_exchange_of};
+ghost use Rattle.spec_keys.specs.Operations.{last_exchange_of};
 ghost use Rattle.tsm_host.specs.Exchanges.{selector_of, exchange_of, exchange_lane, end_of, wire_number};
 ghost use Rattle.tsm_host.specs.Streams.{key_count};
 
@@ -78,12 +78,12 @@ fn hosted_exchange(operation: Operation, set: KeySet, n: u8) -> Exchange
                 Exchange::Go { set, lane: n - 7 }
             }
         }
-        Operation::Stop => halting_exchange(n),
+        Operation::Stop => stopping_exchange(n),
     }
 }
 
 // The STOPs of an end, from 1 to 12.
-fn halting_exchange(n: u8) -> Exchange
+fn stopping_exchange(n: u8) -> Exchange
     requires first { 1 ≤ n }
     requires last { n ≤ 12 }
     ensures exchange { result ≡ exchange_of true Stop Zero n }
@@ -112,9 +112,9 @@ fn paired_exchange(operation: Operation, set: KeySet, n: u8) -> Exchange
     match operation {
         Operation::Stop => {
             if n < 13 {
-                halting_exchange(n)
+                stopping_exchange(n)
             } else {
-                halting_exchange(n - 12)
+                stopping_exchange(n - 12)
             }
         }
         Operation::Establish | Operation::Refresh => paired_keying(set, n),

@@ -3,10 +3,10 @@
 ghost use Rattle.std.specs.Prelude.{◌≡◌};
 ghost use Rattle.tsm_host.specs.Judging.{is_description, is_key_acknowledgement, is_acknowledgement, is_expected};
 ghost use Rattle.tsm_host.specs.Judging.{refusal_in, judged_reply, judged};
-ghost use Rattle.ide_km.specs.{object_reading};
+ghost use Rattle.key_messages.specs.{object_reading};
 
-use crate::operation::Carried;
-use ide_km::{KmView, km_read};
+use crate::operation::ExchangeReply;
+use key_messages::{KmView, km_read};
 
 /// What was carried in answer to a request: the expected reply, nothing at all, a refusal with its code, or anything
 /// else (this profile).
@@ -111,12 +111,12 @@ fn reply(request: KmView, bytes: &[u8]) -> Judged
 }
 
 /// Judges what was carried in answer to a request (this profile).
-pub fn judge(request: KmView, carried: Carried) -> Judged
+pub fn judge(request: KmView, carried: ExchangeReply) -> Judged
     ensures { result ≡ judged request carried.entry }
 {
     match carried {
-        Carried::Lost => Judged::Lost,
-        Carried::Reply(None) => Judged::Bad,
-        Carried::Reply(Some(bytes)) => reply(request, bytes),
+        ExchangeReply::Lost => Judged::Lost,
+        ExchangeReply::Reply(None) => Judged::Bad,
+        ExchangeReply::Reply(Some(bytes)) => reply(request, bytes),
     }
 }

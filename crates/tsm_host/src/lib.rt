@@ -1,8 +1,8 @@
 //! The host's manager of key management: its operations on streams, exchange by exchange, resumed after any loss
 //! (PCI Express Base 6.0 section 6.33, in this profile).
 //!
-//! One manager serves all links. An operation begins with `begin`; then each exchange is asked with `ask`, carried to
-//! the device or lost, and taken with `take`. Only `Manager::make` takes memory.
+//! One manager serves all lines. An operation begins with `begin`; then each exchange is asked with `ask`, carried to
+//! the end that it is for or lost, and taken with `take`. Only `Manager::make` takes memory.
 #![tactic(auto)]
 
 mod exchange;
@@ -21,5 +21,5 @@ pub use facts::StageFacts;
 pub use laws::{pairs_fit, walks_are_due};
 pub use link_verdicts::Operation;
 pub use manager::Manager;
-pub use operation::{Carried, Op, Outcome, Refusal, Shown};
+pub use operation::{ExchangeReply, NamedOperation, StreamOutcome, StreamRefusal, StreamResult};
 pub use port::HostPort;

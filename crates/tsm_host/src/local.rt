@@ -2,13 +2,13 @@
 
 ghost use Rattle.std.specs.Prelude.{◌≡◌};
 ghost use Rattle.ide_types.specs.{is_one};
-ghost use Rattle.key_slots.specs.{Program, Go, Halt};
-ghost use Rattle.ide_km.specs.{place_at, place_call};
+ghost use Rattle.key_slots.specs.{Program, Go, Stop};
+ghost use Rattle.key_messages.specs.{place_at, place_call};
 ghost use Rattle.tsm_host.specs.Local.{CallMoves, CallsMove, six_key, programs, goes, halts};
 
-use ide_km::{Place, SlotPort};
 use ide_types::Direction::{Downstream, Upstream};
 use ide_types::{Direction, KeySet};
+use key_messages::{Place, SlotPort};
 use key_slots::{HostSix, Key};
 
 // One call, whose answer is not needed.
@@ -44,16 +44,16 @@ fn go<P: SlotPort>(port: &mut P, stream: u8, set: KeySet, direction: Direction, 
     let _ = port.go(place, set);
 }
 
-fn halt<P: SlotPort>(port: &mut P, stream: u8, set: KeySet, direction: Direction, sub: u8)
+fn stop<P: SlotPort>(port: &mut P, stream: u8, set: KeySet, direction: Direction, sub: u8)
     ensures { CallMoves P.slots P.unfinished P.moves port.old
-        (place_call (place_at stream direction sub) (Halt (is_one set))) port.new }
+        (place_call (place_at stream direction sub) (Stop (is_one set))) port.new }
 {
     let place = Place {
         stream,
         direction,
         sub,
     };
-    let _ = port.halt(place, set);
+    let _ = port.stop(place, set);
 }
 
 // The keys of an array.
@@ -98,19 +98,19 @@ pub fn go_six<P: SlotPort>(port: &mut P, stream: u8, set: KeySet)
 }
 
 /// Empties all slots of a stream.
-pub fn halt_all<P: SlotPort>(port: &mut P, stream: u8)
+pub fn stop_all<P: SlotPort>(port: &mut P, stream: u8)
     ensures { CallsMove P.slots P.unfinished P.moves port.old (halts stream) port.new }
 {
-    halt(port, stream, KeySet::Zero, Downstream, 0);
-    halt(port, stream, KeySet::Zero, Downstream, 1);
-    halt(port, stream, KeySet::Zero, Downstream, 2);
-    halt(port, stream, KeySet::Zero, Upstream, 0);
-    halt(port, stream, KeySet::Zero, Upstream, 1);
-    halt(port, stream, KeySet::Zero, Upstream, 2);
-    halt(port, stream, KeySet::One, Downstream, 0);
-    halt(port, stream, KeySet::One, Downstream, 1);
-    halt(port, stream, KeySet::One, Downstream, 2);
-    halt(port, stream, KeySet::One, Upstream, 0);
-    halt(port, stream, KeySet::One, Upstream, 1);
-    halt(port, stream, KeySet::One, Upstream, 2);
+    stop(port, stream, KeySet::Zero, Downstream, 0);
+    stop(port, stream, KeySet::Zero, Downstream, 1);
+    stop(port, stream, KeySet::Zero, Downstream, 2);
+    stop(port, stream, KeySet::Zero, Upstream, 0);
+    stop(port, stream, KeySet::Zero, Upstream, 1);
+    stop(port, stream, KeySet::Zero, Upstream, 2);
+    stop(port, stream, KeySet::One, Downstream, 0);
+    stop(port, stream, KeySet::One, Downstream, 1);
+    stop(port, stream, KeySet::One, Downstream, 2);
+    stop(port, stream, KeySet::One, Upstream, 0);
+    stop(port, stream, KeySet::One, Upstream, 1);
+    stop(port, stream, KeySet::One, Upstream, 2);
 }

@@ -2,8 +2,8 @@
 
 ghost use Rattle.std.specs.Prelude.{◌≡◌, ℕ, ◌+◌, ◌++◌, ◌≤◌, ◌<◌, IsSome, IfSome, IfOk, is_some, Some, [], length, map};
 ghost use Rattle.std.specs.Prelude.{slice_get, vec_len, vec_capacity};
-ghost use Rattle.ide_km.specs.{spelling};
-ghost use Rattle.key_laws.specs.Operations.{work_of};
+ghost use Rattle.key_messages.specs.{spelling};
+ghost use Rattle.spec_keys.specs.Operations.{work_of};
 ghost use Rattle.std.specs.Option.{option_map};
 ghost use Rattle.tsm_host.specs.Facts.{op_seen};
 ghost use Rattle.tsm_host.specs.Local.{CallsMove};
@@ -13,17 +13,17 @@ ghost use Rattle.tsm_host.specs.Managers.{new_streams, streams_from, new_hop, ho
 ghost use Rattle.tsm_host.specs.Managers.{asking_after, named, op_named};
 
 use crate::facts::StageFacts;
-use crate::operation::{Carried, Op, Outcome, Refusal};
+use crate::operation::{ExchangeReply, NamedOperation, StreamOutcome, StreamRefusal};
 use crate::port::HostPort;
-use crate::stage::Asked;
+use crate::stage::NextExchange;
 use crate::stream::StreamKeys;
-use ide_km::km_write;
-use ide_plan::{HopPlan, LinkPlan, PeerPlan, StreamPlan};
-use ide_types::{Memory, PortName, Side, StreamStatus};
+use ide_types::{
+    HopPlan, LinkPlan, OutOfMemory, PeerPlan, PortName, Side, StreamPlan, StreamStatus, ValidPlan,
+};
+use key_messages::km_write;
 use key_slots::KeyPool;
 use std::alloc::Global;
 use std::marker::Model;
-use valid_plan::ValidPlan;
 
 /// The host's manager of key management, for all lines (PCI Express Base 6.0 section 6.33, in this profile). It has at
 /// most one exchange under way: that of the operation which `begin` began last or went on with.
@@ -42,7 +42,11 @@ impl Model for Manager {
 }
 
 /// Adds a link's streams.
-fn add_streams(streams: &mut Vec<StreamKeys>, link: u8, plans: &[StreamPlan]) -> Result<(), Memory>
+fn add_streams(
+    streams: &mut Vec<StreamKeys>,
+    link: u8,
+    plans: &[StreamPlan],
+) -> Result<(), OutOfMemory>
     ensures { IfOk result (λ _. streams.new.items ≡ streams.old.items ++ new_streams link plans.now) }
 {
     for plan in plans {
@@ -52,7 +56,7 @@ fn add_streams(streams: &mut Vec<StreamKeys>, link: u8, plans: &[StreamPlan]) ->
 }
 
 /// Adds the streams of links.
-fn add_links(streams: &mut Vec<StreamKeys>, links: &[LinkPlan]) -> Result<(), Memory>
+fn add_links(streams: &mut Vec<StreamKeys>, links: &[LinkPlan]) -> Result<(), OutOfMemory>
     requires { length links.now ≤ 8 }
     ensures { IfOk result (λ _. streams.new.items ≡ streams.old.items ++ streams_from 0 links.now) }
 {
@@ -65,7 +69,11 @@ fn add_links(streams: &mut Vec<StreamKeys>, links: &[LinkPlan]) -> Result<(), Me
 }
 
 /// Adds the stream of a hop, if there is one.
-fn add_hop(streams: &mut Vec<StreamKeys>, line: u8, hop: &Option<HopPlan>) -> Result<(), Memory>
+fn add_hop(
+    streams: &mut Vec<StreamKeys>,
+    line: u8,
+    hop: &Option<HopPlan>,
+) -> Result<(), OutOfMemory>
     ensures { IfOk result (λ _. streams.new.items ≡ streams.old.items ++ new_hop line hop.now) }
 {
     match hop {
@@ -78,7 +86,7 @@ fn add_hop(streams: &mut Vec<StreamKeys>, line: u8, hop: &Option<HopPlan>) -> Re
 }
 
 /// Adds the streams of the hops of links, one segment of each, from this line on.
-fn add_hops(streams: &mut Vec<StreamKeys>, first: u8, links: &[LinkPlan]) -> Result<(), Memory>
+fn add_hops(streams: &mut Vec<StreamKeys>, first: u8, links: &[LinkPlan]) -> Result<(), OutOfMemory>
     requires links { length links.now ≤ 8 }
     requires first { first ≤ 16 }
     ensures { IfOk result (λ _. streams.new.items ≡ streams.old.items ++ hops_from first links.now) }
@@ -92,7 +100,7 @@ fn add_hops(streams: &mut Vec<StreamKeys>, first: u8, links: &[LinkPlan]) -> Res
 }
 
 /// Adds the streams between devices.
-fn add_peers(streams: &mut Vec<StreamKeys>, peers: &[PeerPlan]) -> Result<(), Memory>
+fn add_peers(streams: &mut Vec<StreamKeys>, peers: &[PeerPlan]) -> Result<(), OutOfMemory>
     requires { length peers.now ≤ 8 }
     ensures { IfOk result (λ _. streams.new.items ≡ streams.old.items ++ peers_from 24 peers.now) }
 {
@@ -105,25 +113,12 @@ fn add_peers(streams: &mut Vec<StreamKeys>, peers: &[PeerPlan]) -> Result<(), Me
 }
 
 impl Manager {
-    ghost use Rattle.tsm_host.specs.Managers.{
-      new_manager,
-      stream_place,
-      named,
-      status_named,
-      current,
-      begin_refusal,
-      begun_manager,
-      pool_begun,
-      calls_begun,
-      outcome_now,
-      taken,
-      calls_taken,
-      reset_manager,
-      asked_now,
-    };
+    ghost use Rattle.tsm_host.specs.Managers.{new_manager, stream_place, named, status_named, current, begin_refusal};
+    ghost use Rattle.tsm_host.specs.Managers.{begun_manager, pool_begun, calls_begun, outcome_now, manager_after_reply};
+    ghost use Rattle.tsm_host.specs.Managers.{calls_taken, reset_manager, asked_now};
 
-    /// A manager of all lines of a topology; no stream has keys. Returns `Memory` for want of memory.
-    pub fn make(alloc: Global, plan: &ValidPlan) -> Result<Manager, Memory>
+    /// A manager of all lines of a topology; no stream has keys. Returns `OutOfMemory` for want of memory.
+    pub fn make(alloc: Global, plan: &ValidPlan) -> Result<Manager, OutOfMemory>
         ensures { IfOk result (λ m. m ≡ new_manager plan.now.links plan.now.peers) }
     {
         let plan = plan.plan();
@@ -144,7 +139,7 @@ impl Manager {
         self.streams.iter().position(|s| s.is_named(link, stream))
     }
 
-    /// Whether the link has the stream.
+    /// Whether the line has the stream.
     pub fn has_stream(&self, link: u8, stream: u8) -> bool
         ensures { result ≡ is_some (named self.now link stream) }
     {
@@ -162,10 +157,10 @@ impl Manager {
         }
     }
 
-    /// Whether an operation on a stream that its link has would begin, and not go on.
-    pub fn begins(&self, op: Op) -> bool
-        requires { IsSome (named self.now (op_name op).link (op_name op).stream) }
-        ensures { let name = op_name op in IfSome (named self.now name.link name.stream) (λ n.
+    /// Whether an operation on a stream that its line has would begin, and not go on.
+    pub fn begins(&self, op: NamedOperation) -> bool
+        requires { IsSome (named self.now (op_name op).line (op_name op).stream) }
+        ensures { let name = op_name op in IfSome (named self.now name.line name.stream) (λ n.
             result ≡ (work_of name.operation n.stream.op 0).begins) }
     {
         let Some(place) = self.place(op.link(), op.stream()) else {
@@ -175,29 +170,29 @@ impl Manager {
         stream.begins(op.operation())
     }
 
-    /// Begins an operation on a stream that its link has, or goes on with it if it is unfinished; `port` is the host's
-    /// port of the link. An establish or a refresh that begins draws from the pool and programs the six slots of its
-    /// key set at the port; a stop that begins empties all slots of the stream there, and drops what is unfinished. One
-    /// that goes on does none of this. Refused, in this order: of establish NotIdle if the stream has keys, Busy if
-    /// another operation is unfinished, PoolEmpty; of refresh Busy, NotSecure unless the stream has keys and is Secure
-    /// at the host's port, UnitOpen, PoolEmpty; a stop never. A refusal changes nothing.
+    /// Begins an operation on a stream that its line has, or goes on with it if it is unfinished; `port` is that of the
+    /// line's near end. An establish or a refresh that begins draws from the pool and, at a host's port, programs the
+    /// six slots of its key set; a stop that begins empties all slots of the stream there, and drops what is
+    /// unfinished. One that goes on does none of this. Refused, in this order: of establish NotIdle if the stream has
+    /// keys, Busy if another operation is unfinished, PoolEmpty; of refresh Busy, NotSecure unless the stream has keys
+    /// and is Secure at the host's port, UnitOpen, PoolEmpty; a stop never. A refusal changes nothing.
     pub fn begin<P: HostPort>(
         &mut self,
         port: &mut P,
         pool: &mut KeyPool,
-        op: Op,
-    ) -> Result<(), Refusal>
-        requires { IsSome (named self.old (op_name op).link (op_name op).stream) }
-        ensures answer { let name = op_name op in IfSome (named self.old name.link name.stream) (λ n.
+        op: NamedOperation,
+    ) -> Result<(), StreamRefusal>
+        requires { IsSome (named self.old (op_name op).line (op_name op).stream) }
+        ensures answer { let name = op_name op in IfSome (named self.old name.line name.stream) (λ n.
             let host = host_view P.status_of P.live_of port.old n.stream.id in
             result ≡ ok_unless (begin_refusal name.operation host pool.old n)) }
-        ensures manager { let name = op_name op in IfSome (named self.old name.link name.stream) (λ n.
+        ensures manager { let name = op_name op in IfSome (named self.old name.line name.stream) (λ n.
             let host = host_view P.status_of P.live_of port.old n.stream.id in
             self.new ≡ begun_manager self.old name.operation host pool.old n) }
-        ensures pool { let name = op_name op in IfSome (named self.old name.link name.stream) (λ n.
+        ensures pool { let name = op_name op in IfSome (named self.old name.line name.stream) (λ n.
             let host = host_view P.status_of P.live_of port.old n.stream.id in
             pool.new ≡ pool_begun name.operation host pool.old n) }
-        ensures calls { let name = op_name op in IfSome (named self.old name.link name.stream) (λ n.
+        ensures calls { let name = op_name op in IfSome (named self.old name.line name.stream) (λ n.
             let host = host_view P.status_of P.live_of port.old n.stream.id in
             CallsMove P.slots P.unfinished P.moves port.old (calls_begun name.operation host pool.old n) port.new) }
     {
@@ -211,7 +206,7 @@ impl Manager {
     }
 
     // The exchange that is next of the operation that is under way.
-    fn asked(&self) -> Option<Asked>
+    fn asked(&self) -> Option<NextExchange>
         ensures { result ≡ asked_now (current self.now) }
     {
         match self.asking {
@@ -278,14 +273,14 @@ impl Manager {
         asked.draw
     }
 
-    /// Takes what was carried in answer to the request of the exchange that is next; `port` is the host's port of the
-    /// link. If the reply is the expected one, the operation goes on, and after the last GO of the device's receivers
-    /// the port's six slots get theirs; anything else leaves the operation at that exchange, and is answered by its
-    /// refusal.
-    pub fn take<P: HostPort>(&mut self, port: &mut P, carried: Carried) -> Outcome
+    /// Takes what was carried in answer to the request of the exchange that is next; `port` is that of the line's near
+    /// end. If the reply is the expected one, the operation goes on, and after the last GO of the device's receivers
+    /// the six slots of a host's port get theirs; anything else leaves the operation at that exchange, and is answered
+    /// by its refusal.
+    pub fn take<P: HostPort>(&mut self, port: &mut P, carried: ExchangeReply) -> StreamOutcome
         requires { IsSome (current self.old) }
         ensures outcome { IfSome (current self.old) (λ c. result ≡ outcome_now c carried.entry) }
-        ensures manager { IfSome (current self.old) (λ c. self.new ≡ taken self.old c carried.entry) }
+        ensures manager { IfSome (current self.old) (λ c. self.new ≡ manager_after_reply self.old c carried.entry) }
         ensures calls { IfSome (current self.old) (λ c. CallsMove P.slots P.unfinished P.moves port.old
             (calls_taken c carried.entry) port.new) }
     {
@@ -312,7 +307,11 @@ impl Manager {
 }
 
 // The place of the stream that is asked, after a `begin`.
-fn asking_begun(asking: Option<usize>, place: usize, answer: Result<(), Refusal>) -> Option<usize>
+fn asking_begun(
+    asking: Option<usize>,
+    place: usize,
+    answer: Result<(), StreamRefusal>,
+) -> Option<usize>
     ensures { result ≡ asking_begun asking place answer }
 {
     match answer {
@@ -322,12 +321,12 @@ fn asking_begun(asking: Option<usize>, place: usize, answer: Result<(), Refusal>
 }
 
 // The place of the stream whose operation goes on.
-fn still_asking(place: usize, outcome: Outcome) -> Option<usize>
+fn still_asking(place: usize, outcome: StreamOutcome) -> Option<usize>
     ensures { result ≡ asking_after place outcome }
 {
     match outcome {
-        Outcome::Next => Some(place),
-        Outcome::Done(_) | Outcome::Refused(_) => None,
+        StreamOutcome::Next => Some(place),
+        StreamOutcome::Done(_) | StreamOutcome::Refused(_) => None,
     }
 }
 

@@ -6,9 +6,9 @@ ghost use Rattle.tsm_host.specs.Operations.{op_name};
 use ide_types::{StreamStatus, SubKind};
 use link_verdicts::Operation;
 
-/// An operation of the manager, by the link's number and the stream's ID (this profile).
+/// An operation of the manager, by the line's number and the stream's ID (this profile).
 #[derive(Clone, Copy, PartialEq, Eq)]
-pub enum Op {
+pub enum NamedOperation {
     /// Gives the stream keys, in key set 0.
     Establish(u8, u8),
     /// Gives the stream new keys, in the key set that is not current.
@@ -19,7 +19,7 @@ pub enum Op {
 
 /// What became of a request: its reply, `None` if the device gave none, or the loss of either of them.
 #[derive(Clone, Copy)]
-pub enum Carried<'a> {
+pub enum ExchangeReply<'a> {
     Reply(Option<&'a [u8]>),
     Lost,
 }
@@ -27,15 +27,15 @@ pub enum Carried<'a> {
 /// The outcome of an exchange: the operation's next one is to be asked; the operation is at its end; it stays where it
 /// is until it is begun again (this profile).
 #[derive(Clone, Copy, PartialEq, Eq)]
-pub enum Outcome {
+pub enum StreamOutcome {
     Next,
-    Done(Shown),
-    Refused(Refusal),
+    Done(StreamResult),
+    Refused(StreamRefusal),
 }
 
 /// What an operation shows at its end.
 #[derive(Clone, Copy, PartialEq, Eq)]
-pub enum Shown {
+pub enum StreamResult {
     /// The draw whose keys the stream has from now on.
     Draw(u32),
     /// The stream has no keys.
@@ -44,7 +44,7 @@ pub enum Shown {
 
 /// Why an operation does not begin, or does not go on now (this profile). Exchanges are numbered from 1.
 #[derive(Clone, Copy, PartialEq, Eq)]
-pub enum Refusal {
+pub enum StreamRefusal {
     /// Of establish: the stream has keys.
     NotIdle,
     /// Of refresh: the stream is not Secure at the host's port, and what it is there.
@@ -63,24 +63,26 @@ pub enum Refusal {
     UnitOpen(SubKind),
 }
 
-impl Op {
+impl NamedOperation {
     /// The operation, without the stream.
     pub fn operation(self) -> Operation
         ensures { result ≡ (op_name self).operation }
     {
         match self {
-            Op::Establish(..) => Operation::Establish,
-            Op::Refresh(..) => Operation::Refresh,
-            Op::Stop(..) => Operation::Stop,
+            NamedOperation::Establish(..) => Operation::Establish,
+            NamedOperation::Refresh(..) => Operation::Refresh,
+            NamedOperation::Stop(..) => Operation::Stop,
         }
     }
 
-    /// The number of the link.
+    /// The number of the line.
     pub fn link(self) -> u8
-        ensures { result ≡ (op_name self).link }
+        ensures { result ≡ (op_name self).line }
     {
         match self {
-            Op::Establish(link, _) | Op::Refresh(link, _) | Op::Stop(link, _) => link,
+            NamedOperation::Establish(link, _)
+            | NamedOperation::Refresh(link, _)
+            | NamedOperation::Stop(link, _) => link,
         }
     }
 
@@ -89,7 +91,9 @@ impl Op {
         ensures { result ≡ (op_name self).stream }
     {
         match self {
-            Op::Establish(_, stream) | Op::Refresh(_, stream) | Op::Stop(_, stream) => stream,
+            NamedOperation::Establish(_, stream)
+            | NamedOperation::Refresh(_, stream)
+            | NamedOperation::Stop(_, stream) => stream,
         }
     }
 }

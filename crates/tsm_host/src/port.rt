@@ -5,10 +5,10 @@ ghost use Rattle.ide_types.specs.declared.key_set.KeySet.{KeySet};
 ghost use Rattle.ide_types.specs.declared.status.StreamStatus.{StreamStatus};
 ghost use Rattle.ide_types.specs.declared.sub.SubKind.{SubKind};
 
-use ide_km::SlotPort;
 use ide_types::{KeySet, StreamStatus, SubKind};
+use key_messages::SlotPort;
 
-/// The host's port of a link: its slots are called locally, which is no exchange (PCI Express Base 6.0 section 6.33,
+/// The host's port of a line: its slots are called locally, which is no exchange (PCI Express Base 6.0 section 6.33,
 /// in this profile).
 pub trait HostPort: SlotPort {
     /// The state of a stream, if the port has it.

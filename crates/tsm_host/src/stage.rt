@@ -2,24 +2,19 @@
 
 ghost use Rattle.std.specs.Prelude.{◌≡◌, ◌+◌, ◌<◌, ◌≤◌, IsSome, IsTrue, true, not, if◌then◌else◌, [], slice_index_or};
 ghost use Rattle.ide_types.specs.{is_one};
-ghost use Rattle.key_laws.specs.Operations.{work_of, last_exchange_of, op_after, reach};
+ghost use Rattle.spec_keys.specs.Operations.{work_of, last_exchange_of, op_after, reach};
 ghost use Rattle.tsm_host.specs.Exchanges.{exchange_of, exchange_lane, kept_key, key_or_none};
 ghost use Rattle.tsm_host.specs.Facts.{op_seen};
-ghost use Rattle.tsm_host.specs.Streams.{op_in, stage_keys, StageHolds, asked_in, exchange_asked, work_asked};
-ghost use Rattle.tsm_host.specs.Streams.{
-  host_view,
-  operation_refusal,
-  open_unit_refusal,
-  status_or_idle,
-  unless_secure,
-  is_set,
-};
-ghost use Rattle.tsm_host.specs.Streams.{keys_after, establish_refusal, refresh_refusal, current_set, next_in};
+ghost use Rattle.tsm_host.specs.Streams.{op_in, stage_keys, StageHolds, asked_of_unfinished, exchange_asked};
+ghost use Rattle.tsm_host.specs.Streams.{work_asked};
+ghost use Rattle.tsm_host.specs.Streams.{host_view, operation_refusal, open_unit_refusal, status_or_idle};
+ghost use Rattle.tsm_host.specs.Streams.{unless_secure, is_set};
+ghost use Rattle.tsm_host.specs.Streams.{wire_keys_after, establish_refusal, refresh_refusal, current_set, next_in};
 ghost use Rattle.tsm_host.specs.Streams.{op_advanced};
 
 use crate::exchange::{Exchange, end_at, exchange_at, last, wire_number};
 use crate::facts::StageFacts;
-use crate::operation::{Refusal, Shown};
+use crate::operation::{StreamRefusal, StreamResult};
 use crate::port::HostPort;
 use crate::wires::Wires;
 use ide_types::{KeySet, Side, StreamStatus, SubKind};
@@ -53,14 +48,14 @@ pub enum Stage {
 /// The exchange that is next of an unfinished operation: its key set, its draw (0 if it has none), and the number of
 /// the exchange, from 1.
 #[derive(Clone, Copy, PartialEq, Eq)]
-pub struct Asked {
+pub struct NextExchange {
     pub operation: Operation,
     pub set: KeySet,
     pub draw: u32,
     pub exchange: u8,
 }
 
-impl Asked {
+impl NextExchange {
     ghost use Rattle.tsm_host.specs.Streams.{exchange_asked, end_asked, wire_asked, is_last, shown_at_end};
 
     /// The exchange, on a line with a host's port at its near end or with none.
@@ -97,26 +92,26 @@ impl Asked {
     }
 
     /// What the operation shows at its end.
-    pub fn shown(&self) -> Shown
+    pub fn shown(&self) -> StreamResult
         ensures { result ≡ shown_at_end self.now }
     {
         match self.operation {
-            Operation::Establish | Operation::Refresh => Shown::Draw(self.draw),
-            Operation::Stop => Shown::Stopped,
+            Operation::Establish | Operation::Refresh => StreamResult::Draw(self.draw),
+            Operation::Stop => StreamResult::Stopped,
         }
     }
 }
 
 /// The first sub-stream, PR first, whose Live key at the host's sender is in this set.
-fn open_unit<P: HostPort>(port: &P, stream: u8, set: KeySet) -> Option<Refusal>
+fn open_unit<P: HostPort>(port: &P, stream: u8, set: KeySet) -> Option<StreamRefusal>
     ensures { result ≡ open_unit_refusal (host_view P.status_of P.live_of port.now stream) (is_one set) }
 {
     if port.live_set(stream, SubKind::Pr) == Some(set) {
-        Some(Refusal::UnitOpen(SubKind::Pr))
+        Some(StreamRefusal::UnitOpen(SubKind::Pr))
     } else if port.live_set(stream, SubKind::Npr) == Some(set) {
-        Some(Refusal::UnitOpen(SubKind::Npr))
+        Some(StreamRefusal::UnitOpen(SubKind::Npr))
     } else if port.live_set(stream, SubKind::Cpl) == Some(set) {
-        Some(Refusal::UnitOpen(SubKind::Cpl))
+        Some(StreamRefusal::UnitOpen(SubKind::Cpl))
     } else {
         None
     }
@@ -133,19 +128,19 @@ fn status<P: HostPort>(port: &P, stream: u8) -> StreamStatus
 }
 
 /// Why a refresh of a keyed stream may not begin with keys in this set.
-fn not_ready<P: HostPort>(port: &P, stream: u8, set: KeySet) -> Option<Refusal>
+fn not_ready<P: HostPort>(port: &P, stream: u8, set: KeySet) -> Option<StreamRefusal>
     ensures { let host = host_view P.status_of P.live_of port.now stream in
         result ≡ unless_secure (status_or_idle host.status) (open_unit_refusal host (is_one set)) }
 {
     match status(port, stream) {
         StreamStatus::Secure => open_unit(port, stream, set),
-        status => Some(Refusal::NotSecure(status)),
+        status => Some(StreamRefusal::NotSecure(status)),
     }
 }
 
 /// The keys without the one that the exchange brought, which has this number.
 fn spent(mut keys: Wires, exchange: Exchange, wire: u8) -> Wires
-    ensures { result ≡ keys_after exchange wire keys }
+    ensures { result ≡ wire_keys_after exchange wire keys }
 {
     if let Exchange::Program { .. } = exchange {
         keys.spend(wire);
@@ -160,7 +155,7 @@ impl Stage {
         port: &P,
         stream: u8,
         operation: Operation,
-    ) -> Option<Refusal>
+    ) -> Option<StreamRefusal>
         ensures { result ≡ operation_refusal operation (op_in self.now)
             (host_view P.status_of P.live_of port.now stream) }
     {
@@ -171,26 +166,26 @@ impl Stage {
         }
     }
 
-    fn establish_refusal(&self) -> Option<Refusal>
+    fn establish_refusal(&self) -> Option<StreamRefusal>
         ensures { result ≡ establish_refusal (op_in self.now) }
     {
         match self {
             Stage::Idle | Stage::Establishing { .. } => None,
-            Stage::Up { .. } => Some(Refusal::NotIdle),
-            Stage::Refreshing { .. } => Some(Refusal::Busy(Operation::Refresh)),
-            Stage::Stopping { .. } => Some(Refusal::Busy(Operation::Stop)),
+            Stage::Up { .. } => Some(StreamRefusal::NotIdle),
+            Stage::Refreshing { .. } => Some(StreamRefusal::Busy(Operation::Refresh)),
+            Stage::Stopping { .. } => Some(StreamRefusal::Busy(Operation::Stop)),
         }
     }
 
-    fn refresh_refusal<P: HostPort>(&self, port: &P, stream: u8) -> Option<Refusal>
+    fn refresh_refusal<P: HostPort>(&self, port: &P, stream: u8) -> Option<StreamRefusal>
         ensures { result ≡ refresh_refusal (op_in self.now) (host_view P.status_of P.live_of port.now stream) }
     {
         match self {
-            Stage::Idle => Some(Refusal::NotSecure(status(port, stream))),
-            Stage::Establishing { .. } => Some(Refusal::Busy(Operation::Establish)),
+            Stage::Idle => Some(StreamRefusal::NotSecure(status(port, stream))),
+            Stage::Establishing { .. } => Some(StreamRefusal::Busy(Operation::Establish)),
             Stage::Up { set, .. } => not_ready(port, stream, set.other()),
             Stage::Refreshing { .. } => None,
-            Stage::Stopping { .. } => Some(Refusal::Busy(Operation::Stop)),
+            Stage::Stopping { .. } => Some(StreamRefusal::Busy(Operation::Stop)),
         }
     }
 
@@ -228,11 +223,11 @@ impl Stage {
 
     /// The exchange that is next, if an operation is unfinished.
     #[tactic(auto, using(ide_types::proofs::KeySets::set_of_one))]
-    pub fn asked(&self) -> Option<Asked>
-        ensures { result ≡ asked_in (op_in self.now) }
+    pub fn asked(&self) -> Option<NextExchange>
+        ensures { result ≡ asked_of_unfinished (op_in self.now) }
     {
         match self {
-            Stage::Establishing { draw, next, .. } => Some(Asked {
+            Stage::Establishing { draw, next, .. } => Some(NextExchange {
                 operation: Operation::Establish,
                 set: KeySet::Zero,
                 draw: *draw,
@@ -243,13 +238,13 @@ impl Stage {
                 draw,
                 next,
                 ..
-            } => Some(Asked {
+            } => Some(NextExchange {
                 operation: Operation::Refresh,
                 set: *set,
                 draw: *draw,
                 exchange: *next,
             }),
-            Stage::Stopping { next } => Some(Asked {
+            Stage::Stopping { next } => Some(NextExchange {
                 operation: Operation::Stop,
                 set: KeySet::Zero,
                 draw: 0,
@@ -279,7 +274,7 @@ impl Stage {
     pub fn advanced(self, exchange: Exchange, wire: u8) -> Stage
         requires { next_in self < 24 }
         ensures op { op_in result ≡ op_advanced (op_in self) }
-        ensures keys { stage_keys result ≡ keys_after exchange wire (stage_keys self) }
+        ensures keys { stage_keys result ≡ wire_keys_after exchange wire (stage_keys self) }
     {
         match self {
             Stage::Establishing { draw, next, keys } => Stage::Establishing {

@@ -2,8 +2,8 @@
 
 ghost use Rattle.std.specs.Prelude.{◌≡◌, ◌≤◌, true, [], Some, if◌then◌else◌};
 ghost use Rattle.ide_types.specs.{is_one};
-ghost use Rattle.key_laws.specs.Operations.{work_of, last_exchange_of, makes_draw, op_ended, Idle, Stopping};
-ghost use Rattle.key_laws.specs.Places.{is_cut, is_peer};
+ghost use Rattle.spec_keys.specs.Operations.{work_of, last_exchange_of, makes_draw, op_ended, Idle, Stopping};
+ghost use Rattle.spec_keys.specs.Places.{is_cut, is_between_devices};
 ghost use Rattle.tsm_host.specs.declared.judge.Judged.TheVariants.{Expected};
 ghost use Rattle.ide_types.specs.Lines.{is_hosted};
 ghost use Rattle.tsm_host.specs.Exchanges.{wire_keys};
@@ -15,13 +15,13 @@ ghost use Rattle.tsm_host.specs.Streams.{taken_calls};
 use crate::exchange::{Exchange, selector};
 use crate::facts::StageFacts;
 use crate::judge::{Judged, judge};
-use crate::local::{go_six, halt_all, program_six};
-use crate::operation::{Carried, Outcome, Refusal};
+use crate::local::{go_six, program_six, stop_all};
+use crate::operation::{ExchangeReply, StreamOutcome, StreamRefusal};
 use crate::port::HostPort;
-use crate::stage::{Asked, Stage};
+use crate::stage::{NextExchange, Stage};
 use crate::wires::Wires;
-use ide_km::{KmView, km_write};
 use ide_types::{KeySet, PortName, Side, StreamStatus};
+use key_messages::{KmView, km_write};
 use key_slots::{KeyPool, KeySix, PoolEmpty};
 use link_verdicts::Operation;
 use std::marker::Model;
@@ -30,7 +30,7 @@ use std::mem;
 /// A stream of a line, and its operations.
 #[derive(Drop)]
 pub struct StreamKeys {
-    link: u8,
+    line: u8,
     id: u8,
     stage: Stage,
 }
@@ -41,9 +41,9 @@ impl Model for StreamKeys {
 
     ghost Value = { StreamView };
 
-    ghost view = { λ s. record { link = s.link; id = s.id; op = op_in s.stage; keys = stage_keys s.stage } };
+    ghost view = { λ s. record { line = s.line; id = s.id; op = op_in s.stage; keys = stage_keys s.stage } };
 
-    ghost invariant = { λ s. StageHolds (is_hosted s.link) s.stage };
+    ghost invariant = { λ s. StageHolds (is_hosted s.line) s.stage };
 }
 
 /// Whether a host's port is at the near end of a line.
@@ -56,44 +56,27 @@ fn is_hosted(line: u8) -> bool
 impl StreamKeys {
     ghost use Rattle.tsm_host.specs.Exchanges.{request_of};
     ghost use Rattle.tsm_host.specs.Judging.{judged};
-    ghost use Rattle.tsm_host.specs.Streams.{
-      new_stream,
-      has_host,
-      is_named,
-      reset_stream,
-      asked_in,
-      exchange_asked,
-      host_view,
-      refusal_of,
-      ok_unless,
-      unless,
-      begun_stream,
-      begun_pool,
-      begun_calls,
-      outcome_of,
-      taken_stream,
-      acknowledged,
-      end_asked,
-      request_asked,
-      pool_refusal,
-    };
+    ghost use Rattle.tsm_host.specs.Streams.{new_stream, has_host, is_named, reset_stream, asked_of_unfinished};
+    ghost use Rattle.tsm_host.specs.Streams.{exchange_asked, host_view, refusal_of, ok_unless, unless, begun_stream};
+    ghost use Rattle.tsm_host.specs.Streams.{begun_pool, begun_calls, outcome_of, taken_stream, acknowledged};
+    ghost use Rattle.tsm_host.specs.Streams.{end_asked, request_asked, pool_refusal};
 
     /// A stream without keys.
     pub fn new(link: u8, id: u8) -> StreamKeys
         ensures { result ≡ new_stream link id }
     {
         StreamKeys {
-            link,
+            line: link,
             id,
             stage: Stage::Idle,
         }
     }
 
-    /// Whether it is this stream of this link.
+    /// Whether it is this stream of this line.
     pub fn is_named(&self, link: u8, id: u8) -> bool
         ensures { result ≡ is_named link id self.now }
     {
-        self.link == link && self.id == id
+        self.line == link && self.id == id
     }
 
     /// After a reset that clears these ends, a stream of their lines has no keys on their way; one between devices is
@@ -101,14 +84,14 @@ impl StreamKeys {
     pub fn reset(&mut self, ends: &[PortName])
         ensures { self.new ≡ reset_stream ends.now self.old }
     {
-        if is_cut(ends, self.link) {
-            self.stage = cut(self.link);
+        if is_cut(ends, self.line) {
+            self.stage = cut(self.line);
         }
     }
 
     /// The exchange that is next, if an operation is unfinished.
-    pub fn asked(&self) -> Option<Asked>
-        ensures { result ≡ asked_in self.now.op }
+    pub fn asked(&self) -> Option<NextExchange>
+        ensures { result ≡ asked_of_unfinished self.now.op }
     {
         self.stage.asked()
     }
@@ -133,7 +116,7 @@ impl StreamKeys {
         port: &mut P,
         pool: &mut KeyPool,
         operation: Operation,
-    ) -> Result<(), Refusal>
+    ) -> Result<(), StreamRefusal>
         ensures answer { let host = host_view P.status_of P.live_of port.old self.old.id in
             result ≡ ok_unless (refusal_of operation self.old.op host pool.old) }
         ensures stream { let host = host_view P.status_of P.live_of port.old self.old.id in
@@ -158,7 +141,7 @@ impl StreamKeys {
         match operation {
             Operation::Establish | Operation::Refresh => self.give_keys(port, pool, operation),
             Operation::Stop => {
-                empty_host(port, is_hosted(self.link), self.id);
+                empty_host(port, is_hosted(self.line), self.id);
                 self.stage = Stage::Stopping { next: 1 };
                 Ok(())
             }
@@ -171,7 +154,7 @@ impl StreamKeys {
         port: &mut P,
         pool: &mut KeyPool,
         operation: Operation,
-    ) -> Result<(), Refusal>
+    ) -> Result<(), StreamRefusal>
         requires draws { makes_draw operation ≡ true }
         requires begins { (work_of operation self.old.op 0).begins ≡ true }
         ensures answer { let w = work_of operation self.old.op pool.old.draws in
@@ -188,28 +171,28 @@ impl StreamKeys {
         let set = self.stage.next_set(operation);
         let six = match pool.draw() {
             Ok(six) => six,
-            Err(PoolEmpty { draws }) => return Err(Refusal::PoolEmpty(draws)),
+            Err(PoolEmpty { draws }) => return Err(StreamRefusal::PoolEmpty(draws)),
         };
         let draw = six.draw();
-        let keys = split_keys(port, is_hosted(self.link), self.id, set, six);
+        let keys = split_keys(port, is_hosted(self.line), self.id, set, six);
         self.stage = keyed(operation, set, draw, keys);
         Ok(())
     }
 
     /// The end of the line that the exchange is carried to.
-    pub fn end(&self, asked: Asked) -> Side
+    pub fn end(&self, asked: NextExchange) -> Side
         ensures { result ≡ end_asked (has_host self.now) asked }
     {
-        asked.end(is_hosted(self.link))
+        asked.end(is_hosted(self.line))
     }
 
     /// The request of the exchange that is next.
-    pub fn request(&self, asked: Asked) -> KmView
-        requires { asked_in self.now.op ≡ Some asked }
+    pub fn request(&self, asked: NextExchange) -> KmView
+        requires { asked_of_unfinished self.now.op ≡ Some asked }
         ensures { result ≡ request_asked (has_host self.now) asked self.now }
     {
         let stream = self.id;
-        let hosted = is_hosted(self.link);
+        let hosted = is_hosted(self.line);
         match asked.exchange(hosted) {
             Exchange::Query => KmView::Query { port: 0 },
             Exchange::Program { set, lane } => KmView::KeyProg {
@@ -233,8 +216,13 @@ impl StreamKeys {
     }
 
     /// Takes what was carried in answer to the request of the exchange that is next.
-    pub fn take<P: HostPort>(&mut self, port: &mut P, asked: Asked, carried: Carried) -> Outcome
-        requires { asked_in self.old.op ≡ Some asked }
+    pub fn take<P: HostPort>(
+        &mut self,
+        port: &mut P,
+        asked: NextExchange,
+        carried: ExchangeReply,
+    ) -> StreamOutcome
+        requires { asked_of_unfinished self.old.op ≡ Some asked }
         ensures outcome { result ≡ outcome_of (has_host self.old) asked (judged (request_asked
             (has_host self.old) asked self.old) carried.entry) }
         ensures stream { self.new ≡ taken_stream (has_host self.old) asked (judged (request_asked
@@ -247,37 +235,37 @@ impl StreamKeys {
         let exchange = u32::from(asked.exchange);
         match judge(self.request(asked), carried) {
             Judged::Expected => self.acknowledge(port, asked),
-            Judged::Lost => Outcome::Refused(Refusal::SessionLost(exchange)),
+            Judged::Lost => StreamOutcome::Refused(StreamRefusal::SessionLost(exchange)),
             Judged::Refused(code) => {
-                Outcome::Refused(Refusal::DeviceRefused(exchange, u32::from(code)))
+                StreamOutcome::Refused(StreamRefusal::DeviceRefused(exchange, u32::from(code)))
             }
-            Judged::Bad => Outcome::Refused(Refusal::BadReply(exchange)),
+            Judged::Bad => StreamOutcome::Refused(StreamRefusal::BadReply(exchange)),
         }
     }
 
     // Goes on after an exchange that was acknowledged.
-    fn acknowledge<P: HostPort>(&mut self, port: &mut P, asked: Asked) -> Outcome
-        requires { asked_in self.old.op ≡ Some asked }
+    fn acknowledge<P: HostPort>(&mut self, port: &mut P, asked: NextExchange) -> StreamOutcome
+        requires { asked_of_unfinished self.old.op ≡ Some asked }
         ensures outcome { result ≡ outcome_of (has_host self.old) asked Expected }
         ensures stream { self.new ≡ acknowledged (has_host self.old) asked self.old }
         ensures calls { CallsMove P.slots P.unfinished P.moves port.old
             (taken_calls (has_host self.old) asked Expected self.old.id) port.new }
     {
-        go_on(port, is_hosted(self.link), self.id, asked);
+        go_on(port, is_hosted(self.line), self.id, asked);
         self.advance(asked);
-        if asked.is_last(is_hosted(self.link)) {
-            Outcome::Done(asked.shown())
+        if asked.is_last(is_hosted(self.line)) {
+            StreamOutcome::Done(asked.shown())
         } else {
-            Outcome::Next
+            StreamOutcome::Next
         }
     }
 
-    fn advance(&mut self, asked: Asked)
-        requires { asked_in self.old.op ≡ Some asked }
+    fn advance(&mut self, asked: NextExchange)
+        requires { asked_of_unfinished self.old.op ≡ Some asked }
         ensures { self.new ≡ acknowledged (has_host self.old) asked self.old }
     {
         let stage = mem::replace(&mut self.stage, Stage::Idle);
-        let hosted = is_hosted(self.link);
+        let hosted = is_hosted(self.line);
         self.stage = if asked.is_last(hosted) {
             ended(hosted, asked)
         } else {
@@ -303,12 +291,12 @@ fn key_status(stage: &Stage) -> StreamStatus
 fn is_cut(ends: &[PortName], line: u8) -> bool
     ensures { result ≡ is_cut ends.now line }
 {
-    ends.iter().any(|end| end.link == line)
+    ends.iter().any(|end| end.line == line)
 }
 
 /// The state of a stream of a line that a reset cut.
 fn cut(line: u8) -> Stage
-    ensures op { op_in result ≡ (if is_peer line then Stopping 1 else Idle) }
+    ensures op { op_in result ≡ (if is_between_devices line then Stopping 1 else Idle) }
     ensures keys { stage_keys result ≡ [] }
     ensures holds { StageHolds (is_hosted line) result }
 {
@@ -347,12 +335,12 @@ fn empty_host<P: HostPort>(port: &mut P, hosted: bool, stream: u8)
     ensures { CallsMove P.slots P.unfinished P.moves port.old (if hosted then halts stream else []) port.new }
 {
     if hosted {
-        halt_all(port, stream);
+        stop_all(port, stream);
     }
 }
 
 /// Gives a host's port its GOs, if the last of the device's receivers acknowledged its own.
-fn go_on<P: HostPort>(port: &mut P, hosted: bool, stream: u8, asked: Asked)
+fn go_on<P: HostPort>(port: &mut P, hosted: bool, stream: u8, asked: NextExchange)
     requires first { 1 ≤ asked.exchange }
     requires last { asked.exchange ≤ last_exchange_of hosted asked.operation }
     ensures { CallsMove P.slots P.unfinished P.moves port.old (taken_calls hosted asked Expected stream) port.new }
@@ -382,7 +370,7 @@ fn keyed(operation: Operation, set: KeySet, draw: u32, keys: Wires) -> Stage
 }
 
 /// The state at the end of an operation.
-fn ended(hosted: bool, asked: Asked) -> Stage
+fn ended(hosted: bool, asked: NextExchange) -> Stage
     ensures op { op_in result ≡ op_ended (work_asked asked) }
     ensures keys { stage_keys result ≡ [] }
     ensures holds { StageHolds hosted result }

@@ -6,7 +6,7 @@ use Rattle.std.proofs.lemmas.List.{drop_all, drop-drop, take-append-drop, take-a
 use Rattle.std.proofs.lemmas.List.Folds.{drop_split}
 use Rattle.std.proofs.Math.Seq.{drop-append_seam}
 use Rattle.unit_aggregation.specs.declared.ends.PacketEnds.{PacketEnds}
-use Rattle.unit_aggregation.specs.Units.{heads_of, bodies_of, rebodied}
+use Rattle.unit_aggregation.specs.Units.{heads_of, bodies_of, packets_with_bodies}
 use Rattle.unit_aggregation.specs.Layout.{parts, Rises, LieWithin}
 
 pub rises_below : (h b : ℕ) (es : List PacketEnds) (heads bodies : ℕ) → Rises h b es heads bodies → (h ≤ heads)
@@ -95,10 +95,10 @@ rises_at h b (e ∷ es) heads bodies (suc i) d d' r lt = rises_at e.head e.body 
 
 -- ---- other bodies
 
-pub parts-rebodied : (x y new : List ℕ) (h b : ℕ) (es : List PacketEnds) → Rises h b es (length x) (length y)
-    → parts x new h b es ≡ rebodied (parts x y h b es) (drop b new)
-parts-rebodied x y new h b [] r = refl
-parts-rebodied x y new h b (e ∷ es) r =
+pub parts-packets_with_bodies : (x y new : List ℕ) (h b : ℕ) (es : List PacketEnds) → Rises h b es (length x) (length y)
+    → parts x new h b es ≡ packets_with_bodies (parts x y h b es) (drop b new)
+parts-packets_with_bodies x y new h b [] r = refl
+parts-packets_with_bodies x y new h b (e ∷ es) r =
     let below = rises_below e.head e.body es (length x) (length y) r.2 in
     let long : length (slice_range y b e.body) ≡ e.body - b = omega
     (arith, length-take (e.body - b) (drop b y), length-drop b y, below.1, r.1) in
@@ -106,4 +106,4 @@ parts-rebodied x y new h b (e ∷ es) r =
     let rest : drop (e.body - b) (drop b new) ≡ drop e.body new = drop-drop (e.body - b) b new ∙ ap
     (λ (n : ℕ). drop n new) past in
     rw (long, rest) (ap (λ (ps : List (List ℕ × List ℕ)). (slice_range x h e.head, slice_range new b e.body) ∷ ps)
-    (parts-rebodied x y new e.head e.body es r.2))
+    (parts-packets_with_bodies x y new e.head e.body es r.2))

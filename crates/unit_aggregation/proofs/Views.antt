@@ -5,61 +5,69 @@ use Rattle.std.specs.List.{slice_get}
 use Rattle.std.proofs.lemmas.Bool.{lt-ltb, le-ltb}
 use Rattle.std.proofs.lemmas.List.{take-append-le, take_all}
 use Rattle.unit_aggregation.specs.declared.ends.PacketEnds.{PacketEnds}
-use Rattle.unit_aggregation.specs.Units.{Collected, empty_unit, has_room, unit_with_packet, body_of, overwritten}
+use Rattle.unit_aggregation.specs.Units.{Collected, empty_unit, has_room, unit_with_packet, body_of, overwritten_bytes}
 use Rattle.unit_aggregation.specs.Units.{with_bodies}
 use Rattle.unit_aggregation.specs.Layout.{parts, Rises, IsLaidOut, LieWithin}
 use Rattle.unit_aggregation.proofs.Parts.{rises_below, length-parts, bodies_of-parts, rises_on, parts-added, parts_at}
-use Rattle.unit_aggregation.proofs.Parts.{rises_at, parts-rebodied}
+use Rattle.unit_aggregation.proofs.Parts.{rises_at, parts-packets_with_bodies}
 
 -- the unit that is seen of these fields
 abbrev pub view : ℕ → ℕ → List ℕ → List ℕ → List PacketEnds → Collected
-view mode ahead x y es = record { mode = mode; ahead = take ahead x; packets = parts x y ahead 0 es }
+view aggregation ahead x y es = record
+    { aggregation = aggregation; ahead = take ahead x; packets = parts x y ahead 0 es }
 
-pub count_of : (mode ahead : ℕ) (x y : List ℕ) (es : List PacketEnds) (v : Collected) → view mode ahead x y es ≡ v
+pub count_of : (aggregation ahead : ℕ) (x y : List ℕ) (es : List PacketEnds) (v : Collected)
+    → view aggregation ahead x y es ≡ v
     → length v.packets ≡ length es
-count_of mode ahead x y es v is = ap (λ (u : Collected). length u.packets) (sym is) ∙ length-parts x y ahead 0 es
+count_of aggregation ahead x y es v is = ap (λ (u : Collected). length u.packets) (sym is) ∙ length-parts x y ahead 0 es
 
 -- ---- one more packet
 
-pub has_room-less : (mode ahead : ℕ) (x y : List ℕ) (es : List PacketEnds) (v : Collected) → view mode ahead x y es ≡ v
-    → length es < mode → has_room v ≡ true
-has_room-less mode ahead x y es v is less = rw (← is, length-parts x y ahead 0 es) (lt-ltb (length es) mode less)
+pub has_room-less : (aggregation ahead : ℕ) (x y : List ℕ) (es : List PacketEnds) (v : Collected)
+    → view aggregation ahead x y es ≡ v
+    → length es < aggregation → has_room v ≡ true
+has_room-less aggregation ahead x y es v is less = rw (← is, length-parts x y ahead 0 es)
+    (lt-ltb (length es) aggregation less)
 
-pub has_room-full : (mode ahead : ℕ) (x y : List ℕ) (es : List PacketEnds) (v : Collected) → view mode ahead x y es ≡ v
-    → mode ≤ length es → has_room v ≡ false
-has_room-full mode ahead x y es v is full = rw (← is, length-parts x y ahead 0 es) (le-ltb (length es) mode full)
+pub has_room-full : (aggregation ahead : ℕ) (x y : List ℕ) (es : List PacketEnds) (v : Collected)
+    → view aggregation ahead x y es ≡ v
+    → aggregation ≤ length es → has_room v ≡ false
+has_room-full aggregation ahead x y es v is full = rw (← is, length-parts x y ahead 0 es)
+    (le-ltb (length es) aggregation full)
 
 pub view-full : (v : Collected) (head body : List ℕ) → has_room v ≡ false → v ≡ unit_with_packet v head body
 view-full v head body full = rw full refl
 
-pub view-added : (mode ahead : ℕ) (x y head body : List ℕ) (es : List PacketEnds) (n m : ℕ) (v : Collected)
-    → view mode ahead x y es ≡ v → length es < mode → Rises ahead 0 es (length x) (length y)
+pub view-added : (aggregation ahead : ℕ) (x y head body : List ℕ) (es : List PacketEnds) (n m : ℕ) (v : Collected)
+    → view aggregation ahead x y es ≡ v → length es < aggregation → Rises ahead 0 es (length x) (length y)
     → n ≡ length x + length head → m ≡ length y + length body
-    → view mode ahead (x ++ head) (y ++ body) (es ++ record { head = n; body = m } ∷ []) ≡ unit_with_packet v head body
-view-added mode ahead x y head body es n m v is less r en em =
-    let room = has_room-less mode ahead x y es v is less in
+    → view aggregation ahead (x ++ head) (y ++ body) (es ++ record { head = n; body = m } ∷ [])
+    ≡ unit_with_packet v head body
+view-added aggregation ahead x y head body es n m v is less r en em =
+    let room = has_room-less aggregation ahead x y es v is less in
     let below = rises_below ahead 0 es (length x) (length y) r in
-    let one : view mode ahead (x ++ head) (y ++ body) (es ++ record { head = n; body = m } ∷ [])
-    ≡ record (view mode ahead x y es) { packets = parts x y ahead 0 es ++ (head, body) ∷ [] } =
+    let one : view aggregation ahead (x ++ head) (y ++ body) (es ++ record { head = n; body = m } ∷ [])
+    ≡ record (view aggregation ahead x y es) { packets = parts x y ahead 0 es ++ (head, body) ∷ [] } =
     rw (en, em) (λ i. record {
-      mode = mode;
+      aggregation = aggregation;
       ahead = take-append-le ahead x head below.0 i;
       packets = parts-added x y head body ahead 0 es r i;
     }) in
     rw room (one ∙ ap (λ (u : Collected). record u { packets = u.packets ++ (head, body) ∷ [] }) is)
 
 -- the new packet ends where the bytes now end, so all that stood before lies as it did
-pub laid-added : (mode ahead : ℕ) (x y head body : List ℕ) (es : List PacketEnds) (n m xs ys xs' ys' : ℕ)
-    → IsLaidOut mode ahead es x y xs ys → length es < mode → length head ≤ 20 → length body ≤ 4096 → xs ≤ xs' → ys ≤ ys'
+pub laid-added : (aggregation ahead : ℕ) (x y head body : List ℕ) (es : List PacketEnds) (n m xs ys xs' ys' : ℕ)
+    → IsLaidOut aggregation ahead es x y xs ys → length es < aggregation → length head ≤ 20 → length body ≤ 4096
+    → xs ≤ xs' → ys ≤ ys'
     → n ≡ length x + length head → m ≡ length y + length body
-    → IsLaidOut mode ahead (es ++ record { head = n; body = m } ∷ []) (x ++ head) (y ++ body) xs' ys'
-laid-added mode ahead x y head body es n m xs ys xs' ys' p less short_head short_body wider_x wider_y en em =
+    → IsLaidOut aggregation ahead (es ++ record { head = n; body = m } ∷ []) (x ++ head) (y ++ body) xs' ys'
+laid-added aggregation ahead x y head body es n m xs ys xs' ys' p less short_head short_body wider_x wider_y en em =
     let lx : length (x ++ head) ≡ n = length-append x head ∙ sym en in
     let ly : length (y ++ body) ≡ m = length-append y body ∙ sym em in
     let more : length (es ++ record { head = n; body = m } ∷ [])
     ≡ length es + 1 = length-append es (record { head = n; body = m } ∷ []) in
     record {
-      mode_fits = p.mode_fits;
+      aggregation_fits = p.aggregation_fits;
       packets_fit = omega (arith, more, less);
       rising = rw (lx, ly) (rises_on ahead 0 es (length x) (length y) n m p.rising (omega (arith, en))
           (omega (arith, em)));
@@ -71,11 +79,11 @@ laid-added mode ahead x y head body es n m xs ys xs' ys' p less short_head short
 
 -- ---- one packet
 
-pub packet_at : (mode ahead : ℕ) (x y : List ℕ) (es : List PacketEnds) (i : ℕ) (s t : PacketEnds) (v : Collected)
-    → view mode ahead x y es ≡ v
+pub packet_at : (aggregation ahead : ℕ) (x y : List ℕ) (es : List PacketEnds) (i : ℕ) (s t : PacketEnds) (v : Collected)
+    → view aggregation ahead x y es ≡ v
     → i < length es → s ≡ get_or (record { head = ahead; body = 0 } ∷ es) i s → t ≡ get_or es i t
     → slice_get v.packets i ≡ Some (slice_range x s.head t.head, slice_range y s.body t.body)
-packet_at mode ahead x y es i s t v is less es' et =
+packet_at aggregation ahead x y es i s t v is less es' et =
     rw (← is) (subst (λ (u : PacketEnds). slice_get (parts x y ahead 0 es) i
     ≡ Some (slice_range x u.head t.head, slice_range y u.body t.body)) (sym es')
     (subst (λ (w : PacketEnds). slice_get (parts x y ahead 0 es) i
@@ -99,19 +107,20 @@ lies_within ahead x y es i s t r less es' et =
 
 -- ---- other bodies
 
-pub view-rebodied : (mode ahead n : ℕ) (x y new : List ℕ) (es : List PacketEnds) (v : Collected)
-    → view mode ahead x y es ≡ v
+pub view-packets_with_bodies : (aggregation ahead n : ℕ) (x y new : List ℕ) (es : List PacketEnds) (v : Collected)
+    → view aggregation ahead x y es ≡ v
     → Rises ahead 0 es (length x) (length y) → n ≡ length y
-    → view mode ahead x (take n (new ++ drop (length new) y)) es ≡ with_bodies v new
-view-rebodied mode ahead n x y new es v is r en =
-    let bodies : body_of (view mode ahead x y es) ≡ y = bodies_of-parts x y ahead 0 es r in
-    let same : take n (new ++ drop (length new) y) ≡ overwritten (body_of (view mode ahead x y es)) new = rw
+    → view aggregation ahead x (take n (new ++ drop (length new) y)) es ≡ with_bodies v new
+view-packets_with_bodies aggregation ahead n x y new es v is r en =
+    let bodies : body_of (view aggregation ahead x y es) ≡ y = bodies_of-parts x y ahead 0 es r in
+    let same : take n (new ++ drop (length new) y) ≡ overwritten_bytes (body_of (view aggregation ahead x y es)) new =
+    rw
     (en, bodies) refl in
     rw (← is) (rw same (λ i. record {
-      mode = mode;
+      aggregation = aggregation;
       ahead = take ahead x;
-      packets = parts-rebodied x y
-          (overwritten (body_of (view mode ahead x y es)) new) ahead 0 es r i;
+      packets = parts-packets_with_bodies x y
+          (overwritten_bytes (body_of (view aggregation ahead x y es)) new) ahead 0 es r i;
     }))
 
 -- ---- no packet
@@ -132,18 +141,19 @@ nothing_left ahead x y [] none no_packets r =
     }
 nothing_left ahead x y (e ∷ es) none no_packets r = absurd cc
 
-pub emptied : (mode mode' ahead : ℕ) (x y : List ℕ) (es : List PacketEnds) → view mode ahead x y es ≡ empty_unit mode'
+pub emptied : (aggregation mode' ahead : ℕ) (x y : List ℕ) (es : List PacketEnds) → view aggregation ahead x y es
+    ≡ empty_unit mode'
     → Rises ahead 0 es (length x) (length y) → IsEmpty ahead x y es
-emptied mode mode' ahead x y es is r =
+emptied aggregation mode' ahead x y es is r =
     nothing_left ahead x y es (ap (λ (u : Collected). u.ahead) is) (ap (λ (u : Collected). u.packets) is) r
 
 -- there was no packet, so the ahead alone lies in the heads
-pub laid-ahead : (mode ahead : ℕ) (x y bytes : List ℕ) (es : List PacketEnds) (xs ys xs' : ℕ)
-    → IsLaidOut mode ahead es x y xs ys → IsEmpty ahead x y es
-    → length bytes ≡ 8 → xs ≤ xs' → IsLaidOut mode 8 es (x ++ bytes) y xs' ys
-laid-ahead mode ahead x y bytes es xs ys xs' p e long wider =
+pub laid-ahead : (aggregation ahead : ℕ) (x y bytes : List ℕ) (es : List PacketEnds) (xs ys xs' : ℕ)
+    → IsLaidOut aggregation ahead es x y xs ys → IsEmpty ahead x y es
+    → length bytes ≡ 8 → xs ≤ xs' → IsLaidOut aggregation 8 es (x ++ bytes) y xs' ys
+laid-ahead aggregation ahead x y bytes es xs ys xs' p e long wider =
     rw (e.ends, e.heads, e.bodies) (record {
-      mode_fits = p.mode_fits;
+      aggregation_fits = p.aggregation_fits;
       packets_fit = omega arith;
       rising = (sym long, refl);
       heads_fit = omega (arith, long);
@@ -152,11 +162,13 @@ laid-ahead mode ahead x y bytes es xs ys xs' p e long wider =
       room_for_bodies = p.room_for_bodies;
     })
 
-pub view-ahead : (mode ahead : ℕ) (x y bytes : List ℕ) (es : List PacketEnds) (old : Collected) → IsEmpty ahead x y es
+pub view-ahead : (aggregation ahead : ℕ) (x y bytes : List ℕ) (es : List PacketEnds) (old : Collected)
+    → IsEmpty ahead x y es
     → length bytes ≡ 8
-    → view mode ahead x y es ≡ empty_unit old.mode → old.packets ≡ [] → view mode 8 (x ++ bytes) y es
+    → view aggregation ahead x y es ≡ empty_unit old.aggregation → old.packets ≡ []
+    → view aggregation 8 (x ++ bytes) y es
     ≡ record old { ahead = bytes }
-view-ahead mode ahead x y bytes es old e long is none =
+view-ahead aggregation ahead x y bytes es old e long is none =
     let whole : take 8 bytes ≡ bytes = take_all 8 bytes (omega (arith, long)) in
     rw (e.ends, e.heads) (λ i. record
-    { mode = ap (λ (u : Collected). u.mode) is i; ahead = whole i; packets = sym none i })
+    { aggregation = ap (λ (u : Collected). u.aggregation) is i; ahead = whole i; packets = sym none i })

@@ -14,17 +14,17 @@ Rises h b [] heads bodies = (h ≡ heads) × (b ≡ bodies)
 Rises h b (e ∷ es) heads bodies = (h ≤ e.head) × (b ≤ e.body) × Rises e.head e.body es heads bodies
 
 -- the packets lie after what comes ahead, and there is room for the rest: 8 bytes ahead, 20 of each head and 4,096 of
--- each
--- body
-pub record IsLaidOut (mode ahead : ℕ) (ends : List PacketEnds) (heads bodies : List ℕ) (heads_room bodies_room : ℕ)
+-- each body
+pub record IsLaidOut (aggregation ahead : ℕ) (ends : List PacketEnds) (heads bodies : List ℕ)
+    (heads_room bodies_room : ℕ)
     : Type 0 where
-  pub mode_fits : mode ≤ 8
-  pub packets_fit : length ends ≤ mode
+  pub aggregation_fits : aggregation ≤ 8
+  pub packets_fit : length ends ≤ aggregation
   pub rising : Rises ahead 0 ends (length heads) (length bodies)
   pub heads_fit : length heads ≤ 8 + 20 * length ends
   pub bodies_fit : length bodies ≤ 4096 * length ends
-  pub room_for_heads : 8 + 20 * mode ≤ heads_room
-  pub room_for_bodies : 4096 * mode ≤ bodies_room
+  pub room_for_heads : 8 + 20 * aggregation ≤ heads_room
+  pub room_for_bodies : 4096 * aggregation ≤ bodies_room
 
 -- a packet's places are in order, and in the lists
 pub record LieWithin (start ends : PacketEnds) (heads bodies : ℕ) : Type 0 where

@@ -5,12 +5,12 @@ use Rattle.std.specs.List.{flat_map}
 
 -- at most how many packets, the bytes before the first, and the packets
 pub record Collected : Type 0 where
-  pub mode : ℕ
+  pub aggregation : ℕ
   pub ahead : List ℕ
   pub packets : List (List ℕ × List ℕ)
 
 abbrev pub empty_unit : ℕ → Collected
-empty_unit mode = record { mode = mode; ahead = []; packets = [] }
+empty_unit aggregation = record { aggregation = aggregation; ahead = []; packets = [] }
 
 -- the heads of packets, joined
 abbrev pub heads_of : List (List ℕ × List ℕ) → List ℕ
@@ -29,7 +29,7 @@ body_of unit = bodies_of unit.packets
 
 -- one more packet fits
 abbrev pub has_room : Collected → Bool
-has_room unit = nat_lt (length unit.packets) unit.mode
+has_room unit = nat_lt (length unit.packets) unit.aggregation
 
 -- with the packet at its end, if it fits
 abbrev pub unit_with_packet : Collected → List ℕ → List ℕ → Collected
@@ -39,17 +39,18 @@ unit_with_packet unit head body =
 -- ---- writing
 
 -- the bytes written over as many of the old ones, from the first on
-abbrev pub overwritten : List ℕ → List ℕ → List ℕ
-overwritten old new = take (length old) (new ++ drop (length new) old)
+abbrev pub overwritten_bytes : List ℕ → List ℕ → List ℕ
+overwritten_bytes old new = take (length old) (new ++ drop (length new) old)
 
 -- the packets with these bytes as their bodies, each as long as before
-abbrev pub rebodied : List (List ℕ × List ℕ) → List ℕ → List (List ℕ × List ℕ)
-rebodied [] bytes = []
-rebodied (p ∷ ps) bytes = (p.0, take (length p.1) bytes) ∷ rebodied ps (drop (length p.1) bytes)
+abbrev pub packets_with_bodies : List (List ℕ × List ℕ) → List ℕ → List (List ℕ × List ℕ)
+packets_with_bodies [] bytes = []
+packets_with_bodies (p ∷ ps) bytes = (p.0, take (length p.1) bytes) ∷ packets_with_bodies ps (drop (length p.1) bytes)
 
 -- the unit with these bytes written over its bodies
 abbrev pub with_bodies : Collected → List ℕ → Collected
-with_bodies unit bytes = record unit { packets = rebodied unit.packets (overwritten (body_of unit) bytes) }
+with_bodies unit bytes = record unit
+    { packets = packets_with_bodies unit.packets (overwritten_bytes (body_of unit) bytes) }
 
 -- the lengths of heads and of bodies
 abbrev pub lengths_of : List (List ℕ × List ℕ) → List (ℕ × ℕ)

@@ -6,7 +6,7 @@ ghost use Rattle.unit_aggregation.specs.Layout.{LieWithin};
 
 use crate::ends::PacketEnds;
 use arrayvec::ArrayVec;
-use ide_types::Memory;
+use ide_types::OutOfMemory;
 use std::alloc::Global;
 use std::marker::Model;
 
@@ -25,15 +25,15 @@ const HEADER_BYTES: usize = 16;
 /// The most bytes of a packet's body: 1,024 double words (PCI Express Base 6.0 section 2.2).
 pub const BODY_BYTES: usize = 4_096;
 
-/// The unit has as many packets as its mode allows (this profile).
+/// The unit has as many packets as its aggregation allows (this profile).
 #[derive(Clone, Copy, PartialEq, Eq)]
 pub struct UnitFull;
 
 /// The packets of one unit (PCI Express Base 6.0 section 6.33, in this profile). A packet is its head, which is sent
-/// in clear (prefix and header), and its body. Contracts see the mode, what comes ahead and the packets.
+/// in clear (prefix and header), and its body. Contracts see the aggregation, what comes ahead and the packets.
 #[derive(Drop)]
 pub struct UnitBuf {
-    mode: usize,
+    aggregation: usize,
     ahead: usize,
     heads: Vec<u8>,
     bodies: Vec<u8>,
@@ -49,12 +49,12 @@ impl Model for UnitBuf {
 
     ghost view = { λ u.
         record {
-          mode = u.mode;
+          aggregation = u.aggregation;
           ahead = take u.ahead u.heads.items;
           packets = parts u.heads.items u.bodies.items u.ahead 0 u.ends.items;
         } };
 
-    ghost invariant = { λ u. IsLaidOut u.mode u.ahead u.ends.items u.heads.items u.bodies.items
+    ghost invariant = { λ u. IsLaidOut u.aggregation u.ahead u.ends.items u.heads.items u.bodies.items
         (vec_capacity u.heads) (vec_capacity u.bodies) };
 }
 
@@ -113,16 +113,16 @@ impl UnitBuf {
     ghost use Rattle.unit_aggregation.specs.Units.{empty_unit, aad_of, body_of, has_room, unit_with_packet};
     ghost use Rattle.unit_aggregation.specs.Lending.{LendsBody};
 
-    /// A buffer for units of at most `mode` packets, which is 1, 2, 4 or 8; it has none yet.
-    pub fn reserve(alloc: Global, mode: u8) -> Result<UnitBuf, Memory>
-        requires { mode ≤ MAX_PACKETS }
-        ensures { IfOk result (λ unit. unit ≡ empty_unit mode) }
+    /// A buffer for units of at most `aggregation` packets, which is 1, 2, 4 or 8; it has none yet.
+    pub fn reserve(alloc: Global, aggregation: u8) -> Result<UnitBuf, OutOfMemory>
+        requires { aggregation ≤ MAX_PACKETS }
+        ensures { IfOk result (λ unit. unit ≡ empty_unit aggregation) }
     {
-        let mode = mode as usize;
-        let heads = Vec::with_capacity(alloc, AHEAD_BYTES + HEAD_BYTES * mode)?;
-        let bodies = Vec::with_capacity(alloc, BODY_BYTES * mode)?;
+        let aggregation = aggregation as usize;
+        let heads = Vec::with_capacity(alloc, AHEAD_BYTES + HEAD_BYTES * aggregation)?;
+        let bodies = Vec::with_capacity(alloc, BODY_BYTES * aggregation)?;
         Ok(UnitBuf {
-            mode,
+            aggregation,
             ahead: 0,
             heads,
             bodies,
@@ -131,14 +131,14 @@ impl UnitBuf {
     }
 
     /// Adds a packet: its head is a prefix and a header of at most 16 bytes, its body has at most 4,096. Returns
-    /// `UnitFull` exactly if the unit has `mode` packets, and then changes nothing.
+    /// `UnitFull` exactly if the unit has `aggregation` packets, and then changes nothing.
     pub fn add(&mut self, prefix: &[u8; 4], header: &[u8], body: &[u8]) -> Result<(), UnitFull>
         requires header_short { length header.now ≤ HEADER_BYTES }
         requires body_short { length body.now ≤ BODY_BYTES }
         ensures answer { is_ok result ≡ has_room self.old }
         ensures unit { self.new ≡ unit_with_packet self.old (prefix.now ++ header.now) body.now }
     {
-        if self.ends.len() >= self.mode {
+        if self.ends.len() >= self.aggregation {
             return Err(UnitFull);
         }
         append(&mut self.heads, prefix);
@@ -154,7 +154,7 @@ impl UnitBuf {
     /// How many packets it has.
     pub fn count(&self) -> usize
         ensures count { result ≡ length self.now.packets }
-        ensures fits { result ≤ self.now.mode }
+        ensures fits { result ≤ self.now.aggregation }
     {
         self.ends.len()
     }
@@ -196,7 +196,7 @@ impl UnitBuf {
 
     /// Drops the packets and what comes ahead.
     pub fn clear(&mut self)
-        ensures { self.new ≡ empty_unit self.old.mode }
+        ensures { self.new ≡ empty_unit self.old.aggregation }
     {
         self.ahead = 0;
         self.heads.clear();

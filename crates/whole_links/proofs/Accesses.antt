@@ -8,38 +8,38 @@ use Rattle.ide_types.specs.declared.direction.Direction.{Direction}
 use Rattle.ide_types.specs.declared.direction.Direction.TheVariants.{Downstream, Upstream}
 use Rattle.ide_types.specs.declared.port.PortName.{PortName}
 use Rattle.ide_types.specs.Sub.{direction_number}
-use Rattle.ide_plan.specs.declared.interface.BarPlan.{BarPlan}
-use Rattle.ide_plan.specs.declared.plan.Plan.{Plan}
+use Rattle.ide_types.specs.declared.interface.BarPlan.{BarPlan}
+use Rattle.ide_types.specs.declared.plan.Plan.{Plan}
 use Rattle.link_events.specs.declared.event.Event.TheVariants.{Access, Reset, Forward}
 use Rattle.link_events.specs.declared.event.AccessEvent.TheVariants as ae
 use Rattle.link_verdicts.specs.declared.verdict.Verdict.{Verdict}
 use Rattle.link_verdicts.specs.declared.verdict.Verdict.TheVariants as v
-use Rattle.key_laws.proofs.Tests.{same-true}
+use Rattle.spec_keys.proofs.Tests.{same-true}
 use Rattle.hop_queues.specs.declared.queue.HopTlp.{HopTlp}
 use Rattle.hop_queues.specs.declared.queues.HopQueues.{HopQueues}
 use Rattle.hop_queues.specs.{queue_of, with_queue}
-use Rattle.waiting_reads.specs.declared.queue.WaitingRead.{WaitingRead}
+use Rattle.trusted_memory.specs.declared.queue.WaitingRead.{WaitingRead}
 use Rattle.guarded_memory.specs.Happenings.{Happened, AllReset, newest_happened}
 use Rattle.guarded_memory.specs.Contents.{GuardedMemory, MmioLeads}
-use Rattle.link_history.specs.Hops.{clears_hop, is_forward_on}
-use Rattle.accesses.specs.declared.link.LinkAccesses.{LinkAccesses}
-use Rattle.access_turns.specs.Turns.{hops_cleared}
-use Rattle.access_turns.proofs.Turns.{turn_at, rests_all, turn_then}
+use Rattle.spec_links.specs.Hops.{clears_hop, is_forward_on}
+use Rattle.link_stores.specs.declared.link.LinkAccesses.{LinkAccesses}
+use Rattle.join_stores.specs.Turns.{hops_cleared}
+use Rattle.join_stores.proofs.Turns.{turn_at, rests_all, turn_then}
 use Rattle.all_links.specs.{waiting_reads_after, LinkEnds}
 use Rattle.all_links.specs.declared.links.Links.{Links}
 use Rattle.all_links.specs.Interfaces.{interface_named}
-use Rattle.all_links.specs.Accesses.{is_sending, AccessesTurn, carried_at, same_reads, same_floors, same_carried}
+use Rattle.all_links.specs.Accesses.{is_sending, AccessesTurn, carried_on_link, same_reads, same_floors, same_carried}
 use Rattle.all_links.specs.Accesses.{device_draw, nothing_happens}
-use Rattle.ide_types.specs.declared.memory.Memory.{Memory}
+use Rattle.ide_types.specs.declared.memory.OutOfMemory.{OutOfMemory}
 use Rattle.link_events.specs.declared.event.Loss.{Loss}
 use Rattle.link_events.specs.declared.event.InterfaceEvent.{InterfaceEvent}
 use Rattle.link_events.specs.declared.event.InterfaceEvent.TheVariants as ie
 use Rattle.whole_links.specs.declared.whole.WholeLinks.{WholeLinks}
 use Rattle.std.specs.Option.{option_map_or}
-use Rattle.tdi_state.specs.Machine.{Tdi}
+use Rattle.interface_state.specs.Machine.{Tdi}
 use Rattle.all_links.proofs.Asked.{if_some, is_found}
 use Rattle.whole_links.specs.Accesses.{takes_read, is_sealed, happens_at, bars_named, floors_if, floors_set}
-use Rattle.whole_links.specs.Accesses.{reset_happens, carried_by, AccessesInterface}
+use Rattle.whole_links.specs.Accesses.{reset_happens, carried_after_event, AccessesInterface}
 
 -- ---- answers to reads
 
@@ -189,15 +189,16 @@ resets_at plan ends xs link a a' is after sizes leads =
     })
 
 -- nothing waits where there is no link
-none_past : (xs : List LinkAccesses) (k : ℕ) (d : Direction) → nat_lt k (length xs) ≡ false → carried_at xs k d ≡ []
+none_past : (xs : List LinkAccesses) (k : ℕ) (d : Direction) → nat_lt k (length xs) ≡ false → carried_on_link xs k d
+    ≡ []
 none_past [] k d past = refl
 none_past (x ∷ xs) zero d past = absurd (grind (arith, nat_tests, past))
 none_past (x ∷ xs) (suc k) d past = none_past xs k d (grind (arith, nat_tests, past))
 
 -- what waits where the hops of all links were cleared that these ends cut
 all_cleared : (ends : List PortName) (xs : List LinkAccesses) (k : ℕ) (d : Direction)
-    → hops_cleared ends (length xs) k d (carried_at xs k d)
-    ≡ (if clears_hop ends k then [] else carried_at xs k d)
+    → hops_cleared ends (length xs) k d (carried_on_link xs k d)
+    ≡ (if clears_hop ends k then [] else carried_on_link xs k d)
 all_cleared ends xs k d = by (nat_lt k (length xs)) refl
   where
     either : (b : Bool) (ts : List HopTlp) → ts ≡ [] → ts ≡ (if b then [] else ts)
@@ -205,10 +206,10 @@ all_cleared ends xs k d = by (nat_lt k (length xs)) refl
     either false ts none = refl
 
     by : (b : Bool) → nat_lt k (length xs) ≡ b
-        → (if b && clears_hop ends k then [] else carried_at xs k d)
-        ≡ (if clears_hop ends k then [] else carried_at xs k d)
+        → (if b && clears_hop ends k then [] else carried_on_link xs k d)
+        ≡ (if clears_hop ends k then [] else carried_on_link xs k d)
     by true is = refl
-    by false is = either (clears_hop ends k) (carried_at xs k d) (none_past xs k d is)
+    by false is = either (clears_hop ends k) (carried_on_link xs k d) (none_past xs k d is)
 
 pub reset_turns : (plan : Plan) (ends : List PortName) (xs zs : List LinkAccesses) (link count : ℕ)
     (a a' : LinkAccesses) (w : Verdict) → w ≡ v.Reset link → count ≡ length xs
@@ -216,10 +217,10 @@ pub reset_turns : (plan : Plan) (ends : List PortName) (xs zs : List LinkAccesse
     → a'.guarded.sizes ≡ a.guarded.sizes → MmioLeads a.guarded (Some AllReset ∷ []) a'.guarded
     → AccessesTurn same_reads same_floors nothing_happens (hops_cleared ends count) (slice_set xs link a') zs
     → AccessesTurn (waiting_reads_after plan [] (Reset link ends) w) same_floors (reset_happens w)
-    (carried_by (Reset link ends) w) xs zs
+    (carried_after_event (Reset link ends) w) xs zs
 reset_turns plan ends xs zs link count a a' w says many is after sizes leads cleared =
     subst (λ (x : Verdict). AccessesTurn (waiting_reads_after plan [] (Reset link ends) x) same_floors (reset_happens x)
-    (carried_by (Reset link ends) x) xs zs) (sym says)
+    (carried_after_event (Reset link ends) x) xs zs) (sym says)
     (let turn = turn_then (resets_at plan ends xs link a a' is after sizes leads) (hops_cleared ends count) zs cleared
     in
     record {
@@ -229,17 +230,17 @@ reset_turns plan ends xs zs link count a a' w says many is after sizes leads cle
       sizes = turn.sizes;
       bytes = turn.bytes;
       carried = λ k d. turn.carried k d
-          ∙ (ap (λ (n : ℕ). hops_cleared ends n k d (carried_at xs k d)) many ∙ all_cleared ends xs k d);
+          ∙ (ap (λ (n : ℕ). hops_cleared ends n k d (carried_on_link xs k d)) many ∙ all_cleared ends xs k d);
     })
 
 -- of no link
 pub reset_keeps : (plan : Plan) (ends : List PortName) (xs : List LinkAccesses) (link : ℕ) (w : Verdict)
     → w ≡ v.Nothing
     → AccessesTurn (waiting_reads_after plan [] (Reset link ends) w) same_floors (reset_happens w)
-    (carried_by (Reset link ends) w) xs xs
+    (carried_after_event (Reset link ends) w) xs xs
 reset_keeps plan ends xs link w says =
     subst (λ (x : Verdict). AccessesTurn (waiting_reads_after plan [] (Reset link ends) x) same_floors (reset_happens x)
-    (carried_by (Reset link ends) x) xs xs) (sym says)
+    (carried_after_event (Reset link ends) x) xs xs) (sym says)
     (rests_all _ same_floors _ _ xs (λ k. record {
       reads_rest = λ ws. refl;
       floors_rest = λ ns. refl;
@@ -250,17 +251,17 @@ reset_keeps plan ends xs link w says =
 -- ---- what is forwarded
 
 keeps_tlps : (link : ℕ) (way : Direction) (w : Verdict) (k : ℕ) (d : Direction) (ts : List HopTlp)
-    → is_sealed w ≡ false → is_sending w ≡ true → carried_by (Forward link way) w k d ts ≡ ts
+    → is_sealed w ≡ false → is_sending w ≡ true → carried_after_event (Forward link way) w k d ts ≡ ts
 keeps_tlps link way w k d ts stays sends = grind arith
 
 takes_tlps : (link : ℕ) (way : Direction) (w : Verdict) (k : ℕ) (d : Direction) (ts : List HopTlp)
     → is_sealed w ≡ true
-    → carried_by (Forward link way) w k d ts ≡ (if is_forward_on k d (Forward link way) then drop 1 ts else ts)
+    → carried_after_event (Forward link way) w k d ts ≡ (if is_forward_on k d (Forward link way) then drop 1 ts else ts)
 takes_tlps link way w k d ts sealed = grind arith
 
 pub forward_keeps : (xs : List LinkAccesses) (link : ℕ) (way : Direction) (w : Verdict) → is_sealed w ≡ false
     → is_sending w ≡ true
-    → AccessesTurn same_reads same_floors nothing_happens (carried_by (Forward link way) w) xs xs
+    → AccessesTurn same_reads same_floors nothing_happens (carried_after_event (Forward link way) w) xs xs
 forward_keeps xs link way w stays sends =
     rests_all same_reads same_floors nothing_happens _ xs (λ k. record {
       reads_rest = λ ws. refl;
@@ -285,7 +286,8 @@ pub forward_takes : (xs : List LinkAccesses) (link : ℕ) (way : Direction) (a a
           (record (queue_of a.carried way) { tlps = drop 1 (queue_of a.carried way).tlps });
     }
     → is_sealed w ≡ true
-    → AccessesTurn same_reads same_floors nothing_happens (carried_by (Forward link way) w) xs (slice_set xs link a')
+    → AccessesTurn same_reads same_floors nothing_happens (carried_after_event (Forward link way) w) xs
+    (slice_set xs link a')
 forward_takes xs link way a a' w is after sealed =
     turn_at same_reads same_floors nothing_happens _ xs link a a' is
     (record {
@@ -328,7 +330,7 @@ quiet_at (ie.Write i register value) verdict old new start halt flr same = same
 quiet_at (ie.Firmware i) verdict old new start halt flr same = same
 quiet_at (ie.Memory at len) verdict old new start halt flr same = same
 
-pub quiet_or : (r : Result (Option Verdict) Memory) (e : InterfaceEvent) (old new : WholeLinks)
+pub quiet_or : (r : Result (Option Verdict) OutOfMemory) (e : InterfaceEvent) (old new : WholeLinks)
     → ((i : ℕ) (loss : Option Loss) → e ≡ ie.Start i loss → ⊥) → ((i : ℕ) (loss : Option Loss) → e ≡ ie.Halt i loss → ⊥)
     → ((i : ℕ) → e ≡ ie.Flr i → ⊥) → new.accesses ≡ old.accesses
     → IfOk r (λ o. IfSome o (λ verdict. AccessesInterface e verdict old new))

@@ -6,26 +6,26 @@ use Rattle.std.proofs.lemmas.Bool.Decides.{nat_tests}
 use Rattle.std.specs.Prelude.{Option, Some, None, Result, Ok, Err, unwrap_or, slice_get, nat_lt, if◌then◌else◌, ◌||◌}
 use Rattle.std.specs.Option.{option_map, option_map_or, option_and_then}
 use Rattle.std.proofs.lemmas.Option.{none-some, slice_get_within}
-use Rattle.key_laws.specs.Keys.{is_below}
-use Rattle.ide_types.specs.declared.memory.Memory.{Memory}
+use Rattle.spec_keys.specs.Keys.{is_below}
+use Rattle.ide_types.specs.declared.memory.OutOfMemory.{OutOfMemory}
 use Rattle.ide_types.specs.declared.port.Side.TheVariants.{Host}
 use Rattle.ide_types.specs.declared.sub.SubKind.{SubKind}
 use Rattle.ide_types.specs.declared.sub.SubKind.TheVariants.{Pr, Npr, Cpl}
-use Rattle.ide_plan.specs.declared.plan.Plan.{Plan}
-use Rattle.interface_words.specs.declared.verdict.InterfaceVerdict.TheVariants as iv
+use Rattle.ide_types.specs.declared.plan.Plan.{Plan}
+use Rattle.ide_types.specs.declared.verdict.InterfaceVerdict.TheVariants as iv
 use Rattle.link_events.specs.declared.event.Event.TheVariants.{Access}
 use Rattle.link_events.specs.declared.event.AccessEvent.TheVariants as ae
 use Rattle.link_verdicts.specs.declared.verdict.Verdict.{Verdict}
 use Rattle.link_verdicts.specs.declared.verdict.Verdict.TheVariants as v
 use Rattle.association.specs.Outgoing.{outgoing_of}
-use Rattle.link_history.specs.Plan.{has_link, has_port, streams_of}
-use Rattle.stream_rules.specs.Stream.{StreamState, at_sub}
-use Rattle.stream_rules.specs.Slots.{sealing_draw}
-use Rattle.link_ports.specs.Replies.{BoundCompletion}
-use Rattle.link_ports.specs.Machine.{Beside, LinkState, Stepped, port_at, sealing_draw_at, stepped_completion}
-use Rattle.link_ports.specs.Machine.{stepped_reply, stepped_send}
-unfoldable use Rattle.link_ports.specs.Machine.{find, step_of}
-use Rattle.ide_port.specs.{Found, found, sealing_draw_in}
+use Rattle.spec_links.specs.Plan.{has_link, has_port, streams_of}
+use Rattle.spec_stream.specs.Stream.{StreamState, at_sub}
+use Rattle.spec_stream.specs.Slots.{sealing_draw}
+use Rattle.machine_ports.specs.Replies.{BoundCompletion}
+use Rattle.machine_ports.specs.Machine.{BesidePorts, LinkState, Stepped, port_at, sealing_draw_at, stepped_completion}
+use Rattle.machine_ports.specs.Machine.{stepped_reply, stepped_send}
+unfoldable use Rattle.machine_ports.specs.Machine.{find, step_of}
+use Rattle.ide_port.specs.{Found, found_stream, sealing_draw_in}
 use Rattle.all_links.specs.{port_in, LinkEnds, EndsView, AreLinks, port_on}
 use Rattle.all_links.proofs.{find_at, port_is, wired}
 use Rattle.all_links.specs.declared.links.Links.{Links}
@@ -37,7 +37,7 @@ use Rattle.guarded_memory.specs.Contents.{has_bytes}
 use Rattle.all_links.specs.Besides.{beside_in}
 use Rattle.all_links.proofs.Finds.{nothing_changes}
 use Rattle.whole_links.specs.declared.whole.WholeLinks.{WholeLinks}
-use Rattle.whole_links.specs.Besides.{reply_at_ends, reply_on, draw_below, shown_in, place_named, has_shown}
+use Rattle.whole_links.specs.Besides.{reply_at_ends, link_reply, draw_below, shown_mmio, place_named, has_shown}
 use Rattle.whole_links.specs.Besides.{bytes_shown}
 use Rattle.whole_links.specs.Whole.{IsBoundedWhole, WholeEnds, WholeEndsOr}
 use Rattle.whole_links.proofs.Ends.{ends_if, stays_with}
@@ -54,7 +54,7 @@ host_on v link l few is =
 
 -- ---- the machine's step
 
-answer_step : (plan : Plan) (b : Beside) (st : LinkState) (link : ℕ) (o : Result BoundCompletion Verdict)
+answer_step : (plan : Plan) (b : BesidePorts) (st : LinkState) (link : ℕ) (o : Result BoundCompletion Verdict)
     → b.reply link ≡ o → step_of plan b st (Access (ae.Answer link)) ≡ stepped_reply plan b st (port_at Host link) o
 unfolding step_of
 answer_step plan b st link o is =
@@ -82,11 +82,11 @@ draw_same s plan link l stream links is =
     ap (λ (o : Option StreamState). sealing_draw_at Cpl o)
     (find_at plan s.ends s.keeper.keys s.packets.packets w (port_at Host link) l.host on stream
     (port_is plan s.ends s.keeper.keys links (port_at Host link) l.host on))
-    ∙ found_draw (found l.host.plans l.host.states stream)
+    ∙ found_draw (found_stream l.host.plans l.host.states stream)
 
 -- ---- a verdict ahead of the ports
 
-pub answer_only : {verdict w : Verdict} {old new : WholeLinks} (plan : Plan) (link : ℕ) → reply_on old link ≡ Err w
+pub answer_only : {verdict w : Verdict} {old new : WholeLinks} (plan : Plan) (link : ℕ) → link_reply old link ≡ Err w
     → verdict ≡ w → new.links ≡ record old.links { steps = old.links.steps + 1 } → new.accesses ≡ old.accesses
     → IsBoundedWhole old → WholeEnds plan verdict old new (Access (ae.Answer link))
 answer_only {verdict} {w} {old} {new} plan link due says is same bounded =
@@ -106,7 +106,7 @@ not_below : (o : Option ℕ) (floor : ℕ) → draw_below o floor ≡ None → i
 not_below None floor is = refl
 not_below (Some d) floor is = grind arith
 
-module _ (plan : Plan) (b : Beside) (st : LinkState) (link : ℕ) (r : BoundCompletion) (o : Option ℕ) where
+module _ (plan : Plan) (b : BesidePorts) (st : LinkState) (link : ℕ) (r : BoundCompletion) (o : Option ℕ) where
   abbrev sends : Stepped
   sends = stepped_send plan b st (port_at Host link) (outgoing_of (streams_of plan link) Host r.bytes) false true
 
@@ -122,7 +122,7 @@ module _ (plan : Plan) (b : Beside) (st : LinkState) (link : ℕ) (r : BoundComp
       (λ i. if none i then (v.Interface (iv.RefusedRefreshFirst (unwrap_or o 0) r.floor), st) else sends)
 
 pub answer_older : {verdict : Verdict} {old new : WholeLinks} (plan : Plan) (link : ℕ) (r : BoundCompletion)
-    (l : LinkEnds) (draw : ℕ) → reply_on old link ≡ Ok r → slice_get old.links.ends.links link ≡ Some l
+    (l : LinkEnds) (draw : ℕ) → link_reply old link ≡ Ok r → slice_get old.links.ends.links link ≡ Some l
     → draw_below (sealing_draw_in l.host r.stream Cpl) r.floor ≡ Some draw
     → verdict ≡ v.Interface (iv.RefusedRefreshFirst draw r.floor)
     → new.links ≡ record old.links { steps = old.links.steps + 1 } → new.accesses ≡ old.accesses → IsBoundedWhole old
@@ -132,7 +132,7 @@ answer_older {verdict} {old} {new} plan link r l draw due l_is below says is sam
     (nothing_changes {IsSo = λ b. b.reply link ≡ Ok r} plan (Access (ae.Answer link)) says is bounded.bounded
     (λ b so h links stands.
     let st : LinkState = links_state plan old.links in
-    let beside : Beside = beside_in old.links b in
+    let beside : BesidePorts = beside_in old.links b in
     answer_step plan beside st link (Ok r) so
     ∙ ap (λ (o : Option ℕ). stepped_completion plan beside st (port_at Host link) r o)
     (draw_same old.links plan link l r.stream links l_is)
@@ -159,7 +159,7 @@ sent_as_answer {verdict} plan old new link r l l_is below x = record {
   regions = x.regions;
   ends = λ b so h links stands.
       let st : LinkState = links_state plan old.links in
-      let beside : Beside = beside_in old.links b in
+      let beside : BesidePorts = beside_in old.links b in
       let here : link < length plan.links =
       subst (λ (n : ℕ). link < n) links.many (slice_get_within old.links.ends.links link l l_is) in
       subst (λ (s : Stepped). Ends plan new.links verdict s)
@@ -170,9 +170,9 @@ sent_as_answer {verdict} plan old new link r l l_is below x = record {
       (x.ends b (host_there plan link here) h links stands);
 }
 
-pub answer_sent_or : (plan : Plan) (r : Result Verdict Memory) (old new : WholeLinks) (link : ℕ)
+pub answer_sent_or : (plan : Plan) (r : Result Verdict OutOfMemory) (old new : WholeLinks) (link : ℕ)
     (reply : BoundCompletion) (l : LinkEnds)
-    → reply_on old link ≡ Ok reply → slice_get old.links.ends.links link ≡ Some l
+    → link_reply old link ≡ Ok reply → slice_get old.links.ends.links link ≡ Some l
     → draw_below (sealing_draw_in l.host reply.stream Cpl) reply.floor ≡ None
     → EndsSendingOr plan r old.links new.links (port_at Host link) reply.bytes false true
     → new.accesses ≡ old.accesses → IsBoundedWhole old → WholeEndsOr plan r old new (Access (ae.Answer link))
@@ -190,7 +190,7 @@ pub answer_nowhere : {verdict : Verdict} {old new : WholeLinks} (plan : Plan) (l
 answer_nowhere {verdict} {old} {new} plan link nowhere says is same bounded =
     answer_only plan link (by_ends (slice_get old.links.ends.links link) refl) says is same bounded
   where
-    by_ends : (o : Option LinkEnds) → slice_get old.links.ends.links link ≡ o → reply_on old link ≡ Err v.Nothing
+    by_ends : (o : Option LinkEnds) → slice_get old.links.ends.links link ≡ o → link_reply old link ≡ Err v.Nothing
     by_ends None at =
         ap (λ (p : Option LinkEnds). reply_at_ends old.links.keeper.interfaces p link old.links.trusted.contents
         (reads_at old.accesses link)) at
@@ -200,13 +200,13 @@ answer_nowhere {verdict} {old} {new} plan link nowhere says is same bounded =
 
 -- ---- the memory of devices
 
-shows_step : (plan : Plan) (b : Beside) (st : LinkState) (i bar offset len : ℕ) (w : Verdict)
+shows_step : (plan : Plan) (b : BesidePorts) (st : LinkState) (i bar offset len : ℕ) (w : Verdict)
     → b.shows i bar offset len ≡ w → step_of plan b st (Access (ae.Mmio i bar offset len)) ≡ (w, st)
 unfolding step_of
 shows_step plan b st i bar offset len w is = ap (λ (x : Verdict). (x, st)) is
 
 pub mmio_only : {verdict w : Verdict} {old new : WholeLinks} (plan : Plan) (i bar offset len : ℕ)
-    → shown_in old i bar offset len ≡ w → verdict ≡ w
+    → shown_mmio old i bar offset len ≡ w → verdict ≡ w
     → new.links ≡ record old.links { steps = old.links.steps + 1 } → new.accesses ≡ old.accesses → IsBoundedWhole old
     → WholeEnds plan verdict old new (Access (ae.Mmio i bar offset len))
 mmio_only {verdict} {w} {old} {new} plan i bar offset len due says is same bounded =

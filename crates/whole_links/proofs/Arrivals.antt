@@ -3,22 +3,22 @@ use Rattle.std.proofs.Common.{◌≡◌, ℕ, ◌+◌, Bool, true, false, List, 
 use Rattle.std.specs.Prelude.{Option, Some, None, option_map, if◌then◌else◌}
 use Rattle.std.specs.Option.{option_and_then}
 use Rattle.ide_types.specs.declared.port.PortName.{PortName}
-use Rattle.ide_plan.specs.declared.plan.Plan.{Plan}
+use Rattle.ide_types.specs.declared.plan.Plan.{Plan}
 use Rattle.link_events.specs.declared.event.Event.{Event}
 use Rattle.link_events.specs.declared.event.Event.TheVariants.{Arrive}
 use Rattle.link_verdicts.specs.declared.verdict.Verdict.{Verdict}
 use Rattle.link_verdicts.specs.declared.verdict.Verdict.TheVariants as v
-use Rattle.key_laws.specs.History.{History}
-use Rattle.link_history.specs.History.{Arrival}
-use Rattle.link_history.specs.Packets.{arrival_at}
-use Rattle.link_history.specs.Plan.{has_port, partner}
-use Rattle.link_history.specs.Guarded.{happens_by}
-use Rattle.link_ports.specs.Machine.{Beside, LinkPacket, LinkState, Stepped, altered_to, brought_to, cut_short}
-use Rattle.link_ports.specs.Machine.{packet_numbered, stepped_arrival}
-unfoldable use Rattle.link_ports.specs.Machine.{step_of}
-use Rattle.link_ports.specs.Stands.{PortsStandFor}
+use Rattle.spec_keys.specs.History.{History}
+use Rattle.spec_links.specs.History.{Arrival}
+use Rattle.spec_links.specs.Packets.{arrival_at}
+use Rattle.spec_links.specs.Plan.{has_port, partner}
+use Rattle.spec_links.specs.Guarded.{happens_by}
+use Rattle.machine_ports.specs.Machine.{BesidePorts, LinkPacket, LinkState, Stepped, altered_to, brought_to, cut_short}
+use Rattle.machine_ports.specs.Machine.{packet_numbered, stepped_arrival}
+unfoldable use Rattle.machine_ports.specs.Machine.{step_of}
+use Rattle.machine_ports.specs.Stands.{PortsStandFor}
 use Rattle.trusted_memory.specs.{Leads, TrustedMemory}
-use Rattle.accesses.specs.declared.link.LinkAccesses.{LinkAccesses}
+use Rattle.link_stores.specs.declared.link.LinkAccesses.{LinkAccesses}
 use Rattle.all_links.specs.{AreLinks, EndsView, IsQuiet, Lands, arrival_of, arrival_on, carried_next, grants_in}
 use Rattle.all_links.specs.{state_of, unit_in, unit_tlps, waiting_reads_after, writes_by}
 use Rattle.all_links.specs.Accesses.{AccessesTurn, policy_in, same_floors}
@@ -41,7 +41,7 @@ pub record IsBrought (plan : Plan) (old : Links) (e : Event) (end : PortName) (b
   pub has : (h : History) → AreLinks plan old.ends old.keeper.keys → PortsStandFor plan (links_state plan old) h
       → has_port plan end ≡ true
   pub arrival : arrival_of plan (links_state plan old) e ≡ arrival_on plan end bytes
-  pub step : (b : Beside) → step_of plan b (links_state plan old) e
+  pub step : (b : BesidePorts) → step_of plan b (links_state plan old) e
       ≡ stepped_arrival plan b (links_state plan old) (arrival_on plan end bytes)
 
 pub brought_port : (plan : Plan) (old : Links) (port : PortName) (bytes : List ℕ) → has_port plan port ≡ true
@@ -56,7 +56,7 @@ brought_port plan old port bytes has = record {
       else (v.Nothing, links_state plan old)) has;
 }
 
-pub no_port : (plan : Plan) (b : Beside) (st : LinkState) (port : PortName) (bytes : List ℕ)
+pub no_port : (plan : Plan) (b : BesidePorts) (st : LinkState) (port : PortName) (bytes : List ℕ)
     → has_port plan port ≡ false → step_of plan b st (Arrive port bytes) ≡ (v.Nothing, st)
 unfolding step_of
 no_port plan b st port bytes has =
@@ -85,21 +85,21 @@ module _ (plan : Plan) (st : LinkState) (n : ℕ) where
       by None = refl
       by (Some x) = grind arith
 
-  packet_step : (p : Passage) (b : Beside) → step_of plan b st (packet_event n p)
+  packet_step : (p : Passage) (b : BesidePorts) → step_of plan b st (packet_event n p)
       ≡ stepped_arrival plan b st (arrival_of plan st (packet_event n p))
   unfolding step_of
   packet_step Whole b = refl
   packet_step (Altered at mask) b = refl
   packet_step (Cut len) b = refl
 
-  pub no_packet : (p : Passage) → None ≡ packet_numbered st.packets n → (b : Beside)
+  pub no_packet : (p : Passage) → None ≡ packet_numbered st.packets n → (b : BesidePorts)
       → step_of plan b st (packet_event n p) ≡ (v.Nothing, st)
   no_packet p none b =
       packet_step p b ∙ ap (λ (a : Option Arrival). stepped_arrival plan b st a)
       (packet_arrival p ∙ ap (λ (o : Option LinkPacket). option_and_then (left_of plan p) o) (sym none))
 
   pub too_short : (p : Passage) (x : LinkPacket) → Some x ≡ packet_numbered st.packets n
-      → None ≡ bytes_left p x.bytes → (b : Beside) → step_of plan b st (packet_event n p) ≡ (v.Nothing, st)
+      → None ≡ bytes_left p x.bytes → (b : BesidePorts) → step_of plan b st (packet_event n p) ≡ (v.Nothing, st)
   too_short p x is none b =
       packet_step p b ∙ ap (λ (a : Option Arrival). stepped_arrival plan b st a)
       (packet_arrival p ∙ ap (λ (o : Option LinkPacket). option_and_then (left_of plan p) o) (sym is)
@@ -153,7 +153,7 @@ module _ (plan : Plan) (old : WholeLinks) (e : Event) (end : PortName) (bytes : 
       ends = λ answer by regions h links stands.
           let on = lands.stands old.links.keeper.keys old.links.packets.packets h links stands
           (brought.has h links stands) in
-          let b : Beside = beside_whole plan old answer in
+          let b : BesidePorts = beside_whole plan old answer in
           let step : (verdict, state_of plan ends old.links.keeper.keys old.links.packets.packets)
           ≡ step_of plan b (links_state plan old.links) e =
           on.steps b regions refl ∙ sym (brought.step b) in

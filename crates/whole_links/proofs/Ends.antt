@@ -2,15 +2,15 @@
 use Rattle.std.proofs.Common.{◌≡◌, length, refl, ap, sym, subst, ◌∙◌, List, [], ◌+◌, true}
 use Rattle.std.proofs.lemmas.Bool.{true≢false}
 use Rattle.std.specs.Prelude.{Option, Some, None, Result, Ok, Err, IsErr}
-use Rattle.ide_types.specs.declared.memory.Memory.{Memory}
-use Rattle.ide_plan.specs.declared.plan.Plan.{Plan}
+use Rattle.ide_types.specs.declared.memory.OutOfMemory.{OutOfMemory}
+use Rattle.ide_types.specs.declared.plan.Plan.{Plan}
 use Rattle.link_events.specs.declared.event.Event.{Event}
 use Rattle.link_events.specs.declared.event.InterfaceEvent.{InterfaceEvent}
 use Rattle.link_verdicts.specs.declared.verdict.Verdict.{Verdict}
 use Rattle.link_events.specs.declared.event.Event.TheVariants.{Absent}
 use Rattle.link_verdicts.specs.declared.verdict.Verdict.TheVariants as v
-use Rattle.link_ports.specs.Machine.{Beside, LinkState}
-unfoldable use Rattle.link_ports.specs.Machine.{step_of}
+use Rattle.machine_ports.specs.Machine.{BesidePorts, LinkState}
+unfoldable use Rattle.machine_ports.specs.Machine.{step_of}
 use Rattle.all_links.specs.Besides.{beside_in}
 use Rattle.all_links.proofs.Finds.{nothing_changes}
 use Rattle.all_links.specs.{IsBounded}
@@ -18,8 +18,8 @@ use Rattle.all_links.specs.declared.links.Links.{Links}
 use Rattle.all_links.specs.States.{links_state}
 use Rattle.all_links.specs.Links.{Ends, EndsIf, EndsWith, EndsAs, EndsAsOr, Stays}
 use Rattle.all_links.specs.Accesses.{AccessesStay}
-use Rattle.accesses.specs.declared.link.LinkAccesses.{LinkAccesses}
-use Rattle.access_turns.proofs.Turns.{stays_all}
+use Rattle.link_stores.specs.declared.link.LinkAccesses.{LinkAccesses}
+use Rattle.join_stores.proofs.Turns.{stays_all}
 use Rattle.whole_links.specs.declared.whole.WholeLinks.{WholeLinks}
 use Rattle.whole_links.specs.Besides.{beside_whole}
 use Rattle.whole_links.specs.Whole.{IsWhole, IsBoundedWhole, IsSaid, WholeEnds, WholeStays, WholeEndsAs, WholeEndsAsOr}
@@ -35,7 +35,7 @@ pub bounded_with : {verdict : Verdict} {event : Event} (old : WholeLinks) (mid :
 bounded_with old mid x whole = record { bounded = x.bounded; whole = whole ∙ sym x.many }
 
 -- what is said beside the ports is so
-pub ends_if : {IsSo : Beside → Type 0} {verdict : Verdict} {old new : WholeLinks} {event : Event} (plan : Plan)
+pub ends_if : {IsSo : BesidePorts → Type 0} {verdict : Verdict} {old new : WholeLinks} {event : Event} (plan : Plan)
     → EndsIf IsSo plan verdict old.links new.links event → IsWhole old → length new.accesses ≡ length old.accesses
     → ((answer : InterfaceEvent → Verdict) → IsSaid answer old event
     → old.links.trusted.contents.regions ≡ plan.memory → IsSo (beside_whole plan old answer))
@@ -99,27 +99,27 @@ stays_with {old} {new} x same = record {
   accesses = subst (λ (ys : List LinkAccesses). AccessesStay old.accesses ys) (sym same) (stays_all old.accesses);
 }
 
-pub ends_as_or : (plan : Plan) (r : Result (Option Verdict) Memory) (old new : WholeLinks) (event : Event)
+pub ends_as_or : (plan : Plan) (r : Result (Option Verdict) OutOfMemory) (old new : WholeLinks) (event : Event)
     → EndsAsOr plan r old.links new.links event → IsWhole old → new.accesses ≡ old.accesses
     → WholeEndsAsOr plan r old new event
 ends_as_or plan (Ok o) old new event x whole same = ends_as plan o old new event x whole (ap length same)
 ends_as_or plan (Err e) old new event x whole same = stays_with x same
 
 -- for want of memory
-pub err_stays : (plan : Plan) (r : Result (Option Verdict) Memory) (old new : WholeLinks) (event : Event) → IsErr r
+pub err_stays : (plan : Plan) (r : Result (Option Verdict) OutOfMemory) (old new : WholeLinks) (event : Event) → IsErr r
     → Stays old.links new.links → new.accesses ≡ old.accesses → WholeEndsAsOr plan r old new event
 err_stays plan (Ok o) old new event is x same = absurd (true≢false (sym is))
 err_stays plan (Err e) old new event is x same = stays_with x same
 
 -- ---- nothing
 
-pub absent_step : (plan : Plan) (b : Beside) (st : LinkState) → step_of plan b st Absent ≡ (v.Nothing, st)
+pub absent_step : (plan : Plan) (b : BesidePorts) (st : LinkState) → step_of plan b st Absent ≡ (v.Nothing, st)
 unfolding step_of
 absent_step plan b st = refl
 
 -- whatever is said beside the ports
 pub nothing_ends : {verdict : Verdict} {old new : WholeLinks} (plan : Plan) (e : Event)
-    → ((b : Beside) → step_of plan b (links_state plan old.links) e ≡ (v.Nothing, links_state plan old.links))
+    → ((b : BesidePorts) → step_of plan b (links_state plan old.links) e ≡ (v.Nothing, links_state plan old.links))
     → verdict ≡ v.Nothing → new.links ≡ record old.links { steps = old.links.steps + 1 }
     → new.accesses ≡ old.accesses → IsBoundedWhole old → WholeEnds plan verdict old new e
 nothing_ends {verdict} {old} {new} plan e step says is same bounded =

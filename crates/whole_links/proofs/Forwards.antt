@@ -7,28 +7,28 @@ use Rattle.std.specs.Prelude.{Option, Some, None, Result, Ok, Err, is_some, slic
 use Rattle.std.specs.Prelude.{◌&&◌}
 use Rattle.std.specs.List.{slice_index_or}
 use Rattle.ide_types.specs.Lines.{is_link_line}
-use Rattle.ide_types.specs.declared.memory.Memory.{Memory}
+use Rattle.ide_types.specs.declared.memory.OutOfMemory.{OutOfMemory}
 use Rattle.ide_types.specs.declared.direction.Direction.{Direction}
 use Rattle.ide_types.specs.declared.direction.Direction.TheVariants.{Downstream, Upstream}
-use Rattle.ide_plan.specs.declared.plan.HopPlan.{HopPlan}
-use Rattle.ide_plan.specs.declared.plan.LinkPlan.{LinkPlan}
-use Rattle.ide_plan.specs.declared.plan.Plan.{Plan}
-use Rattle.ide_plan.specs.declared.stream.StreamPlan.{StreamPlan}
-use Rattle.ide_plan.specs.Ends.{link_hop}
+use Rattle.ide_types.specs.declared.plan.HopPlan.{HopPlan}
+use Rattle.ide_types.specs.declared.plan.LinkPlan.{LinkPlan}
+use Rattle.ide_types.specs.declared.plan.Plan.{Plan}
+use Rattle.ide_types.specs.declared.stream.StreamPlan.{StreamPlan}
+use Rattle.ide_types.specs.Ends.{link_hop}
 use Rattle.hop_queues.specs.declared.queue.HopTlp.{HopTlp}
 use Rattle.link_events.specs.declared.event.Event.TheVariants.{Forward}
 use Rattle.link_verdicts.specs.declared.verdict.Verdict.{Verdict}
 use Rattle.link_verdicts.specs.declared.verdict.Verdict.TheVariants as v
 use Rattle.link_verdicts.specs.declared.access.AccessVerdict.TheVariants as av
-use Rattle.link_history.specs.Hops.{has_hop, leaving_end}
-use Rattle.link_history.specs.Plan.{has_link, has_port, streams_of}
-use Rattle.link_history.proofs.HopRows.{near_row, far_row}
-use Rattle.link_ports.specs.Forwards.{first_waiting}
-use Rattle.link_ports.specs.Machine.{Beside, LinkState, Stepped, stepped_forward}
-unfoldable use Rattle.link_ports.specs.Machine.{step_of}
+use Rattle.spec_links.specs.Hops.{has_hop, leaving_end}
+use Rattle.spec_links.specs.Plan.{has_link, has_port, streams_of}
+use Rattle.spec_links.proofs.HopRows.{near_row, far_row}
+use Rattle.machine_ports.specs.Forwards.{first_waiting}
+use Rattle.machine_ports.specs.Machine.{BesidePorts, LinkState, Stepped, stepped_forward}
+unfoldable use Rattle.machine_ports.specs.Machine.{step_of}
 use Rattle.all_links.specs.States.{links_state}
 use Rattle.all_links.specs.Links.{Ends, EndsIf, EndsSending, EndsSendingOr}
-use Rattle.all_links.specs.Accesses.{carried_at}
+use Rattle.all_links.specs.Accesses.{carried_on_link}
 use Rattle.all_links.specs.Besides.{beside_in}
 use Rattle.all_links.proofs.Finds.{nothing_changes}
 use Rattle.whole_links.specs.declared.whole.WholeLinks.{WholeLinks}
@@ -89,7 +89,7 @@ leaving_there plan link Upstream has =
 
 -- ---- the machine's step
 
-forward_step : (plan : Plan) (b : Beside) (st : LinkState) (link : ℕ) (d : Direction) (o : Result HopTlp Verdict)
+forward_step : (plan : Plan) (b : BesidePorts) (st : LinkState) (link : ℕ) (d : Direction) (o : Result HopTlp Verdict)
     → b.forward link d ≡ o
     → step_of plan b st (Forward link d) ≡ stepped_forward plan b st (leaving_end link d) o
 unfolding step_of
@@ -113,7 +113,8 @@ pub forward_nowhere : {verdict : Verdict} {old new : WholeLinks} (plan : Plan) (
     → new.accesses ≡ old.accesses → IsBoundedWhole old → WholeEnds plan verdict old new (Forward link d)
 forward_nowhere {verdict} {old} {new} plan link d none says is same bounded =
     forward_only plan link d
-    (ap (λ (b : Bool). if b then first_waiting link (carried_at old.accesses link d) else Err v.Nothing) none) says is
+    (ap (λ (b : Bool). if b then first_waiting link (carried_on_link old.accesses link d) else Err v.Nothing) none) says
+    is
     same bounded
 
 -- a hop of a link that is not kept, which does not come
@@ -132,7 +133,7 @@ forward_unkept {verdict} {old} {new} plan link d has unkept says is same bounded
 
 -- none waits
 pub forward_empty : {verdict : Verdict} {old new : WholeLinks} (plan : Plan) (link : ℕ) (d : Direction)
-    → has_hop plan link ≡ true → carried_at old.accesses link d ≡ [] → verdict ≡ v.Access (av.Empty link)
+    → has_hop plan link ≡ true → carried_on_link old.accesses link d ≡ [] → verdict ≡ v.Access (av.Empty link)
     → new.links ≡ record old.links { steps = old.links.steps + 1 }
     → new.accesses ≡ old.accesses → IsBoundedWhole old → WholeEnds plan verdict old new (Forward link d)
 forward_empty {verdict} {old} {new} plan link d has none says is same bounded =
@@ -162,13 +163,14 @@ first_is : (link : ℕ) (xs : List HopTlp) (x : HopTlp) → 0 < length xs → x 
 first_is link [] x some is = absurd (omega (arith, some))
 first_is link (y ∷ xs) x some is = ap (λ (z : HopTlp). Ok z) (sym is)
 
-pub forward_sent_or : (plan : Plan) (r : Result Verdict Memory) (old new : WholeLinks) (link : ℕ) (d : Direction)
-    (x : HopTlp) → has_hop plan link ≡ true → 0 < length (carried_at old.accesses link d)
-    → x ≡ slice_index_or (carried_at old.accesses link d) 0 x
+pub forward_sent_or : (plan : Plan) (r : Result Verdict OutOfMemory) (old new : WholeLinks) (link : ℕ) (d : Direction)
+    (x : HopTlp) → has_hop plan link ≡ true → 0 < length (carried_on_link old.accesses link d)
+    → x ≡ slice_index_or (carried_on_link old.accesses link d) 0 x
     → EndsSendingOr plan r old.links new.links (leaving_end link d) x.bytes false x.t
     → new.accesses ≡ old.accesses → IsBoundedWhole old → WholeEndsOr plan r old new (Forward link d)
 forward_sent_or plan (Ok verdict) old new link d x has some first sent same bounded =
     ends_if plan (sent_as_forward plan old new link d x has sent) bounded.whole (ap length same)
-    (λ answer by regions. (λ i. if has i then first_waiting link (carried_at old.accesses link d) else Err v.Nothing)
-    ∙ first_is link (carried_at old.accesses link d) x some first)
+    (λ answer by regions.
+    (λ i. if has i then first_waiting link (carried_on_link old.accesses link d) else Err v.Nothing)
+    ∙ first_is link (carried_on_link old.accesses link d) x some first)
 forward_sent_or plan (Err e) old new link d x has some first sent same bounded = stays_with sent same

@@ -5,22 +5,22 @@ use Rattle.std.specs.Option.{option_map_or}
 use Rattle.std.proofs.lemmas.Option.{none-some, same_Some}
 use Rattle.link_verdicts.specs.declared.access.AccessVerdict.TheVariants as av
 use Rattle.link_verdicts.specs.declared.verdict.Verdict.TheVariants as v
-use Rattle.waiting_reads.specs.declared.queue.WaitingRead.{WaitingRead}
+use Rattle.trusted_memory.specs.declared.queue.WaitingRead.{WaitingRead}
 use Rattle.all_links.specs.{LinkEnds}
-use Rattle.accesses.specs.declared.link.LinkAccesses.{LinkAccesses}
+use Rattle.link_stores.specs.declared.link.LinkAccesses.{LinkAccesses}
 use Rattle.whole_links.specs.declared.whole.WholeLinks.{WholeLinks}
-use Rattle.whole_links.specs.Besides.{reply_at_ends, reply_oldest, reply_numbered, reader_of, reply_on}
+use Rattle.whole_links.specs.Besides.{reply_at_ends, reply_oldest, reply_numbered, reader_of, link_reply}
 
 module _ (s : WholeLinks) (link : ℕ) (l : LinkEnds) (a : LinkAccesses)
     (l_is : slice_get s.links.ends.links link ≡ Some l)
     (a_is : slice_get s.accesses link ≡ Some a) where
-  here : reply_on s link
+  here : link_reply s link
       ≡ reply_oldest s.links.keeper.interfaces l link s.links.trusted.contents a.reads
   here =
       (λ i. reply_at_ends s.links.keeper.interfaces (l_is i) link s.links.trusted.contents
       (option_map_or (λ (x : LinkAccesses). x.reads) (a_is i) []))
 
-  pub reply_empty : None ≡ slice_get a.reads 0 → Err (v.Access (av.Empty link)) ≡ reply_on s link
+  pub reply_empty : None ≡ slice_get a.reads 0 → Err (v.Access (av.Empty link)) ≡ link_reply s link
   reply_empty none = by_reads a.reads none ∙ sym here
     where
       by_reads : (rs : List WaitingRead) → None ≡ slice_get rs 0 → Err (v.Access (av.Empty link))
@@ -30,7 +30,7 @@ module _ (s : WholeLinks) (link : ℕ) (l : LinkEnds) (a : LinkAccesses)
 
   pub reply_read : (r : WaitingRead) → Some r ≡ slice_get a.reads 0
       → reply_numbered s.links.keeper.interfaces l link s.links.trusted.contents r
-      (reader_of s.links.keeper.interfaces link r.read.requester) ≡ reply_on s link
+      (reader_of s.links.keeper.interfaces link r.read.requester) ≡ link_reply s link
   reply_read r first = by_reads a.reads first ∙ sym here
     where
       by_reads : (rs : List WaitingRead) → Some r ≡ slice_get rs 0

@@ -3,8 +3,8 @@ use Rattle.std.specs.Prelude.{ℕ, ◌≡◌, ◌==◌, ◌&&◌, not, Bool, tru
 use Rattle.std.specs.Prelude.{slice_set, Option, Some, None}
 use Rattle.std.specs.Option.{option_map_or}
 use Rattle.ide_types.specs.declared.direction.Direction.{Direction}
-use Rattle.ide_plan.specs.declared.interface.BarPlan.{BarPlan}
-use Rattle.ide_plan.specs.declared.plan.Plan.{Plan}
+use Rattle.ide_types.specs.declared.interface.BarPlan.{BarPlan}
+use Rattle.ide_types.specs.declared.plan.Plan.{Plan}
 use Rattle.link_events.specs.declared.event.Event.{Event}
 use Rattle.link_events.specs.declared.event.Event.TheVariants as event
 use Rattle.link_events.specs.declared.event.AccessEvent.TheVariants as ae
@@ -13,18 +13,18 @@ use Rattle.link_events.specs.declared.event.InterfaceEvent.TheVariants as ie
 use Rattle.link_verdicts.specs.declared.verdict.Verdict.{Verdict}
 use Rattle.link_verdicts.specs.declared.verdict.Verdict.TheVariants as v
 use Rattle.link_verdicts.specs.declared.access.AccessVerdict.TheVariants as av
-use Rattle.interface_states.specs.Exchanges.{carries, changes_device}
+use Rattle.spec_interfaces.specs.Exchanges.{carries, changes_device}
 use Rattle.guarded_memory.specs.Happenings.{Happened, InterfaceReset, AllReset, InterfaceStopped}
-use Rattle.key_laws.specs.History.{History}
-use Rattle.link_history.specs.Guarded.{happens_by}
-use Rattle.link_history.specs.History.{Arrival}
-use Rattle.link_history.specs.Hops.{HopTlp}
-use Rattle.link_ports.specs.Machine.{LinkState}
-use Rattle.link_ports.specs.Stands.{PortsStandFor}
-use Rattle.accesses.specs.declared.link.LinkAccesses.{LinkAccesses}
-use Rattle.access_turns.specs.{waiting_next}
+use Rattle.spec_keys.specs.History.{History}
+use Rattle.spec_links.specs.Guarded.{happens_by}
+use Rattle.spec_links.specs.History.{Arrival}
+use Rattle.spec_links.specs.Hops.{HopTlp}
+use Rattle.machine_ports.specs.Machine.{LinkState}
+use Rattle.machine_ports.specs.Stands.{PortsStandFor}
+use Rattle.link_stores.specs.declared.link.LinkAccesses.{LinkAccesses}
+use Rattle.join_stores.specs.{waiting_next}
 use Rattle.all_links.specs.{AreLinks, carried_next, unit_in, unit_tlps, waiting_reads_after}
-use Rattle.tdi_state.specs.Machine.{Tdi}
+use Rattle.interface_state.specs.Machine.{Tdi}
 use Rattle.all_links.specs.Accesses.{runs_in, device_draw, same_reads, same_floors, nothing_happens, same_carried}
 use Rattle.all_links.specs.Accesses.{AccessesTurn, policy_in}
 use Rattle.all_links.specs.Interfaces.{interface_named, tdi_named}
@@ -87,8 +87,8 @@ is_sealed (v.Sealed ds) = true
 is_sealed verdict = false
 
 -- those that wait after an event that ends no unit had this verdict
-abbrev pub carried_by : Event → Verdict → ℕ → Direction → List HopTlp → List HopTlp
-carried_by e verdict link d = waiting_next [] link d e verdict
+abbrev pub carried_after_event : Event → Verdict → ℕ → Direction → List HopTlp → List HopTlp
+carried_after_event e verdict link d = waiting_next [] link d e verdict
 
 -- ---- by events
 
@@ -124,12 +124,13 @@ AccessesAnswer plan e verdict old new =
 
 abbrev pub AccessesReset : Plan → Event → Verdict → WholeLinks → WholeLinks → Type 0
 AccessesReset plan e verdict old new =
-    AccessesTurn (waiting_reads_after plan [] e verdict) same_floors (reset_happens verdict) (carried_by e verdict)
+    AccessesTurn (waiting_reads_after plan [] e verdict) same_floors (reset_happens verdict)
+    (carried_after_event e verdict)
     old.accesses new.accesses
 
 abbrev pub AccessesForward : Event → Verdict → WholeLinks → WholeLinks → Type 0
 AccessesForward e verdict old new =
-    AccessesTurn same_reads same_floors nothing_happens (carried_by e verdict) old.accesses new.accesses
+    AccessesTurn same_reads same_floors nothing_happens (carried_after_event e verdict) old.accesses new.accesses
 
 abbrev pub AccessesAfter : Plan → Event → Verdict → WholeLinks → WholeLinks → Type 0
 AccessesAfter plan (event.Pass n) verdict old new = AccessesArriveAt plan (event.Pass n) verdict old new

@@ -3,7 +3,7 @@
 use Rattle.std.specs.Prelude.{ℕ, nat_lt, nat_le, not, Bool, false, if◌then◌else◌, List, [], ◌∷◌, Option, Some, None}
 use Rattle.std.specs.Prelude.{Result, Ok, Err, slice_get}
 use Rattle.ide_types.specs.declared.direction.Direction.{Direction}
-use Rattle.ide_plan.specs.declared.plan.Plan.{Plan}
+use Rattle.ide_types.specs.declared.plan.Plan.{Plan}
 use Rattle.link_events.specs.declared.event.InterfaceEvent.{InterfaceEvent}
 use Rattle.link_verdicts.specs.declared.verdict.BlockCause.TheVariants as cause
 use Rattle.link_verdicts.specs.declared.verdict.Verdict.{Verdict}
@@ -11,22 +11,22 @@ use Rattle.link_verdicts.specs.declared.verdict.Verdict.TheVariants as v
 use Rattle.link_verdicts.specs.declared.access.AccessVerdict.TheVariants as av
 use Rattle.association.specs.Outgoing.{outgoing_of, stream_taken}
 use Rattle.trusted_memory.specs.{MemoryContents, byte_at, bytes_from}
-use Rattle.waiting_reads.specs.declared.queue.WaitingRead.{WaitingRead}
-unfoldable use Rattle.waiting_reads.specs.{completion_bytes}
+use Rattle.trusted_memory.specs.declared.queue.WaitingRead.{WaitingRead}
+unfoldable use Rattle.trusted_memory.specs.{completion_bytes}
 use Rattle.guarded_memory.specs.Contents.{has_bytes}
-use Rattle.tdi_host.specs.Managers.{granted, interface_of_requester}
+use Rattle.interface_host.specs.Managers.{granted, interface_of_requester}
 use Rattle.all_links.specs.{LinkEnds, InterfacesView}
-use Rattle.link_history.specs.Memory.{effects_by}
-use Rattle.link_history.specs.Hops.{HopTlp}
-use Rattle.link_history.specs.Ports.{port_of}
-use Rattle.link_history.specs.Due.{is_stream}
-use Rattle.link_history.specs.Guarded.{mmio_if}
-use Rattle.link_ports.specs.Machine.{Beside}
-use Rattle.link_ports.specs.Forwards.{forward_of}
-use Rattle.link_ports.specs.Replies.{BoundCompletion}
+use Rattle.spec_links.specs.Memory.{effects_by}
+use Rattle.spec_links.specs.Hops.{HopTlp}
+use Rattle.spec_links.specs.Ports.{port_of}
+use Rattle.spec_links.specs.Due.{is_stream}
+use Rattle.spec_links.specs.Guarded.{mmio_if}
+use Rattle.machine_ports.specs.Machine.{BesidePorts}
+use Rattle.machine_ports.specs.Forwards.{forward_of}
+use Rattle.machine_ports.specs.Replies.{BoundCompletion}
 use Rattle.std.specs.Option.{option_map_or, option_and_then}
-use Rattle.key_laws.specs.Keys.{is_below}
-use Rattle.all_links.specs.Accesses.{reads_at, sizes_at, mmio_at, carried_at, policy_in}
+use Rattle.spec_keys.specs.Keys.{is_below}
+use Rattle.all_links.specs.Accesses.{reads_at, sizes_at, mmio_at, carried_on_link, policy_in}
 use Rattle.all_links.specs.Besides.{beside_in}
 use Rattle.all_links.specs.Interfaces.{interface_named}
 use Rattle.whole_links.specs.declared.whole.WholeLinks.{WholeLinks}
@@ -47,16 +47,16 @@ judged_bound taken interface draw (Some bound) =
     else Ok bound
 
 -- with the completion's bytes
-abbrev pub replied : Result (ℕ × ℕ) Verdict → List ℕ → Result BoundCompletion Verdict
-replied (Err verdict) bytes = Err verdict
-replied (Ok bound) bytes = Ok (record { stream = bound.0; floor = bound.1; bytes = bytes })
+abbrev pub completion_with_bytes : Result (ℕ × ℕ) Verdict → List ℕ → Result BoundCompletion Verdict
+completion_with_bytes (Err verdict) bytes = Err verdict
+completion_with_bytes (Ok bound) bytes = Ok (record { stream = bound.0; floor = bound.1; bytes = bytes })
 
 abbrev pub reply_numbered : InterfacesView → LinkEnds → ℕ → MemoryContents → WaitingRead → Option ℕ
     → Result BoundCompletion Verdict
 reply_numbered m l link memory r None = Err v.Nothing
 reply_numbered m l link memory r (Some interface) =
     let bytes = completion_bytes (byte_at memory) r.read in
-    replied (judged_bound (host_stream l bytes) interface r.draw (granted m link r.read.requester)) bytes
+    completion_with_bytes (judged_bound (host_stream l bytes) interface r.draw (granted m link r.read.requester)) bytes
 
 -- the number of the interface of a link with this requester ID
 abbrev pub small_number : ℕ → Option ℕ
@@ -76,8 +76,8 @@ abbrev pub reply_at_ends : InterfacesView → Option LinkEnds → ℕ → Memory
 reply_at_ends m None link memory reads = Err v.Nothing
 reply_at_ends m (Some l) link memory reads = reply_oldest m l link memory reads
 
-abbrev pub reply_on : WholeLinks → ℕ → Result BoundCompletion Verdict
-reply_on s link =
+abbrev pub link_reply : WholeLinks → ℕ → Result BoundCompletion Verdict
+link_reply s link =
     reply_at_ends s.links.keeper.interfaces (slice_get s.links.ends.links link) link s.links.trusted.contents
     (reads_at s.accesses link)
 
@@ -99,26 +99,26 @@ abbrev pub bytes_shown : WholeLinks → ℕ → ℕ → ℕ → ℕ → List ℕ
 bytes_shown s i bar offset len =
     option_map_or (λ (at : ℕ × ℕ). bytes_from (mmio_at s.accesses at.0 at.1 bar) offset len) (place_named s i) []
 
-abbrev pub shown_in : WholeLinks → ℕ → ℕ → ℕ → ℕ → Verdict
-shown_in s i bar offset len = mmio_if (has_shown s i bar offset len) (bytes_shown s i bar offset len)
+abbrev pub shown_mmio : WholeLinks → ℕ → ℕ → ℕ → ℕ → Verdict
+shown_mmio s i bar offset len = mmio_if (has_shown s i bar offset len) (bytes_shown s i bar offset len)
 
 -- ---- what waits at switches
 
 -- what the first TLP comes to that waits in a direction of a link's hop
 abbrev pub forward_in : Plan → WholeLinks → ℕ → Direction → Result HopTlp Verdict
-forward_in plan s link d = forward_of plan link (carried_at s.accesses link d)
+forward_in plan s link d = forward_of plan link (carried_on_link s.accesses link d)
 
 -- ---- all of it
 
 -- events on interfaces have these answers
-abbrev pub beside_whole : Plan → WholeLinks → (InterfaceEvent → Verdict) → Beside
+abbrev pub beside_whole : Plan → WholeLinks → (InterfaceEvent → Verdict) → BesidePorts
 beside_whole plan s answer =
     beside_in s.links (record {
       t = λ port head stream trusted. trusted;
       effects = λ port.
           effects_by plan (policy_in s.links.keeper.interfaces s.links.ends s.accesses) (port_of plan port);
       answer = answer;
-      reply = reply_on s;
-      shows = shown_in s;
+      reply = link_reply s;
+      shows = shown_mmio s;
       forward = forward_in plan s;
     })

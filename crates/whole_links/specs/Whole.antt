@@ -1,15 +1,15 @@
 -- What an event makes of all links.
 use Rattle.std.specs.Prelude.{◌≡◌, ◌+◌, length, Option, Some, None, Result, Ok, Err}
-use Rattle.ide_types.specs.declared.memory.Memory.{Memory}
-use Rattle.ide_plan.specs.declared.plan.Plan.{Plan}
+use Rattle.ide_types.specs.declared.memory.OutOfMemory.{OutOfMemory}
+use Rattle.ide_types.specs.declared.plan.Plan.{Plan}
 use Rattle.link_events.specs.declared.event.Event.{Event}
 use Rattle.link_events.specs.declared.event.Event.TheVariants.{Interface}
 use Rattle.link_events.specs.declared.event.InterfaceEvent.{InterfaceEvent}
 use Rattle.link_verdicts.specs.declared.verdict.Verdict.{Verdict}
-use Rattle.key_laws.specs.History.{History}
-use Rattle.link_ports.specs.Machine.{step_of}
-use Rattle.link_ports.specs.Stands.{PortsStandFor}
-use Rattle.accesses.specs.{new_accesses}
+use Rattle.spec_keys.specs.History.{History}
+use Rattle.machine_ports.specs.Machine.{step_of}
+use Rattle.machine_ports.specs.Stands.{PortsStandFor}
+use Rattle.link_stores.specs.{new_accesses}
 use Rattle.all_links.specs.{AreLinks, IsBounded}
 use Rattle.all_links.specs.States.{links_state}
 use Rattle.all_links.specs.Links.{IsFirst, Ends, Stays, HasNoVerdict}
@@ -37,8 +37,7 @@ abbrev pub IsSaid : (InterfaceEvent → Verdict) → WholeLinks → Event → Ty
 IsSaid answer old event = (e : InterfaceEvent) → event ≡ Interface e → answer_of_links old.links e ≡ Some (answer e)
 
 -- An event with this verdict: if the links are those of the plan, and stand for some history, they are then in the
--- state
--- after it, whatever is said of other events on interfaces.
+-- state after it, whatever is said of other events on interfaces.
 pub record WholeEnds (plan : Plan) (verdict : Verdict) (old new : WholeLinks) (event : Event) : Type 0 where
   pub counted : new.links.steps ≡ old.links.steps + 1
   pub bounded : IsBoundedWhole new
@@ -58,10 +57,10 @@ abbrev pub WholeEndsAs : Plan → Option Verdict → WholeLinks → WholeLinks �
 WholeEndsAs plan (Some verdict) old new event = WholeEnds plan verdict old new event
 WholeEndsAs plan None old new event = HasNoVerdict plan old.links event
 
-abbrev pub WholeEndsOr : Plan → Result Verdict Memory → WholeLinks → WholeLinks → Event → Type 0
+abbrev pub WholeEndsOr : Plan → Result Verdict OutOfMemory → WholeLinks → WholeLinks → Event → Type 0
 WholeEndsOr plan (Ok verdict) old new event = WholeEnds plan verdict old new event
 WholeEndsOr plan (Err e) old new event = WholeStays old new
 
-abbrev pub WholeEndsAsOr : Plan → Result (Option Verdict) Memory → WholeLinks → WholeLinks → Event → Type 0
+abbrev pub WholeEndsAsOr : Plan → Result (Option Verdict) OutOfMemory → WholeLinks → WholeLinks → Event → Type 0
 WholeEndsAsOr plan (Ok verdict) old new event = WholeEndsAs plan verdict old new event
 WholeEndsAsOr plan (Err e) old new event = WholeStays old new

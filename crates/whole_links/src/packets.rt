@@ -7,13 +7,12 @@ ghost use Rattle.whole_links.specs.Packets.{bytes_left, packet_event};
 
 use crate::whole::WholeLinks;
 use all_links::{Arriving, land};
-use ide_types::{Memory, PortName};
+use ide_types::{OutOfMemory, PortName, ValidPlan};
 use line_routes::{has_port, partner};
 use link_events::Event;
 use link_verdicts::Verdict;
 use std::alloc::Global;
 use std::borrow::CowSlice;
-use valid_plan::ValidPlan;
 
 /// What becomes of a packet on its way to the other end of its line (this profile).
 #[derive(Clone, Copy)]
@@ -31,7 +30,7 @@ fn bytes_left<'a>(
     alloc: Global,
     bytes: &'a [u8],
     passage: Passage,
-) -> Result<Option<CowSlice<'a, u8, Global>>, Memory>
+) -> Result<Option<CowSlice<'a, u8, Global>>, OutOfMemory>
     ensures { IfOk result (λ o. option_map cow_slice_items o ≡ bytes_left passage bytes.now) }
 {
     match passage {
@@ -65,7 +64,7 @@ impl WholeLinks {
         plan: &ValidPlan,
         port: PortName,
         bytes: &[u8],
-    ) -> Result<Verdict, Memory>
+    ) -> Result<Verdict, OutOfMemory>
         requires steps { self.old.links.steps < 2 ^ 28 }
         requires bounded { IsBoundedWhole self.old }
         ensures ends { WholeEndsOr plan.now result self.old self.new (Event.Arrive port bytes.now) }
@@ -103,7 +102,7 @@ impl WholeLinks {
         plan: &ValidPlan,
         packet: u64,
         passage: Passage,
-    ) -> Result<Verdict, Memory>
+    ) -> Result<Verdict, OutOfMemory>
         requires steps { self.old.links.steps < 2 ^ 28 }
         requires bounded { IsBoundedWhole self.old }
         ensures ends { WholeEndsOr plan.now result self.old self.new (packet_event packet passage) }

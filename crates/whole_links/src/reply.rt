@@ -1,7 +1,7 @@
 //! What an answer to the oldest read of a link comes to beside the ports.
 
 ghost use Rattle.std.specs.Prelude.{◌≡◌, Some};
-ghost use Rattle.link_history.specs.Due.{is_stream};
+ghost use Rattle.spec_links.specs.Due.{is_stream};
 ghost use Rattle.whole_links.specs.Besides.{draw_below, judged_bound, small_number};
 
 use crate::verdicts::dropped;

@@ -1,10 +1,10 @@
 //! What the verdicts of answers to reads and of events on interfaces say.
 
 ghost use Rattle.std.specs.Prelude.{◌≡◌};
-ghost use Rattle.interface_states.specs.Exchanges.{carries, changes_device, is_interface_done};
+ghost use Rattle.spec_interfaces.specs.Exchanges.{carries, changes_device, is_interface_done};
 ghost use Rattle.whole_links.specs.Accesses.{is_sealed, takes_read};
 
-use interface_words::InterfaceVerdict;
+use ide_types::InterfaceVerdict;
 use link_verdicts::{AccessVerdict, BlockCause, Verdict};
 
 /// Whether an answer to a read with this verdict takes the read: its completion was sealed, or it was dropped.

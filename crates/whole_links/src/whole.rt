@@ -6,31 +6,31 @@ ghost use Rattle.std.specs.Bool.{OnTrue};
 ghost use Rattle.link_events.specs.Spells.{IsAllowed};
 ghost use Rattle.link_events.specs.Interfaces.{IsAllowedInterface};
 ghost use Rattle.link_events.specs.Accesses.{IsAllowedAccess};
-ghost use Rattle.waiting_reads.specs.{FitsRead};
+ghost use Rattle.trusted_memory.specs.{FitsRead};
 ghost use Rattle.ide_port.specs.{sealing_draw_in};
 ghost use Rattle.all_links.specs.{LinkEnds};
 ghost use Rattle.all_links.specs.Events.{operation_event};
 ghost use Rattle.whole_links.specs.Besides.{draw_below};
 ghost use Rattle.all_links.specs.Accesses.{is_sending, reads_at, runs_in, same_reads, same_floors, nothing_happens};
-ghost use Rattle.all_links.specs.Accesses.{AccessesTurn, carried_at, same_carried};
+ghost use Rattle.all_links.specs.Accesses.{AccessesTurn, carried_on_link, same_carried};
 ghost use Rattle.all_links.specs.Sides.{SidesKeep, SidesOperate, SidesReset, SidesInterface, Sides};
-ghost use Rattle.link_history.specs.Hops.{has_hop as has_hop_in};
+ghost use Rattle.spec_links.specs.Hops.{has_hop as has_hop_in};
 
 use crate::packets::Passage;
 use crate::reply::{draw_below, judged, small_number};
 use crate::verdicts::{changes_device, dropped, empty, is_sealed, reaches, takes_read};
-use access_turns::clear_hops;
-use accesses::Accesses;
 use all_links::Links;
-use ide_types::{Bytes, Direction, Memory, PortName, Side, SubKind};
-use interface_words::InterfaceVerdict;
+use ide_types::{
+    Bytes, Direction, InterfaceVerdict, OutOfMemory, PortName, Side, SubKind, ValidPlan,
+};
+use interface_host::InterfaceOperation;
+use join_stores::clear_hops;
 use line_routes::{has_hop, leaving_end};
 use link_events::{AccessEvent, Event, InterfaceEvent, Loss};
+use link_stores::Accesses;
 use link_verdicts::{AccessVerdict, BlockCause, Operation, Verdict};
 use std::alloc::Global;
-use tdi_host::InterfaceOp;
-use valid_plan::ValidPlan;
-use waiting_reads::{COMPLETION_BYTES, WaitingRead, complete};
+use trusted_memory::{COMPLETION_BYTES, WaitingRead, complete};
 
 /// All links of a topology, the trusted reads of each that wait for their answer, the memory of each device's
 /// interfaces with the least draws that they take trusted writes under, and the TLPs that wait at the switches of hops
@@ -42,8 +42,8 @@ pub struct WholeLinks {
 }
 
 impl WholeLinks {
-    ghost use Rattle.ide_plan.specs.declared.plan.Plan.{Plan as PlanView};
-    ghost use Rattle.whole_links.specs.Besides.{replied, reply_numbered, reply_on};
+    ghost use Rattle.ide_types.specs.declared.plan.Plan.{Plan as PlanView};
+    ghost use Rattle.whole_links.specs.Besides.{completion_with_bytes, reply_numbered, link_reply};
     ghost use Rattle.whole_links.specs.Besides.{reader_of};
     ghost use Rattle.whole_links.specs.Besides.{has_shown, bytes_shown};
     ghost use Rattle.whole_links.specs.Whole.{IsFirstWhole, IsWhole, IsBoundedWhole, WholeEnds, WholeEndsAs};
@@ -53,8 +53,8 @@ impl WholeLinks {
 
     /// The links of the plan before the first event, with no read and no TLP that waits, and 0 in all ranges of its
     /// devices.
-    /// Returns `Memory` for want of memory.
-    pub fn make(alloc: Global, plan: &ValidPlan) -> Result<WholeLinks, Memory>
+    /// Returns `OutOfMemory` for want of memory.
+    pub fn make(alloc: Global, plan: &ValidPlan) -> Result<WholeLinks, OutOfMemory>
         ensures { IfOk result (λ s. IsFirstWhole plan.now s) }
     {
         let links = Links::make(alloc, plan)?;
@@ -77,7 +77,8 @@ impl WholeLinks {
         requires fits { FitsRead waiting.now.read }
         requires empty { bytes.old.items ≡ [] }
         requires room { vec_len bytes.old + 4108 ≤ vec_capacity bytes.old }
-        ensures { (l : LinkEnds) → slice_get self.now.links.ends.links link ≡ Some l → replied result bytes.new.items
+        ensures { (l : LinkEnds) → slice_get self.now.links.ends.links link ≡ Some l →
+            completion_with_bytes result bytes.new.items
             ≡ reply_numbered self.now.links.keeper.interfaces l link self.now.links.trusted.contents waiting.now
             (Some interface) }
     {
@@ -120,7 +121,7 @@ impl WholeLinks {
         requires whole { IsWhole self.now }
         requires empty { bytes.old.items ≡ [] }
         requires room { vec_len bytes.old + 4108 ≤ vec_capacity bytes.old }
-        ensures { replied result bytes.new.items ≡ reply_on self.now link }
+        ensures { completion_with_bytes result bytes.new.items ≡ link_reply self.now link }
     {
         match self.accesses.at(link).reads.first() {
             None => Err(empty(link)),
@@ -149,11 +150,11 @@ impl WholeLinks {
         link: u8,
         bound: (u8, u32),
         bytes: &[u8],
-    ) -> Result<Verdict, Memory>
+    ) -> Result<Verdict, OutOfMemory>
         requires steps { self.old.links.steps < 2 ^ 28 }
         requires bounded { IsBoundedWhole self.old }
         requires here { link < length self.old.links.ends.links }
-        requires due { reply_on self.old link ≡ replied (Ok bound) bytes.now }
+        requires due { link_reply self.old link ≡ completion_with_bytes (Ok bound) bytes.now }
         ensures ends { WholeEndsOr plan.now result self.old self.new (Event.Access (AccessEvent.Answer link)) }
         ensures sides { IfOk result (λ v. SidesKeep self.old.links self.new.links) }
         ensures accesses { self.new.accesses ≡ self.old.accesses }
@@ -168,13 +169,18 @@ impl WholeLinks {
             None => {
                 let side = Side::Host;
                 self.links
-                    .send_at(plan, PortName { side, link }, bytes, false, true)
+                    .send_at(plan, PortName { side, line: link }, bytes, false, true)
             }
         }
     }
 
     // The answer to the oldest read of a link that exists.
-    fn answered(&mut self, alloc: Global, plan: &ValidPlan, link: u8) -> Result<Verdict, Memory>
+    fn answered(
+        &mut self,
+        alloc: Global,
+        plan: &ValidPlan,
+        link: u8,
+    ) -> Result<Verdict, OutOfMemory>
         requires steps { self.old.links.steps < 2 ^ 28 }
         requires bounded { IsBoundedWhole self.old }
         requires here { link < length self.old.links.ends.links }
@@ -192,7 +198,12 @@ impl WholeLinks {
     }
 
     // Answers the oldest read of a link that waits. Once its completion is sealed, or it is dropped, it waits no more.
-    fn answer_read(&mut self, alloc: Global, plan: &ValidPlan, link: u64) -> Result<Verdict, Memory>
+    fn answer_read(
+        &mut self,
+        alloc: Global,
+        plan: &ValidPlan,
+        link: u64,
+    ) -> Result<Verdict, OutOfMemory>
         requires steps { self.old.links.steps < 2 ^ 28 }
         requires bounded { IsBoundedWhole self.old }
         ensures ends { WholeEndsOr plan.now result self.old self.new (Event.Access (AccessEvent.Answer link)) }
@@ -237,7 +248,7 @@ impl WholeLinks {
         bar: u64,
         offset: u64,
         length: u64,
-    ) -> Result<Verdict, Memory>
+    ) -> Result<Verdict, OutOfMemory>
         requires steps { self.old.links.steps < 2 ^ 28 }
         requires bounded { IsBoundedWhole self.old }
         ensures ends { (plan : PlanView) → WholeEndsOr plan result self.old self.new
@@ -293,7 +304,7 @@ impl WholeLinks {
         let ran = self.links.runs(interface);
         let verdict = self
             .links
-            .operate_interface(alloc, InterfaceOp::Start, interface, loss)?;
+            .operate_interface(alloc, InterfaceOperation::Start, interface, loss)?;
         self.note_start(interface, ran);
         Some(verdict)
     }
@@ -313,7 +324,10 @@ impl WholeLinks {
             None => {}
             Some((link, place)) => {
                 let bars = self.links.ends.bars(link, place);
-                self.accesses.at_mut(link).guarded.stop(place, bars);
+                self.accesses
+                    .at_mut(link)
+                    .guarded
+                    .stop_interface(place, bars);
             }
         }
     }
@@ -330,7 +344,7 @@ impl WholeLinks {
     {
         let verdict = self
             .links
-            .operate_interface(alloc, InterfaceOp::Halt, interface, loss)?;
+            .operate_interface(alloc, InterfaceOperation::Halt, interface, loss)?;
         self.note_halt(interface, &verdict);
         Some(verdict)
     }
@@ -365,7 +379,7 @@ impl WholeLinks {
     }
 
     #[inline(never)]
-    fn ask(&mut self, alloc: Global, event: &InterfaceEvent) -> Result<Option<Verdict>, Memory>
+    fn ask(&mut self, alloc: Global, event: &InterfaceEvent) -> Result<Option<Verdict>, OutOfMemory>
         requires steps { self.old.links.steps < 2 ^ 28 }
         requires bounded { IsBoundedWhole self.old }
         requires allowed { IsAllowedInterface event.now }
@@ -408,7 +422,7 @@ impl WholeLinks {
         plan: &ValidPlan,
         link: u8,
         direction: Direction,
-    ) -> Result<Verdict, Memory>
+    ) -> Result<Verdict, OutOfMemory>
         requires steps { self.old.links.steps < 2 ^ 28 }
         requires bounded { IsBoundedWhole self.old }
         requires here { link < length self.old.links.ends.links }
@@ -418,7 +432,7 @@ impl WholeLinks {
         ensures accesses { self.new.accesses ≡ self.old.accesses }
         ensures kind { IfOk result (λ v. is_sending v ≡ true) }
         ensures waits { IfOk result (λ v. is_sealed v ≡ true
-            → 1 ≤ length (carried_at self.old.accesses link direction)) }
+            → 1 ≤ length (carried_on_link self.old.accesses link direction)) }
     {
         match self.accesses.at(link).carried.first(direction) {
             None => Ok(self.links.only(empty(link))),
@@ -436,7 +450,7 @@ impl WholeLinks {
         plan: &ValidPlan,
         link: u64,
         direction: Direction,
-    ) -> Result<Verdict, Memory>
+    ) -> Result<Verdict, OutOfMemory>
         requires steps { self.old.links.steps < 2 ^ 28 }
         requires bounded { IsBoundedWhole self.old }
         ensures ends { WholeEndsOr plan.now result self.old self.new (Event.Forward link direction) }
@@ -465,7 +479,7 @@ impl WholeLinks {
         alloc: Global,
         plan: &ValidPlan,
         event: &AccessEvent,
-    ) -> Result<Verdict, Memory>
+    ) -> Result<Verdict, OutOfMemory>
         requires steps { self.old.links.steps < 2 ^ 28 }
         requires bounded { IsBoundedWhole self.old }
         requires allowed { IsAllowedAccess event.now }
@@ -511,7 +525,7 @@ impl WholeLinks {
         alloc: Global,
         plan: &ValidPlan,
         event: &Event,
-    ) -> Result<Option<Verdict>, Memory>
+    ) -> Result<Option<Verdict>, OutOfMemory>
         requires steps { self.old.links.steps < 2 ^ 28 }
         requires bounded { IsBoundedWhole self.old }
         requires allowed { IsAllowed event.now }

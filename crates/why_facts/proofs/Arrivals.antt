@@ -4,58 +4,59 @@ use Rattle.std.proofs.Common.{Result, Ok, Err, if◌then◌else◌, refl, ap, �
 use Rattle.std.proofs.lemmas.List.{length-map}
 use Rattle.std.specs.Option.{option_map, option_and_then}
 use Rattle.ide_types.specs.declared.port.PortName.{PortName}
-use Rattle.ide_plan.specs.declared.plan.Plan.{Plan}
+use Rattle.ide_types.specs.declared.plan.Plan.{Plan}
 use Rattle.ide_prefix.specs.Packet.{Packet, packet_bytes}
 use Rattle.ide_prefix.specs.Reading.{CutValue, PlainTlp, IdePacket, cut_of}
 use Rattle.ide_prefix.specs.declared.fault.PacketFault.{PacketFault}
 use Rattle.link_events.specs.declared.event.Event.{Event}
 use Rattle.link_events.specs.declared.event.Event.TheVariants as event
 use Rattle.link_verdicts.specs.declared.verdict.SealedPacket.{SealedPacket}
-use Rattle.key_laws.specs.Keys.{Keyed, Off, Loaded, On, on_in}
-use Rattle.key_laws.specs.History.{History, status_of}
-use Rattle.stream_rules.specs.Stream.{RxSub, at_sub, live_in, slot_in_set}
-use Rattle.stream_rules.specs.Slots.{stream_status}
-use Rattle.link_history.specs.Plan.{SubStream, lane_in}
-use Rattle.link_history.specs.Ports.{goes_through, port_of}
-use Rattle.link_history.specs.History.{Arrival, altered, brought, failed, keys_at, on_draw, pending, sealed_packets}
-use Rattle.link_history.specs.History.{shortened}
-unfoldable use Rattle.link_history.specs.History.{arrived}
-use Rattle.link_ports.specs.Machine.{kept_at}
-use Rattle.link_ports.specs.Stands.{rx_slot, rx_slots, rx_standing}
-use Rattle.port_operations.specs.{LinkState, PortsStand, altered_to, cut_short, passed, standing}
-use Rattle.port_operations.proofs.{of_numbered}
-use Rattle.port_operations.proofs.Terms.{at_each}
-use Rattle.whole_machine.specs.Machine.{Whole, arrival_of}
-use Rattle.whole_machine.specs.Stands.{StandsFor}
+use Rattle.spec_keys.specs.Keys.{Keyed, Off, Loaded, On, on_in}
+use Rattle.spec_keys.specs.History.{History, history_status}
+use Rattle.spec_stream.specs.Stream.{RxSub, at_sub, live_in, slot_in_set}
+use Rattle.spec_stream.specs.Slots.{stream_status}
+use Rattle.spec_links.specs.Plan.{SubStream, lane_in}
+use Rattle.spec_links.specs.Ports.{goes_through, port_of}
+use Rattle.spec_links.specs.History.{Arrival, altered_arrival, arrival_at_partner, failed, port_keys, on_draw}
+use Rattle.spec_links.specs.History.{pending_packets, sealed_packets}
+use Rattle.spec_links.specs.History.{shortened_arrival}
+unfoldable use Rattle.spec_links.specs.History.{arrival_of_event}
+use Rattle.machine_ports.specs.Machine.{kept_packet}
+use Rattle.machine_ports.specs.Stands.{rx_slot, rx_slots, rx_standing}
+use Rattle.machine_operations.specs.{LinkState, PortsStand, altered_to, cut_short, passed, standing}
+use Rattle.machine_operations.proofs.{of_numbered}
+use Rattle.machine_operations.proofs.Terms.{at_each}
+use Rattle.machine_whole.specs.Machine.{Whole, arrival_of}
+use Rattle.machine_whole.specs.Stands.{StandsFor}
 use Rattle.why_lines.specs.declared.fact.Fact.{Fact}
 use Rattle.why_facts.specs.Forms.{arrives_fact, packets_fact, request_facts, state_fact}
 use Rattle.why_facts.specs.Due.{arrival_facts_due, asks_due, asks_under, packet_due}
 use Rattle.why_facts.specs.Due.{received_due, sealed_due}
-use Rattle.why_facts.specs.Kept.{arrival_facts_in, asks_in, asks_live, packet_in, received_by, sealed_in}
+use Rattle.why_facts.specs.Kept.{arrival_facts_in, asks_in, asks_live, packet_facts, received_by, packet_count_facts}
 use Rattle.why_facts.proofs.Sites.{readings_are}
 use Rattle.why_facts.proofs.Streams.{of_stream, receiver_is}
 
 -- ---- what an event brings
 
 pub arrival_is : (plan : Plan) (st : LinkState) (h : History) → PortsStand plan st h → (e : Event)
-    → arrival_of plan st e ≡ arrived plan h e
-unfolding arrived
+    → arrival_of plan st e ≡ arrival_of_event plan h e
+unfolding arrival_of_event
 arrival_is plan st h stands (event.Pass n) =
     of_numbered st.packets (sealed_packets plan h) n stands.packets (option_and_then (passed plan))
-    (option_map (λ x. brought plan x (packet_bytes x.1))) refl (λ x. refl)
+    (option_map (λ x. arrival_at_partner plan x (packet_bytes x.1))) refl (λ x. refl)
 arrival_is plan st h stands (event.Alter n at mask) =
     of_numbered st.packets (sealed_packets plan h) n stands.packets (option_and_then (altered_to plan at mask))
-    (option_and_then (altered plan at mask)) refl (λ x. refl)
+    (option_and_then (altered_arrival plan at mask)) refl (λ x. refl)
 arrival_is plan st h stands (event.Cut n len) =
     of_numbered st.packets (sealed_packets plan h) n stands.packets (option_and_then (cut_short plan len))
-    (option_and_then (shortened plan len)) refl (λ x. refl)
+    (option_and_then (shortened_arrival plan len)) refl (λ x. refl)
 arrival_is plan st h stands (event.Arrive port bytes) = refl
 arrival_is plan st h stands e = refl
 
-pub sealed_is : (plan : Plan) (w : Whole) (h : History) → StandsFor plan w h → sealed_in w ≡ sealed_due plan h
+pub sealed_is : (plan : Plan) (w : Whole) (h : History) → StandsFor plan w h → packet_count_facts w ≡ sealed_due plan h
 sealed_is plan w h stands = ap packets_fact
     (ap length stands.links.ports_stand.packets
-    ∙ length-map (sealed_packets plan h) (λ (x : SealedPacket × Packet). kept_at x.0.port x.1))
+    ∙ length-map (sealed_packets plan h) (λ (x : SealedPacket × Packet). kept_packet x.0.port x.1))
 
 -- ---- what a packet asks of memory
 
@@ -69,14 +70,14 @@ asks_keyed : (plan : Plan) (w : Whole) (h : History) → StandsFor plan w h → 
 asks_keyed plan w h stands port s p Off = refl
 asks_keyed plan w h stands port s p (Loaded j) = refl
 asks_keyed plan w h stands port s p (On j) = λ i. request_facts plan (readings_are plan w h stands i)
-    (port_of plan port) (place_is (failed h port s.stream) (pending plan h s j) i + 1) p
+    (port_of plan port) (place_is (failed h port s.stream) (pending_packets plan h s j) i + 1) p
 
 asks_is : (plan : Plan) (w : Whole) (h : History) → StandsFor plan w h → (port : PortName) (s : SubStream)
     (p : Packet) (k : Bool)
-    → asks_live plan w port p (live_in (slot_in_set (rx_slots plan h port s (keys_at h port s)) k))
+    → asks_live plan w port p (live_in (slot_in_set (rx_slots plan h port s (port_keys h port s)) k))
     ≡ asks_under plan h port s p (on_draw h port s k)
-asks_is plan w h stands port s p true = asks_keyed plan w h stands port s p (keys_at h port s).second
-asks_is plan w h stands port s p false = asks_keyed plan w h stands port s p (keys_at h port s).first
+asks_is plan w h stands port s p true = asks_keyed plan w h stands port s p (port_keys h port s).second
+asks_is plan w h stands port s p false = asks_keyed plan w h stands port s p (port_keys h port s).first
 
 unless_failed : {A : Type 0} (b : Bool) (x y z : A) → y ≡ z → (if b then x else y) ≡ (if b then x else z)
 unless_failed true x y z same = refl
@@ -93,14 +94,14 @@ asks_there plan w h stands port p = unless_failed (failed h port p.prefix.stream
         (at_sub (standing plan h port p.prefix.stream).rx p.prefix.sub).slots p.prefix.k))
         ≡ asks_live plan w port p (live_in (slot_in_set
         (rx_slots plan h port (lane_in port p.prefix.stream p.prefix.sub)
-        (keys_at h port (lane_in port p.prefix.stream p.prefix.sub))) p.prefix.k))
+        (port_keys h port (lane_in port p.prefix.stream p.prefix.sub))) p.prefix.k))
     slots_are = ap (λ (x : RxSub). asks_live plan w port p (live_in (slot_in_set x.slots p.prefix.k)))
         (at_each (λ u. rx_standing plan h port (lane_in port p.prefix.stream u)) p.prefix.sub)
 
 -- ---- arrivals
 
 packet_is : (plan : Plan) (w : Whole) (h : History) → StandsFor plan w h → (port : PortName)
-    (r : Result CutValue PacketFault) → packet_in plan w port r ≡ packet_due plan h port r
+    (r : Result CutValue PacketFault) → packet_facts plan w port r ≡ packet_due plan h port r
 packet_is plan w h stands port (Err f) = refl
 packet_is plan w h stands port (Ok PlainTlp) = refl
 packet_is plan w h stands port (Ok (IdePacket p)) =
@@ -108,7 +109,7 @@ packet_is plan w h stands port (Ok (IdePacket p)) =
     (of_stream plan w.links h stands.links.ports_stand port p.prefix.stream (received_by plan w port p) []
     (received_due plan h port (lane_in port p.prefix.stream p.prefix.sub) p) refl there)
   where
-    there : stream_status (standing plan h port p.prefix.stream) ≡ status_of h port.side port.link p.prefix.stream
+    there : stream_status (standing plan h port p.prefix.stream) ≡ history_status h port.side port.line p.prefix.stream
         → received_by plan w port p (Some (standing plan h port p.prefix.stream))
         ≡ received_due plan h port (lane_in port p.prefix.stream p.prefix.sub) p
     there same = λ i. state_fact (same i)
@@ -123,7 +124,8 @@ arrival_facts_are plan w h stands unnamed (Some a) =
 -- of an event that brings bytes, with what is said if it brings none
 pub arriving_is : (plan : Plan) (w : Whole) (h : History) → StandsFor plan w h → (e : Event)
     (mine due : List Fact) → mine ≡ due
-    → arrival_facts_in plan w mine (arrival_of plan w.links e) ≡ arrival_facts_due plan h due (arrived plan h e)
+    → arrival_facts_in plan w mine (arrival_of plan w.links e)
+    ≡ arrival_facts_due plan h due (arrival_of_event plan h e)
 arriving_is plan w h stands e mine due same =
     (λ i. arrival_facts_in plan w (same i) (arrival_is plan w.links h stands.links.ports_stand e i))
-    ∙ arrival_facts_are plan w h stands due (arrived plan h e)
+    ∙ arrival_facts_are plan w h stands due (arrival_of_event plan h e)

@@ -2,17 +2,17 @@
 use Rattle.std.proofs.Common.{◌≡◌, ℕ, ◌==◌, ◌++◌, List, [], map, Option, Some, None}
 use Rattle.std.proofs.Common.{refl, ap, ◌∙◌}
 use Rattle.std.specs.Option.{option_map}
-use Rattle.ide_plan.specs.declared.plan.Plan.{Plan}
+use Rattle.ide_types.specs.declared.plan.Plan.{Plan}
 use Rattle.link_events.specs.declared.event.InterfaceEvent.{InterfaceEvent}
 use Rattle.link_events.specs.declared.event.InterfaceEvent.TheVariants as ie
-use Rattle.key_laws.specs.History.{History}
-use Rattle.interface_states.specs.Sites.{Site, sites, site_at}
-use Rattle.interface_states.specs.Devices.{used_at}
-use Rattle.interface_machine.specs.Machine.{Face, Streams, face_standing, find_face}
-use Rattle.interface_machine.specs.Stands.{face_at, streams_at}
-use Rattle.whole_machine.specs.Machine.{Whole, whole_streams}
-use Rattle.whole_machine.specs.Stands.{StandsFor}
-use Rattle.whole_machine.proofs.Streams.{seen_at, streams_are}
+use Rattle.spec_keys.specs.History.{History}
+use Rattle.spec_interfaces.specs.Sites.{Site, sites, site_at}
+use Rattle.spec_interfaces.specs.Devices.{used_at}
+use Rattle.machine_interfaces.specs.Machine.{Face, Streams, face_standing, find_face}
+use Rattle.machine_interfaces.specs.Stands.{face_at, streams_at}
+use Rattle.machine_whole.specs.Machine.{Whole, whole_streams}
+use Rattle.machine_whole.specs.Stands.{StandsFor}
+use Rattle.machine_whole.proofs.Streams.{seen_at, streams_are}
 use Rattle.why_lines.specs.declared.fact.Fact.{Fact}
 use Rattle.why_facts.specs.Forms.{asked_besides, asked_facts, face_facts, reported_facts}
 use Rattle.why_facts.specs.Due.{asked_facts_due, asked_site_due}

@@ -3,27 +3,28 @@ use Rattle.std.proofs.Common.{◌≡◌, ℕ, ◌∷◌, Bool, true, false, List
 use Rattle.std.proofs.Common.{if◌then◌else◌, refl, ap, ◌∙◌}
 use Rattle.ide_types.specs.{is_link_line}
 use Rattle.ide_types.specs.declared.port.Side.TheVariants.{Host}
-use Rattle.ide_plan.specs.declared.plan.Plan.{Plan}
-use Rattle.key_laws.specs.Operations.{Op}
-use Rattle.key_laws.specs.History.{History, draws, op_of, status_of}
-use Rattle.link_history.specs.Plan.{stream_plan}
-use Rattle.port_operations.specs.{find_op, ports_of, status_at}
-use Rattle.key_laws.specs.Due.{ports_at}
-use Rattle.port_operations.proofs.Views.{ports_is}
-use Rattle.whole_machine.specs.Machine.{Whole}
-use Rattle.whole_machine.specs.Stands.{StandsFor}
-use Rattle.whole_machine.proofs.Streams.{status_all}
+use Rattle.ide_types.specs.declared.plan.Plan.{Plan}
+use Rattle.spec_keys.specs.Operations.{StreamStage}
+use Rattle.spec_keys.specs.History.{History, draws, op_of, history_status}
+use Rattle.spec_links.specs.Plan.{stream_plan}
+use Rattle.machine_operations.specs.{find_op, ports_of, machine_status}
+use Rattle.spec_keys.specs.Due.{ports_at}
+use Rattle.machine_operations.proofs.Views.{ports_is}
+use Rattle.machine_whole.specs.Machine.{Whole}
+use Rattle.machine_whole.specs.Stands.{StandsFor}
+use Rattle.machine_whole.proofs.Streams.{status_all}
 use Rattle.why_lines.specs.declared.fact.Fact.{Fact}
 use Rattle.why_facts.specs.Forms.{establish_facts, manager_fact, refresh_facts, stop_facts}
 use Rattle.why_facts.specs.Due.{if_stream}
 use Rattle.why_facts.specs.Kept.{if_found}
 
 -- of a stream that the plan has, by what is the same of the manager's state of it
-of_op : (plan : Plan) (w : Whole) (h : History) → StandsFor plan w h → (line stream : ℕ) (facts : Op → List Fact)
+of_op : (plan : Plan) (w : Whole) (h : History) → StandsFor plan w h
+    → (line stream : ℕ) (facts : StreamStage → List Fact)
     (due : List Fact) → facts (op_of h line stream) ≡ due
     → if_found (find_op plan w.links line stream) facts ≡ if_stream plan line stream due
 of_op plan w h stands line stream facts due same =
-    ap (λ (o : Option Op). if_found o facts) (stands.links.ops_is line stream)
+    ap (λ (o : Option StreamStage). if_found o facts) (stands.links.ops_is line stream)
     ∙ by (is_some (stream_plan plan line stream))
   where
     by : (b : Bool) → if_found (if b then Some (op_of h line stream) else None) facts ≡ (if b then due else [])
@@ -46,11 +47,11 @@ pub refresh_is : (plan : Plan) (w : Whole) (h : History) → StandsFor plan w h 
     → (if is_link_line line
     then if_found (find_op plan w.links line stream)
     (λ q. refresh_facts plan (ports_of plan w.links) line stream q w.links.draws
-    (status_at plan w.links Host line stream))
+    (machine_status plan w.links Host line stream))
     else [])
     ≡ (if is_link_line line
     then if_stream plan line stream (refresh_facts plan (ports_at h) line stream (op_of h line stream) (draws h)
-    (status_of h Host line stream))
+    (history_status h Host line stream))
     else [])
 refresh_is plan w h stands line stream = ap (λ (xs : List Fact). if is_link_line line then xs else [])
     (of_op plan w h stands line stream _ _

@@ -7,30 +7,31 @@ use Rattle.ide_types.specs.declared.port.PortName.{PortName}
 use Rattle.ide_types.specs.declared.sub.SubKind.{SubKind}
 use Rattle.ide_types.specs.declared.sub.SubKind.TheVariants.{Cpl}
 use Rattle.ide_types.specs.declared.direction.Direction.{Direction}
-use Rattle.ide_plan.specs.declared.plan.Plan.{Plan}
+use Rattle.ide_types.specs.declared.plan.Plan.{Plan}
 use Rattle.tlp_layout.specs.declared.head.HeadView.{HeadView}
 use Rattle.tlp_layout.specs.Class.{class_of}
 use Rattle.tlp_layout.specs.Tlp.{header}
 use Rattle.association.specs.Outgoing.{Outgoing, NoTlp, OnNone, OnStream}
-use Rattle.key_laws.specs.History.{History, status_of}
-use Rattle.stream_rules.specs.Slots.{stream_status}
-use Rattle.interface_states.specs.Sites.{Site, site_with}
-use Rattle.interface_states.specs.Views.{managed}
-use Rattle.interface_states.specs.Devices.{tdi_at}
-use Rattle.interface_states.specs.Cause.{owners_link}
-use Rattle.link_history.specs.{WaitingRead, has_hop, leaving_end, waiting, hop_waiting}
-use Rattle.link_history.specs.Hops.{HopTlp}
-use Rattle.link_history.specs.Plan.{has_link, lane_out}
-use Rattle.link_history.specs.Ports.{outgoing_at}
-use Rattle.port_operations.specs.{find, standing}
-use Rattle.whole_machine.specs.Machine.{Whole}
-use Rattle.whole_machine.specs.Stands.{StandsFor}
+use Rattle.spec_keys.specs.History.{History, history_status}
+use Rattle.spec_stream.specs.Slots.{stream_status}
+use Rattle.spec_interfaces.specs.Sites.{Site, site_with}
+use Rattle.spec_interfaces.specs.Views.{managed}
+use Rattle.spec_interfaces.specs.Devices.{interface_at}
+use Rattle.spec_interfaces.specs.Cause.{owners_link}
+use Rattle.spec_links.specs.{WaitingRead, has_hop, leaving_end, waiting, hop_waiting}
+use Rattle.spec_links.specs.Hops.{HopTlp}
+use Rattle.spec_links.specs.Plan.{has_link, lane_out}
+use Rattle.spec_links.specs.Ports.{outgoing_at}
+use Rattle.machine_operations.specs.{find, standing}
+use Rattle.machine_whole.specs.Machine.{Whole}
+use Rattle.machine_whole.specs.Stands.{StandsFor}
 use Rattle.why_lines.specs.declared.fact.Fact.{Fact}
 use Rattle.why_facts.specs.Forms.{each_looked_at, face_facts, read_fact, sends_fact, state_fact, waiting_fact}
 use Rattle.why_facts.specs.Due.{answer_facts_due, completion_due, first_due, forward_facts_due, oldest_due}
 use Rattle.why_facts.specs.Due.{owner_due, reader_due, send_facts_due, sender_due, senders_due, sets_own_t, site_due}
-use Rattle.why_facts.specs.Kept.{answer_facts_in, completion_by, first_in, forward_facts_in, oldest_in}
-use Rattle.why_facts.specs.Kept.{known_of, owner_in, reader_in, send_facts_in, senders_in, sent_by}
+use Rattle.why_facts.specs.Kept.{answer_facts_in, completion_facts, first_tlp_facts, forward_facts_in}
+use Rattle.why_facts.specs.Kept.{oldest_read_facts}
+use Rattle.why_facts.specs.Kept.{known_of, owner_in, reader_in, send_facts_in, senders_in, sent_stream_facts}
 use Rattle.why_facts.proofs.Sites.{known_is, of_owner, requester_is, with_face}
 use Rattle.why_facts.proofs.Streams.{of_stream, sender_is}
 
@@ -46,7 +47,7 @@ owner_is plan w h stands end head = if_same (sets_own_t plan end) _ _ _
     (of_owner plan h w.faces stands.faces (owners_link plan end) head known_of (site_due plan h) (known_is plan h))
 
 senders_are : (plan : Plan) (h : History) (port : PortName) (stream : ℕ) (class : SubKind)
-    → stream_status (standing plan h port stream) ≡ status_of h port.side port.link stream
+    → stream_status (standing plan h port stream) ≡ history_status h port.side port.line stream
     → senders_in plan port stream class (standing plan h port stream) ≡ senders_due plan h port stream class
 senders_are plan h port stream class same = λ i. state_fact (same i)
     ∷ each_looked_at (λ u. sender_is plan h port stream u i) class
@@ -56,12 +57,12 @@ pub send_is : (plan : Plan) (w : Whole) (h : History) → StandsFor plan w h →
 send_is plan w h stands end (NoTlp f) = refl
 send_is plan w h stands end OnNone = refl
 send_is plan w h stands end (OnStream t stream) =
-    of_stream plan w.links h stands.links.ports_stand end stream (sent_by plan w end stream (header t)) []
+    of_stream plan w.links h stands.links.ports_stand end stream (sent_stream_facts plan w end stream (header t)) []
     (sends_fact plan end stream (class_of (header t))
     ∷ (senders_due plan h end stream (class_of (header t)) ++ owner_due plan h end (header t))) refl there
   where
-    there : stream_status (standing plan h end stream) ≡ status_of h end.side end.link stream
-        → sent_by plan w end stream (header t) (Some (standing plan h end stream))
+    there : stream_status (standing plan h end stream) ≡ history_status h end.side end.line stream
+        → sent_stream_facts plan w end stream (header t) (Some (standing plan h end stream))
         ≡ sends_fact plan end stream (class_of (header t))
         ∷ (senders_due plan h end stream (class_of (header t)) ++ owner_due plan h end (header t))
     there same = λ i. sends_fact plan end stream (class_of (header t))
@@ -71,21 +72,21 @@ send_is plan w h stands end (OnStream t stream) =
 -- ---- answers to reads
 
 completion_is : (plan : Plan) (w : Whole) (h : History) → StandsFor plan w h → (port : PortName) (stream : ℕ)
-    → completion_by plan port stream (find plan w.links port stream) ≡ completion_due plan h port stream
+    → completion_facts plan port stream (find plan w.links port stream) ≡ completion_due plan h port stream
 completion_is plan w h stands port stream =
-    of_stream plan w.links h stands.links.ports_stand port stream (completion_by plan port stream) []
-    (state_fact (status_of h port.side port.link stream) ∷ sender_due plan h port (lane_out port stream Cpl)) refl
+    of_stream plan w.links h stands.links.ports_stand port stream (completion_facts plan port stream) []
+    (state_fact (history_status h port.side port.line stream) ∷ sender_due plan h port (lane_out port stream Cpl)) refl
     (λ same i. state_fact (same i) ∷ sender_is plan h port stream Cpl i)
 
 reader_is : (plan : Plan) (w : Whole) (h : History) → StandsFor plan w h → (o : Option Site)
     → reader_in plan w (option_map (with_face plan h) o) ≡ reader_due plan h o
 reader_is plan w h stands None = refl
 reader_is plan w h stands (Some x) = ap
-    (λ (xs : List Fact). face_facts x (tdi_at plan h x) (managed h x) ++ xs)
+    (λ (xs : List Fact). face_facts x (interface_at plan h x) (managed h x) ++ xs)
     (completion_is plan w h stands (host_port x.link) x.plan.stream)
 
 oldest_is : (plan : Plan) (w : Whole) (h : History) → StandsFor plan w h → (link : ℕ) (rs : List WaitingRead)
-    → oldest_in plan w link rs ≡ oldest_due plan h link rs
+    → oldest_read_facts plan w link rs ≡ oldest_due plan h link rs
 oldest_is plan w h stands link [] = refl
 oldest_is plan w h stands link (r ∷ rs) = ap (λ (xs : List Fact). read_fact r.draw ∷ xs)
     (ap (reader_in plan w) (requester_is plan h w.faces stands.faces link r.read.requester)
@@ -94,7 +95,7 @@ oldest_is plan w h stands link (r ∷ rs) = ap (λ (xs : List Fact). read_fact r
 pub answer_is : (plan : Plan) (w : Whole) (h : History) → StandsFor plan w h → (link : ℕ)
     → answer_facts_in plan w link ≡ answer_facts_due plan h link
 answer_is plan w h stands link = if_same (has_link plan link) _ _ _
-    (ap (λ (rs : List WaitingRead). waiting_fact (length rs) ∷ oldest_in plan w link rs)
+    (ap (λ (rs : List WaitingRead). waiting_fact (length rs) ∷ oldest_read_facts plan w link rs)
     (stands.accesses.waiting link)
     ∙ ap (λ (xs : List Fact). waiting_fact (length (waiting plan h link)) ∷ xs)
     (oldest_is plan w h stands link (waiting plan h link)))
@@ -102,14 +103,14 @@ answer_is plan w h stands link = if_same (has_link plan link) _ _ _
 -- ---- forwards
 
 first_is : (plan : Plan) (w : Whole) (h : History) → StandsFor plan w h → (end : PortName) (xs : List HopTlp)
-    → first_in plan w end xs ≡ first_due plan h end xs
+    → first_tlp_facts plan w end xs ≡ first_due plan h end xs
 first_is plan w h stands end [] = refl
 first_is plan w h stands end (x ∷ xs) = send_is plan w h stands end (outgoing_at plan end x.bytes)
 
 pub forward_is : (plan : Plan) (w : Whole) (h : History) → StandsFor plan w h → (link : ℕ) (d : Direction)
     → forward_facts_in plan w link d ≡ forward_facts_due plan h link d
 forward_is plan w h stands link d = if_same (has_hop plan link) _ _ _
-    (ap (λ (xs : List HopTlp). waiting_fact (length xs) ∷ first_in plan w (leaving_end link d) xs)
+    (ap (λ (xs : List HopTlp). waiting_fact (length xs) ∷ first_tlp_facts plan w (leaving_end link d) xs)
     (stands.accesses.carried link d)
     ∙ ap (λ (xs : List Fact). waiting_fact (length (hop_waiting plan h link d)) ∷ xs)
     (first_is plan w h stands (leaving_end link d) (hop_waiting plan h link d)))

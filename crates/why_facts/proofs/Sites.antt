@@ -3,15 +3,15 @@ use Rattle.std.proofs.Common.{◌≡◌, ℕ, ◌==◌, ◌&&◌, ◌∷◌, Boo
 use Rattle.std.proofs.Common.{None, if◌then◌else◌, refl, ap, ◌∙◌}
 use Rattle.std.specs.Prelude.{find}
 use Rattle.std.specs.Option.{option_and_then, option_map}
-use Rattle.ide_plan.specs.declared.plan.Plan.{Plan}
+use Rattle.ide_types.specs.declared.plan.Plan.{Plan}
 use Rattle.tlp_layout.specs.declared.head.HeadView.{HeadView}
-use Rattle.key_laws.specs.History.{History}
-use Rattle.interface_states.specs.Sites.{Site, sites, site_with}
-use Rattle.interface_states.specs.Cause.{owner_of, owner_at}
-use Rattle.interface_machine.specs.Machine.{Face, Faces, find_face, with_requester}
-use Rattle.interface_machine.specs.Stands.{FacesStandFor, face_at}
-use Rattle.whole_machine.specs.Machine.{Whole}
-use Rattle.whole_machine.specs.Stands.{StandsFor}
+use Rattle.spec_keys.specs.History.{History}
+use Rattle.spec_interfaces.specs.Sites.{Site, sites, site_with}
+use Rattle.spec_interfaces.specs.Cause.{owner_of, owner_at}
+use Rattle.machine_interfaces.specs.Machine.{Face, Faces, find_face, with_requester}
+use Rattle.machine_interfaces.specs.Stands.{FacesStandFor, face_at}
+use Rattle.machine_whole.specs.Machine.{Whole}
+use Rattle.machine_whole.specs.Stands.{StandsFor}
 use Rattle.why_facts.specs.Due.{site_due, readings_at}
 use Rattle.why_facts.specs.Kept.{known_of, owner_found, readings_in}
 

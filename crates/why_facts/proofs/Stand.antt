@@ -2,11 +2,11 @@
 use Rattle.std.proofs.Common.{[], refl}
 use Rattle.link_events.specs.declared.event.Event.TheVariants as event
 use Rattle.link_events.specs.declared.event.AccessEvent.TheVariants as ae
-use Rattle.interface_states.specs.Views.{number_in}
-use Rattle.link_history.specs.Ports.{may_send, outgoing_at, sealing_end}
+use Rattle.spec_interfaces.specs.Views.{number_in}
+use Rattle.spec_links.specs.Ports.{may_send, outgoing_at, sealing_end}
 use Rattle.why_facts.specs.Due.{sealed_due}
 unfoldable use Rattle.why_facts.specs.Due.{facts_due}
-use Rattle.why_facts.specs.Kept.{sealed_in}
+use Rattle.why_facts.specs.Kept.{packet_count_facts}
 unfoldable use Rattle.why_facts.specs.Kept.{facts_in}
 use Rattle.why_facts.specs.Stands.{FactsStand}
 use Rattle.why_facts.proofs.Arrivals.{arriving_is, sealed_is}
@@ -19,11 +19,12 @@ unfolding facts_due facts_in
 facts_stand plan w h (event.Send port bytes more trusted) stands = if_same (may_send plan port) _ _ _
     (send_is plan w h stands (sealing_end plan port bytes) (outgoing_at plan (sealing_end plan port bytes) bytes))
 facts_stand plan w h (event.Pass n) stands =
-    arriving_is plan w h stands (event.Pass n) (sealed_in w) (sealed_due plan h) (sealed_is plan w h stands)
+    arriving_is plan w h stands (event.Pass n) (packet_count_facts w) (sealed_due plan h) (sealed_is plan w h stands)
 facts_stand plan w h (event.Alter n at mask) stands =
-    arriving_is plan w h stands (event.Alter n at mask) (sealed_in w) (sealed_due plan h) (sealed_is plan w h stands)
+    arriving_is plan w h stands (event.Alter n at mask) (packet_count_facts w) (sealed_due plan h)
+    (sealed_is plan w h stands)
 facts_stand plan w h (event.Cut n len) stands =
-    arriving_is plan w h stands (event.Cut n len) (sealed_in w) (sealed_due plan h) (sealed_is plan w h stands)
+    arriving_is plan w h stands (event.Cut n len) (packet_count_facts w) (sealed_due plan h) (sealed_is plan w h stands)
 facts_stand plan w h (event.Arrive port bytes) stands =
     arriving_is plan w h stands (event.Arrive port bytes) [] [] refl
 facts_stand plan w h (event.Dump n) stands = sealed_is plan w h stands

@@ -10,7 +10,7 @@ use Rattle.ide_types.specs.declared.sub.SubKind.{SubKind}
 use Rattle.ide_types.specs.declared.sub.SubKind.TheVariants.{Cpl}
 use Rattle.ide_types.specs.Ports.{host_port}
 use Rattle.ide_types.specs.declared.direction.Direction.{Direction}
-use Rattle.ide_plan.specs.declared.plan.Plan.{Plan}
+use Rattle.ide_types.specs.declared.plan.Plan.{Plan}
 use Rattle.tlp_layout.specs.declared.head.HeadView.{HeadView}
 use Rattle.tlp_layout.specs.Class.{class_of}
 use Rattle.tlp_layout.specs.Tlp.{header}
@@ -22,22 +22,22 @@ use Rattle.link_events.specs.declared.event.Event.{Event}
 use Rattle.link_events.specs.declared.event.Event.TheVariants as event
 use Rattle.link_events.specs.declared.event.InterfaceEvent.{InterfaceEvent}
 use Rattle.link_events.specs.declared.event.AccessEvent.TheVariants as ae
-use Rattle.key_laws.specs.Keys.{Keyed, Off, Loaded, On}
-use Rattle.key_laws.specs.History.{History, base, op_of, draws, status_of}
-use Rattle.key_laws.specs.Due.{ports_at}
-use Rattle.interface_states.specs.Sites.{Site, site_at, site_with}
-use Rattle.interface_states.specs.Views.{managed, number_in}
-use Rattle.interface_states.specs.Devices.{tdi_at}
-use Rattle.interface_states.specs.Due.{standing_at}
-use Rattle.interface_states.specs.Cause.{is_peer, owner_at, owners_link}
-use Rattle.link_history.specs.{WaitingRead, has_hop, leaving_end, waiting, hop_waiting}
-use Rattle.link_history.specs.Hops.{HopTlp}
-use Rattle.link_history.specs.Plan.{SubStream, has_link, has_stream, is_closed, lane_in, lane_out, stream_plan}
-use Rattle.link_history.specs.Ports.{at_switch, goes_through, may_send, outgoing_at, port_of, sealing_end}
-use Rattle.link_history.specs.History.{Arrival, arrived, failed, got_since, has_live_in, has_live_out, keys_at}
-use Rattle.link_history.specs.History.{on_draw, pending, posted_count, posted_of, sealed_packets, sent, total_in}
-use Rattle.link_history.specs.History.{units_got, units_since, waits}
-use Rattle.link_history.specs.Units.{units, open_unit}
+use Rattle.spec_keys.specs.Keys.{Keyed, Off, Loaded, On}
+use Rattle.spec_keys.specs.History.{History, base, op_of, draws, history_status}
+use Rattle.spec_keys.specs.Due.{ports_at}
+use Rattle.spec_interfaces.specs.Sites.{Site, site_at, site_with}
+use Rattle.spec_interfaces.specs.Views.{managed, number_in}
+use Rattle.spec_interfaces.specs.Devices.{interface_at}
+use Rattle.spec_interfaces.specs.Due.{standing_at}
+use Rattle.spec_interfaces.specs.Cause.{is_peer, owner_at, owners_link}
+use Rattle.spec_links.specs.{WaitingRead, has_hop, leaving_end, waiting, hop_waiting}
+use Rattle.spec_links.specs.Hops.{HopTlp}
+use Rattle.spec_links.specs.Plan.{SubStream, has_link, has_stream, is_closed, lane_in, lane_out, stream_plan}
+use Rattle.spec_links.specs.Ports.{at_switch, goes_through, may_send, outgoing_at, port_of, sealing_end}
+use Rattle.spec_links.specs.History.{Arrival, arrival_of_event, failed, got_since, has_live_in, has_live_out, port_keys}
+use Rattle.spec_links.specs.History.{on_draw, pending_packets, posted_count, posted_of, sealed_packets, sent, total_in}
+use Rattle.spec_links.specs.History.{units_got, units_since, waits}
+use Rattle.spec_links.specs.Units.{units, open_unit}
 use Rattle.why_lines.specs.declared.fact.Fact.{Fact}
 use Rattle.why_lines.specs.declared.fact.SetState.{SetState}
 use Rattle.why_lines.specs.declared.fact.SetState.TheVariants as set
@@ -50,7 +50,7 @@ use Rattle.why_facts.specs.Forms.{total_facts, request_facts, waiting_fact, read
 
 abbrev pub site_due : Plan → History → Option Site → List Fact
 site_due plan h None = []
-site_due plan h (Some x) = face_facts x (tdi_at plan h x) (managed h x)
+site_due plan h (Some x) = face_facts x (interface_at plan h x) (managed h x)
 
 abbrev pub readings_at : Plan → History → Readings
 readings_at plan h = record {
@@ -62,7 +62,7 @@ readings_at plan h = record {
 
 -- how many packets are held for the next unit under a draw; a failed stream holds none
 abbrev pub held_count : Plan → History → PortName → SubStream → ℕ → ℕ
-held_count plan h port s j = if failed h port s.stream then 0 else length (pending plan h s j)
+held_count plan h port s j = if failed h port s.stream then 0 else length (pending_packets plan h s j)
 
 -- what a set holds where a sub-stream is received
 abbrev pub received_set : Plan → History → PortName → SubStream → Keyed → SetState
@@ -72,12 +72,12 @@ received_set plan h port s (On j) = set.On j (units_got h s j) (held_count plan 
 
 abbrev pub received_sets : Plan → History → PortName → SubStream → List Fact
 received_sets plan h port s =
-    set_facts (received_set plan h port s (keys_at h port s).first)
-    (received_set plan h port s (keys_at h port s).second)
+    set_facts (received_set plan h port s (port_keys h port s).first)
+    (received_set plan h port s (port_keys h port s).second)
 
 -- what was accepted since the last establish of its stream; the counts of a direction are 0 without a Live key
 abbrev pub got_now : Plan → History → PortName → SubStream → List Packet
-got_now plan h port s = if has_live_in h port s.stream then got_since plan h s (base h s.link s.stream) else []
+got_now plan h port s = if has_live_in h port s.stream then got_since plan h s (base h s.line s.stream) else []
 
 abbrev pub counts_due : Plan → History → PortName → SubStream → List Fact
 counts_due plan h port s =
@@ -86,8 +86,8 @@ counts_due plan h port s =
 
 abbrev pub total_got : Plan → History → PortName → SubStream → List Fact
 total_got plan h port s =
-    total_facts (is_closed plan s.link s.stream)
-    (if has_live_in h port s.stream then units_since h s (base h s.link s.stream) else 0)
+    total_facts (is_closed plan s.line s.stream)
+    (if has_live_in h port s.stream then units_since h s (base h s.line s.stream) else 0)
 
 -- of a packet under the draw that its key set has
 abbrev pub asks_under : Plan → History → PortName → SubStream → Packet → Option ℕ → List Fact
@@ -105,7 +105,8 @@ receiver_due plan h port s = received_sets plan h port s ++ counts_due plan h po
 
 abbrev pub received_due : Plan → History → PortName → SubStream → Packet → List Fact
 received_due plan h port s p =
-    state_fact (status_of h port.side port.link s.stream) ∷ (receiver_due plan h port s ++ asks_due plan h port s p)
+    state_fact (history_status h port.side port.line s.stream)
+    ∷ (receiver_due plan h port s ++ asks_due plan h port s p)
 
 abbrev pub packet_due : Plan → History → PortName → Result CutValue PacketFault → List Fact
 packet_due plan h port (Err f) = at_port plan port ∷ []
@@ -136,7 +137,7 @@ sent_set plan h s k (On j) other =
 
 abbrev pub sent_sets : Plan → History → PortName → SubStream → List Fact
 sent_sets plan h port s =
-    let keys = keys_at h port s in
+    let keys = port_keys h port s in
     set_facts (sent_set plan h s false keys.first keys.second) (sent_set plan h s true keys.second keys.first)
 
 abbrev pub posted_now : Plan → History → PortName → SubStream → ℕ
@@ -144,8 +145,8 @@ posted_now plan h port s = if has_live_out h port s.stream then posted_count pla
 
 abbrev pub total_sent : Plan → History → PortName → SubStream → List Fact
 total_sent plan h port s =
-    total_facts (is_closed plan s.link s.stream)
-    (if has_live_out h port s.stream then total_in (sealed_packets plan h) s (base h s.link s.stream) else 0)
+    total_facts (is_closed plan s.line s.stream)
+    (if has_live_out h port s.stream then total_in (sealed_packets plan h) s (base h s.line s.stream) else 0)
 
 abbrev pub sender_due : Plan → History → PortName → SubStream → List Fact
 sender_due plan h port s =
@@ -153,7 +154,7 @@ sender_due plan h port s =
 
 abbrev pub senders_due : Plan → History → PortName → ℕ → SubKind → List Fact
 senders_due plan h port stream class =
-    state_fact (status_of h port.side port.link stream)
+    state_fact (history_status h port.side port.line stream)
     ∷ each_looked_at (λ u. sender_due plan h port (lane_out port stream u)) class
 
 -- by whose interface a device's port sets T
@@ -183,12 +184,13 @@ send_facts_due plan h end (OnStream t stream) =
 abbrev pub completion_due : Plan → History → PortName → ℕ → List Fact
 completion_due plan h port stream =
     if has_stream plan port stream
-    then state_fact (status_of h port.side port.link stream) ∷ sender_due plan h port (lane_out port stream Cpl) else []
+    then state_fact (history_status h port.side port.line stream)
+    ∷ sender_due plan h port (lane_out port stream Cpl) else []
 
 abbrev pub reader_due : Plan → History → Option Site → List Fact
 reader_due plan h None = []
 reader_due plan h (Some x) =
-    face_facts x (tdi_at plan h x) (managed h x) ++ completion_due plan h (host_port x.link) x.plan.stream
+    face_facts x (interface_at plan h x) (managed h x) ++ completion_due plan h (host_port x.link) x.plan.stream
 
 -- the oldest read
 abbrev pub oldest_due : Plan → History → ℕ → List WaitingRead → List Fact
@@ -234,13 +236,13 @@ facts_due plan h (event.Send port bytes more trusted) =
     then send_facts_due plan h (sealing_end plan port bytes) (outgoing_at plan (sealing_end plan port bytes) bytes)
     else []
 facts_due plan h (event.Pass n) =
-    arrival_facts_due plan h (sealed_due plan h) (arrived plan h (event.Pass n))
+    arrival_facts_due plan h (sealed_due plan h) (arrival_of_event plan h (event.Pass n))
 facts_due plan h (event.Alter n at mask) =
-    arrival_facts_due plan h (sealed_due plan h) (arrived plan h (event.Alter n at mask))
+    arrival_facts_due plan h (sealed_due plan h) (arrival_of_event plan h (event.Alter n at mask))
 facts_due plan h (event.Cut n len) =
-    arrival_facts_due plan h (sealed_due plan h) (arrived plan h (event.Cut n len))
+    arrival_facts_due plan h (sealed_due plan h) (arrival_of_event plan h (event.Cut n len))
 facts_due plan h (event.Arrive port bytes) =
-    arrival_facts_due plan h [] (arrived plan h (event.Arrive port bytes))
+    arrival_facts_due plan h [] (arrival_of_event plan h (event.Arrive port bytes))
 facts_due plan h (event.Dump n) = sealed_due plan h
 facts_due plan h (event.Establish line stream loss) =
     if_stream plan line stream
@@ -248,7 +250,7 @@ facts_due plan h (event.Establish line stream loss) =
 facts_due plan h (event.Refresh line stream loss) =
     if is_link_line line
     then if_stream plan line stream (refresh_facts plan (ports_at h) line stream (op_of h line stream)
-    (draws h) (status_of h Host line stream))
+    (draws h) (history_status h Host line stream))
     else []
 facts_due plan h (event.Stop line stream loss) =
     if_stream plan line stream (stop_facts plan (ports_at h) line stream (op_of h line stream) (draws h))

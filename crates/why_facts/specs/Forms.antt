@@ -6,7 +6,7 @@ use Rattle.ide_types.specs.declared.port.PortName.{PortName}
 use Rattle.ide_types.specs.declared.status.StreamStatus.{StreamStatus}
 use Rattle.ide_types.specs.declared.sub.SubKind.{SubKind}
 use Rattle.ide_types.specs.declared.sub.SubKind.TheVariants.{Pr, Npr, Cpl}
-use Rattle.ide_plan.specs.declared.plan.Plan.{Plan}
+use Rattle.ide_types.specs.declared.plan.Plan.{Plan}
 use Rattle.tlp_layout.specs.declared.head.HeadView.{HeadView}
 use Rattle.tlp_layout.specs.declared.fault.TlpFault.{TlpFault}
 use Rattle.tlp_layout.specs.Reading.{read_head_of}
@@ -15,18 +15,19 @@ use Rattle.link_events.specs.declared.event.InterfaceEvent.{InterfaceEvent}
 use Rattle.link_events.specs.declared.event.InterfaceEvent.TheVariants as ie
 use Rattle.link_verdicts.specs.declared.verdict.Operation.{Operation}
 use Rattle.link_verdicts.specs.declared.verdict.Operation.TheVariants as op
-use Rattle.key_laws.specs.Places.{KeyPlace, told_places}
-use Rattle.key_laws.specs.Operations.{Op, Idle, Establishing, Up, Refreshing, Stopping, Work, work_of, last_exchange_of}
-use Rattle.key_laws.specs.History.{program_at}
-use Rattle.key_laws.specs.Due.{PortView}
-use Rattle.tdi_state.specs.{Tdi, state_code}
+use Rattle.spec_keys.specs.Places.{KeyPlace, told_places}
+use Rattle.spec_keys.specs.Operations.{StreamStage, Idle, Establishing, Up, Refreshing, Stopping, Work, work_of}
+use Rattle.spec_keys.specs.Operations.{last_exchange_of}
+use Rattle.spec_keys.specs.History.{program_at}
+use Rattle.spec_keys.specs.Due.{PortView}
+use Rattle.interface_state.specs.{Tdi, state_code}
 use Rattle.trusted_memory.specs.{write_span}
-use Rattle.waiting_reads.specs.Requests.{memory_read}
-use Rattle.interface_states.specs.Sites.{Site}
-use Rattle.interface_states.specs.Terms.{View, Locked}
-use Rattle.interface_states.specs.Views.{Managed, bound_if}
-use Rattle.interface_states.specs.Due.{Standing as Asked}
-use Rattle.link_history.specs.Ports.{port_of, is_host_port}
+use Rattle.trusted_memory.specs.Requests.{memory_read}
+use Rattle.spec_interfaces.specs.Sites.{Site}
+use Rattle.spec_interfaces.specs.Terms.{View, Locked}
+use Rattle.spec_interfaces.specs.Views.{Managed, bound_if}
+use Rattle.spec_interfaces.specs.Due.{AskedState as Asked}
+use Rattle.spec_links.specs.Ports.{port_of, is_host_port}
 use Rattle.why_lines.specs.declared.fact.Fact.{Fact}
 use Rattle.why_lines.specs.declared.fact.SetState.{SetState}
 use Rattle.why_lines.specs.declared.fact.ManagerState.{ManagerState}
@@ -78,14 +79,14 @@ each_looked_at facts u = facts u ++ facts Pr
 
 -- ---- operations on streams
 
-abbrev pub manager_state : Op → ManagerState
+abbrev pub manager_state : StreamStage → ManagerState
 manager_state Idle = manager.Idle
 manager_state (Establishing draw next) = manager.Establishing draw next
 manager_state (Up set draw) = manager.Up set draw
 manager_state (Refreshing set draw next) = manager.Refreshing set draw next
 manager_state (Stopping next) = manager.Stopping next
 
-abbrev pub manager_fact : Op → Fact
+abbrev pub manager_fact : StreamStage → Fact
 manager_fact q = fact.Operation (of.Manager (manager_state q))
 
 -- how many draws the pool has
@@ -96,7 +97,7 @@ abbrev pub draws_fact : ℕ → ℕ → Fact
 draws_fact made pool = fact.Operation (of.Draws made pool)
 
 -- the manager's state lets the operation begin or go on
-abbrev pub may_go : Operation → Op → Bool
+abbrev pub may_go : Operation → StreamStage → Bool
 may_go op.Establish Idle = true
 may_go op.Establish (Establishing draw next) = true
 may_go op.Refresh (Up set draw) = true
@@ -106,7 +107,7 @@ may_go o q = false
 
 abbrev pub refuses_fact : Plan → ℕ → KeyPlace → Fact
 refuses_fact plan exchange p =
-    fact.Operation (of.Refuses exchange (port_of plan (record { side = p.side; link = p.link })) p.sends p.sub)
+    fact.Operation (of.Refuses exchange (port_of plan (record { side = p.side; line = p.line })) p.sends p.sub)
 
 -- the first of these places that refuses the KEY_PROG of a set, from this exchange on
 abbrev pub refusing_facts : Plan → PortView → Operation → Bool → ℕ → List KeyPlace → List Fact
@@ -128,21 +129,21 @@ work_facts plan ports line stream w =
     fact.Operation (of.Exchanges w.first (last_exchange_of (is_hosted line) w.operation))
     ∷ programming_facts plan ports line stream w
 
-abbrev pub exchange_facts : Plan → PortView → Operation → ℕ → ℕ → Op → ℕ → List Fact
+abbrev pub exchange_facts : Plan → PortView → Operation → ℕ → ℕ → StreamStage → ℕ → List Fact
 exchange_facts plan ports o line stream q next =
     if may_go o q then work_facts plan ports line stream (work_of o q next) else []
 
 -- the draws made are `next`
-abbrev pub establish_facts : Plan → PortView → ℕ → ℕ → Op → ℕ → List Fact
+abbrev pub establish_facts : Plan → PortView → ℕ → ℕ → StreamStage → ℕ → List Fact
 establish_facts plan ports line stream q next =
     manager_fact q ∷ draws_fact next (pool_of plan) ∷ exchange_facts plan ports op.Establish line stream q next
 
-abbrev pub refresh_facts : Plan → PortView → ℕ → ℕ → Op → ℕ → StreamStatus → List Fact
+abbrev pub refresh_facts : Plan → PortView → ℕ → ℕ → StreamStage → ℕ → StreamStatus → List Fact
 refresh_facts plan ports line stream q next host =
     manager_fact q ∷ state_fact host ∷ draws_fact next (pool_of plan)
     ∷ exchange_facts plan ports op.Refresh line stream q next
 
-abbrev pub stop_facts : Plan → PortView → ℕ → ℕ → Op → ℕ → List Fact
+abbrev pub stop_facts : Plan → PortView → ℕ → ℕ → StreamStage → ℕ → List Fact
 stop_facts plan ports line stream q next = manager_fact q ∷ exchange_facts plan ports op.Stop line stream q next
 
 -- ---- interfaces
@@ -202,8 +203,8 @@ abbrev pub packet_fact : ℕ → Packet → Fact
 packet_fact place p = fact.Interface (face.Packet place p.prefix.t)
 
 -- a write, or a read with T
-abbrev pub is_request : Bool → HeadView → Bool
-is_request t head = is_some (write_span head) || (t && is_some (memory_read head))
+abbrev pub is_request_head : Bool → HeadView → Bool
+is_request_head t head = is_some (write_span head) || (t && is_some (memory_read head))
 
 -- a read looks at how many wait
 abbrev pub waiting_facts : Bool → ℕ → List Fact
@@ -213,7 +214,7 @@ waiting_facts false n = []
 abbrev pub host_facts : Readings → ℕ → ℕ → Packet → Result HeadView TlpFault → List Fact
 host_facts r link place p (Err f) = []
 host_facts r link place p (Ok head) =
-    if is_request p.prefix.t head
+    if is_request_head p.prefix.t head
     then packet_fact place p ∷ (r.owner link head ++ waiting_facts (is_some (memory_read head)) (r.waiting link))
     else []
 
@@ -221,4 +222,4 @@ host_facts r link place p (Ok head) =
 abbrev pub request_facts : Plan → Readings → PortName → ℕ → Packet → List Fact
 request_facts plan r port place p =
     if is_sync_packet p || not (is_host_port plan port) then []
-    else host_facts r port.link place p (read_head_of p.head)
+    else host_facts r port.line place p (read_head_of p.head)

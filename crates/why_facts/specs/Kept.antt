@@ -9,7 +9,7 @@ use Rattle.ide_types.specs.declared.sub.SubKind.{SubKind}
 use Rattle.ide_types.specs.declared.sub.SubKind.TheVariants.{Cpl}
 use Rattle.ide_types.specs.Ports.{host_port}
 use Rattle.ide_types.specs.declared.direction.Direction.{Direction}
-use Rattle.ide_plan.specs.declared.plan.Plan.{Plan}
+use Rattle.ide_types.specs.declared.plan.Plan.{Plan}
 use Rattle.tlp_layout.specs.declared.head.HeadView.{HeadView}
 use Rattle.tlp_layout.specs.Class.{class_of}
 use Rattle.tlp_layout.specs.Tlp.{header}
@@ -21,21 +21,21 @@ use Rattle.link_events.specs.declared.event.Event.{Event}
 use Rattle.link_events.specs.declared.event.Event.TheVariants as event
 use Rattle.link_events.specs.declared.event.InterfaceEvent.{InterfaceEvent}
 use Rattle.link_events.specs.declared.event.AccessEvent.TheVariants as ae
-use Rattle.key_laws.specs.Operations.{Op}
-use Rattle.stream_rules.specs.Stream.{LaneSlot, Empty, Programmed, Armed, Live, LiveKey, StreamState}
-use Rattle.stream_rules.specs.Stream.{at_sub, live_in, slot_in_set}
-use Rattle.stream_rules.specs.Slots.{stream_status}
-use Rattle.interface_states.specs.Sites.{Site, sites}
-use Rattle.interface_states.specs.Views.{number_in}
-use Rattle.interface_states.specs.Cause.{owner_of, owners_link}
-use Rattle.interface_machine.specs.Machine.{Face, Faces, face_standing, find_face, with_requester}
-use Rattle.link_history.specs.{WaitingRead, has_hop, leaving_end}
-use Rattle.link_history.specs.Hops.{HopTlp}
-use Rattle.link_history.specs.Plan.{has_link, is_closed}
-use Rattle.link_history.specs.Ports.{goes_through, may_send, outgoing_at, port_of, sealing_end}
-use Rattle.link_history.specs.History.{Arrival}
-use Rattle.port_operations.specs.{find, find_op, ports_of, status_at}
-use Rattle.whole_machine.specs.Machine.{Whole, arrival_of, whole_streams}
+use Rattle.spec_keys.specs.Operations.{StreamStage}
+use Rattle.spec_stream.specs.Stream.{LaneSlot, Empty, Programmed, Armed, Live, LiveKey, StreamState}
+use Rattle.spec_stream.specs.Stream.{at_sub, live_in, slot_in_set}
+use Rattle.spec_stream.specs.Slots.{stream_status}
+use Rattle.spec_interfaces.specs.Sites.{Site, sites}
+use Rattle.spec_interfaces.specs.Views.{number_in}
+use Rattle.spec_interfaces.specs.Cause.{owner_of, owners_link}
+use Rattle.machine_interfaces.specs.Machine.{Face, Faces, face_standing, find_face, with_requester}
+use Rattle.spec_links.specs.{WaitingRead, has_hop, leaving_end}
+use Rattle.spec_links.specs.Hops.{HopTlp}
+use Rattle.spec_links.specs.Plan.{has_link, is_closed}
+use Rattle.spec_links.specs.Ports.{goes_through, may_send, outgoing_at, port_of, sealing_end}
+use Rattle.spec_links.specs.History.{Arrival}
+use Rattle.machine_operations.specs.{find, find_op, ports_of, machine_status}
+use Rattle.machine_whole.specs.Machine.{Whole, arrival_of, whole_streams}
 use Rattle.why_lines.specs.declared.fact.Fact.{Fact}
 use Rattle.why_lines.specs.declared.fact.SetState.{SetState}
 use Rattle.why_lines.specs.declared.fact.SetState.TheVariants as set
@@ -63,16 +63,16 @@ readings_in plan w = record {
 -- ---- a stream at a port
 
 -- what a slot holds
-abbrev pub slot_state : LaneSlot → SetState
-slot_state Empty = set.Empty
-slot_state (Programmed j key) = set.Kept j
-slot_state (Armed j key) = set.Waits j
-slot_state (Live x) = set.On x.draw x.units (length x.packets)
+abbrev pub set_state_of_slot : LaneSlot → SetState
+set_state_of_slot Empty = set.Empty
+set_state_of_slot (Programmed j key) = set.Kept j
+set_state_of_slot (Armed j key) = set.Waits j
+set_state_of_slot (Live x) = set.On x.draw x.units (length x.packets)
 
-abbrev pub receiver_facts : Bool → StreamState → SubKind → List Fact
-receiver_facts closed x u =
+abbrev pub receiver_fact_list : Bool → StreamState → SubKind → List Fact
+receiver_fact_list closed x u =
     let rx = at_sub x.rx u in
-    set_facts (slot_state rx.slots.first) (slot_state rx.slots.second)
+    set_facts (set_state_of_slot rx.slots.first) (set_state_of_slot rx.slots.second)
     ++ counts_facts u rx.sum x.rx.pr.got
     ++ total_facts closed rx.total
 
@@ -80,7 +80,7 @@ abbrev pub sender_facts_of : Bool → StreamState → SubKind → List Fact
 sender_facts_of closed x u =
     let tx = at_sub x.tx u in
     posted_fact u tx.posted
-    ∷ (set_facts (slot_state tx.slots.first) (slot_state tx.slots.second) ++ total_facts closed tx.total)
+    ∷ (set_facts (set_state_of_slot tx.slots.first) (set_state_of_slot tx.slots.second) ++ total_facts closed tx.total)
 
 -- ---- arrivals
 
@@ -99,21 +99,21 @@ abbrev pub received_by : Plan → Whole → PortName → Packet → Option Strea
 received_by plan w port p None = []
 received_by plan w port p (Some x) =
     state_fact (stream_status x)
-    ∷ (receiver_facts (is_closed plan port.link p.prefix.stream) x p.prefix.sub ++ asks_in plan w port x p)
+    ∷ (receiver_fact_list (is_closed plan port.line p.prefix.stream) x p.prefix.sub ++ asks_in plan w port x p)
 
-abbrev pub packet_in : Plan → Whole → PortName → Result CutValue PacketFault → List Fact
-packet_in plan w port (Err f) = at_port plan port ∷ []
-packet_in plan w port (Ok PlainTlp) = at_port plan port ∷ []
-packet_in plan w port (Ok (IdePacket p)) =
+abbrev pub packet_facts : Plan → Whole → PortName → Result CutValue PacketFault → List Fact
+packet_facts plan w port (Err f) = at_port plan port ∷ []
+packet_facts plan w port (Ok PlainTlp) = at_port plan port ∷ []
+packet_facts plan w port (Ok (IdePacket p)) =
     arrives_fact plan port p ∷ received_by plan w port p (find plan w.links port p.prefix.stream)
 
 abbrev pub arrival_facts_in : Plan → Whole → List Fact → Option Arrival → List Fact
 arrival_facts_in plan w unnamed None = unnamed
 arrival_facts_in plan w unnamed (Some a) =
-    if goes_through plan a.port a.bytes then at_port plan a.port ∷ [] else packet_in plan w a.port (cut_of a.bytes)
+    if goes_through plan a.port a.bytes then at_port plan a.port ∷ [] else packet_facts plan w a.port (cut_of a.bytes)
 
-abbrev pub sealed_in : Whole → List Fact
-sealed_in w = packets_fact (length w.links.packets)
+abbrev pub packet_count_facts : Whole → List Fact
+packet_count_facts w = packets_fact (length w.links.packets)
 
 -- ---- sends
 
@@ -123,11 +123,11 @@ owner_in plan w end head =
 
 abbrev pub senders_in : Plan → PortName → ℕ → SubKind → StreamState → List Fact
 senders_in plan port stream class x =
-    state_fact (stream_status x) ∷ each_looked_at (sender_facts_of (is_closed plan port.link stream) x) class
+    state_fact (stream_status x) ∷ each_looked_at (sender_facts_of (is_closed plan port.line stream) x) class
 
-abbrev pub sent_by : Plan → Whole → PortName → ℕ → HeadView → Option StreamState → List Fact
-sent_by plan w end stream head None = []
-sent_by plan w end stream head (Some x) =
+abbrev pub sent_stream_facts : Plan → Whole → PortName → ℕ → HeadView → Option StreamState → List Fact
+sent_stream_facts plan w end stream head None = []
+sent_stream_facts plan w end stream head (Some x) =
     sends_fact plan end stream (class_of head)
     ∷ (senders_in plan end stream (class_of head) x ++ owner_in plan w end head)
 
@@ -135,45 +135,47 @@ abbrev pub send_facts_in : Plan → Whole → PortName → Outgoing → List Fac
 send_facts_in plan w end (NoTlp f) = at_port plan end ∷ []
 send_facts_in plan w end OnNone = at_port plan end ∷ []
 send_facts_in plan w end (OnStream t stream) =
-    sent_by plan w end stream (header t) (find plan w.links end stream)
+    sent_stream_facts plan w end stream (header t) (find plan w.links end stream)
 
 -- ---- answers to reads, and forwards
 
-abbrev pub completion_by : Plan → PortName → ℕ → Option StreamState → List Fact
-completion_by plan port stream None = []
-completion_by plan port stream (Some x) =
-    state_fact (stream_status x) ∷ sender_facts_of (is_closed plan port.link stream) x Cpl
+abbrev pub completion_facts : Plan → PortName → ℕ → Option StreamState → List Fact
+completion_facts plan port stream None = []
+completion_facts plan port stream (Some x) =
+    state_fact (stream_status x) ∷ sender_facts_of (is_closed plan port.line stream) x Cpl
 
 abbrev pub reader_in : Plan → Whole → Option (Site × Face) → List Fact
 reader_in plan w None = []
 reader_in plan w (Some y) =
     face_facts y.0 y.1.tdi y.1.managed
-    ++ completion_by plan (host_port y.0.link) y.0.plan.stream (find plan w.links (host_port y.0.link) y.0.plan.stream)
+    ++ completion_facts plan (host_port y.0.link) y.0.plan.stream
+    (find plan w.links (host_port y.0.link) y.0.plan.stream)
 
-abbrev pub oldest_in : Plan → Whole → ℕ → List WaitingRead → List Fact
-oldest_in plan w link [] = []
-oldest_in plan w link (r ∷ rs) =
+abbrev pub oldest_read_facts : Plan → Whole → ℕ → List WaitingRead → List Fact
+oldest_read_facts plan w link [] = []
+oldest_read_facts plan w link (r ∷ rs) =
     read_fact r.draw ∷ reader_in plan w (with_requester plan w.faces link r.read.requester)
 
 abbrev pub answer_facts_in : Plan → Whole → ℕ → List Fact
 answer_facts_in plan w link =
     if has_link plan link
-    then waiting_fact (length (w.accesses.waiting link)) ∷ oldest_in plan w link (w.accesses.waiting link) else []
+    then waiting_fact (length (w.accesses.waiting link)) ∷ oldest_read_facts plan w link (w.accesses.waiting link) else
+    []
 
-abbrev pub first_in : Plan → Whole → PortName → List HopTlp → List Fact
-first_in plan w end [] = []
-first_in plan w end (x ∷ xs) = send_facts_in plan w end (outgoing_at plan end x.bytes)
+abbrev pub first_tlp_facts : Plan → Whole → PortName → List HopTlp → List Fact
+first_tlp_facts plan w end [] = []
+first_tlp_facts plan w end (x ∷ xs) = send_facts_in plan w end (outgoing_at plan end x.bytes)
 
 abbrev pub forward_facts_in : Plan → Whole → ℕ → Direction → List Fact
 forward_facts_in plan w link d =
     if has_hop plan link
     then waiting_fact (length (w.accesses.carried link d))
-    ∷ first_in plan w (leaving_end link d) (w.accesses.carried link d) else []
+    ∷ first_tlp_facts plan w (leaving_end link d) (w.accesses.carried link d) else []
 
 -- ---- operations on streams
 
 -- of a stream of which the manager has this, if it has it
-abbrev pub if_found : Option Op → (Op → List Fact) → List Fact
+abbrev pub if_found : Option StreamStage → (StreamStage → List Fact) → List Fact
 if_found None facts = []
 if_found (Some q) facts = facts q
 
@@ -197,14 +199,14 @@ facts_in plan w (event.Send port bytes more trusted) =
     then send_facts_in plan w (sealing_end plan port bytes) (outgoing_at plan (sealing_end plan port bytes) bytes)
     else []
 facts_in plan w (event.Pass n) =
-    arrival_facts_in plan w (sealed_in w) (arrival_of plan w.links (event.Pass n))
+    arrival_facts_in plan w (packet_count_facts w) (arrival_of plan w.links (event.Pass n))
 facts_in plan w (event.Alter n at mask) =
-    arrival_facts_in plan w (sealed_in w) (arrival_of plan w.links (event.Alter n at mask))
+    arrival_facts_in plan w (packet_count_facts w) (arrival_of plan w.links (event.Alter n at mask))
 facts_in plan w (event.Cut n len) =
-    arrival_facts_in plan w (sealed_in w) (arrival_of plan w.links (event.Cut n len))
+    arrival_facts_in plan w (packet_count_facts w) (arrival_of plan w.links (event.Cut n len))
 facts_in plan w (event.Arrive port bytes) =
     arrival_facts_in plan w [] (arrival_of plan w.links (event.Arrive port bytes))
-facts_in plan w (event.Dump n) = sealed_in w
+facts_in plan w (event.Dump n) = packet_count_facts w
 facts_in plan w (event.Establish line stream loss) =
     if_found (find_op plan w.links line stream)
     (λ q. establish_facts plan (ports_of plan w.links) line stream q w.links.draws)
@@ -212,7 +214,7 @@ facts_in plan w (event.Refresh line stream loss) =
     if is_link_line line
     then if_found (find_op plan w.links line stream)
     (λ q. refresh_facts plan (ports_of plan w.links) line stream q w.links.draws
-    (status_at plan w.links Host line stream))
+    (machine_status plan w.links Host line stream))
     else []
 facts_in plan w (event.Stop line stream loss) =
     if_found (find_op plan w.links line stream)

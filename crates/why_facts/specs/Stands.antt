@@ -1,10 +1,10 @@
 -- The facts of a state are those of each history that it stands for.
 use Rattle.std.specs.Prelude.{◌≡◌}
-use Rattle.ide_plan.specs.declared.plan.Plan.{Plan}
+use Rattle.ide_types.specs.declared.plan.Plan.{Plan}
 use Rattle.link_events.specs.declared.event.Event.{Event}
-use Rattle.key_laws.specs.History.{History}
-use Rattle.whole_machine.specs.Machine.{Whole}
-use Rattle.whole_machine.specs.Stands.{StandsFor}
+use Rattle.spec_keys.specs.History.{History}
+use Rattle.machine_whole.specs.Machine.{Whole}
+use Rattle.machine_whole.specs.Stands.{StandsFor}
 use Rattle.why_facts.specs.Due.{facts_due}
 use Rattle.why_facts.specs.Kept.{facts_in}
 

@@ -7,7 +7,7 @@ use Rattle.ide_types.specs.declared.port.Side.TheVariants.{Host, Device}
 use Rattle.ide_types.specs.declared.sub.SubKind.{SubKind}
 use Rattle.ide_types.specs.declared.sub.SubKind.TheVariants.{Npr}
 use Rattle.ide_types.specs.declared.sub.FailCause.TheVariants as fail
-use Rattle.interface_words.specs.declared.verdict.InterfaceVerdict.TheVariants as iv
+use Rattle.ide_types.specs.declared.verdict.InterfaceVerdict.TheVariants as iv
 use Rattle.link_events.specs.declared.event.Event.{Event}
 use Rattle.link_events.specs.declared.event.Event.TheVariants as event
 use Rattle.link_events.specs.declared.event.InterfaceEvent.{InterfaceEvent}
@@ -202,7 +202,7 @@ abbrev pub is_host_end : PortName → Bool
 is_host_end port = by port.side
   where
     by : Side → Bool
-    by Host = is_hosted port.link
+    by Host = is_hosted port.line
     by Device = false
 
 -- a write is posted, a read is not

@@ -1,7 +1,6 @@
 //! Facts of the state before an event. Each has one line.
 
-use ide_types::{PortName, StreamStatus, SubKind};
-use interface_words::View;
+use ide_types::{PortName, StreamStatus, SubKind, View};
 
 /// What a key set of a sub-stream holds at a port (PCI Express Base 6.0 section 6.33, in this profile).
 #[derive(Clone, Copy, PartialEq, Eq)]

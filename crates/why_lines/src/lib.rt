@@ -8,6 +8,6 @@ mod names;
 mod rules;
 
 pub use fact::{Fact, InterfaceFact, ManagerState, OperationFact, SetState, StreamFact};
-pub use ide_types::Memory;
+pub use ide_types::OutOfMemory;
 pub use lines::why_text;
 pub use rules::{effect_rule, rule};

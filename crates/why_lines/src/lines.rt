@@ -6,7 +6,7 @@ ghost use Rattle.why_lines.specs.Lines.{effect_lines, facts_text, rule_line, rul
 
 use crate::fact::Fact;
 use crate::rules::{effect_rule, rule};
-use ide_types::{Memory, PortName, SubKind};
+use ide_types::{OutOfMemory, PortName, SubKind};
 use link_events::Event;
 use link_verdicts::{Effect, Verdict};
 use std::alloc::{AllocError, Global};
@@ -64,7 +64,7 @@ pub fn why_text(
     event: &Event,
     verdict: &Verdict,
     facts: &[Fact],
-) -> Result<Vec<u8>, Memory>
+) -> Result<Vec<u8>, OutOfMemory>
     ensures { IfOk result (λ text. text.items ≡ why_text_of event.now verdict.now facts.now) }
 {
     let mut text = String::with_capacity(alloc, TEXT_ROOM)?;

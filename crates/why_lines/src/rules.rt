@@ -9,8 +9,7 @@ ghost use Rattle.why_lines.specs.Rules.{read_cause_rule, rule_of, rule_of_none, 
 ghost use Rattle.why_lines.specs.Rules.{unnamed_rule, write_cause_rule};
 
 use crate::fact::{Fact, StreamFact};
-use ide_types::{FailCause, PortName, Side, SubKind};
-use interface_words::InterfaceVerdict;
+use ide_types::{FailCause, InterfaceVerdict, PortName, Side, SubKind};
 use link_events::{AccessEvent, Event, InterfaceEvent};
 use link_verdicts::{AccessVerdict, BlockCause, Effect, Verdict};
 
@@ -276,7 +275,7 @@ fn mmio_cause_rule(cause: BlockCause) -> &'static str
 fn is_host_end(port: PortName) -> bool
     ensures { result ≡ is_host_end port }
 {
-    port.side == Side::Host && port.link < 16
+    port.side == Side::Host && port.line < 16
 }
 
 // A write is posted, a read is not.

@@ -3,23 +3,23 @@
 -- what the machine says of them.
 use Rattle.std.proofs.Common.{◌≡◌, ℕ, true, Some, ap, sym, ◌∙◌, subst}
 use Rattle.std.specs.Prelude.{length, slice_get}
-use Rattle.ide_plan.specs.declared.plan.Plan.{Plan}
+use Rattle.ide_types.specs.declared.plan.Plan.{Plan}
 use Rattle.link_events.specs.declared.event.Event.{Event}
 use Rattle.link_verdicts.specs.declared.verdict.Verdict.{Verdict}
-use Rattle.key_laws.specs.History.{History}
+use Rattle.spec_keys.specs.History.{History}
 use Rattle.trusted_memory.specs.{IsLeftBy, newest_first}
-use Rattle.interface_states.specs.Sites.{Site}
-use Rattle.interface_machine.specs.Machine.{Face, around_of, grant_of}
-use Rattle.link_ports.specs.Machine.{LinkState}
-use Rattle.link_ports.specs.Stands.{PortsStandFor}
-use Rattle.whole_machine.specs.Machine.{Whole, whole_streams, arrival_of, written_after, whole_after}
-use Rattle.access_states.specs.{AllFollow, arrival_at, grants_in, InterfacesView, LinkEnds, Links, links_state}
-use Rattle.access_states.specs.{SidesArrive, writes_by}
-use Rattle.access_states.specs.{IsBeside}
-use Rattle.access_states.proofs.{is_of_ports, is_of_packets, of_ports, next_of_ports, none_of_ports}
-use Rattle.access_states.proofs.{managed_of_packets, draw_of_packets}
-use Rattle.access_states.proofs.{IsLed, OnlyLeaves, all_led, beside_led}
-use Rattle.access_states.proofs.{AreBoth, managed_kept, written_is}
+use Rattle.spec_interfaces.specs.Sites.{Site}
+use Rattle.machine_interfaces.specs.Machine.{Face, around_of, grant_of}
+use Rattle.machine_ports.specs.Machine.{LinkState}
+use Rattle.machine_ports.specs.Stands.{PortsStandFor}
+use Rattle.machine_whole.specs.Machine.{Whole, whole_streams, arrival_of, written_after, whole_after}
+use Rattle.join_accesses.specs.{AllFollow, arrival_at, grants_in, InterfacesView, LinkEnds, Links, links_state}
+use Rattle.join_accesses.specs.{SidesArrive, writes_by}
+use Rattle.join_accesses.specs.{IsBeside}
+use Rattle.join_accesses.proofs.{is_of_ports, is_of_packets, of_ports, next_of_ports, none_of_ports}
+use Rattle.join_accesses.proofs.{managed_of_packets, draw_of_packets}
+use Rattle.join_accesses.proofs.{IsLed, OnlyLeaves, all_led, beside_led}
+use Rattle.join_accesses.proofs.{AreBoth, managed_kept, written_is}
 
 -- an event on ports alone makes no more of an interface than that a stream that it is bound to leaves Secure
 pub only_leaves : (plan : Plan) (w : Whole) (e : Event) (verdict : Verdict) (new : LinkState) (x : Site) (f : Face)

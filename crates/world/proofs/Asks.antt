@@ -1,61 +1,45 @@
 -- An operation of the manager on an interface changes that one alone, as the machine does: exchange by exchange it is
 -- the machine's step, with what the ends show of the streams that it names (`joined_is`). If no interface has the
--- number,
--- or its device has no such stream, none is asked.
-use Rattle.std.proofs.Common.{
-  ◌≡◌,
-  ℕ,
-  ◌≤◌,
-  List,
-  length,
-  refl,
-  ap,
-  sym,
-  ◌∙◌,
-  ◌+◌,
-  subst,
-  Option,
-  Some,
-  ⊎_elim,
-  Bool,
-  true,
-}
+-- number, or its device has no such stream, none is asked.
+use Rattle.std.proofs.Common.{◌≡◌, ℕ, ◌≤◌, List, length, refl, ap, sym, ◌∙◌, ◌+◌, subst, Option, Some, ⊎_elim, Bool}
+use Rattle.std.proofs.Common.{true}
 use Rattle.std.proofs.Common.{false}
 use Rattle.std.specs.Prelude.{slice_get, slice_set, if◌then◌else◌}
 use Rattle.std.specs.Prelude.{◌<◌}
 use Rattle.std.proofs.lemmas.Bool.{cases_Bool, cases_lt}
-use Rattle.ide_plan.specs.declared.plan.Plan.{Plan}
-use Rattle.ide_plan.specs.declared.plan.PeerPlan.{PeerPlan}
+use Rattle.ide_types.specs.declared.plan.Plan.{Plan}
+use Rattle.ide_types.specs.declared.plan.PeerPlan.{PeerPlan}
 use Rattle.link_events.specs.declared.event.Event.TheVariants as event
 use Rattle.link_events.specs.declared.event.InterfaceEvent.{InterfaceEvent}
 use Rattle.link_events.specs.declared.event.InterfaceEvent.TheVariants as ie
 use Rattle.link_events.specs.declared.event.Loss.{Loss}
 use Rattle.link_verdicts.specs.declared.verdict.Verdict.{Verdict}
 use Rattle.link_verdicts.specs.declared.verdict.Verdict.TheVariants as v
-use Rattle.interface_states.specs.Peers.{has_peer}
-use Rattle.interface_states.specs.Sites.{Site, sites}
-use Rattle.interface_states.specs.Views.{number_in}
-use Rattle.interface_states.specs.Devices.{accepts_lock, one_if}
-use Rattle.interface_machine.specs.Machine.{around_of, face_after}
-use Rattle.tdi_host.specs.declared.operation.InterfaceOp.{InterfaceOp}
-use Rattle.tdi_host.specs.declared.operation.InterfaceOp.TheVariants as op
-use Rattle.tdi_device.specs.Replies.{DeviceTdis}
-use Rattle.link_ports.specs.Machine.{Stepped, step_of}
-use Rattle.interface_joins.specs.Faces.{IsFace}
-use Rattle.interface_joins.specs.Joined.{InterfaceOperationsJoin}
-use Rattle.interface_joins.specs.Verdicts.{op_event}
-use Rattle.access_states.specs.{EndsView, has_peer_at, has_peer_in, InterfacesView, Links, links_state, peer_stream}
-use Rattle.access_states.specs.{SidesAsk, SidesPeer}
-use Rattle.whole_machine.specs.Machine.{Whole, ends_in, whole_streams, beside_of, whole_after}
-use Rattle.access_states.specs.{IsPlaced, IsBeside}
-use Rattle.access_states.proofs.{PeerFits, joined_is, peer_fits}
-use Rattle.access_states.proofs.{get_there}
-use Rattle.access_states.proofs.{interface_there, interface_absent}
+use Rattle.spec_interfaces.specs.Peers.{has_peer}
+use Rattle.spec_interfaces.specs.Sites.{Site, sites}
+use Rattle.spec_interfaces.specs.Views.{number_in}
+use Rattle.spec_interfaces.specs.Devices.{accepts_lock, one_if}
+use Rattle.machine_interfaces.specs.Machine.{around_of, face_after}
+use Rattle.interface_host.specs.declared.operation.InterfaceOperation.{InterfaceOperation}
+use Rattle.interface_host.specs.declared.operation.InterfaceOperation.TheVariants as op
+use Rattle.interface_device.specs.Replies.{DeviceTdis}
+use Rattle.machine_ports.specs.Machine.{Stepped, step_of}
+use Rattle.join_interfaces.specs.Faces.{IsFace}
+use Rattle.join_interfaces.specs.Joined.{InterfaceOperationsJoin}
+use Rattle.join_interfaces.specs.Verdicts.{op_event}
+use Rattle.join_accesses.specs.{EndsView, has_peer_at, has_peer_in, InterfacesView, Links, links_state}
+use Rattle.join_accesses.specs.{managed_peer_stream}
+use Rattle.join_accesses.specs.{SidesAsk, SidesPeer}
+use Rattle.machine_whole.specs.Machine.{Whole, ends_in, whole_streams, beside_of, whole_after}
+use Rattle.join_accesses.specs.{IsPlaced, IsBeside}
+use Rattle.join_accesses.proofs.{PeerFits, joined_is, peer_fits}
+use Rattle.join_accesses.proofs.{get_there}
+use Rattle.join_accesses.proofs.{interface_there, interface_absent}
 use Rattle.world.proofs.Calls.{IsOne, there_beside, nowhere_beside, answer_there}
-use Rattle.access_states.proofs.{AreBoth, interface_step, unasked_beside}
-use Rattle.access_states.proofs.{is_of_peer}
+use Rattle.join_accesses.proofs.{AreBoth, interface_step, unasked_beside}
+use Rattle.join_accesses.proofs.{is_of_peer}
 
-op_number : (o : InterfaceOp) (i : ℕ) (loss : Option Loss) → number_in (op_event o i loss) ≡ Some i
+op_number : (o : InterfaceOperation) (i : ℕ) (loss : Option Loss) → number_in (op_event o i loss) ≡ Some i
 op_number op.Lock i loss = refl
 op_number op.Report i loss = refl
 op_number op.Start i loss = refl
@@ -67,7 +51,7 @@ op_number (op.Unbind peer) i loss = refl
 module _ (plan : Plan) (old new : Links) (w : Whole) (verdict : Verdict) (both : AreBoth plan old new w)
     (join : InterfaceOperationsJoin) where
   -- of a stream between devices that the operation names, all is as the machine has it
-  abbrev Fits : Site → InterfaceOp → Type 0
+  abbrev Fits : Site → InterfaceOperation → Type 0
   Fits x o = PeerFits plan old.ends old.keeper old.packets.packets old.trusted.contents w join both.links
       both.whole.beside both.whole.drawn both.whole.links x o
 
@@ -77,7 +61,7 @@ module _ (plan : Plan) (old new : Links) (w : Whole) (verdict : Verdict) (both :
       → IsBeside plan new.ends.links new.keeper.interfaces new.trusted.contents
       (whole_after plan w (event.Interface e) verdict (links_state plan new))
 
-  asked_there : (i : ℕ) (x : Site) (o : InterfaceOp) (loss : Option Loss) → SidesAsk i o loss old new
+  asked_there : (i : ℕ) (x : Site) (o : InterfaceOperation) (loss : Option Loss) → SidesAsk i o loss old new
       → slice_get (sites plan) i ≡ Some x → Fits x o → verdict ≡ (beside_of plan w).answer (op_event o i loss)
       → (p : IsPlaced plan old.ends.links old.keeper.interfaces w i x)
       → IsOne plan old.ends.links old.keeper.interfaces w i x p (op_event o i loss) verdict new.ends.links
@@ -112,7 +96,7 @@ module _ (plan : Plan) (old new : Links) (w : Whole) (verdict : Verdict) (both :
       }
 
   -- the operation on an interface that is there
-  there_asked : (i : ℕ) (x : Site) (o : InterfaceOp) (loss : Option Loss) → SidesAsk i o loss old new
+  there_asked : (i : ℕ) (x : Site) (o : InterfaceOperation) (loss : Option Loss) → SidesAsk i o loss old new
       → slice_get (sites plan) i ≡ Some x → Fits x o → IsAsked (op_event o i loss)
   there_asked i x o loss sides at fits is =
       let before = both.whole.beside in
@@ -120,7 +104,7 @@ module _ (plan : Plan) (old new : Links) (w : Whole) (verdict : Verdict) (both :
       (asked_there i x o loss sides at fits
       (interface_step plan w (links_state plan new) (op_event o i loss) verdict is).0 (before.placed i x at)) is
 
-  pub asked_beside : (i : ℕ) (o : InterfaceOp) (loss : Option Loss) → SidesAsk i o loss old new
+  pub asked_beside : (i : ℕ) (o : InterfaceOperation) (loss : Option Loss) → SidesAsk i o loss old new
       → ((x : Site) → slice_get (sites plan) i ≡ Some x → Fits x o) → IsAsked (op_event o i loss)
   asked_beside i o loss sides fits is =
       let before = both.whole.beside in
@@ -150,7 +134,7 @@ module _ (plan : Plan) (old new : Links) (w : Whole) (verdict : Verdict) (both :
       (interface_absent plan old.ends.links old.keeper.interfaces old.trusted.contents w i both.whole.beside past)
 
   -- an operation on a stream of this line
-  record IsPeerOp (i line stream : ℕ) (loss : Option Loss) (o : InterfaceOp) : Type 0 where
+  record IsPeerOp (i line stream : ℕ) (loss : Option Loss) (o : InterfaceOperation) : Type 0 where
     number_is : number_in (op_event o i loss) ≡ Some i
     of_peer : is_of_peer (op_event o i loss) ≡ true
     fits : (x : Site) → has_peer plan.peers x.link line stream ≡ true → Fits x o
@@ -158,7 +142,7 @@ module _ (plan : Plan) (old new : Links) (w : Whole) (verdict : Verdict) (both :
     answers : (x : Site) → slice_get (sites plan) i ≡ Some x → has_peer plan.peers x.link line stream ≡ false
         → (beside_of plan w).answer (op_event o i loss) ≡ v.Nothing
 
-  peer_beside : (i line stream : ℕ) (loss : Option Loss) (o : InterfaceOp)
+  peer_beside : (i line stream : ℕ) (loss : Option Loss) (o : InterfaceOperation)
       → IsPeerOp i line stream loss o → SidesPeer i line stream o loss old new → IsAsked (op_event o i loss)
   peer_beside i line stream loss o c sides = ⊎_elim
       (λ lt.
@@ -179,15 +163,16 @@ module _ (plan : Plan) (old new : Links) (w : Whole) (verdict : Verdict) (both :
   none_due b due none = rw none refl
 
   peers_fit : (x : Site) (line stream : ℕ) → has_peer plan.peers x.link line stream ≡ true
-      → Fits x (op.Bind (peer_stream old.keeper line stream)) × Fits x (op.Unbind (peer_stream old.keeper line stream))
+      → Fits x (op.Bind (managed_peer_stream old.keeper line stream))
+      × Fits x (op.Unbind (managed_peer_stream old.keeper line stream))
   peers_fit = peer_fits plan old.ends old.keeper old.packets.packets old.trusted.contents w join both.links
       both.whole.beside both.whole.drawn both.whole.links
 
   pub bind_beside : (i line stream : ℕ) (loss : Option Loss)
-      → SidesPeer i line stream (op.Bind (peer_stream old.keeper line stream)) loss old new
+      → SidesPeer i line stream (op.Bind (managed_peer_stream old.keeper line stream)) loss old new
       → IsAsked (ie.Bind i line stream loss)
   bind_beside i line stream loss =
-      peer_beside i line stream loss (op.Bind (peer_stream old.keeper line stream))
+      peer_beside i line stream loss (op.Bind (managed_peer_stream old.keeper line stream))
       (record {
         number_is = refl;
         of_peer = refl;
@@ -200,10 +185,10 @@ module _ (plan : Plan) (old new : Links) (w : Whole) (verdict : Verdict) (both :
       })
 
   pub unbind_beside : (i line stream : ℕ) (loss : Option Loss)
-      → SidesPeer i line stream (op.Unbind (peer_stream old.keeper line stream)) loss old new
+      → SidesPeer i line stream (op.Unbind (managed_peer_stream old.keeper line stream)) loss old new
       → IsAsked (ie.Unbind i line stream loss)
   unbind_beside i line stream loss =
-      peer_beside i line stream loss (op.Unbind (peer_stream old.keeper line stream))
+      peer_beside i line stream loss (op.Unbind (managed_peer_stream old.keeper line stream))
       (record {
         number_is = refl;
         of_peer = refl;

@@ -1,47 +1,29 @@
 -- Operations on streams at the machine: which have a verdict, whether an establish drew, and that a stop always tells
--- how
--- far it came.
-use Rattle.std.proofs.Common.{
-  ◌≡◌,
-  ◌⊎◌,
-  inl,
-  inr,
-  ℕ,
-  ◌==◌,
-  ◌&&◌,
-  Bool,
-  true,
-  false,
-  Option,
-  Some,
-  None,
-  refl,
-  ap,
-  sym,
-  ◌∙◌,
-}
+-- how far it came.
+use Rattle.std.proofs.Common.{◌≡◌, ◌⊎◌, inl, inr, ℕ, ◌==◌, ◌&&◌, Bool, true, false, Option, Some, None, refl, ap, sym}
+use Rattle.std.proofs.Common.{◌∙◌}
 use Rattle.std.proofs.Common.{arith}
 use Rattle.std.specs.Prelude.{not, is_some, if◌then◌else◌}
 use Rattle.std.proofs.lemmas.Bool.Decides.{nat_tests}
 use Rattle.ide_types.specs.Lines.{is_link_line}
-use Rattle.ide_plan.specs.declared.plan.Plan.{Plan}
+use Rattle.ide_types.specs.declared.plan.Plan.{Plan}
 use Rattle.link_events.specs.declared.event.Event.TheVariants as event
 use Rattle.link_events.specs.declared.event.Loss.{Loss}
 use Rattle.link_verdicts.specs.declared.verdict.Operation.TheVariants as op
 use Rattle.link_verdicts.specs.declared.verdict.Verdict.{Verdict}
 use Rattle.link_verdicts.specs.declared.verdict.Verdict.TheVariants as v
-use Rattle.key_laws.specs.Operations.{Op, Work, Reach, work_of, reach_of}
-use Rattle.key_laws.specs.History.{begins_keyed}
-use Rattle.key_laws.specs.Due.{PortView, done, stop_on}
-use Rattle.key_laws.proofs.Performs.{is_cut, performed_is}
-use Rattle.link_ports.specs.Machine.{Beside, LinkState, Stepped, work_done, draws_after, ports_of}
-use Rattle.link_ports.specs.Machine.{establish_found, refresh_found, stop_found}
-unfoldable use Rattle.link_ports.specs.Machine.{find_op, step_of}
+use Rattle.spec_keys.specs.Operations.{StreamStage, Work, Reach, work_of, reach_of}
+use Rattle.spec_keys.specs.History.{begins_keyed}
+use Rattle.spec_keys.specs.Due.{PortView, done, stop_on}
+use Rattle.spec_keys.proofs.Performs.{is_cut, performed_is}
+use Rattle.machine_ports.specs.Machine.{BesidePorts, LinkState, Stepped, work_done, draws_after, ports_of}
+use Rattle.machine_ports.specs.Machine.{establish_found, refresh_found, stop_found}
+unfoldable use Rattle.machine_ports.specs.Machine.{find_op, step_of}
 
 -- ---- an operation at the machine
 
-pub establish_done : (plan : Plan) (beside : Beside) (st after : LinkState) (link stream : ℕ) (loss : Option Loss)
-    (q : Op)
+pub establish_done : (plan : Plan) (beside : BesidePorts) (st after : LinkState) (link stream : ℕ) (loss : Option Loss)
+    (q : StreamStage)
     (verdict : Verdict) → find_op plan st link stream ≡ Some q
     → ◌≡◌ {A = Stepped} (verdict, after) (step_of plan beside st (event.Establish link stream loss))
     → after ≡ work_done plan st link stream (work_of op.Establish q st.draws) (reach_of op.Establish verdict)
@@ -52,7 +34,8 @@ establish_done plan beside st after link stream loss q verdict found is =
     ∙ ap (λ (u : Verdict). work_done plan st link stream (work_of op.Establish q st.draws) (reach_of op.Establish u))
     (sym (ap (λ (s : Stepped). s.0) step))
 
-pub establish_nothing : (plan : Plan) (beside : Beside) (st after : LinkState) (link stream : ℕ) (loss : Option Loss)
+pub establish_nothing : (plan : Plan) (beside : BesidePorts) (st after : LinkState) (link stream : ℕ)
+    (loss : Option Loss)
     (verdict : Verdict) → find_op plan st link stream ≡ None
     → ◌≡◌ {A = Stepped} (verdict, after) (step_of plan beside st (event.Establish link stream loss))
     → verdict ≡ v.Nothing
@@ -65,7 +48,7 @@ either_nothing : (b : Bool) (r : Stepped) (st : LinkState) → r.0 ≡ v.Nothing
 either_nothing true r st is = is
 either_nothing false r st is = refl
 
-pub refresh_nothing : (plan : Plan) (beside : Beside) (st after : LinkState) (link stream : ℕ) (loss : Option Loss)
+pub refresh_nothing : (plan : Plan) (beside : BesidePorts) (st after : LinkState) (link stream : ℕ) (loss : Option Loss)
     (verdict : Verdict) → find_op plan st link stream ≡ None
     → ◌≡◌ {A = Stepped} (verdict, after) (step_of plan beside st (event.Refresh link stream loss))
     → verdict ≡ v.Nothing
@@ -73,10 +56,10 @@ unfolding step_of
 refresh_nothing plan beside st after link stream loss verdict found is =
     ap (λ (s : Stepped). s.0) is
     ∙ either_nothing (is_link_line link) (refresh_found plan st link stream loss (find_op plan st link stream)) st
-    (ap (λ (o : Option Op). (refresh_found plan st link stream loss o).0) found)
+    (ap (λ (o : Option StreamStage). (refresh_found plan st link stream loss o).0) found)
 
 -- only the streams of links are refreshed
-pub none_refreshed : (plan : Plan) (beside : Beside) (st after : LinkState) (line stream : ℕ) (loss : Option Loss)
+pub none_refreshed : (plan : Plan) (beside : BesidePorts) (st after : LinkState) (line stream : ℕ) (loss : Option Loss)
     (verdict : Verdict) → is_link_line line ≡ false
     → ◌≡◌ {A = Stepped} (verdict, after) (step_of plan beside st (event.Refresh line stream loss))
     → verdict ≡ v.Nothing
@@ -86,7 +69,7 @@ none_refreshed plan beside st after line stream loss verdict none is =
     ∙ ap (λ (b : Bool). (if b then refresh_found plan st line stream loss (find_op plan st line stream)
     else (v.Nothing, st)).0) none
 
-pub stop_nothing : (plan : Plan) (beside : Beside) (st after : LinkState) (link stream : ℕ) (loss : Option Loss)
+pub stop_nothing : (plan : Plan) (beside : BesidePorts) (st after : LinkState) (link stream : ℕ) (loss : Option Loss)
     (verdict : Verdict) → find_op plan st link stream ≡ None
     → ◌≡◌ {A = Stepped} (verdict, after) (step_of plan beside st (event.Stop link stream loss))
     → verdict ≡ v.Nothing
@@ -94,8 +77,8 @@ unfolding step_of
 stop_nothing plan beside st after link stream loss verdict found is =
     ap (λ (s : Stepped). s.0) (is ∙ ap (stop_found plan st link stream loss) found)
 
-pub stop_verdict : (plan : Plan) (beside : Beside) (st after : LinkState) (link stream : ℕ) (loss : Option Loss)
-    (q : Op)
+pub stop_verdict : (plan : Plan) (beside : BesidePorts) (st after : LinkState) (link stream : ℕ) (loss : Option Loss)
+    (q : StreamStage)
     (verdict : Verdict) → find_op plan st link stream ≡ Some q
     → ◌≡◌ {A = Stepped} (verdict, after) (step_of plan beside st (event.Stop link stream loss))
     → verdict ≡ stop_on q st.draws (ports_of plan st) link stream loss
@@ -112,12 +95,12 @@ draws_done plan st link stream w None = refl
 draws_done plan st link stream w (Some r) = refl
 
 -- a draw was made if an establish began
-drew_by : (q : Op) (next : ℕ) (b : Bool)
+drew_by : (q : StreamStage) (next : ℕ) (b : Bool)
     → not ((if b then draws_after next (work_of op.Establish q next) else next) == next)
     ≡ ((work_of op.Establish q next).begins && b)
 drew_by q next b = grind (arith, nat_tests)
 
-pub drew_is : (plan : Plan) (st after : LinkState) (link stream : ℕ) (q : Op) (verdict : Verdict)
+pub drew_is : (plan : Plan) (st after : LinkState) (link stream : ℕ) (q : StreamStage) (verdict : Verdict)
     → after ≡ work_done plan st link stream (work_of op.Establish q st.draws) (reach_of op.Establish verdict)
     → not (after.draws == st.draws) ≡ begins_keyed q st.draws verdict
 drew_is plan st after link stream q verdict is =
@@ -133,7 +116,7 @@ and_never false = refl
 pub and_always : (a b : Bool) → b ≡ true → (a && b) ≡ a
 and_always a b is = grind arith
 
-pub begins_stop : (q : Op) (a b : ℕ) → (work_of op.Stop q a).begins ≡ (work_of op.Stop q b).begins
+pub begins_stop : (q : StreamStage) (a b : ℕ) → (work_of op.Stop q a).begins ≡ (work_of op.Stop q b).begins
 begins_stop q a b = grind arith
 
 -- a stop always tells how far it came
@@ -149,7 +132,7 @@ stop_comes link stream w x (inl ended) = ap (λ (y : Verdict). is_some (reach_of
     ∙ done_reaches link stream w
 stop_comes link stream w x (inr cut) = cut_reaches x cut
 
-pub stop_reaches : (q : Op) (next : ℕ) (ports : PortView) (link stream : ℕ) (loss : Option Loss)
+pub stop_reaches : (q : StreamStage) (next : ℕ) (ports : PortView) (link stream : ℕ) (loss : Option Loss)
     → is_some (reach_of op.Stop (stop_on q next ports link stream loss)) ≡ true
 stop_reaches q next ports link stream loss =
     let w = work_of op.Stop q next in

@@ -11,47 +11,49 @@ use Rattle.std.proofs.lemmas.Bool.{cases_Bool, cases_lt, eq-eqb, ne_eqb}
 use Rattle.std.proofs.lemmas.Bool.Decides.{nat_tests}
 use Rattle.std.proofs.lemmas.List.{length-set}
 use Rattle.std.proofs.lemmas.Option.{none-some, same_Some, slice_get_within}
-use Rattle.ide_plan.specs.declared.plan.Plan.{Plan}
-use Rattle.ide_plan.specs.declared.interface.InterfacePlan.{InterfacePlan}
-use Rattle.interface_words.specs.declared.register.Register.{Register}
-use Rattle.interface_words.specs.RegisterNames.{has_register}
+use Rattle.ide_types.specs.declared.plan.Plan.{Plan}
+use Rattle.ide_types.specs.declared.interface.InterfacePlan.{InterfacePlan}
+use Rattle.ide_types.specs.declared.register.Register.{Register}
+use Rattle.ide_types.specs.RegisterNames.{has_register}
 use Rattle.link_events.specs.declared.event.Event.TheVariants as event
 use Rattle.link_events.specs.declared.event.InterfaceEvent.{InterfaceEvent}
 use Rattle.link_events.specs.declared.event.InterfaceEvent.TheVariants as ie
 use Rattle.link_verdicts.specs.declared.verdict.Verdict.{Verdict}
 use Rattle.link_verdicts.specs.declared.verdict.Verdict.TheVariants as v
-use Rattle.interface_words.specs.declared.verdict.InterfaceVerdict.TheVariants as iv
-use Rattle.tdi_state.specs.declared.states.TdiState.{TdiState}
-use Rattle.tdi_state.specs.declared.states.TdiState.TheVariants.{ConfigUnlocked, ConfigLocked, Run, Error}
-use Rattle.tdi_state.specs.RegisterValues.{has_bit, changes_listed}
-use Rattle.tdi_state.specs.Machine.{Tdi, bound_stream, lock_flags, after_failure, after_change, Call, WriteRegister}
-use Rattle.tdi_state.specs.Machine.{LevelReset, FirmwareUpdate, tdi_after}
-use Rattle.interface_states.specs.Exchanges.{changes_device}
-use Rattle.interface_states.specs.Sites.{Site, sites}
-use Rattle.interface_states.specs.Views.{Managed, is_number, number_in, on_operation}
-use Rattle.interface_states.specs.Devices.{Around, tdi_if_called, tdi_asked, accepts_lock, one_if}
-use Rattle.interface_states.specs.Due.{Standing, asked_due}
-use Rattle.interface_machine.specs.Machine.{EndsRead, Face, Streams, around_of, face_after, gives_nonce, left_by}
-use Rattle.interface_machine.specs.Machine.{with_each, is_true, face_standing, asked_due_of, answer_to}
-use Rattle.link_ports.specs.Machine.{LinkState, Stepped}
-unfoldable use Rattle.link_ports.specs.Machine.{step_of}
-use Rattle.whole_machine.specs.Machine.{Whole, ends_in, whole_streams, beside_of, whole_after}
-use Rattle.whole_machine.specs.Machine.{memory_shown}
-use Rattle.interface_joins.specs.Faces.{IsFace, IsManaged}
-use Rattle.access_states.specs.{Keeps, says_in}
-use Rattle.access_states.proofs.{StaysBound, asked_keeps}
-use Rattle.tdi_device.specs.Replies.{called_at}
-use Rattle.tdi_host.specs.Views.{HostTdi}
+use Rattle.ide_types.specs.declared.verdict.InterfaceVerdict.TheVariants as iv
+use Rattle.interface_state.specs.declared.states.TdiState.{TdiState}
+use Rattle.interface_state.specs.declared.states.TdiState.TheVariants.{ConfigUnlocked, ConfigLocked, Run, Error}
+use Rattle.interface_state.specs.RegisterValues.{has_bit, changes_listed}
+use Rattle.interface_state.specs.Machine.{Tdi, bound_link_stream, lock_flags, after_failure, after_change, Call}
+use Rattle.interface_state.specs.Machine.{WriteRegister}
+use Rattle.interface_state.specs.Machine.{LevelReset, FirmwareUpdate, tdi_after}
+use Rattle.spec_interfaces.specs.Exchanges.{changes_device}
+use Rattle.spec_interfaces.specs.Sites.{Site, sites}
+use Rattle.spec_interfaces.specs.Views.{Managed, is_number, number_in, on_operation}
+use Rattle.spec_interfaces.specs.Devices.{Around, interface_if_called, interface_asked, accepts_lock, one_if}
+use Rattle.spec_interfaces.specs.Due.{AskedState, asked_due}
+use Rattle.machine_interfaces.specs.Machine.{EndsRead, Face, Streams, around_of, face_after, gives_nonce, left_by}
+use Rattle.machine_interfaces.specs.Machine.{with_each, is_true, face_standing, asked_due_of, answer_to}
+use Rattle.machine_ports.specs.Machine.{LinkState, Stepped}
+unfoldable use Rattle.machine_ports.specs.Machine.{step_of}
+use Rattle.machine_whole.specs.Machine.{Whole, ends_in, whole_streams, beside_of, whole_after}
+use Rattle.machine_whole.specs.Machine.{memory_shown}
+use Rattle.join_interfaces.specs.Faces.{IsFace, IsManaged}
+use Rattle.join_accesses.specs.{Keeps, says_in}
+use Rattle.join_accesses.proofs.{StaysBound, asked_keeps}
+use Rattle.interface_device.specs.Replies.{called_at}
+use Rattle.interface_host.specs.Views.{HostTdi}
 use Rattle.trusted_memory.specs.{MemoryContents, IsLeftBy}
-use Rattle.access_states.specs.{EndsView, InterfacesView, LinkEnds, Links, links_state, located, SidesCall, SidesKeep}
-use Rattle.access_states.proofs.{set_read}
-use Rattle.access_states.specs.{IsPlaced, IsDevice, IsBeside}
-use Rattle.access_states.proofs.{get_there}
-use Rattle.access_states.proofs.{site_numbered, face_found, located_apart, located_kept, interface_there}
-use Rattle.access_states.proofs.{interface_absent}
-use Rattle.access_states.proofs.{each_at, each_many, none_of}
-use Rattle.access_states.proofs.{placed_keeps}
-use Rattle.access_states.proofs.{AreBoth, elsewhere_beside, written_kept, interface_step}
+use Rattle.join_accesses.specs.{EndsView, InterfacesView, LinkEnds, Links, links_state, place_on_links, SidesCall}
+use Rattle.join_accesses.specs.{SidesKeep}
+use Rattle.join_accesses.proofs.{set_read}
+use Rattle.join_accesses.specs.{IsPlaced, IsDevice, IsBeside}
+use Rattle.join_accesses.proofs.{get_there}
+use Rattle.join_accesses.proofs.{site_numbered, face_found, located_apart, located_kept, interface_there}
+use Rattle.join_accesses.proofs.{interface_absent}
+use Rattle.join_accesses.proofs.{each_at, each_many, none_of}
+use Rattle.join_accesses.proofs.{placed_keeps}
+use Rattle.join_accesses.proofs.{AreBoth, elsewhere_beside, written_kept, interface_step}
 
 -- ---- numbers
 
@@ -124,7 +126,7 @@ only_one g (y ∷ xs) (k ∷ fs) (suc i) x f at there none =
 
 -- P of the stream of its link, if it is bound to it
 abbrev Binds : (ℕ → Type 0) → TdiState → Type 0
-Binds P state = IfSome (bound_stream state) P
+Binds P state = IfSome (bound_link_stream state) P
 
 failure_binds : (P : ℕ → Type 0) (state : TdiState) → Binds P (after_failure state)
 failure_binds P ConfigUnlocked = tt
@@ -138,12 +140,12 @@ change_binds P false state is = is
 
 called_binds : (P : ℕ → Type 0) (b : Bool) (c : Call) (tdi : Tdi)
     → (Binds P tdi.state → Binds P (tdi_after tdi c).state) → Binds P tdi.state
-    → Binds P (tdi_if_called b c tdi).state
+    → Binds P (interface_if_called b c tdi).state
 called_binds P true c tdi binds is = binds is
 called_binds P false c tdi binds is = is
 
 called_plan : (b : Bool) (c : Call) (tdi : Tdi) → (tdi_after tdi c).plan ≡ tdi.plan
-    → (tdi_if_called b c tdi).plan ≡ tdi.plan
+    → (interface_if_called b c tdi).plan ≡ tdi.plan
 called_plan true c tdi same = same
 called_plan false c tdi same = refl
 
@@ -161,8 +163,8 @@ other_lock a x e verdict tdi other = refl
 
 -- ---- places
 
-places_apart : (ends : List LinkEnds) (i j a b p q : ℕ) → located 0 i ends ≡ Some (a, p)
-    → located 0 j ends ≡ Some (b, q) → a ≡ b → (i == j) ≡ false → (p == q) ≡ false
+places_apart : (ends : List LinkEnds) (i j a b p q : ℕ) → place_on_links 0 i ends ≡ Some (a, p)
+    → place_on_links 0 j ends ≡ Some (b, q) → a ≡ b → (i == j) ≡ false → (p == q) ≡ false
 places_apart ends i j a b p q is at link apart = ⊎_elim
     (λ same.
     let place = sym (same_number p q same) in
@@ -174,7 +176,7 @@ places_apart ends i j a b p q is at link apart = ⊎_elim
 -- a link's interfaces are as many as before
 pub located_set : (ends : List LinkEnds) (link i : ℕ) (l new : LinkEnds) → slice_get ends link ≡ Some l
     → length new.device.interfaces.interfaces ≡ length l.device.interfaces.interfaces
-    → located 0 i (slice_set ends link new) ≡ located 0 i ends
+    → place_on_links 0 i (slice_set ends link new) ≡ place_on_links 0 i ends
 located_set ends link i l new is many = located_kept 0 i ends (slice_set ends link new)
     (length-set ends link new)
     (λ k x y was now. ⊎_elim
@@ -265,7 +267,7 @@ module _ (plan : Plan) (ends : List LinkEnds) (m : InterfacesView) (memory : Mem
       (λ j y f there kept apart. and_none (y.link == link) _
       (other_lock (around_of plan streams_now w.faces.used y f) y e verdict f.tdi (is_other j y there apart)))
 
-  located_now : (j : ℕ) → located 0 j ends_now ≡ located 0 j ends
+  located_now : (j : ℕ) → place_on_links 0 j ends_now ≡ place_on_links 0 j ends
   located_now j = located_set ends x.link j p.link_ends link_now p.ends_are
       (length-set p.link_ends.device.interfaces.interfaces p.place one.tdi)
 
@@ -453,11 +455,11 @@ there_beside plan old new w e verdict i x at before number contents one is =
 record IsCall (number : ℕ) (test : Tdi → Bool) (call : Call) (e : InterfaceEvent) : Type 0 where
   number_is : number_in e ≡ Some number
   asks : (a : Around) (x : Site) (verdict : Verdict) (tdi : Tdi)
-      → tdi_asked a x e verdict tdi ≡ tdi_if_called (changes_device verdict) call tdi
+      → interface_asked a x e verdict tdi ≡ interface_if_called (changes_device verdict) call tdi
   manages : (drawn : ℕ) (verdict : Verdict) (g : Managed) → on_operation drawn e verdict g ≡ g
   locks : (a : Around) (x : Site) (verdict : Verdict) (tdi : Tdi)
       → accepts_lock a x (event.Interface e) verdict tdi ≡ false
-  applies : (plan : Plan) (x : Site) (s : Standing) (tdi : Tdi) → tdi.plan ≡ x.plan
+  applies : (plan : Plan) (x : Site) (s : AskedState) (tdi : Tdi) → tdi.plan ≡ x.plan
       → changes_device (asked_due plan x s e) ≡ test tdi
   plans : (tdi : Tdi) → (tdi_after tdi call).plan ≡ tdi.plan
   binds : (planned : ℕ) (tdi : Tdi) → Binds (λ s. s ≡ planned) tdi.state
@@ -466,7 +468,7 @@ record IsCall (number : ℕ) (test : Tdi → Bool) (call : Call) (e : InterfaceE
 called_one : (b gives : Bool) (l : LinkEnds) (place : ℕ) (tdi : Tdi) (call : Call) → gives ≡ false
     → slice_get l.device.interfaces.interfaces place ≡ Some tdi
     → (if b then record l { device = record l.device { interfaces = called_at l.device.interfaces place tdi call } }
-    else l) ≡ one_link l place (tdi_if_called b call tdi) gives
+    else l) ≡ one_link l place (interface_if_called b call tdi) gives
 called_one true gives l place tdi call none is =
     let used = sym (none_more l.device.interfaces.used gives none) in
     λ n. record l {
@@ -517,7 +519,7 @@ module _ (plan : Plan) (old new : Links) (w : Whole) (verdict : Verdict) (both :
       ap changes_device due ∙ c.applies plan x
       (face_standing plan (whole_streams plan w) w.faces.used x p.face) p.tdi p.keeps.layout in
       record {
-        tdi = tdi_if_called (test p.tdi) call p.tdi;
+        tdi = interface_if_called (test p.tdi) call p.tdi;
         interface = p.interface;
         portion = ap (λ (m : InterfacesView). m.portion) sides.keeper;
         manager = ap (λ (m : InterfacesView). m.interfaces) sides.keeper
@@ -533,7 +535,7 @@ module _ (plan : Plan) (old new : Links) (w : Whole) (verdict : Verdict) (both :
               (sym (if_kept (is_number (number_in e) x.number) _ p.face.managed
               (c.manages w.links.draws verdict p.face.managed)))
               p.keeps.managed;
-          tdi_is = (λ n. tdi_if_called (sym applied n) call (p.keeps.tdi_is n)) ∙
+          tdi_is = (λ n. interface_if_called (sym applied n) call (p.keeps.tdi_is n)) ∙
               (sym (c.asks around x verdict p.face.tdi)
               ∙ sym (if_taken (is_number (number_in e) x.number) _ p.face.tdi here));
           layout = called_plan (test p.tdi) call p.tdi (c.plans p.tdi) ∙ p.keeps.layout;

@@ -10,45 +10,38 @@ use Rattle.std.proofs.lemmas.Bool.{true≢false}
 use Rattle.std.proofs.lemmas.Option.{none-some, same_Some, slice_get-map}
 use Rattle.ide_types.specs.declared.direction.Direction.{Direction}
 use Rattle.ide_types.specs.declared.direction.Direction.TheVariants.{Downstream, Upstream}
-use Rattle.ide_plan.specs.declared.plan.Plan.{Plan}
-use Rattle.ide_plan.specs.declared.plan.LinkPlan.{LinkPlan}
-use Rattle.ide_plan.specs.declared.interface.InterfacePlan.{InterfacePlan}
-use Rattle.ide_plan.specs.declared.plan.Region.{Region}
-use Rattle.ide_plan.specs.Fits.{FitsPlan, IsKey}
-use Rattle.interface_states.specs.Floors.{interfaces_before}
-use Rattle.interface_states.specs.Sites.{Site, sites_on, sites_from}
-unfoldable use Rattle.interface_states.specs.Sites.{sites}
-use Rattle.interface_states.proofs.Floors.{planned_on, sites_of_is}
-use Rattle.interface_machine.specs.Machine.{new_face}
+use Rattle.ide_types.specs.declared.plan.Plan.{Plan}
+use Rattle.ide_types.specs.declared.plan.LinkPlan.{LinkPlan}
+use Rattle.ide_types.specs.declared.interface.InterfacePlan.{InterfacePlan}
+use Rattle.ide_types.specs.declared.plan.Region.{Region}
+use Rattle.ide_types.specs.Fits.{FitsPlan, IsKey}
+use Rattle.spec_interfaces.specs.Floors.{interfaces_before}
+use Rattle.spec_interfaces.specs.Sites.{Site, sites_on, sites_from}
+unfoldable use Rattle.spec_interfaces.specs.Sites.{sites}
+use Rattle.spec_interfaces.proofs.Floors.{planned_on, sites_of_is}
+use Rattle.machine_interfaces.specs.Machine.{new_face}
 use Rattle.guarded_memory.specs.{page_counts}
-use Rattle.accesses.specs.declared.link.LinkAccesses.{LinkAccesses}
-use Rattle.accesses.specs.{new_link_accesses, new_accesses}
-use Rattle.whole_machine.specs.Accesses.{first_accesses}
-use Rattle.whole_machine.specs.Machine.{new_whole}
-use Rattle.whole_machine.specs.Stands.{WholeBegins}
-use Rattle.tdi_state.specs.Machine.{Tdi, new_tdi}
-use Rattle.tdi_host.specs.Views.{new_interface}
-use Rattle.tdi_host.specs.Managers.{new_interface_manager as new_host}
-use Rattle.interface_joins.specs.Faces.{IsFace}
+use Rattle.link_stores.specs.declared.link.LinkAccesses.{LinkAccesses}
+use Rattle.link_stores.specs.{new_link_accesses, new_accesses}
+use Rattle.machine_whole.specs.Accesses.{first_accesses}
+use Rattle.machine_whole.specs.Machine.{new_whole}
+use Rattle.machine_whole.specs.Stands.{WholeBegins}
+use Rattle.interface_state.specs.Machine.{Tdi, new_tdi}
+use Rattle.interface_host.specs.Views.{new_interface}
+use Rattle.interface_host.specs.Managers.{new_interface_manager as new_host}
+use Rattle.join_interfaces.specs.Faces.{IsFace}
 use Rattle.trusted_memory.specs.{IsLeftBy, new_contents, byte_at, TrustedMemory}
 use Rattle.trusted_memory.proofs.Seen.{new_is_seen, byte_at-new}
 use Rattle.trusted_memory.proofs.Turns.{byte_after-none}
-use Rattle.link_ports.specs.Machine.{first_state}
-use Rattle.access_states.specs.{
-  AreLinks,
-  EndsView,
-  floors_at,
-  InterfacesView,
-  IsBounded,
-  KeeperView,
-}
-use Rattle.access_states.specs.{LinkEnds, links_state, mmio_at, new_all_ends, reads_at, carried_at}
-use Rattle.access_states.specs.{sizes_at, state_of, WholeLinks, IsFirstWhole}
-use Rattle.access_states.specs.{AreAccesses, on_link, seen_at}
-use Rattle.access_states.specs.{AreDrawn, IsPlaced, IsDevice, IsBeside}
-use Rattle.access_states.specs.{Stands, IsNewWorld, world_of, IsWorld}
-use Rattle.first_ends.proofs.Ends.{bounded_first, links_first, state_first}
-use Rattle.first_ends.proofs.Sites.{listed, device_at, nonces_at, managed_many}
+use Rattle.machine_ports.specs.Machine.{first_state}
+use Rattle.join_accesses.specs.{AreLinks, EndsView, floors_at, InterfacesView, IsBounded, KeeperView}
+use Rattle.join_accesses.specs.{LinkEnds, links_state, mmio_at, new_all_ends, reads_at, carried_on_link}
+use Rattle.join_accesses.specs.{sizes_at, state_of, WholeLinks, IsFirstWhole}
+use Rattle.join_accesses.specs.{AreAccesses, on_link, link_seen}
+use Rattle.join_accesses.specs.{AreDrawn, IsPlaced, IsDevice, IsBeside}
+use Rattle.join_accesses.specs.{WorldStandsFor, IsNewWorld, world_of, IsWorld}
+use Rattle.join_ends.proofs.FirstEnds.{bounded_first, links_first, state_first}
+use Rattle.join_ends.proofs.FirstSites.{listed, device_at, nonces_at, managed_many}
 
 -- ---- what manager and device keep of an interface
 
@@ -178,7 +171,7 @@ none_read [] link = refl
 none_read (l ∷ ls) zero = refl
 none_read (l ∷ ls) (suc link) = none_read ls link
 
-none_carried : (ls : List LinkPlan) (link : ℕ) (d : Direction) → carried_at (new_accesses ls) link d ≡ []
+none_carried : (ls : List LinkPlan) (link : ℕ) (d : Direction) → carried_on_link (new_accesses ls) link d ≡ []
 none_carried [] link d = refl
 none_carried (l ∷ ls) zero Downstream = refl
 none_carried (l ∷ ls) zero Upstream = refl
@@ -195,7 +188,7 @@ sizes_of [] link p is = absurd (none-some p is)
 sizes_of (l ∷ ls) zero p is = ap (λ (q : LinkPlan). map page_counts q.interfaces) (same_Some l p is)
 sizes_of (l ∷ ls) (suc link) p is = sizes_of ls link p is
 
-accesses_first : (plan : Plan) → AreAccesses plan (seen_at (new_accesses plan.links)) (first_accesses plan)
+accesses_first : (plan : Plan) → AreAccesses plan (link_seen (new_accesses plan.links)) (first_accesses plan)
 accesses_first plan = record {
   floored = length-map (sites plan) first_floor;
   reads = λ link. none_read plan.links link;
@@ -214,7 +207,7 @@ module _ (plan : Plan) (s : WholeLinks) (begins : WholeBegins) (fits : FitsPlan 
   links_are : links_state plan s.links ≡ first_state plan
   links_are = (λ i. state_of plan (is.links.ends i) (is.links.keys i) (is.links.packets i)) ∙ state_first plan fits
 
-  pub first_stands : Stands (world_of plan s) []
+  pub first_stands : WorldStandsFor (world_of plan s) []
   first_stands = record {
     whole = new_whole plan;
     is = record {
@@ -228,7 +221,7 @@ module _ (plan : Plan) (s : WholeLinks) (begins : WholeBegins) (fits : FitsPlan 
           (new_contents plan.memory) (new_whole plan)) (sym is.links.ends) (beside_first plan)));
       drawn = subst (λ (draws : List ℕ). AreDrawn plan draws (new_whole plan).draw) (sym is.links.peer_draws)
           (drawn_first plan);
-      accesses = subst (λ (xs : List LinkAccesses). AreAccesses plan (seen_at xs) (first_accesses plan))
+      accesses = subst (λ (xs : List LinkAccesses). AreAccesses plan (link_seen xs) (first_accesses plan))
           (sym is.accesses) (accesses_first plan);
     };
     stands = begins plan;

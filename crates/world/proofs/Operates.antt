@@ -1,8 +1,7 @@
 -- An operation on a stream of any line: interfaces follow the ends of their device's streams, and the manager of
 -- interfaces is told what the machine reads off the verdict. An establish gives the stream its draw if one was made,
--- that
--- is, if it began; a refresh does so if it ended; a stop breaks views if it began, and of a stream between devices at
--- each event, as its verdict always tells how far it came. A stream that is not there is not operated on.
+-- that is, if it began; a refresh does so if it ended; a stop breaks views if it began, and of a stream between devices
+-- at each event, as its verdict always tells how far it came. A stream that is not there is not operated on.
 use Rattle.std.proofs.Common.{◌≡◌, ◌⊎◌, inl, inr, ⊎_elim, ℕ, ◌==◌, ◌&&◌, ◌<◌, Bool, true, false, List, length}
 use Rattle.std.proofs.Common.{Option, Some, None, refl, ap, sym, ◌∙◌, subst, arith}
 use Rattle.std.specs.Prelude.{slice_get, slice_set, not, is_some, nat_lt, nat_le, option_map, if◌then◌else◌}
@@ -13,8 +12,8 @@ use Rattle.std.proofs.lemmas.List.{length-map, length-set}
 use Rattle.std.proofs.lemmas.Option.{slice_get-map, slice_get_within}
 use Rattle.ide_types.specs.Lines.{is_link_line, peer_line}
 use Rattle.ide_types.specs.Ports.{host_port}
-use Rattle.ide_plan.specs.declared.plan.Plan.{Plan}
-use Rattle.ide_plan.specs.declared.plan.PeerPlan.{PeerPlan}
+use Rattle.ide_types.specs.declared.plan.Plan.{Plan}
+use Rattle.ide_types.specs.declared.plan.PeerPlan.{PeerPlan}
 use Rattle.link_events.specs.declared.event.Event.{Event}
 use Rattle.link_events.specs.declared.event.Event.TheVariants as event
 use Rattle.link_events.specs.declared.event.Loss.{Loss}
@@ -22,28 +21,28 @@ use Rattle.link_verdicts.specs.declared.verdict.Operation.{Operation}
 use Rattle.link_verdicts.specs.declared.verdict.Operation.TheVariants as op
 use Rattle.link_verdicts.specs.declared.verdict.Verdict.{Verdict}
 use Rattle.link_verdicts.specs.declared.verdict.Verdict.TheVariants as v
-use Rattle.key_laws.specs.Operations.{Op, Idle, work_of, reach_of}
-use Rattle.key_laws.specs.History.{begins_keyed}
-use Rattle.interface_states.specs.Sites.{Site}
-use Rattle.interface_states.specs.Views.{Managed, managed_after, peer_of, stop_begins, view_broken}
+use Rattle.spec_keys.specs.Operations.{StreamStage, Idle, work_of, reach_of}
+use Rattle.spec_keys.specs.History.{begins_keyed}
+use Rattle.spec_interfaces.specs.Sites.{Site}
+use Rattle.spec_interfaces.specs.Views.{Managed, managed_after, peer_of, stop_begins, view_broken}
 use Rattle.tsm_host.specs.Managers.{ManagerView, Named, named, op_named}
-use Rattle.tdi_host.specs.Views.{HostTdi, broken, left_by_peer_stop, left_by_stop, keyed_by}
-use Rattle.tdi_host.specs.Managers.{all_interfaces, peer_stop}
+use Rattle.interface_host.specs.Views.{HostTdi, broken, left_by_peer_stop, left_by_stop, keyed_by}
+use Rattle.interface_host.specs.Managers.{all_interfaces, peer_stop}
 use Rattle.trusted_memory.specs.{MemoryContents, IsLeftBy}
-use Rattle.interface_joins.specs.Faces.{IsManaged}
-use Rattle.link_ports.specs.Machine.{LinkState, Stepped, find_op, ports_of, step_of}
-use Rattle.whole_machine.specs.Machine.{Whole, whole_streams, op_or_idle, draw_after, written_after}
-use Rattle.whole_machine.specs.Machine.{beside_of}
-use Rattle.whole_machine.specs.Machine.{whole_after, arrival_of}
-use Rattle.access_states.specs.{EndsView, InterfacesView, keyed_if, Links, links_state, peers_drawn, port_on}
-use Rattle.access_states.specs.{SidesOperate, stopped_if, told_by}
-use Rattle.access_states.specs.{told_by_link, told_by_peer}
-use Rattle.access_states.specs.{stream_named}
-use Rattle.access_states.proofs.{op_is, unnamed}
-use Rattle.access_states.specs.{AreDrawn, IsBeside}
-use Rattle.access_states.proofs.{is_of_ports}
-use Rattle.access_states.proofs.{beside_led, link_few}
-use Rattle.access_states.proofs.{AreBoth, written_kept}
+use Rattle.join_interfaces.specs.Faces.{IsManaged}
+use Rattle.machine_ports.specs.Machine.{LinkState, Stepped, find_op, ports_of, step_of}
+use Rattle.machine_whole.specs.Machine.{Whole, whole_streams, op_or_idle, draw_after, written_after}
+use Rattle.machine_whole.specs.Machine.{beside_of}
+use Rattle.machine_whole.specs.Machine.{whole_after, arrival_of}
+use Rattle.join_accesses.specs.{EndsView, InterfacesView, keyed_if, Links, links_state, peers_drawn, port_on}
+use Rattle.join_accesses.specs.{SidesOperate, stopped_if, told_on_line}
+use Rattle.join_accesses.specs.{told_by_link, told_by_peer}
+use Rattle.join_accesses.specs.{stream_named}
+use Rattle.join_accesses.proofs.{op_is, unnamed}
+use Rattle.join_accesses.specs.{AreDrawn, IsBeside}
+use Rattle.join_accesses.proofs.{is_of_ports}
+use Rattle.join_accesses.proofs.{beside_led, link_few}
+use Rattle.join_accesses.proofs.{AreBoth, written_kept}
 use Rattle.world.proofs.Arrives.{each_led, only_leaves}
 use Rattle.world.proofs.Told.{keyed_managed, link_stop, none_breaks, one_drawn, peer_stop_breaks, peer_stopped}
 use Rattle.world.proofs.Told.{peer_stream_id, set_managed, stopped_managed, early_line}
@@ -120,10 +119,11 @@ module _ (plan : Plan) (old new : Links) (w : Whole) (verdict : Verdict) (both :
       ∙ unnamed plan old.ends old.keeper.keys old.packets.packets line stream both.links (sym none)
 
   told_here : (n : IsNamed old.keeper.keys.manager old.ends line stream)
-      → new.keeper.interfaces ≡ told_by o line stream n.it.stream.op w.links.draws (links_state plan new).draws verdict
+      → new.keeper.interfaces ≡ told_on_line o line stream n.it.stream.op w.links.draws (links_state plan new).draws
+      verdict
       old.keeper.interfaces
   told_here n = sides.told n.it n.here n.found
-      ∙ ap (λ (st : LinkState). told_by o line stream n.it.stream.op st.draws (links_state plan new).draws verdict
+      ∙ ap (λ (st : LinkState). told_on_line o line stream n.it.stream.op st.draws (links_state plan new).draws verdict
       old.keeper.interfaces) (sym both.whole.links)
 
   drawn_here : (n : IsNamed old.keeper.keys.manager old.ends line stream)
@@ -202,15 +202,15 @@ module _ (plan : Plan) (old new : Links) (w : Whole) (verdict : Verdict) (both :
 
   -- ---- what is told on each kind of line
 
-  told_link : (o : Operation) (q : Op) (before after : ℕ) → is_link_line line ≡ true
-      → told_by o line stream q before after verdict old.keeper.interfaces
+  told_link : (o : Operation) (q : StreamStage) (before after : ℕ) → is_link_line line ≡ true
+      → told_on_line o line stream q before after verdict old.keeper.interfaces
       ≡ told_by_link o line stream q before after verdict old.keeper.interfaces
   told_link o q before after here =
       ap (λ (b : Bool). if b then told_by_link o line stream q before after verdict old.keeper.interfaces
       else if nat_le 24 line then told_by_peer o line old.keeper.interfaces else old.keeper.interfaces) here
 
-  told_far : (o : Operation) (q : Op) (before after : ℕ) → is_link_line line ≡ false
-      → told_by o line stream q before after verdict old.keeper.interfaces
+  told_far : (o : Operation) (q : StreamStage) (before after : ℕ) → is_link_line line ≡ false
+      → told_on_line o line stream q before after verdict old.keeper.interfaces
       ≡ (if nat_le 24 line then told_by_peer o line old.keeper.interfaces else old.keeper.interfaces)
   told_far o q before after far =
       ap (λ (b : Bool). if b then told_by_link o line stream q before after verdict old.keeper.interfaces
@@ -263,7 +263,7 @@ module _ (plan : Plan) (old new : Links) (w : Whole) (verdict : Verdict) (both :
       let told = told_here plan old new w verdict both op.Establish line stream sides n in
       record {
         began = not ((links_state plan new).draws == w.links.draws);
-        begins = ap (λ (q : Option Op). begins_keyed (op_or_idle q) w.links.draws verdict) found
+        begins = ap (λ (q : Option StreamStage). begins_keyed (op_or_idle q) w.links.draws verdict) found
             ∙ sym (drew_is plan w.links (links_state plan new) line stream n.it.stream.op verdict finished);
         keyed = λ here. told ∙ told_link op.Establish n.it.stream.op w.links.draws (links_state plan new).draws here;
         untold = λ far. told ∙ told_far op.Establish n.it.stream.op w.links.draws (links_state plan new).draws far
@@ -273,7 +273,8 @@ module _ (plan : Plan) (old new : Links) (w : Whole) (verdict : Verdict) (both :
       })
       (name_cases old.keeper.keys.manager old.ends line stream)
     where
-      this_id : (o : Op) (p : ℕ) (q : PeerPlan) → slice_get plan.peers p ≡ Some q → (line == peer_line p) ≡ true
+      this_id : (o : StreamStage) (p : ℕ) (q : PeerPlan) → slice_get plan.peers p ≡ Some q → (line == peer_line p)
+          ≡ true
           → find_op plan w.links line stream ≡ Some o → (stream == q.id) ≡ true
       this_id o p q at here found = peer_stream_id plan w.links p stream q o at
           (ap (λ (n : ℕ). find_op plan w.links n stream) (sym (same_number line (peer_line p) here)) ∙ found)
@@ -341,7 +342,7 @@ module _ (plan : Plan) (old new : Links) (w : Whole) (verdict : Verdict) (both :
   -- ---- refresh
 
   -- the stream of a link has the draw of the refresh that ended
-  refresh_told : (q : Op) (before after : ℕ) (u : Verdict) → verdict ≡ u
+  refresh_told : (q : StreamStage) (before after : ℕ) (u : Verdict) → verdict ≡ u
       → SidesOperate op.Refresh line stream verdict old new
       → new.keeper.interfaces ≡ told_by_link op.Refresh line stream q before after u old.keeper.interfaces
       → IsAfter (event.Refresh line stream loss)
@@ -505,7 +506,7 @@ module _ (plan : Plan) (old new : Links) (w : Whole) (verdict : Verdict) (both :
       let draws = (links_state plan new).draws in
       ⊎_elim
       (λ here. stop_of_link (work_of op.Stop q 0).begins sides (told ∙ told_link op.Stop q w.links.draws draws here)
-      (ap (λ (r : Option Op). stop_begins (op_or_idle r) w.links.draws verdict) found
+      (ap (λ (r : Option StreamStage). stop_begins (op_or_idle r) w.links.draws verdict) found
       ∙ (and_always (work_of op.Stop q w.links.draws).begins (is_some (reach_of op.Stop verdict)) reaches
       ∙ begins_stop q w.links.draws 0)) (link_early line here))
       (λ far. ⊎_elim

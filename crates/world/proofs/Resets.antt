@@ -9,61 +9,61 @@ use Rattle.std.proofs.lemmas.Bool.Decides.{nat_tests}
 use Rattle.std.proofs.lemmas.List.{length-map}
 use Rattle.std.proofs.lemmas.Option.{slice_get-map, slice_get_within}
 use Rattle.ide_types.specs.declared.port.PortName.{PortName}
-use Rattle.ide_plan.specs.declared.plan.Plan.{Plan}
+use Rattle.ide_types.specs.declared.plan.Plan.{Plan}
 use Rattle.link_events.specs.declared.event.Event.{Event}
 use Rattle.link_events.specs.declared.event.Event.TheVariants as event
 use Rattle.link_verdicts.specs.declared.verdict.Verdict.{Verdict}
 use Rattle.link_verdicts.specs.declared.verdict.Verdict.TheVariants as v
-use Rattle.tdi_state.specs.Machine.{Tdi, LinkReset, tdi_after}
-use Rattle.tdi_device.specs.Replies.{DeviceTdis, reset_tdis, settled_tdi, settled_tdis}
-use Rattle.interface_states.specs.Sites.{Site, sites}
-use Rattle.interface_states.specs.Views.{view_broken}
-use Rattle.interface_states.specs.Devices.{reset_call, tdi_if_called}
-use Rattle.interface_machine.specs.Machine.{Face, face_after, left_by}
-use Rattle.tdi_host.specs.Views.{HostTdi, broken, left_by_reset}
+use Rattle.interface_state.specs.Machine.{Tdi, LinkReset, tdi_after}
+use Rattle.interface_device.specs.Replies.{DeviceTdis, reset_tdis, settled_interface, settled_interfaces}
+use Rattle.spec_interfaces.specs.Sites.{Site, sites}
+use Rattle.spec_interfaces.specs.Views.{view_broken}
+use Rattle.spec_interfaces.specs.Devices.{reset_call, interface_if_called}
+use Rattle.machine_interfaces.specs.Machine.{Face, face_after, left_by}
+use Rattle.interface_host.specs.Views.{HostTdi, broken, left_by_reset}
 use Rattle.trusted_memory.specs.{MemoryContents, IsLeftBy}
-use Rattle.interface_joins.specs.Faces.{IsManaged}
-use Rattle.device_side.specs.Ends.{secure_with}
-use Rattle.access_states.specs.{says_in}
-use Rattle.access_states.proofs.{keeps_free}
-use Rattle.link_ports.specs.Machine.{Beside, LinkState, Stepped, reset_state}
-unfoldable use Rattle.link_ports.specs.Machine.{step_of}
-use Rattle.access_states.specs.{reset_if}
-use Rattle.access_states.specs.{InterfacesView, LinkEnds, Links, links_state, live_on, located, SidesReset}
-use Rattle.whole_machine.specs.Machine.{Whole, ends_in, whole_streams, beside_of, whole_after}
-use Rattle.access_states.specs.{IsPlaced, IsDevice, IsBeside}
-use Rattle.access_states.proofs.{get_there}
-use Rattle.access_states.proofs.{located_kept}
-use Rattle.access_states.proofs.{each_at, each_many, used_kept}
-use Rattle.access_states.proofs.{IsLed, IsManagedAfter, OnlyLeaves, SameDevice, led_follows, placed_led}
-use Rattle.access_states.proofs.{shows_state}
-use Rattle.access_states.proofs.{AreBoth, absent_beside}
+use Rattle.join_interfaces.specs.Faces.{IsManaged}
+use Rattle.link_ends.specs.DeviceEnds.{secure_with}
+use Rattle.join_accesses.specs.{says_in}
+use Rattle.join_accesses.proofs.{keeps_free}
+use Rattle.machine_ports.specs.Machine.{BesidePorts, LinkState, Stepped, reset_state}
+unfoldable use Rattle.machine_ports.specs.Machine.{step_of}
+use Rattle.join_accesses.specs.{reset_if}
+use Rattle.join_accesses.specs.{InterfacesView, LinkEnds, Links, links_state, peer_live, place_on_links, SidesReset}
+use Rattle.machine_whole.specs.Machine.{Whole, ends_in, whole_streams, beside_of, whole_after}
+use Rattle.join_accesses.specs.{IsPlaced, IsDevice, IsBeside}
+use Rattle.join_accesses.proofs.{get_there}
+use Rattle.join_accesses.proofs.{located_kept}
+use Rattle.join_accesses.proofs.{each_at, each_many, used_kept}
+use Rattle.join_accesses.proofs.{IsLed, IsManagedAfter, OnlyLeaves, SameDevice, led_follows, placed_led}
+use Rattle.join_accesses.proofs.{shows_state}
+use Rattle.join_accesses.proofs.{AreBoth, absent_beside}
 use Rattle.world.proofs.Told.{broken_managed, same_link}
 
 -- ---- a device
 
 -- it has as many interfaces, and gave no nonce
 reset_same : (own : Bool) (is_secure : ℕ → Bool) (d : DeviceTdis)
-    → SameDevice d (settled_tdis is_secure (reset_if own d))
+    → SameDevice d (settled_interfaces is_secure (reset_if own d))
 reset_same true is_secure d = record {
   nonces = refl;
   used = refl;
-  many = length-map (reset_tdis d).interfaces (settled_tdi is_secure)
+  many = length-map (reset_tdis d).interfaces (settled_interface is_secure)
       ∙ length-map d.interfaces (λ (t : Tdi). tdi_after t LinkReset);
 }
 reset_same false is_secure d =
-    record { nonces = refl; used = refl; many = length-map d.interfaces (settled_tdi is_secure) }
+    record { nonces = refl; used = refl; many = length-map d.interfaces (settled_interface is_secure) }
 
 -- new interfaces have no lock to leave
 none_settled : (is_secure : ℕ → Bool) (ts : List Tdi)
-    → map (settled_tdi is_secure) (map (λ (t : Tdi). tdi_after t LinkReset) ts)
+    → map (settled_interface is_secure) (map (λ (t : Tdi). tdi_after t LinkReset) ts)
     ≡ map (λ (t : Tdi). tdi_after t LinkReset) ts
 none_settled is_secure [] = refl
 none_settled is_secure (t ∷ ts) = ap (λ (us : List Tdi). tdi_after t LinkReset ∷ us) (none_settled is_secure ts)
 
 -- ---- the step of the machine
 
-done_verdict : (plan : Plan) (beside : Beside) (st : LinkState) (link : ℕ) (ends : List PortName)
+done_verdict : (plan : Plan) (beside : BesidePorts) (st : LinkState) (link : ℕ) (ends : List PortName)
     → nat_lt link (length plan.links) ≡ true → (step_of plan beside st (event.Reset link ends)).0 ≡ v.Reset link
 unfolding step_of
 done_verdict plan beside st link ends there =
@@ -94,24 +94,24 @@ module _ (plan : Plan) (old new : Links) (w : Whole) (both : AreBoth plan old ne
 
   -- what a reset makes of an interface: by whether it is on the link
   abbrev called : Site → Tdi → Bool → Tdi
-  called x tdi own = tdi_if_called (own || left_by plan (whole_streams plan w) (ends_in plan after) x tdi)
+  called x tdi own = interface_if_called (own || left_by plan (whole_streams plan w) (ends_in plan after) x tdi)
       (reset_call own) tdi
 
   module _ (there : link < length old.ends.links) where
     device_is : (k : ℕ) (l l' : LinkEnds) → slice_get old.ends.links k ≡ Some l → slice_get new.ends.links k ≡ Some l'
         → (b : Bool) → (k == link) ≡ b
         → l'.device.interfaces
-        ≡ settled_tdis (secure_with l'.device.port (live_on new.ends k)) (reset_if b l.device.interfaces)
+        ≡ settled_interfaces (secure_with l'.device.port (peer_live new.ends k)) (reset_if b l.device.interfaces)
     device_is k l l' at at' b own =
         sides.devices there k l l' at at'
-        ∙ ap (λ (c : Bool). settled_tdis (secure_with l'.device.port (live_on new.ends k))
+        ∙ ap (λ (c : Bool). settled_interfaces (secure_with l'.device.port (peer_live new.ends k))
         (reset_if c l.device.interfaces)) own
 
     same_device : (k : ℕ) (l l' : LinkEnds) → slice_get old.ends.links k ≡ Some l
         → slice_get new.ends.links k ≡ Some l' → SameDevice l.device.interfaces l'.device.interfaces
     same_device k l l' at at' =
         subst (SameDevice l.device.interfaces) (sym (sides.devices there k l l' at at'))
-        (reset_same (k == link) (secure_with l'.device.port (live_on new.ends k)) l.device.interfaces)
+        (reset_same (k == link) (secure_with l'.device.port (peer_live new.ends k)) l.device.interfaces)
 
     -- another device is led by the ends of its streams
     other_led : (k : ℕ) (l l' : LinkEnds) → slice_get old.ends.links k ≡ Some l → slice_get new.ends.links k ≡ Some l'
@@ -126,7 +126,7 @@ module _ (plan : Plan) (old new : Links) (w : Whole) (both : AreBoth plan old ne
     many_now : length new.ends.links ≡ length old.ends.links
     many_now = both.links_after.many ∙ sym both.links.many
 
-    located_now : (i : ℕ) → located 0 i new.ends.links ≡ located 0 i old.ends.links
+    located_now : (i : ℕ) → place_on_links 0 i new.ends.links ≡ place_on_links 0 i old.ends.links
     located_now i = located_kept 0 i old.ends.links new.ends.links many_now
         (λ k l l' at at'. (same_device k l l' at at').many)
 
@@ -181,7 +181,7 @@ module _ (plan : Plan) (old new : Links) (w : Whole) (both : AreBoth plan old ne
         ≡ map (λ (t : Tdi). tdi_after t LinkReset) p.link_ends.device.interfaces.interfaces =
         ap (λ (d : DeviceTdis). d.interfaces)
         (device_is x.link p.link_ends l' p.ends_are at' true (turned x.link link ∙ here))
-        ∙ none_settled (secure_with l'.device.port (live_on new.ends x.link))
+        ∙ none_settled (secure_with l'.device.port (peer_live new.ends x.link))
         p.link_ends.device.interfaces.interfaces in
         record {
           link_ends = l';

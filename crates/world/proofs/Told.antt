@@ -11,26 +11,27 @@ use Rattle.std.proofs.lemmas.Bool.{cases_Bool}
 use Rattle.std.proofs.lemmas.Bool.Decides.{nat_tests}
 use Rattle.std.proofs.lemmas.Option.{none-some, same_Some}
 use Rattle.ide_types.specs.Lines.{peer_line}
-use Rattle.ide_plan.specs.Fits.{IsKey}
-use Rattle.ide_plan.specs.declared.plan.Plan.{Plan}
-use Rattle.ide_plan.specs.declared.plan.PeerPlan.{PeerPlan}
-use Rattle.ide_plan.specs.declared.stream.StreamPlan.{StreamPlan}
+use Rattle.ide_types.specs.Fits.{IsKey}
+use Rattle.ide_types.specs.declared.plan.Plan.{Plan}
+use Rattle.ide_types.specs.declared.plan.PeerPlan.{PeerPlan}
+use Rattle.ide_types.specs.declared.stream.StreamPlan.{StreamPlan}
 use Rattle.link_events.specs.declared.event.Event.TheVariants as event
 use Rattle.link_events.specs.declared.event.Loss.{Loss}
 use Rattle.link_verdicts.specs.declared.verdict.Operation.TheVariants as op
 use Rattle.link_verdicts.specs.declared.verdict.Verdict.{Verdict}
-use Rattle.key_laws.specs.Operations.{Op, reach_of, work_of}
-use Rattle.interface_states.specs.Sites.{Site}
-use Rattle.interface_states.specs.Views.{Managed, managed_after, stop_begins, view_broken, peer_of, is_bind_asked}
-use Rattle.tdi_host.specs.Views.{HostTdi, Seen, IsUnlocked, IsLocked, IsRunning, IsDoubt, IsBroken, nonce_of, broken}
-use Rattle.tdi_host.specs.Views.{left_by_peer_stop, is_asked}
-use Rattle.interface_joins.specs.Faces.{SeenAs, IsManaged}
-use Rattle.link_history.specs.Plan.{streams_by_link, hop_by_link, peer_streams, behind_near, behind_links, lone_stream}
-use Rattle.link_history.specs.Plan.{streams_of}
-unfoldable use Rattle.link_history.specs.Plan.{streams_by_line}
-use Rattle.link_history.proofs.Ends.{behind_eight}
-use Rattle.link_ports.specs.Machine.{LinkState, found_by_id}
-unfoldable use Rattle.link_ports.specs.Machine.{find_op}
+use Rattle.spec_keys.specs.Operations.{StreamStage, reach_of, work_of}
+use Rattle.spec_interfaces.specs.Sites.{Site}
+use Rattle.spec_interfaces.specs.Views.{Managed, managed_after, stop_begins, view_broken, peer_of, is_bind_asked}
+use Rattle.interface_host.specs.Views.{HostTdi, Seen, IsUnlocked, IsLocked, IsRunning, IsDoubt, IsBroken, nonce_of}
+use Rattle.interface_host.specs.Views.{broken}
+use Rattle.interface_host.specs.Views.{left_by_peer_stop, is_asked}
+use Rattle.join_interfaces.specs.Faces.{SeenAs, IsManaged}
+use Rattle.spec_links.specs.Plan.{streams_by_link, hop_by_link, peer_streams, behind_near, behind_links, lone_stream}
+use Rattle.spec_links.specs.Plan.{streams_of}
+unfoldable use Rattle.spec_links.specs.Plan.{streams_by_line}
+use Rattle.spec_links.proofs.Ends.{behind_eight}
+use Rattle.machine_ports.specs.Machine.{LinkState, found_by_id}
+unfoldable use Rattle.machine_ports.specs.Machine.{find_op}
 
 -- ---- a view that is broken
 
@@ -134,7 +135,8 @@ or_none a b none = grind arith
 no_and : (a b : Bool) → a ≡ false → (a && b) ≡ false
 no_and a b none = grind arith
 
-module _ (ops : ℕ → ℕ → Op) (drawn : ℕ) (x : Site) (line stream : ℕ) (loss : Option Loss) (w : Verdict) (g : Managed)
+module _ (ops : ℕ → ℕ → StreamStage) (drawn : ℕ) (x : Site) (line stream : ℕ) (loss : Option Loss) (w : Verdict)
+    (g : Managed)
   where
     -- of a stream of a link, or of a hop
     pub link_stop : nat_le 24 line ≡ false
@@ -191,9 +193,10 @@ peer_row plan p =
     ∙ ap (λ (n : ℕ). slice_index_or (peer_streams plan) n []) three))))
 
 one_row : (ps : List PeerPlan) (p : ℕ) (q : PeerPlan) → slice_get ps p ≡ Some q
-    → slice_index_or (map (λ (r : PeerPlan). lone_stream r.id r.mode ∷ []) ps) p [] ≡ lone_stream q.id q.mode ∷ []
+    → slice_index_or (map (λ (r : PeerPlan). lone_stream r.id r.aggregation ∷ []) ps) p []
+    ≡ lone_stream q.id q.aggregation ∷ []
 one_row [] p q is = absurd (none-some q is)
-one_row (r ∷ ps) zero q is = ap (λ (t : PeerPlan). lone_stream t.id t.mode ∷ []) (same_Some r q is)
+one_row (r ∷ ps) zero q is = ap (λ (t : PeerPlan). lone_stream t.id t.aggregation ∷ []) (same_Some r q is)
 one_row (r ∷ ps) (suc p) q is = one_row ps p q is
 
 only_id : {A : Type 0} (s : StreamPlan) (xs : List A) (id : ℕ) (y : A) → found_by_id (s ∷ []) xs id ≡ Some y
@@ -206,12 +209,12 @@ only_id s (x ∷ xs) id y is = by (s.id == id) is refl
     by false is same = absurd (none-some y is)
 
 -- the manager has no other stream on the line of one between devices
-pub peer_stream_id : (plan : Plan) (st : LinkState) (p stream : ℕ) (q : PeerPlan) (o : Op)
+pub peer_stream_id : (plan : Plan) (st : LinkState) (p stream : ℕ) (q : PeerPlan) (o : StreamStage)
     → slice_get plan.peers p ≡ Some q → find_op plan st (peer_line p) stream ≡ Some o → (stream == q.id) ≡ true
 unfolding find_op
 peer_stream_id plan st p stream q o at found =
     let row = peer_row plan p ∙ one_row plan.peers p q at in
-    only_id (lone_stream q.id q.mode) (slice_index_or st.ops (peer_line p) []) stream o
+    only_id (lone_stream q.id q.aggregation) (slice_index_or st.ops (peer_line p) []) stream o
     (ap (λ (ss : List StreamPlan). found_by_id ss (slice_index_or st.ops (peer_line p) []) stream) (sym row) ∙ found)
 
 -- ---- the draws of streams between devices

@@ -1,39 +1,30 @@
 -- Whatever event comes, what stands beside the ports is afterwards what the whole machine keeps, and so are the draws
--- of
--- streams between devices: by the family of the event.
+-- of streams between devices: by the family of the event.
 use Rattle.std.proofs.Common.{◌≡◌, ℕ, List, refl, sym, subst, ⊎_elim}
 use Rattle.std.proofs.lemmas.Bool.{cases_Bool, cases_lt}
-use Rattle.ide_plan.specs.declared.plan.Plan.{Plan}
+use Rattle.ide_types.specs.declared.plan.Plan.{Plan}
 use Rattle.link_events.specs.declared.event.Event.{Event}
 use Rattle.link_events.specs.declared.event.Event.TheVariants as event
 use Rattle.link_events.specs.declared.event.InterfaceEvent.{InterfaceEvent}
 use Rattle.link_events.specs.declared.event.InterfaceEvent.TheVariants as ie
 use Rattle.link_events.specs.declared.event.AccessEvent.TheVariants as ae
 use Rattle.link_verdicts.specs.declared.verdict.Verdict.{Verdict}
-use Rattle.key_laws.specs.History.{History}
-use Rattle.link_ports.specs.Machine.{Stepped, step_of}
-use Rattle.link_ports.specs.Stands.{PortsStandFor}
-use Rattle.whole_machine.specs.Machine.{Whole, beside_of, draw_after, whole_after, whole_streams}
-use Rattle.interface_joins.specs.Joined.{InterfaceOperationsJoin}
-use Rattle.tdi_host.specs.declared.operation.InterfaceOp.TheVariants as op
-use Rattle.access_states.specs.{
-  grants_in,
-  has_peer_in,
-  Links,
-  links_state,
-  peer_stream,
-  Sides,
-  SidesInterface,
-}
-use Rattle.access_states.specs.{SidesPeer}
-use Rattle.access_states.specs.{AreDrawn, IsBeside}
-use Rattle.tdi_host.specs.declared.operation.InterfaceOp.{InterfaceOp}
+use Rattle.spec_keys.specs.History.{History}
+use Rattle.machine_ports.specs.Machine.{Stepped, step_of}
+use Rattle.machine_ports.specs.Stands.{PortsStandFor}
+use Rattle.machine_whole.specs.Machine.{Whole, beside_of, draw_after, whole_after, whole_streams}
+use Rattle.join_interfaces.specs.Joined.{InterfaceOperationsJoin}
+use Rattle.interface_host.specs.declared.operation.InterfaceOperation.TheVariants as op
+use Rattle.join_accesses.specs.{grants_in, has_peer_in, Links, links_state, managed_peer_stream, Sides, SidesInterface}
+use Rattle.join_accesses.specs.{SidesPeer}
+use Rattle.join_accesses.specs.{AreDrawn, IsBeside}
+use Rattle.interface_host.specs.declared.operation.InterfaceOperation.{InterfaceOperation}
 use Rattle.link_events.specs.declared.event.Loss.{Loss}
 use Rattle.std.specs.Prelude.{Option}
-use Rattle.interface_machine.specs.Machine.{grant_of}
-use Rattle.access_states.proofs.{grant_is}
-use Rattle.access_states.proofs.{AreBoth, answer_beside, mmio_beside, send_beside, dump_beside, status_beside}
-use Rattle.access_states.proofs.{view_beside, memory_beside, forward_beside, nothing_beside}
+use Rattle.machine_interfaces.specs.Machine.{grant_of}
+use Rattle.join_accesses.proofs.{grant_is}
+use Rattle.join_accesses.proofs.{AreBoth, answer_beside, mmio_beside, send_beside, dump_beside, status_beside}
+use Rattle.join_accesses.proofs.{view_beside, memory_beside, forward_beside, nothing_beside}
 use Rattle.world.proofs.Arrives.{arrives_beside}
 use Rattle.world.proofs.Calls.{write_beside, flr_beside, firmware_beside}
 use Rattle.world.proofs.Asks.{asked_beside, bind_beside, unbind_beside}
@@ -132,7 +123,7 @@ module _ (plan : Plan) (old new : Links) (w : Whole) (verdict : Verdict) (join :
       → AreDrawn plan new.keeper.peer_draws w.draw
   same_drawn both same = subst (λ (ns : List ℕ). AreDrawn plan ns w.draw) (sym same) both.whole.drawn
 
-  peer_same : (i line stream : ℕ) (o : InterfaceOp) (loss : Option Loss) → SidesPeer i line stream o loss old new
+  peer_same : (i line stream : ℕ) (o : InterfaceOperation) (loss : Option Loss) → SidesPeer i line stream o loss old new
       → new.keeper.peer_draws ≡ old.keeper.peer_draws
   peer_same i line stream o loss sides = ⊎_elim
       (λ few.
@@ -148,9 +139,9 @@ module _ (plan : Plan) (old new : Links) (w : Whole) (verdict : Verdict) (join :
   interface_drawn (ie.Halt i loss) both sides = same_drawn both sides.peer_draws
   interface_drawn (ie.State i loss) both sides = same_drawn both sides.peer_draws
   interface_drawn (ie.Bind i line stream loss) both sides =
-      same_drawn both (peer_same i line stream (op.Bind (peer_stream old.keeper line stream)) loss sides)
+      same_drawn both (peer_same i line stream (op.Bind (managed_peer_stream old.keeper line stream)) loss sides)
   interface_drawn (ie.Unbind i line stream loss) both sides =
-      same_drawn both (peer_same i line stream (op.Unbind (peer_stream old.keeper line stream)) loss sides)
+      same_drawn both (peer_same i line stream (op.Unbind (managed_peer_stream old.keeper line stream)) loss sides)
   interface_drawn (ie.View i) both sides = same_drawn both sides.peer_draws
   interface_drawn (ie.Write i register value) both sides = same_drawn both sides.peer_draws
   interface_drawn (ie.Flr i) both sides = same_drawn both sides.peer_draws

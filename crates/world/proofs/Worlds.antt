@@ -4,26 +4,26 @@
 use Rattle.std.proofs.Common.{◌≡◌, ◌∷◌, ℕ, List, length, refl, ap, sym, ◌∙◌, subst, Option, Some, None}
 use Rattle.std.proofs.lemmas.Option.{none-some, same_Some}
 use Rattle.std.specs.Prelude.{Err, IfSome, IsSome, Ok, OnErr, Result}
-use Rattle.ide_plan.specs.declared.plan.Plan.{Plan}
+use Rattle.ide_types.specs.declared.plan.Plan.{Plan}
 use Rattle.link_events.specs.declared.event.Event.{Event}
 use Rattle.link_events.specs.declared.event.InterfaceEvent.{InterfaceEvent}
 use Rattle.link_verdicts.specs.declared.verdict.Verdict.{Verdict}
-use Rattle.key_laws.specs.History.{History}
-use Rattle.link_ports.specs.Machine.{LinkPacket, LinkState, Stepped, step_of}
-use Rattle.link_ports.specs.Stands.{PortsStandFor}
-use Rattle.port_operations.specs.Points.{PointsStand}
-use Rattle.whole_machine.specs.Machine.{Whole, beside_of, whole_after, whole_step}
-use Rattle.whole_machine.specs.Stands.{StandsFor, WholeSteps}
-use Rattle.interface_joins.specs.Joined.{InterfaceOperationsJoin}
-use Rattle.access_states.specs.{AreLinks, Ends, EndsView, HasNoVerdict, HostKeeper, IsBounded, links_state, Sides}
-use Rattle.access_states.specs.{StandsForSome, state_of, WholeLinks, AccessesAfter, beside_whole, WholeEnds}
-use Rattle.access_states.specs.{WholeEndsAs, WholeStays, IsWhole as EachHasAccesses}
-use Rattle.access_states.specs.{AreAccesses, LinkSeen, seen_at}
-use Rattle.access_states.specs.{AreDrawn, IsBeside}
-use Rattle.access_states.specs.{WorldView, IsAsBefore, Stands, HasStood, IsStep, world_of, IsWorld}
-use Rattle.access_states.proofs.{IsState}
-use Rattle.access_states.proofs.Said.{answers_are, beside_is, is_answered}
-use Rattle.access_states.proofs.Turned.{accesses_are}
+use Rattle.spec_keys.specs.History.{History}
+use Rattle.machine_ports.specs.Machine.{LinkPacket, LinkState, Stepped, step_of}
+use Rattle.machine_ports.specs.Stands.{PortsStandFor}
+use Rattle.machine_operations.specs.Points.{PointsStand}
+use Rattle.machine_whole.specs.Machine.{Whole, beside_of, whole_after, whole_step}
+use Rattle.machine_whole.specs.Stands.{StandsFor, WholeSteps}
+use Rattle.join_interfaces.specs.Joined.{InterfaceOperationsJoin}
+use Rattle.join_accesses.specs.{AreLinks, Ends, EndsView, HasNoVerdict, HostKeeper, IsBounded, links_state, Sides}
+use Rattle.join_accesses.specs.{StandsForSome, state_of, WholeLinks, AccessesAfter, beside_whole, WholeEnds}
+use Rattle.join_accesses.specs.{WholeEndsAs, WholeStays, IsWhole as EachHasAccesses}
+use Rattle.join_accesses.specs.{AreAccesses, LinkSeen, link_seen}
+use Rattle.join_accesses.specs.{AreDrawn, IsBeside}
+use Rattle.join_accesses.specs.{WorldView, IsAsBefore, WorldStandsFor, HasStood, IsStep, world_of, IsWorld}
+use Rattle.join_accesses.proofs.{IsState}
+use Rattle.join_accesses.proofs.Said.{answers_are, beside_is, is_answered}
+use Rattle.join_accesses.proofs.Turned.{accesses_are}
 use Rattle.world.proofs.Turns.{Turn, IsAfter, beside_after, drawn_after}
 
 -- the links stand for the history that the world stands for
@@ -44,7 +44,7 @@ module _ (plan : Plan) (old new : WholeLinks) (e : Event) (verdict : Verdict) (g
     (links : AreLinks plan old.links.ends old.links.keeper.keys) (each : EachHasAccesses old)
     (ended : WholeEnds plan verdict old new e)
     (sides : Sides plan e verdict old.links new.links) (accesses : AccessesAfter plan e verdict old new) (h : History)
-    (s : Stands (world_of plan old) h) where
+    (s : WorldStandsFor (world_of plan old) h) where
   before : PortsStandFor plan (links_state plan old.links) h
   before = subst (λ (st : LinkState). PortsStandFor plan st h) s.is.links s.stands.links
 
@@ -156,7 +156,7 @@ module _ (plan : Plan) (old new : WholeLinks) (e : Event) (given : Given) (w : I
 -- ---- want of memory
 
 module _ (plan : Plan) (old new : WholeLinks) (w : IsWorld plan old) (stays : WholeStays old new) where
-  seen_same : seen_at new.accesses ≡ seen_at old.accesses
+  seen_same : link_seen new.accesses ≡ link_seen old.accesses
   seen_same = λ j link. record {
     reads = stays.accesses.reads link j;
     floors = stays.accesses.floors link j;

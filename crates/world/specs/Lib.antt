@@ -1,5 +1,6 @@
 -- what clauses and crates above cite
-pub use Rattle.access_states.specs.{WorldView, Stands, IsNewWorld, IsStep}
-pub use Rattle.access_states.specs.{AreLinks, IsPlaced, IsWorld, LinkEnds, WholeLinks, carried_at, interface_named}
-pub use Rattle.access_states.specs.{links_state, live_on, located, port_on, reads_at, standings_of_ends, stream_named}
-pub use Rattle.access_states.specs.{tdi_of_ends, world_of}
+pub use Rattle.join_accesses.specs.{WorldView, WorldStandsFor, IsNewWorld, IsStep}
+pub use Rattle.join_accesses.specs.{AreLinks, IsPlaced, IsWorld, LinkEnds, WholeLinks, carried_on_link, interface_named}
+pub use Rattle.join_accesses.specs.{links_state, peer_live, place_on_links, port_on, reads_at, standings_of_ends}
+pub use Rattle.join_accesses.specs.{stream_named}
+pub use Rattle.join_accesses.specs.{interface_of_ends, world_of}

@@ -5,5 +5,5 @@
 
 mod world;
 
-pub use access_states::WholeLinks;
+pub use join_accesses::WholeLinks;
 pub use world::World;

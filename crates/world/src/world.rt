@@ -1,20 +1,18 @@
 //! The world of a run.
 
 ghost use Rattle.std.specs.Prelude.{◌≡◌, ◌<◌, ◌+◌, ◌^◌, IfOk, OnErr};
-ghost use Rattle.ide_plan.specs.Fits.{FitsPlan};
+ghost use Rattle.ide_types.specs.Fits.{FitsPlan};
 ghost use Rattle.link_events.specs.Spells.{IsAllowed};
 
-use access_states::WholeLinks;
-use ide_plan::Plan;
-use ide_types::Memory;
-use interface_joins::interface_operations_join;
+use ide_types::{OutOfMemory, Plan, ValidPlan};
+use join_accesses::WholeLinks;
+use join_interfaces::interface_operations_join;
 use link_events::Event;
 use link_verdicts::Verdict;
-use port_operations::points_stand;
+use machine_operations::points_stand;
+use machine_whole::{whole_begins, whole_steps};
 use std::alloc::Global;
 use std::marker::Model;
-use valid_plan::ValidPlan;
-use whole_machine::{whole_begins, whole_steps};
 
 /// All links of a topology with their devices' interfaces, their hops and the streams between devices: the keys, the
 /// packets that were sealed, what waits, what the managers know, and trusted memory (PCI Express Base 6.0 section 6.33
@@ -27,7 +25,7 @@ pub struct World {
 }
 
 impl Model for World {
-    ghost use Rattle.access_states.specs.{WorldView, world_of, IsWorld};
+    ghost use Rattle.join_accesses.specs.{WorldView, world_of, IsWorld};
 
     ghost Value = { WorldView };
 
@@ -37,11 +35,11 @@ impl Model for World {
 }
 
 impl World {
-    ghost use Rattle.access_states.specs.{IsAsBefore, IsNewWorld, IsStep};
+    ghost use Rattle.join_accesses.specs.{IsAsBefore, IsNewWorld, IsStep};
 
     /// The world before the first event: no stream of the plan has keys, no interface is locked, and trusted memory is
     /// 0.
-    pub fn make(alloc: Global, plan: Plan) -> Result<World, Memory>
+    pub fn make(alloc: Global, plan: Plan) -> Result<World, OutOfMemory>
         requires { FitsPlan plan }
         ensures { IfOk result (λ w. IsNewWorld plan w) }
     {
@@ -69,7 +67,7 @@ impl World {
     /// The verdict of an event that a script's line spells: the one that is due after the events before it. For want of
     /// memory nothing changes, but pages and room at switches that were taken ahead may stay. Fewer than 2^28 events
     /// came before.
-    pub fn step(&mut self, event: &Event) -> Result<Verdict, Memory>
+    pub fn step(&mut self, event: &Event) -> Result<Verdict, OutOfMemory>
         requires few { self.old.steps < 2 ^ 28 }
         requires allowed { IsAllowed event.now }
         ensures step { IfOk result (λ v. IsStep self.old event.now v self.new) }
@@ -86,7 +84,7 @@ impl World {
 // ---- what is seen of it
 
 impl World {
-    ghost use Rattle.access_states.specs.{IsWorld, world_of};
+    ghost use Rattle.join_accesses.specs.{IsWorld, world_of};
 
     /// What is kept of all links and the managers, lent.
     pub fn links(&self) -> &WholeLinks

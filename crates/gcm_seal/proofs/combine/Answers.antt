@@ -2,8 +2,8 @@ use Rattle.std.proofs.Common.{◌≡◌, ◌<◌, length, sym, ◌∙◌, arith,
 use Rattle.std.proofs.lemmas.Bool.{cases_lt}
 use Rattle.std.proofs.lemmas.List.{get_or-set_same, get_or-set_other}
 use Rattle.std.proofs.lemmas.Grind.{same_number_lists}
-use Rattle.gcm_seal.specs.Gcm.{combined}
-use Rattle.gcm_seal.proofs.Strings.{combined-at, length-combined}
+use Rattle.gcm_seal.specs.Gcm.{combined_bytes}
+use Rattle.gcm_seal.proofs.Strings.{combined_bytes-at, length-combined_bytes}
 use Rattle.gcm_seal.proofs.combine.Goals as goal
 
 pub loop-k-preserved : goal.loop-k-preserved
@@ -24,7 +24,7 @@ pub returns : goal.returns
 returns c =
     let xs = c.args.buf.now in
     let ks = c.args.out.now in
-    same_number_lists c.loop-k.buf (combined xs ks) (c.loop-k.auto.buf ∙ sym (length-combined xs ks))
+    same_number_lists c.loop-k.buf (combined_bytes xs ks) (c.loop-k.auto.buf ∙ sym (length-combined_bytes xs ks))
     (λ i lt.
     let within : i < length xs = omega arith in
-    c.loop-k.invariant.done i (omega arith) ∙ sym (combined-at xs ks i within c.requires))
+    c.loop-k.invariant.done i (omega arith) ∙ sym (combined_bytes-at xs ks i within c.requires))

@@ -1,10 +1,10 @@
 //! A port of one place.
 
 ghost use Rattle.std.specs.Prelude.{◌≡◌, ◌&&◌, nat_lt, if◌then◌else◌, Some, None};
-ghost use Rattle.ide_km.specs.Calls.{is_same_place, place_at};
+ghost use Rattle.key_messages.specs.Calls.{is_same_place, place_at};
 
-use ide_km::{Place, ProgramFault, SlotPort};
 use ide_types::{Direction, KeySet};
+use key_messages::{Place, ProgramFault, SlotPort};
 use key_slots::{Key, OnlyLive, Slots};
 
 /// A port that has stream 5 in one direction and one sub-stream. Tests look at its slots.
@@ -27,8 +27,8 @@ impl OnePort {
 }
 
 impl SlotPort for OnePort {
-    ghost use Rattle.ide_km.specs.declared.place.Place.{Place};
-    ghost use Rattle.ide_km.specs.Calls.{PlaceCall};
+    ghost use Rattle.key_messages.specs.declared.place.Place.{Place};
+    ghost use Rattle.key_messages.specs.Calls.{PlaceCall};
 
     ghost slots = { λ port place.
         if is_same_place place (place_at 5 port.direction port.sub) then Some port.slots else None };
@@ -57,11 +57,11 @@ impl SlotPort for OnePort {
         self.has(place) && self.slots.arm(set, self.unfinished).is_ok()
     }
 
-    fn halt(&mut self, place: Place, set: KeySet) -> bool {
+    fn stop(&mut self, place: Place, set: KeySet) -> bool {
         if !self.has(place) {
             return false;
         }
-        self.slots.halt(set);
+        self.slots.stop(set);
         true
     }
 }

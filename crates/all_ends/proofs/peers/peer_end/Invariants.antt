@@ -1,5 +1,5 @@
 use Rattle.all_ends.proofs.Terms.{◌≡◌, drop}
-unfoldable use Rattle.interface_states.specs.Peers.{peer_end}
+unfoldable use Rattle.spec_interfaces.specs.Peers.{peer_end}
 use Rattle.all_ends.proofs.peers.peer_end.Given as goal
 
 abbrev pub invariant-loop-peer : goal.invariant-loop-peer

@@ -4,7 +4,7 @@ use Rattle.std.proofs.lemmas.List.{append-nil}
 use Rattle.tlp_layout.specs.declared.head.HeadView.{HeadView}
 use Rattle.tlp_layout.specs.declared.fault.TlpFault.{TlpFault}
 use Rattle.tlp_layout.specs.Reading.{read_head_of}
-use Rattle.accesses.specs.declared.link.LinkAccesses.{LinkAccesses}
+use Rattle.link_stores.specs.declared.link.LinkAccesses.{LinkAccesses}
 use Rattle.arrival_verdicts.specs.Verdicts.{queued_by}
 use Rattle.arrival_verdicts.proofs.Effects.{reads_are}
 use Rattle.arrival_verdicts.proofs.verdicts.requested.Goals as goal

@@ -2,10 +2,10 @@ use Rattle.std.proofs.Common.{◌∙◌, ap, sym, subst, ◌++◌, List}
 use Rattle.std.proofs.lemmas.List.{append-nil}
 use Rattle.std.specs.Prelude.{Option}
 use Rattle.link_verdicts.specs.declared.verdict.Effect.{Effect}
-use Rattle.waiting_reads.specs.declared.queue.WaitingRead.{WaitingRead}
+use Rattle.trusted_memory.specs.declared.queue.WaitingRead.{WaitingRead}
 use Rattle.trusted_memory.specs.{Leads, Write}
 use Rattle.guarded_memory.specs.{Happened, MmioLeads}
-use Rattle.link_history.specs.Sent.{reads_by}
+use Rattle.spec_links.specs.Sent.{reads_by}
 use Rattle.arrival_verdicts.proofs.Units.{no_unit}
 use Rattle.arrival_verdicts.proofs.verdicts.unit_effects.Goals as goal
 

@@ -1,5 +1,5 @@
 use Rattle.std.proofs.Common.{sym, ◌∙◌}
-use Rattle.ide_plan.specs.declared.stream.AddressRange.{AddressRange}
+use Rattle.ide_types.specs.declared.stream.AddressRange.{AddressRange}
 use Rattle.association.specs.Choice.{holds}
 use Rattle.association.proofs.Least.{list_any-next}
 use Rattle.association.proofs.choosing.holds_address.Goals as goal

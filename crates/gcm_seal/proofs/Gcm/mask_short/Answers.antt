@@ -1,5 +1,5 @@
 use Rattle.std.proofs.Common.{◌≡◌, ◌+◌, ◌*◌, ℕ, take, ap, ◌∙◌, arith}
-use Rattle.gcm_seal.specs.Gcm.{masked}
+use Rattle.gcm_seal.specs.Gcm.{masked_bytes}
 use Rattle.gcm_seal.proofs.Pieces.{two_parts}
 use Rattle.gcm_seal.proofs.Gcm.mask_short.Goals as goal
 
@@ -14,4 +14,4 @@ returns c =
     two_parts key iv n (16 * (c.args.block + 1) + 0) f xs c.mask_within.new.buf c.mask_within-2.new.buf
     (omega (arith, c.min-first.ensures))
     (λ more. omega (arith, c.min-first.ensures, more))
-    (c.mask_within.ensures ∙ ap (λ (k : ℕ). masked key iv k (take f xs)) first) c.mask_within-2.ensures
+    (c.mask_within.ensures ∙ ap (λ (k : ℕ). masked_bytes key iv k (take f xs)) first) c.mask_within-2.ensures

@@ -1,5 +1,5 @@
 use Rattle.std.proofs.Common.{◌≡◌, ◌-◌, ℕ, bit_xor, ap, ◌∙◌, arith}
-use Rattle.gcm_seal.specs.Inside.{byte_product, joined_bytes, raised}
+use Rattle.gcm_seal.specs.Inside.{byte_product, joined_bytes, raised_block}
 use Rattle.gcm_seal.proofs.Moves.{joined-none, moved_sum, none-moved, none-zeros, sum-next, sum-product}
 use Rattle.gcm_seal.proofs.ghash.product.Goals as goal
 
@@ -14,7 +14,7 @@ loop-i-preserved c =
       sum = λ h are.
           c.moved-p.ensures.sum (c.loop-i.invariant.none 15 (omega arith))
           ∙ (λ k. bit_xor (joined_bytes (c.partial.ensures h (15 - i) (are (15 - i) (omega arith)) k))
-          (raised 8 (c.loop-i.invariant.sum h are k)))
+          (raised_block 8 (c.loop-i.invariant.sum h are k)))
           ∙ sum-next (byte_product h) c.args.v i;
     }
 

@@ -1,7 +1,7 @@
 use Rattle.std.proofs.Common.{◌≡◌, ◌<◌, ℕ, [], length, set, refl, sym, ◌∙◌, subst, arith, inl, inr}
 use Rattle.std.proofs.lemmas.Bool.{cases_lt}
 use Rattle.std.proofs.lemmas.List.{length-set, get_or-set_same, get_or-set_other}
-use Rattle.gcm_seal.specs.Inside.{raised, row_at, AreSteps, IsRow}
+use Rattle.gcm_seal.specs.Inside.{raised_block, row_at, AreSteps, IsRow}
 use Rattle.gcm_seal.specs.declared.ghash.Row.{Row}
 use Rattle.gcm_seal.proofs.ghash.rows.Goals as goal
 
@@ -18,10 +18,10 @@ loop-j-preserved c =
     let rows = c.loop-j.rows in
     let v : Row = c.row_of.result in
     let long : j < length rows = omega (arith, c.loop-j.invariant.long) in
-    let lower : AreSteps (raised 4 h) c.steps_of-lower.result =
+    let lower : AreSteps (raised_block 4 h) c.steps_of-lower.result =
     subst (λ b. AreSteps b c.steps_of-lower.result) c.times_x4.ensures c.steps_of-lower.ensures in
     let new : IsRow h j v =
-    c.row_of.ensures h (raised 4 h) c.steps_of-upper.ensures lower in
+    c.row_of.ensures h (raised_block 4 h) c.steps_of-upper.ensures lower in
     record {
       long = length-set _ _ _ ∙ c.loop-j.invariant.long;
       made = λ k lt. elim (cases_lt k j) [

@@ -2,7 +2,7 @@ use Rattle.std.proofs.Common.{◌≡◌, ◌-◌, ◌++◌, ℕ, List, length, m
 use Rattle.std.proofs.lemmas.List.{length-map}
 use Rattle.std.proofs.lemmas.Simd.{length-zip2}
 use lib.Lanes.{zip2}
-use Rattle.gcm_seal.specs.Inside.{block_product, byte_product, joined_bytes, raised}
+use Rattle.gcm_seal.specs.Inside.{block_product, byte_product, joined_bytes, raised_block}
 use Rattle.gcm_seal.proofs.Lookups.{sum-halves}
 use Rattle.gcm_seal.proofs.Moves.{four-next, four_sums, joined-none, none-moved, none-zeros, sum-product}
 use Rattle.gcm_seal.proofs.Ring.{times-lt}
@@ -35,7 +35,8 @@ loop-i-preserved c =
           let next = c.folded.ensures (zip2 bit_xor a d) (zip2 bit_xor b e)
           (length-zip2 bit_xor a d (la ∙ sym ld) ∙ la) (length-zip2 bit_xor b e (lb ∙ sym le) ∙ lb) halves in
           c.moved-p.ensures.sum (c.loop-i.invariant.none 15 (omega arith))
-          ∙ ap (λ (l : List ℕ). bit_xor (joined_bytes l) (raised 8 (joined_bytes (c.loop-i.low ++ c.loop-i.high)))) next
+          ∙ ap (λ (l : List ℕ). bit_xor (joined_bytes l)
+          (raised_block 8 (joined_bytes (c.loop-i.low ++ c.loop-i.high)))) next
           ∙ four-next (byte_product f) (byte_product g) (byte_product k) (byte_product h) c.args.a c.args.b c.args.c
           c.args.d _ i c.fits-a.0 c.fits-b.0 c.fits-c.0 c.fits-d.0
           (c.loop-i.invariant.sum f g k h first second third fourth);

@@ -1,4 +1,4 @@
-use Rattle.link_history.specs.Plan.{key_plan}
+use Rattle.spec_links.specs.Plan.{key_plan}
 use Rattle.ide_cli.proofs.laws.laws_hold.Goals as goal
 
 pub returns : goal.returns
@@ -13,10 +13,10 @@ returns c plan h is =
       whole_law = c.whole_law.ensures plan fits h cause;
       order_is_no_forgery = c.order_is_no_forgery.ensures plan fits h cause;
       count_law = c.count_law.ensures plan fits h cause;
-      settled = c.settled.ensures (key_plan plan) h keys;
+      operations_settle = c.operations_settle.ensures (key_plan plan) h keys;
       stays_secure = c.stays_secure.ensures (key_plan plan) h keys;
-      stream_facts = c.stream_facts.ensures (key_plan plan) h keys;
-      gos_find_keys = c.gos_find_keys.ensures (key_plan plan) h keys;
+      keys_follow_operations = c.keys_follow_operations.ensures (key_plan plan) h keys;
+      set_go_finds_key = c.set_go_finds_key.ensures (key_plan plan) h keys;
       never_again = c.never_again.ensures (key_plan plan) h keys;
       failed_law = c.failed_law.ensures plan h cause;
       numbers_fresh = c.numbers_fresh.ensures plan fits h cause;
@@ -26,7 +26,7 @@ returns c plan h is =
       lock_law = c.lock_law.ensures plan h cause;
       scrubbed = c.scrubbed.ensures plan h cause;
       bind_law = c.bind_law.ensures.law plan h;
-      view_facts = c.views_hold.ensures plan (key_plan plan) h keys interfaces;
+      trusted_packets_fit_view = c.views_hold.ensures plan (key_plan plan) h keys interfaces;
       views_are_true = c.views_are_true.ensures plan h cause;
       one_lock_per_key = c.one_lock_per_key.ensures plan h cause;
       answers_law = c.answers_law.ensures plan h cause;

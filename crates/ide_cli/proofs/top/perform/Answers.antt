@@ -10,9 +10,9 @@ use Rattle.ide_cli.proofs.Requests.{alone_without_memory, answered_alone, answer
 use Rattle.ide_cli.proofs.Requests.{answered_migrate, answered_run, answered_show, answered_why}
 use Rattle.ide_cli.proofs.Requests.{answered_without_memory, asks_alone, asks_for, asks_nothing, ends_as, ends_asked}
 use Rattle.ide_cli.proofs.Requests.{never_ends, ran_without_memory, said}
-use Rattle.line_runs.proofs.Names.{asks_none}
+use Rattle.line_runs.proofs.FileNames.{asks_none}
 use Rattle.ide_cli.specs.Reads.{AsksToJudge, AsksToTell, Names}
-use Rattle.ide_words.specs.Words.{asked}
+use Rattle.cli_words.specs.Words.{asked}
 use Rattle.ide_cli.proofs.Furthers.{asked_far, asked_names, nothing_read}
 use Rattle.ide_cli.proofs.Stops.{asked_wrote, wrote_no_line}
 use Rattle.ide_cli.proofs.top.perform.Given.{Over}

@@ -95,17 +95,17 @@ returns-clause-order_is_no_forgery g c plan h w = (laws g c plan h w).order_is_n
 pub returns-clause-count_law : goal.returns-clause-count_law
 returns-clause-count_law g c plan h w = (laws g c plan h w).count_law
 
-pub returns-clause-settled : goal.returns-clause-settled
-returns-clause-settled g c plan h w = (laws g c plan h w).settled
+pub returns-clause-operations_settle : goal.returns-clause-operations_settle
+returns-clause-operations_settle g c plan h w = (laws g c plan h w).operations_settle
 
 pub returns-clause-stays_secure : goal.returns-clause-stays_secure
 returns-clause-stays_secure g c plan h w = (laws g c plan h w).stays_secure
 
-pub returns-clause-stream_facts : goal.returns-clause-stream_facts
-returns-clause-stream_facts g c plan h w = (laws g c plan h w).stream_facts
+pub returns-clause-keys_follow_operations : goal.returns-clause-keys_follow_operations
+returns-clause-keys_follow_operations g c plan h w = (laws g c plan h w).keys_follow_operations
 
-pub returns-clause-gos_find_keys : goal.returns-clause-gos_find_keys
-returns-clause-gos_find_keys g c plan h w = (laws g c plan h w).gos_find_keys
+pub returns-clause-set_go_finds_key : goal.returns-clause-set_go_finds_key
+returns-clause-set_go_finds_key g c plan h w = (laws g c plan h w).set_go_finds_key
 
 pub returns-clause-never_again : goal.returns-clause-never_again
 returns-clause-never_again g c plan h w = (laws g c plan h w).never_again
@@ -134,8 +134,8 @@ returns-clause-scrubbed g c plan h w = (laws g c plan h w).scrubbed
 pub returns-clause-bind_law : goal.returns-clause-bind_law
 returns-clause-bind_law g c plan h w = (laws g c plan h w).bind_law
 
-pub returns-clause-view_facts : goal.returns-clause-view_facts
-returns-clause-view_facts g c plan h w = (laws g c plan h w).view_facts
+pub returns-clause-trusted_packets_fit_view : goal.returns-clause-trusted_packets_fit_view
+returns-clause-trusted_packets_fit_view g c plan h w = (laws g c plan h w).trusted_packets_fit_view
 
 pub returns-clause-views_are_true : goal.returns-clause-views_are_true
 returns-clause-views_are_true g c plan h w = (laws g c plan h w).views_are_true

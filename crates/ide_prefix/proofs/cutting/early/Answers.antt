@@ -1,6 +1,6 @@
 use Rattle.std.proofs.Common.{◌≡◌, ℕ, true, refl, sym, arith, below_more, get_or, length}
 use Rattle.std.proofs.lemmas.Bool.{eq-eqb}
-use Rattle.ide_prefix.specs.{fits_early}
+use Rattle.ide_prefix.specs.Causes.{fits_early}
 use Rattle.ide_prefix.proofs.cutting.early.Goals as goal
 
 pub loop-place-preserved : goal.loop-place-preserved

@@ -1,5 +1,5 @@
 use Rattle.std.proofs.Common.{◌≡◌, ℕ, ◌<◌, ◌≤◌, true, length, get_or}
-use Rattle.ide_prefix.specs.{fits_early}
+use Rattle.ide_prefix.specs.Causes.{fits_early}
 use Rattle.ide_prefix.proofs.cutting.early.Given as goal
 
 abbrev pub invariant-loop-place : goal.invariant-loop-place

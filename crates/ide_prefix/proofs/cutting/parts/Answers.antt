@@ -1,7 +1,9 @@
 use Rattle.std.proofs.Common.{◌≡◌, ◌+◌, cond, length, get_or, take, drop, ap, ◌∙◌, arith}
 use Rattle.std.proofs.lemmas.Result.{err_from_is_err_and}
 use Rattle.ide_prefix.proofs.Faults.{early_fault, short_fault, trailing_fault, is_cut}
-use Rattle.ide_prefix.specs.{begins_sync, tag_part, Prefix}
+use Rattle.ide_prefix.specs.Packet.{begins_sync}
+use Rattle.ide_prefix.specs.Reading.{tag_part}
+use Rattle.ide_prefix.specs.declared.packet.Prefix.{Prefix}
 use Rattle.ide_prefix.proofs.cutting.parts.Goals as goal
 
 pub returns-in_err-early-clause-err : goal.returns-in_err-early-clause-err

@@ -5,19 +5,11 @@ use Rattle.line_runs.specs.Gain.{Text}
 use Rattle.line_runs.specs.Outcome.{Ran}
 use Rattle.line_runs.proofs.Joins.{later}
 use Rattle.line_runs.proofs.WholeFiles.{IsDue, ran_after, redue}
-use Rattle.ide_judge.specs.Judging.{judged}
-use Rattle.ide_runs.specs.Judge.{left_of}
+use Rattle.line_runs.specs.Judging.{judged}
+use Rattle.ide_runs.specs.Judge.{text_left}
 use Rattle.ide_runs.specs.Reads.{RunNoFurther}
-use Rattle.ide_runs.proofs.Judges.{
-  asks_three,
-  asks_two,
-  cut_run,
-  far_judged,
-  far_left,
-  given_both,
-  given_cut,
-  given_run,
-}
+use Rattle.ide_runs.proofs.Judges.{asks_three, asks_two, cut_run, far_judged, far_left, given_both, given_cut}
+use Rattle.ide_runs.proofs.Judges.{given_run}
 use Rattle.ide_runs.proofs.Judges.{judge_on, judged_same, left_is_due, never_rose, ran_to}
 use Rattle.ide_runs.proofs.Judges.{run_on, wrote_nothing}
 use Rattle.ide_runs.proofs.Loads.{no_line_wrote, nothing_yet}
@@ -92,7 +84,7 @@ returns-clause-answers g c =
     let came = ran_to told run _ _ _ _ _ _ _ c.in-Ok.end text c.new-ran.ensures (sym c.bytes-text.ensures)
     c.in-Ok.ensures.answers in
     ran_after told (judge_on c.args.topology.now c.args.script.now c.args.verdicts.now)
-    (c.in-Ok.end, left_of c.in-Ok.end text) _ _ _ _ _ c.finish.result
+    (c.in-Ok.end, text_left c.in-Ok.end text) _ _ _ _ _ c.finish.result
     (left_is_due told c.args.topology.now c.args.script.now c.args.verdicts.now c.in-Ok.end text came.1
     c.in-Some.ensures.0) came.0
     (subst (λ (t : Text). Ran (c.in-Ok.end, t) (g.O.Sink.seen c.args.out.now) (g.O.Sink.seen c.finish.new.out)

@@ -2,7 +2,7 @@ use Rattle.std.proofs.Common.{◌≡◌, [], option_map}
 use Rattle.line_runs.specs.declared.ends.Fault.TheVariants as fault
 use Rattle.line_runs.specs.Lines.{file_due}
 use Rattle.line_runs.proofs.FileFronts.{nothing_wrote}
-use Rattle.line_runs.proofs.Names.{asks_none}
+use Rattle.line_runs.proofs.FileNames.{asks_none}
 use Rattle.line_runs.proofs.WholeFiles.{out_of_memory, redue}
 use Rattle.line_runs.specs.Gathering.{GoesOn, ended_text}
 use Rattle.line_runs.proofs.Joins.{ended_same, far_same, same_due, same_ended}

@@ -1,6 +1,6 @@
 use Rattle.std.proofs.Common.{Ok, option_map, refl}
 use Rattle.line_runs.specs.declared.ends.End.TheVariants.{Done, NoEvent, TooLong}
-use Rattle.line_runs.proofs.Names.{asks_both, asks_first}
+use Rattle.line_runs.proofs.FileNames.{asks_both, asks_first}
 use Rattle.line_runs.proofs.WholeFiles.{redue}
 use Rattle.line_runs.proofs.Joins.{later}
 use Rattle.ide_runs.specs.declared.topologies.Loaded.TheVariants.{Faulty, Long}

@@ -1,15 +1,15 @@
 use Rattle.std.proofs.Common.{List, ◌++◌, ap, subst, ◌∙◌}
-use Rattle.ide_plan.specs.declared.plan.Plan.{Plan}
+use Rattle.ide_types.specs.declared.plan.Plan.{Plan}
 use Rattle.why_lines.specs.declared.fact.Fact.{Fact}
-use Rattle.world.specs.{Stands, WorldView, world_of}
+use Rattle.world.specs.{WorldStandsFor, WorldView, world_of}
 use Rattle.ide_why.specs.Facts.{facts_read}
 use Rattle.ide_why.proofs.Read.{read_is}
 use Rattle.ide_why.proofs.events.facts.Goals as goal
 
 pub returns : goal.returns
 returns c h stood =
-    let kept : Stands (world_of c.args.world.now.plan c.links.result.now) h =
-    subst (λ (w : WorldView). Stands w h) c.links.ensures.kept stood in
+    let kept : WorldStandsFor (world_of c.args.world.now.plan c.links.result.now) h =
+    subst (λ (w : WorldView). WorldStandsFor w h) c.links.ensures.kept stood in
     c.in_ok-push_event.ensures
     ∙ ap (λ (xs : List Fact). xs ++ facts_read c.plan.result.now c.links.result.now c.args.event.now)
     c.new-facts.ensures.items

@@ -34,6 +34,7 @@ pub returns-else-port-count-clause-lands : goal.returns-else-port-count-clause-l
 returns-else-port-count-clause-lands c =
     land_take c.args.arriving.now.plan.now c.args.arriving.now.keeper.now c.args.arriving.now.end
     c.args.arriving.now.bytes.now c.args.ends.now c.args.trusted.now.contents c.args.accesses.now c.reached-end.result
-    c.reached-end.ensures c.bring.result c.bring.new.ends c.bring.new.trusted.contents c.bring.new.accesses
+    c.reached-end.ensures c.bytes_arrive.result c.bytes_arrive.new.ends c.bytes_arrive.new.trusted.contents
+    c.bytes_arrive.new.accesses
     c.port_of-port.result c.if-goes_through.ensures c.in-None.ensures c.port_of-port.ensures
-    (omega (arith, c.if-port-count.false, c.count-in-None.ensures.value)) c.requires.many c.bring.ensures.brings
+    (omega (arith, c.if-port-count.false, c.count-in-None.ensures.value)) c.requires.many c.bytes_arrive.ensures.brings

@@ -1,5 +1,5 @@
 use Rattle.std.proofs.Common.{◌≡◌, ◌+◌, drop}
-use Rattle.ide_plan.specs.Ends.{peer_end}
+use Rattle.ide_types.specs.Ends.{peer_end}
 use Rattle.line_routes.proofs.arrivals.peer_end.Given as goal
 
 -- among the streams that are left

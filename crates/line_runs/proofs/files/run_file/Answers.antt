@@ -7,7 +7,7 @@ use Rattle.line_runs.specs.Lines.{file_due}
 use Rattle.line_runs.proofs.FileFronts.{cut_wrote, end_at_limit, end_in_piece, end_of_file, fault_answers, fault_wrote}
 use Rattle.line_runs.proofs.FileFronts.{file_begins, file_goes_on, no_further, nothing_more, nothing_wrote, one_byte}
 use Rattle.line_runs.proofs.FileFronts.{whole_at}
-use Rattle.line_runs.proofs.Names.{asks_more, asks_none}
+use Rattle.line_runs.proofs.FileNames.{asks_more, asks_none}
 use Rattle.line_runs.proofs.WholeFiles.{out_of_memory}
 use Rattle.line_runs.proofs.files.run_file.Goals as goal
 
@@ -205,7 +205,7 @@ loop-n-preserved g c =
       given = omega (arith, inv.given, c.in-Ok-read_piece.ensures.counted);
       cap = omega (arith, inv.cap, c.in-Ok-read_piece.ensures.counted);
       names = asks_more (λ other. other ≡ c.args.name.now) _ _ _ inv.names c.in-Ok-read_piece.ensures.names;
-      pieces = omega (arith, inv.pieces, c.in-Ok-read_piece.ensures.pieces);
+      pieces = omega (arith, inv.pieces, c.in-Ok-read_piece.ensures.read_pieces);
       most = omega (arith, c.in-Ok-read_piece.ensures.counts);
       numbered = omega (arith, number, size, inv.numbered);
       fits = (rw c.in-Ok-None.field-0-is at c.in-Ok-None.ensures.fits) refl;

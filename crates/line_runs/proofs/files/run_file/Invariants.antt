@@ -1,5 +1,5 @@
 use Rattle.std.proofs.Common.{◌≡◌, ◌≤◌, ◌-◌, ◌+◌, []}
-use Rattle.ide_base.specs.Outside.{AsksFor, counted}
+use Rattle.cli_files.specs.Outside.{AsksFor, counted}
 use Rattle.line_runs.specs.Front.{AskedPieces}
 use Rattle.line_runs.proofs.FileFronts.{FileSoFarBy}
 use Rattle.line_runs.proofs.files.run_file.Given as goal

@@ -1,7 +1,7 @@
 use Rattle.std.proofs.Common.{◌≡◌, arith, length, refl}
 use Rattle.std.proofs.Math.Nat.{le-max_left}
 use Rattle.line_runs.proofs.Fronts.{gave_of, gave_on, start, whole}
-use Rattle.line_runs.proofs.Names.{asks_more, asks_none}
+use Rattle.line_runs.proofs.FileNames.{asks_more, asks_none}
 use Rattle.line_runs.proofs.front.read_front.Goals as goal
 
 pub loop-buf-init : goal.loop-buf-init

@@ -1,5 +1,5 @@
 use Rattle.std.proofs.Common.{◌≡◌, ◌≤◌, ◌-◌, ◌+◌, length}
-use Rattle.ide_base.specs.Outside.{AsksFor, counted}
+use Rattle.cli_files.specs.Outside.{AsksFor, counted}
 use Rattle.line_runs.specs.Front.{AskedPieces, IsReadOf}
 use Rattle.line_runs.proofs.front.read_front.Given as goal
 

@@ -1,5 +1,5 @@
 use Rattle.std.proofs.Common.{◌≡◌, ◌<◌, ℕ, Ok, length, arith, rules, subst}
-use Rattle.ide_base.specs.Outside.{ReadFrom}
+use Rattle.cli_files.specs.Outside.{ReadFrom}
 use Rattle.line_runs.proofs.Fronts.{reads_on}
 use Rattle.line_runs.proofs.front.read_on.Goals as goal
 

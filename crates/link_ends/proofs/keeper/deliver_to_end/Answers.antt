@@ -1,6 +1,6 @@
 use Rattle.std.proofs.Common.{◌∙◌, ap, List, ℕ, ◌++◌}
 use Rattle.link_ends.proofs.Terms.{current, Side}
-use Rattle.line_ends.specs.Ends.{answered_end, end_in, end_reply, with_end}
+use Rattle.link_ends.specs.LineEnds.{answered_end, end_in, end_reply, with_end}
 use Rattle.link_ends.proofs.Calls.{asked_of_end}
 use Rattle.link_ends.proofs.keeper.deliver_to_end.Goals as goal
 

@@ -1,5 +1,5 @@
 use Rattle.std.proofs.Common.{◌≡◌, ◌≤◌, ◌+◌, ◌++◌, drop, length}
-use Rattle.ide_plan.specs.Ends.{peer_ends}
+use Rattle.ide_types.specs.Ends.{peer_ends}
 use Rattle.script_events.proofs.resets.push_peer_ends.Given as goal
 
 -- the ends so far and those of the streams that are left

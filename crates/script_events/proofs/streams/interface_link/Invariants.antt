@@ -1,5 +1,5 @@
 use Rattle.std.proofs.Common.{◌≡◌, drop}
-use Rattle.ide_plan.specs.Ends.{interface_link}
+use Rattle.ide_types.specs.Ends.{interface_link}
 use Rattle.script_events.proofs.streams.interface_link.Given as goal
 
 -- among the links that are left, by what is left of its number

@@ -1,7 +1,7 @@
 use Rattle.std.proofs.Common.{◌≡◌, ℕ, ◌==◌, true, List, [], ◌++◌, length, sym, ap, ◌∙◌, arith}
-use Rattle.gcm_seal.specs.Gcm.{masked}
+use Rattle.gcm_seal.specs.Gcm.{masked_bytes}
 use Rattle.ide_prefix.specs.Packet.{prefix_bytes}
-use Rattle.ide_prefix.specs.Units.{encrypted}
+use Rattle.ide_prefix.specs.Units.{encrypted_bytes}
 use Rattle.sub_stream.specs.Gathered.{clear_of, with_packet}
 use Rattle.sub_stream.proofs.Sealed.{bytes-sealed, bytes-alone, parts-appended}
 use Rattle.sub_stream.proofs.sender.append_packet.Goals as goal
@@ -23,9 +23,11 @@ returns-then-is_empty-clause-items c =
 
 parts : (c : goal.After-append_tag) → (c.parts_from.result.0.now ≡ prefix_bytes c.args.prefix.now ++ c.args.head.now)
     × (c.parts_from.result.1.now
-    ≡ masked c.args.cipher.now c.args.iv.now (length (encrypted c.args.unit.now.packets)) c.args.payload.now)
+    ≡ masked_bytes c.args.cipher.now c.args.iv.now (length (encrypted_bytes c.args.unit.now.packets))
+    c.args.payload.now)
     × (c.append_untagged.new.out.items ≡ c.args.out.now.items ++ (prefix_bytes c.args.prefix.now ++ (c.args.head.now
-    ++ masked c.args.cipher.now c.args.iv.now (length (encrypted c.args.unit.now.packets)) c.args.payload.now)))
+    ++ masked_bytes c.args.cipher.now c.args.iv.now (length (encrypted_bytes c.args.unit.now.packets))
+    c.args.payload.now)))
 parts c =
     parts-appended c.args.cipher.now c.args.iv.now c.args.out.now.items c.append_untagged.new.out.items
     c.as_slice.result.now c.args.head.now c.args.payload.now c.body.result.now c.parts_from.result.0.now
@@ -36,7 +38,8 @@ parts c =
 joined : (c : goal.After-append_tag) → c.push.new.self ≡ with_packet c.args.unit.now (record {
   prefix = c.args.prefix.now;
   head = c.args.head.now;
-  body = masked c.args.cipher.now c.args.iv.now (length (encrypted c.args.unit.now.packets)) c.args.payload.now;
+  body = masked_bytes c.args.cipher.now c.args.iv.now (length (encrypted_bytes c.args.unit.now.packets))
+      c.args.payload.now;
   tag = [];
 })
 joined c =

@@ -3,9 +3,9 @@ use Rattle.all_ends.proofs.Terms.{slice_get_within, EndsView, PortEnd, port_on, 
 use Rattle.std.specs.Prelude.{IsSome, is_some, true, false}
 use Rattle.ide_prefix.specs.Reading.{cut_of}
 use Rattle.ide_port.specs.declared.answer.Arrival.{Arrival}
-use Rattle.accesses.specs.declared.link.LinkAccesses.{LinkAccesses}
+use Rattle.link_stores.specs.declared.link.LinkAccesses.{LinkAccesses}
 use Rattle.arrival_verdicts.specs.Verdicts.{grants_in}
-use Rattle.all_ends.specs.AllEnds.{Comes, settled_at}
+use Rattle.all_ends.specs.AllEnds.{Comes, settled_by_side}
 use Rattle.all_ends.proofs.ByPlace.{there}
 use Rattle.all_ends.proofs.Lent.{some_port, port_put, link_after}
 use Rattle.all_ends.proofs.Comes.{comes_as}
@@ -24,10 +24,10 @@ arrived-verdict-requires-clause-link c =
     let e = some_port (port_on c.args.self.now c.args.end) (sym c.if-not-has_end.ensures) in
     let t = c.take-arrival.ensures e.0 e.1 in
     let p : PortEnd = (take_step e.0 (cut_of c.args.bytes.now)).port in
-    let l = there c.args.self.now.links c.args.port.link c.requires.link in
-    let l' = link_after c.args.self.now c.args.end p c.args.port.link l.0 l.1 in
-    subst (λ (v : EndsView). c.args.port.link < length v.links) (sym t.new_is)
-    (slice_get_within (with_port_on c.args.self.now c.args.end p).links c.args.port.link l'.0 l'.1)
+    let l = there c.args.self.now.links c.args.port.line c.requires.link in
+    let l' = link_after c.args.self.now c.args.end p c.args.port.line l.0 l.1 in
+    subst (λ (v : EndsView). c.args.port.line < length v.links) (sym t.new_is)
+    (slice_get_within (with_port_on c.args.self.now c.args.end p).links c.args.port.line l'.0 l'.1)
 
 pub returns-then-not-has_end-clause-arrives : goal.returns-then-not-has_end-clause-arrives
 returns-then-not-has_end-clause-arrives c = λ e l a is at access.
@@ -48,16 +48,16 @@ returns-clause-arrives c = λ e l a is at access.
     let p : PortEnd = (take_step e (cut_of c.args.bytes.now)).port in
     let after : port_on c.take-arrival.new.self c.args.end ≡ Some p =
     ap (λ (v : EndsView). port_on v c.args.end) t.new_is ∙ port_put c.args.self.now c.args.end e p is in
-    let l' = link_after c.args.self.now c.args.end p c.args.port.link l at in
-    let here : slice_get c.take-arrival.new.self.links c.args.port.link ≡ Some l'.0 =
-    ap (λ (v : EndsView). slice_get v.links c.args.port.link) t.new_is ∙ l'.1 in
+    let l' = link_after c.args.self.now c.args.end p c.args.port.line l at in
+    let here : slice_get c.take-arrival.new.self.links c.args.port.line ≡ Some l'.0 =
+    ap (λ (v : EndsView). slice_get v.links c.args.port.line) t.new_is ∙ l'.1 in
     let regions = c.args.memory.now.contents.regions in
     let grants = grants_in c.args.keeper.now in
     let alike : c.at_mut-access.result.now ≡ a =
     same_Some c.at_mut-access.result.now a (sym c.at_mut-access.ensures.value ∙ access) in
     record {
       access = c.arrived-verdict.new.access;
-      new_is = c.settle_at.ensures ∙ ap (λ (v : EndsView). settled_at c.args.port v) t.new_is;
+      new_is = c.settle_at.ensures ∙ ap (λ (v : EndsView). settled_by_side c.args.port v) t.new_is;
       accesses_are = refl;
       came = subst (λ (b : LinkAccesses). Comes regions grants c.args.end c.args.port
           (take_step e (cut_of c.args.bytes.now)).answer c.arrived-verdict.result c.args.memory.now.contents

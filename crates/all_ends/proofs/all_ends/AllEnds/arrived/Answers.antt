@@ -3,16 +3,10 @@ use Rattle.all_ends.proofs.Terms.{same_Some, EndsView, LinkEnds, PortEnd}
 use Rattle.guarded_memory.specs.{Happened, MmioLeads}
 use Rattle.trusted_memory.specs.{Leads, Write}
 use Rattle.arrival_verdicts.specs.{reads_by}
-use Rattle.arrival_verdicts.specs.Verdicts.{
-  arrival_verdict,
-  effects_from,
-  grants_in,
-  packet_stored,
-  packet_write,
-  of_unit,
-}
+use Rattle.arrival_verdicts.specs.Verdicts.{arrival_verdict, effects_from, grants_in, packet_stored, packet_write}
+use Rattle.arrival_verdicts.specs.Verdicts.{of_unit}
 use Rattle.arrival_verdicts.specs.Verdicts.{unit_writes}
-use Rattle.all_ends.specs.AllEnds.{standings_in}
+use Rattle.all_ends.specs.AllEnds.{link_standings}
 use Rattle.all_ends.proofs.Lent.{read_there}
 use Rattle.all_ends.proofs.all_ends.AllEnds.arrived.Goals as goal
 
@@ -25,13 +19,13 @@ returns-clause-comes c = λ e l is at.
     let grants = grants_in c.args.keeper.now in
     let a = c.args.access.now in
     let x : LinkEnds = c.index.result.now in
-    let same : x ≡ l = read_there c.self.inside.links.items port.link x l c.index.ensures
-    (ap (λ (v : EndsView). slice_get v.links port.link) c.self.view_is ∙ at) in
+    let same : x ≡ l = read_there c.self.inside.links.items port.line x l c.index.ensures
+    (ap (λ (v : EndsView). slice_get v.links port.line) c.self.view_is ∙ at) in
     let got : c.unwrap.result.now ≡ e = same_Some c.unwrap.result.now e
     (sym (ap (λ o. option_map (λ d. d.now) o) c.unwrap.ensures) ∙ (c.port.ensures ∙ is)) in
     let seen : c.delivered-packets.result ≡ e.delivered =
     c.delivered-packets.ensures ∙ ap (λ (q : PortEnd). q.delivered) got in
-    let stand : standings_in x a ≡ standings_in l a = ap (λ (z : LinkEnds). standings_in z a) same in
+    let stand : link_standings x a ≡ link_standings l a = ap (λ (z : LinkEnds). link_standings z a) same in
     record {
       verdict_is = c.taken_verdict.ensures.verdict ∙ (λ j. arrival_verdict end port answer
           (λ unit. effects_from regions grants (stand j) (length a.reads) port unit (seen j)));

@@ -1,6 +1,6 @@
 use Rattle.all_ends.proofs.Terms.{subst, slice_set, EndsView}
 use Rattle.all_ends.specs.AllEnds.{CallsAt}
-use Rattle.tdi_state.specs.Machine.{LevelReset}
+use Rattle.interface_state.specs.Machine.{LevelReset}
 use Rattle.all_ends.proofs.Lent.{call_there}
 use Rattle.all_ends.proofs.all_ends.AllEnds.flr.Goals as goal
 

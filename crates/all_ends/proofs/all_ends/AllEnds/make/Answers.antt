@@ -1,7 +1,7 @@
 use Rattle.all_ends.proofs.Terms.{◌≡◌, ◌∙◌, ◌++◌, ap, sym, subst, All, List, map, FitsStream, LinkPlan, Plan}
 use Rattle.all_ends.proofs.Terms.{StreamPlan}
 use Rattle.arrival_verdicts.specs.{in_eight}
-use Rattle.ide_plan.specs.Fits.{FitsPlan}
+use Rattle.ide_types.specs.Fits.{FitsPlan}
 use Rattle.all_ends.specs.Ends.{hop_row, peer_row, ends_from, near_from, pairs_from, new_all_ends}
 use Rattle.all_ends.proofs.Rows.{near_fit, pairs_fit}
 use Rattle.all_ends.proofs.all_ends.AllEnds.make.Goals as goal

@@ -1,7 +1,7 @@
-use Rattle.all_ends.proofs.Terms.{◌∙◌, subst, slice_set, EndsView, LinkEnds, PairEnds, live_on}
-use Rattle.device_side.specs.Ends.{secure_with}
-use Rattle.interface_states.specs.Peers.{live_by}
-use Rattle.tdi_device.specs.Replies.{settled_tdis}
+use Rattle.all_ends.proofs.Terms.{◌∙◌, subst, slice_set, EndsView, LinkEnds, PairEnds, peer_live}
+use Rattle.link_ends.specs.DeviceEnds.{secure_with}
+use Rattle.spec_interfaces.specs.Peers.{live_by_id}
+use Rattle.interface_device.specs.Replies.{settled_interfaces}
 use Rattle.all_ends.specs.Ends.{live_of}
 use Rattle.all_ends.specs.AllEnds.{OperatesAt, Settles}
 use Rattle.all_ends.proofs.Lent.{operate_link, operate_near, operate_pair}
@@ -18,9 +18,9 @@ returns-in-Link-clause-operates c =
     let i = c.in-Link.i in
     let x : LinkEnds = c.index_mut.result.now in
     let y : LinkEnds = c.operate.new.ends in
-    let settles : Settles (live_on old i) x y = c.operate.ensures.settles
-    ∙ (λ j. settled_tdis (secure_with y.device.port (λ stream.
-    live_by (live_of (c.deref.ensures.value j)) (c.deref-in-Link.ensures.value j) i stream)) x.device.interfaces) in
+    let settles : Settles (peer_live old i) x y = c.operate.ensures.settles
+    ∙ (λ j. settled_interfaces (secure_with y.device.port (λ stream.
+    live_by_id (live_of (c.deref.ensures.value j)) (c.deref-in-Link.ensures.value j) i stream)) x.device.interfaces) in
     subst (λ (v : EndsView). OperatesAt v c.args.line c.args.keeper.now.keys c.args.op c.args.loss c.operate.result
     (record old { links = slice_set old.links i y }) c.operate.new.self.keys) c.self.view_is
     (operate_link old c.args.line i c.args.keeper.now.keys c.operate.new.self.keys c.args.op c.args.loss

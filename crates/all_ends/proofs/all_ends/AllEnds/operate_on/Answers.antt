@@ -1,8 +1,8 @@
 use Rattle.all_ends.proofs.Terms.{◌≡◌, ℕ, subst, Option, slice_get, slice_set, EndsView, LinkEnds}
 use Rattle.std.specs.Prelude.{IfSome}
-use Rattle.interface_states.specs.Peers.{live_by}
+use Rattle.spec_interfaces.specs.Peers.{live_by_id}
 use Rattle.link_ends.specs.Hosts.{operated_on}
-use Rattle.tdi_ends.specs.Keepers.{Ended}
+use Rattle.interface_ends.specs.Keepers.{Ended}
 use Rattle.all_ends.specs.Ends.{live_of}
 use Rattle.all_ends.specs.AllEnds.{AsksAt}
 use Rattle.all_ends.proofs.Lent.{asks_there}
@@ -27,7 +27,7 @@ returns c =
     (slice_get c.args.keeper.now.interfaces.interfaces c.args.interface)
     (λ i. e ≡ operated_on c.args.interface c.args.op c.args.loss c.args.keeper.now.keys live
     c.args.keeper.now.interfaces x i))
-    (λ j. (λ stream. live_by (live_of (c.deref.ensures.value j)) (c.deref-2.ensures.value j) c.args.link stream))
+    (λ j. (λ stream. live_by_id (live_of (c.deref.ensures.value j)) (c.deref-2.ensures.value j) c.args.link stream))
     c.operate_on.ensures.operated in
     subst (λ (v : EndsView). AsksAt v c.args.link c.args.keeper.now c.args.interface c.args.op c.args.loss
     c.operate_on.result (record old { links = slice_set old.links c.args.link y }) c.operate_on.new.self) c.self.view_is

@@ -1,18 +1,5 @@
-use Rattle.all_ends.proofs.Terms.{
-  ◌≡◌,
-  ◌∙◌,
-  ◌-◌,
-  ap,
-  sym,
-  subst,
-  arith,
-  nat_tests,
-  nat_lt,
-  Bool,
-  true,
-  false,
-  option_map,
-}
+use Rattle.all_ends.proofs.Terms.{◌≡◌, ◌∙◌, ◌-◌, ap, sym, subst, arith, nat_tests, nat_lt, Bool, true, false}
+use Rattle.all_ends.proofs.Terms.{option_map}
 use Rattle.all_ends.proofs.Terms.{if◌then◌else◌, slice_set, EndsView}
 use Rattle.ide_port.specs.{Trusting}
 use Rattle.all_ends.specs.Ends.{far_hop_trust, bound_trust, bound_on, pair_trust}

@@ -1,5 +1,5 @@
 use Rattle.all_ends.proofs.Terms.{◌∙◌, ap, List, EndsView, LinkEnds, changed_at, settled_ends, settled_link}
-use Rattle.interface_states.specs.Peers.{live_by}
+use Rattle.spec_interfaces.specs.Peers.{live_by_id}
 use Rattle.all_ends.specs.Ends.{live_of}
 use Rattle.all_ends.proofs.all_ends.AllEnds.settle_link.Goals as goal
 
@@ -14,5 +14,5 @@ returns c =
     ap (λ (ls : List LinkEnds). record old { links = ls })
     (c.settle_one.ensures
     ∙ (λ j. changed_at old.links c.args.link (settled_ends (λ stream.
-    live_by (live_of (c.deref.ensures.value j)) (c.deref-2.ensures.value j) c.args.link stream))))
+    live_by_id (live_of (c.deref.ensures.value j)) (c.deref-2.ensures.value j) c.args.link stream))))
     ∙ ap (λ (v : EndsView). settled_link v c.args.link) c.self.view_is

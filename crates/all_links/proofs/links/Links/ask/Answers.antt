@@ -1,5 +1,5 @@
 use Rattle.std.proofs.lemmas.Result.{err_from_is_err_and}
-use Rattle.ide_types.specs.declared.memory.Memory.{Memory}
+use Rattle.ide_types.specs.declared.memory.OutOfMemory.{OutOfMemory}
 use Rattle.all_links.proofs.Terms.{ap, sym, subst, EndsWith, Interface, Option, Result, Verdict, answer_of_links}
 use Rattle.all_links.specs.Links.{EndsAsOr}
 use Rattle.link_events.specs.declared.event.InterfaceEvent.{InterfaceEvent}
@@ -53,5 +53,5 @@ returns-in_ok-memory-in-Memory-clause-ends c plan =
 pub returns-in_err-memory-in-Memory-clause-ends : goal.returns-in_err-memory-in-Memory-clause-ends
 returns-in_err-memory-in-Memory-clause-ends c plan =
     let p = err_from_is_err_and c.from_residual.result c.from_residual.ensures.1 in
-    subst (λ (r : Result (Option Verdict) Memory). EndsAsOr plan r c.args.self.now c.memory.new.self
+    subst (λ (r : Result (Option Verdict) OutOfMemory). EndsAsOr plan r c.args.self.now c.memory.new.self
     (Interface c.args.event.now)) (sym p.1) (c.in_err-memory-in-Memory.ensures.ends plan)

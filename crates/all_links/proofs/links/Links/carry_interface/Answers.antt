@@ -1,5 +1,5 @@
 use Rattle.all_links.proofs.Terms.{subst, ◌<◌, ℕ, [], length, slice_get_within}
-use Rattle.interface_answers.proofs.{answered_no_bad_reply}
+use Rattle.line_arrivals.proofs.{answered_no_bad_reply}
 use Rattle.all_links.specs.Interfaces.{interface_named}
 use Rattle.all_links.proofs.Asked.{link_of, is_there, is_found, answered}
 use Rattle.all_links.proofs.links.Links.carry_interface.Goals as goal

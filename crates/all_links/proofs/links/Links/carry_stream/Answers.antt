@@ -1,4 +1,4 @@
-use Rattle.all_links.proofs.Terms.{ℕ, refl, subst, sym, IsSome, Option, Verdict, OperatesAt, named, Named, told_at}
+use Rattle.all_links.proofs.Terms.{ℕ, refl, subst, sym, IsSome, Option, Verdict, OperatesAt, named, Named, told_by_line}
 use Rattle.all_links.proofs.Terms.{drawn_at, ◌≡◌, ◌==◌, not, work_of, ◌∙◌, ap}
 use Rattle.std.specs.Prelude.{IfSome}
 use Rattle.tsm_host.specs.Operations.{op_name}
@@ -17,9 +17,9 @@ returns-clause-operates c =
 pub returns-clause-interfaces : goal.returns-clause-interfaces
 returns-clause-interfaces c =
     let draw : ℕ = c.args.self.now.keeper.keys.pool.draws in
-    subst (λ (line : ℕ). IfSome (named c.args.self.now.keeper.keys.manager (op_name c.args.op).link
+    subst (λ (line : ℕ). IfSome (named c.args.self.now.keeper.keys.manager (op_name c.args.op).line
     (op_name c.args.op).stream) (λ (n : Named). c.operate.new.keeper.interfaces
-    ≡ told_at line c.args.op (work_of (op_name c.args.op).operation n.stream.op 0).begins
+    ≡ told_by_line line c.args.op (work_of (op_name c.args.op).operation n.stream.op 0).begins
     (not (c.operate.new.keeper.keys.pool.draws == draw)) draw c.operate.result c.args.self.now.keeper.interfaces))
     c.link.ensures c.operate.ensures.interfaces
 
@@ -47,4 +47,4 @@ returns-clause-no_bad_reply c works plan stands =
     (subst (λ (line : ℕ). OperatesAt c.args.self.now.ends line c.args.self.now.keeper.keys c.args.op c.args.loss
     c.operate.result c.operate.new.self c.operate.new.keeper.keys) c.link.ensures c.operate.ensures.operates) in
     let a = op_name c.args.op in
-    no_bad_reply a.operation a.link a.stream c.args.loss c.operate.result due.0 due.1
+    no_bad_reply a.operation a.line a.stream c.args.loss c.operate.result due.0 due.1

@@ -1,7 +1,7 @@
 use Rattle.all_links.proofs.Terms.{◌≡◌, subst, slice_get, InterfacesView}
 use Rattle.std.specs.Prelude.{IfSome}
-use Rattle.tdi_host.specs.Views.{HostTdi}
-use Rattle.interface_answers.proofs.{there}
+use Rattle.interface_host.specs.Views.{HostTdi}
+use Rattle.line_arrivals.proofs.{there}
 use Rattle.all_links.proofs.Asked.{if_some, draw_is}
 use Rattle.all_links.proofs.links.Links.device_draw.Goals as goal
 

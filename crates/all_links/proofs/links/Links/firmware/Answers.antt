@@ -1,9 +1,9 @@
 use Rattle.all_links.proofs.Terms.{ℕ, true, Option, Some, refl, ap, sym, option_and_then}
-use Rattle.tdi_state.specs.Machine.{Tdi, FirmwareUpdate}
+use Rattle.interface_state.specs.Machine.{Tdi, FirmwareUpdate}
 use Rattle.link_events.specs.declared.event.InterfaceEvent.TheVariants as ie
 use Rattle.link_verdicts.specs.declared.verdict.Verdict.TheVariants as v
-use Rattle.interface_words.specs.declared.verdict.InterfaceVerdict.TheVariants as iv
-use Rattle.all_links.specs.Interfaces.{firmware_as, tdi_of_ends}
+use Rattle.ide_types.specs.declared.verdict.InterfaceVerdict.TheVariants as iv
+use Rattle.all_links.specs.Interfaces.{firmware_as, interface_of_ends}
 use Rattle.all_links.proofs.Finds.{only_says}
 use Rattle.all_links.proofs.Asked.{is_there, called}
 use Rattle.all_links.proofs.Sides.{nothing_called, called_beside}
@@ -20,7 +20,7 @@ pub returns-in-None-clause-ends : goal.returns-in-None-clause-ends
 returns-in-None-clause-ends c plan =
     only_says plan (ie.Firmware c.args.number)
     (ap (λ (o : Option (ℕ × ℕ)). Some
-    (firmware_as c.args.number (option_and_then (tdi_of_ends c.args.self.now.ends.links) o)))
+    (firmware_as c.args.number (option_and_then (interface_of_ends c.args.self.now.ends.links) o)))
     c.in-None.ensures) c.only.ensures.value c.only.ensures.links c.requires.bounded
 
 pub returns-in-Some-clause-ends : goal.returns-in-Some-clause-ends

@@ -1,6 +1,6 @@
 use Rattle.all_links.proofs.Terms.{◌∙◌, List, ap, refl, Plan, Region}
 use Rattle.trusted_memory.specs.{new_memory}
-use Rattle.interface_answers.specs.{HostKeeper}
+use Rattle.line_arrivals.specs.{HostKeeper}
 use Rattle.all_links.proofs.links.Links.make.Goals as goal
 
 pub returns : goal.returns

@@ -2,9 +2,9 @@ use Rattle.all_links.proofs.Terms.{ℕ, zero, suc, refl, ◌+◌, ◌++◌, take
 use Rattle.all_links.proofs.Terms.{true, false, length, ap, sym, ◌∙◌, ◌≡◌, arith, MemoryContents, Some}
 use Rattle.link_events.specs.declared.event.InterfaceEvent.TheVariants as ie
 use Rattle.link_verdicts.specs.declared.verdict.Verdict.TheVariants as v
-use Rattle.interface_words.specs.declared.verdict.InterfaceVerdict.TheVariants as iv
+use Rattle.ide_types.specs.declared.verdict.InterfaceVerdict.TheVariants as iv
 use Rattle.trusted_memory.specs.{byte_at, bytes_from, in_one_region}
-use Rattle.all_links.specs.Interfaces.{read_as}
+use Rattle.all_links.specs.Interfaces.{memory_verdict}
 use Rattle.all_links.proofs.Finds.{only_says}
 use Rattle.all_links.proofs.Sides.{keeps_all}
 use Rattle.all_links.proofs.links.Links.memory.Goals as goal
@@ -30,10 +30,10 @@ returns-then-peek-clause-ends c plan =
     ap (λ (n : ℕ). take n (c.peek.new.buf ++ rest)) (c.in_ok-bytes.ensures.len ∙ sym whole) ∙ take-append_seam
     c.peek.new.buf rest in
     let bytes : c.new-bytes.result ≡ bytes_from (byte_at m) at c.args.length = c.new-bytes.ensures ∙ written ∙ read in
-    let due : v.Interface (iv.Memory c.new-bytes.result) ≡ read_as (in_one_region m.regions at c.args.length)
+    let due : v.Interface (iv.Memory c.new-bytes.result) ≡ memory_verdict (in_one_region m.regions at c.args.length)
     (bytes_from (byte_at m) at c.args.length) =
     ap (λ (bs : List ℕ). v.Interface (iv.Memory bs)) bytes ∙ ap
-    (λ (b : Bool). read_as b (bytes_from (byte_at m) at c.args.length)) (sym inside) in
+    (λ (b : Bool). memory_verdict b (bytes_from (byte_at m) at c.args.length)) (sym inside) in
     only_says plan (ie.Memory at c.args.length) (ap Some due) c.shows.ensures.value c.shows.ensures.links
     c.requires.bounded
 
@@ -45,8 +45,9 @@ returns-else-peek-clause-ends c plan =
     (arith, c.deref_mut.ensures.len, c.in_ok-bytes.ensures.len) in
     let outside : in_one_region m.regions at c.args.length ≡ false = ap (λ (n : ℕ). in_one_region m.regions at n)
     (sym len) ∙ sym c.peek.ensures.answer ∙ c.if-peek.false in
-    let due : v.Nothing ≡ read_as (in_one_region m.regions at c.args.length) (bytes_from (byte_at m) at c.args.length) =
-    ap (λ (b : Bool). read_as b (bytes_from (byte_at m) at c.args.length)) (sym outside) in
+    let due : v.Nothing ≡ memory_verdict (in_one_region m.regions at c.args.length)
+    (bytes_from (byte_at m) at c.args.length) =
+    ap (λ (b : Bool). memory_verdict b (bytes_from (byte_at m) at c.args.length)) (sym outside) in
     only_says plan (ie.Memory at c.args.length) (ap Some due) c.only.ensures.value c.only.ensures.links
     c.requires.bounded
 

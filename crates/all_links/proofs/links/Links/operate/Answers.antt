@@ -14,13 +14,13 @@ pub carry_stream-outcome-requires-clause-here : goal.carry_stream-outcome-requir
 carry_stream-outcome-requires-clause-here c =
     let n = found_is c.args.self.now.keeper.keys.manager c.args.self.now.ends c.args.line c.args.stream
     c.in-Some.line c.in-Some.stream c.in-Some.ensures in
-    subst (λ (a : OpName). IsSome (port_on c.args.self.now.ends (host_port a.link))) (sym c.named_op-op.ensures) n.here
+    subst (λ (a : OpName). IsSome (port_on c.args.self.now.ends (host_port a.line))) (sym c.named_op-op.ensures) n.here
 
 pub carry_stream-outcome-requires-clause-stream : goal.carry_stream-outcome-requires-clause-stream
 carry_stream-outcome-requires-clause-stream c =
     let n = found_is c.args.self.now.keeper.keys.manager c.args.self.now.ends c.args.line c.args.stream
     c.in-Some.line c.in-Some.stream c.in-Some.ensures in
-    subst (λ (a : OpName). IsSome (named c.args.self.now.keeper.keys.manager a.link a.stream))
+    subst (λ (a : OpName). IsSome (named c.args.self.now.keeper.keys.manager a.line a.stream))
     (sym c.named_op-op.ensures) n.there
 
 pub returns-in-None-clause-ends : goal.returns-in-None-clause-ends
@@ -59,14 +59,14 @@ returns-else-not-works_on-clause-ends c plan =
     after.keeper c.named_op-op.result c.args.operation c.in-Some.line c.in-Some.stream c.args.loss
     c.carry_stream-outcome.result verdict c.requires.bounded works n.here n.there
     c.named_op-op.ensures
-    (subst (λ (a : OpName). OperatesAt c.args.self.now.ends a.link c.args.self.now.keeper.keys c.named_op-op.result
+    (subst (λ (a : OpName). OperatesAt c.args.self.now.ends a.line c.args.self.now.keeper.keys c.named_op-op.result
     c.args.loss c.carry_stream-outcome.result after.ends after.keeper.keys) c.named_op-op.ensures
     c.carry_stream-outcome.ensures.operates)
     (sym c.operated_verdict.ensures ∙ is)))
     (λ none stands answered. some_none (subst
-    (λ (a : OpName). IsSome (verdict_of a.operation a.link a.stream c.args.loss c.carry_stream-outcome.result))
+    (λ (a : OpName). IsSome (verdict_of a.operation a.line a.stream c.args.loss c.carry_stream-outcome.result))
     c.named_op-op.ensures (c.carry_stream-outcome.ensures.answered
-    (subst (λ (a : OpName). works_on a.operation a.link ≡ true) (sym c.named_op-op.ensures) works) plan stands))
+    (subst (λ (a : OpName). works_on a.operation a.line ≡ true) (sym c.named_op-op.ensures) works) plan stands))
     (sym c.operated_verdict.ensures ∙ none)))
 
 pub returns-in-None-clause-sides : goal.returns-in-None-clause-sides
@@ -94,7 +94,7 @@ returns-else-not-works_on-clause-sides c =
     (operated_beside c.args.self.now after.ends after.keeper c.named_op-op.result
     c.args.operation c.in-Some.line c.in-Some.stream c.args.loss c.carry_stream-outcome.result verdict
     n.named_is n.here c.named_op-op.ensures
-    (subst (λ (a : OpName). OperatesAt c.args.self.now.ends a.link c.args.self.now.keeper.keys c.named_op-op.result
+    (subst (λ (a : OpName). OperatesAt c.args.self.now.ends a.line c.args.self.now.keeper.keys c.named_op-op.result
     c.args.loss c.carry_stream-outcome.result after.ends after.keeper.keys) c.named_op-op.ensures
     c.carry_stream-outcome.ensures.operates)
     c.carry_stream-outcome.ensures.interfaces c.carry_stream-outcome.ensures.peer_draws

@@ -1,6 +1,6 @@
 use Rattle.all_links.proofs.Terms.{ap, refl, sym, subst, ◌∙◌, ◌+◌, List, ℕ, option_map, Links, Interface, Option}
 use Rattle.all_links.proofs.Terms.{IsSome, Verdict}
-use Rattle.tdi_ends.specs.Keepers.{Ended}
+use Rattle.interface_ends.specs.Keepers.{Ended}
 use Rattle.all_links.proofs.Asked.{asked_nowhere, operated_as}
 use Rattle.all_links.proofs.Finds.{ends_as, if_some, some_none}
 use Rattle.all_links.proofs.Sides.{nothing_asked, asked_beside}

@@ -1,6 +1,6 @@
 use Rattle.all_links.proofs.Terms.{ap, refl, sym, ◌∙◌, ◌++◌, ◌+◌, ℕ, option_map, InterfacesView, Links, Interface}
 use Rattle.link_events.specs.declared.event.InterfaceEvent.TheVariants as ie
-use Rattle.tdi_host.specs.declared.operation.InterfaceOp.TheVariants as op
+use Rattle.interface_host.specs.declared.operation.InterfaceOperation.TheVariants as op
 use Rattle.all_links.proofs.Asked.{asked_nowhere, operated_as}
 use Rattle.all_links.proofs.Finds.{ends_as, if_some, some_none}
 use Rattle.all_links.proofs.Sides.{nothing_asked, asked_beside}

@@ -1,5 +1,5 @@
 use Rattle.all_links.proofs.Terms.{Reset, ap, sym, false}
-use Rattle.interface_answers.specs.{HostKeeper}
+use Rattle.line_arrivals.specs.{HostKeeper}
 use Rattle.all_links.proofs.Finds.{nothing_changes}
 use Rattle.all_links.proofs.Resets.{reset_step, resets}
 use Rattle.all_links.proofs.Sides.{nothing_resets, reset_beside}

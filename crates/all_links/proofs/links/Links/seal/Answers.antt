@@ -1,9 +1,9 @@
 use Rattle.all_links.proofs.Terms.{ap, sym, ◌∙◌, ◌≡◌, ◌+◌, ℕ, length, subst, List, ◌++◌, map, Some, append-nil, Plan}
 use Rattle.all_links.proofs.Terms.{MeasuredPacket, Sent, lengths_sent, Links, SendsAt, EndsView, port_on}
 use Rattle.ide_port.specs.{PortEnd}
-use Rattle.interface_answers.specs.{cut_packets, end_sent_verdict}
+use Rattle.line_arrivals.specs.{cut_packets, end_sent_verdict}
 use Rattle.ide_types.specs.declared.port.PortName.{PortName}
-use Rattle.link_history.specs.Ports.{port_of}
+use Rattle.spec_links.specs.Ports.{port_of}
 use Rattle.all_links.proofs.Sends.{not_sealed, seals, sealed_length, sent_keeps}
 use Rattle.all_links.proofs.links.Links.seal.Goals.{in-Sealed, in_default}
 use Rattle.all_links.proofs.links.Links.seal.Goals as goal

@@ -1,9 +1,9 @@
 use Rattle.std.proofs.Common.{◌&&◌}
 use Rattle.all_links.proofs.Terms.{nat_lt, refl, subst, Verdict}
 use Rattle.link_events.specs.declared.event.InterfaceEvent.TheVariants as ie
-use Rattle.tdi_host.specs.declared.operation.InterfaceOp.TheVariants as op
-use Rattle.tdi_host.specs.declared.operation.PeerStream.{PeerStream}
-use Rattle.all_links.specs.Interfaces.{has_peer_in, peer_stream}
+use Rattle.interface_host.specs.declared.operation.InterfaceOperation.TheVariants as op
+use Rattle.interface_host.specs.declared.operation.PeerStream.{PeerStream}
+use Rattle.all_links.specs.Interfaces.{has_peer_in, managed_peer_stream}
 use Rattle.all_links.specs.Sides.{SidesAsk}
 use Rattle.all_links.proofs.Finds.{if_some}
 use Rattle.all_links.proofs.Asked.{if_some as some_is, is_peer, no_peer, none_if, peer_verdict}
@@ -16,10 +16,11 @@ operate_interface-requires-clause-short c = refl
 pub returns-in-None-clause-ends : goal.returns-in-None-clause-ends
 returns-in-None-clause-ends c plan =
     let s = c.args.self.now in
-    no_peer plan c.args.number c.args.line c.args.stream (op.Unbind (peer_stream s.keeper c.args.line c.args.stream))
+    no_peer plan c.args.number c.args.line c.args.stream
+    (op.Unbind (managed_peer_stream s.keeper c.args.line c.args.stream))
     c.args.loss (ie.Unbind c.args.number c.args.line c.args.stream c.args.loss) refl
     (none_if (nat_lt c.args.stream 256 && has_peer_in s.keeper s.ends c.args.number c.args.line c.args.stream)
-    (peer_stream s.keeper c.args.line c.args.stream) c.in-None.ensures)
+    (managed_peer_stream s.keeper c.args.line c.args.stream) c.in-None.ensures)
     c.only.ensures.value c.only.ensures.links c.requires.bounded
 
 pub returns-in-Some-clause-ends : goal.returns-in-Some-clause-ends
@@ -34,10 +35,11 @@ returns-in-Some-clause-ends c plan =
 pub returns-in-None-clause-sides : goal.returns-in-None-clause-sides
 returns-in-None-clause-sides c =
     let s = c.args.self.now in
-    no_peer_beside c.args.number c.args.line c.args.stream (op.Unbind (peer_stream s.keeper c.args.line c.args.stream))
+    no_peer_beside c.args.number c.args.line c.args.stream
+    (op.Unbind (managed_peer_stream s.keeper c.args.line c.args.stream))
     c.args.loss (none_if (nat_lt c.args.stream 256 && has_peer_in s.keeper s.ends c.args.number c.args.line
     c.args.stream)
-    (peer_stream s.keeper c.args.line c.args.stream) c.in-None.ensures) c.only.ensures.links
+    (managed_peer_stream s.keeper c.args.line c.args.stream) c.in-None.ensures) c.only.ensures.links
 
 pub returns-in-Some-clause-sides : goal.returns-in-Some-clause-sides
 returns-in-Some-clause-sides c =
@@ -46,7 +48,7 @@ returns-in-Some-clause-sides c =
     c.in-Some.ensures in
     if_some c.operate_interface.result _
     (λ verdict is. peer_beside s c.operate_interface.new.self c.args.number c.args.line c.args.stream
-    (op.Unbind (peer_stream s.keeper c.args.line c.args.stream)) c.args.loss p.small
+    (op.Unbind (managed_peer_stream s.keeper c.args.line c.args.stream)) c.args.loss p.small
     p.has
     (subst (λ (q : PeerStream). SidesAsk c.args.number (op.Unbind q) c.args.loss s c.operate_interface.new.self)
     p.peer_is

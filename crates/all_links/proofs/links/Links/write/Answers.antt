@@ -1,14 +1,14 @@
 use Rattle.all_links.proofs.Terms.{ℕ, List, Bool, true, false, Option, Some, ap, sym, ◌∙◌, ◌≡◌, if◌then◌else◌}
 use Rattle.all_links.proofs.Terms.{slice_get, same_Some, option_and_then, LinkEnds}
 use Rattle.std.specs.Prelude.{IfSome}
-use Rattle.interface_words.specs.declared.register.Register.{Register}
-use Rattle.interface_words.specs.RegisterNames.{has_register}
-use Rattle.tdi_state.specs.Machine.{Tdi, WriteRegister}
+use Rattle.ide_types.specs.declared.register.Register.{Register}
+use Rattle.ide_types.specs.RegisterNames.{has_register}
+use Rattle.interface_state.specs.Machine.{Tdi, WriteRegister}
 use Rattle.link_verdicts.specs.declared.verdict.Verdict.TheVariants as v
-use Rattle.interface_words.specs.declared.verdict.InterfaceVerdict.TheVariants as iv
+use Rattle.ide_types.specs.declared.verdict.InterfaceVerdict.TheVariants as iv
 use Rattle.link_events.specs.declared.event.InterfaceEvent.TheVariants as ie
-use Rattle.all_links.specs.Interfaces.{written_as, tdi_of_ends}
-use Rattle.interface_answers.specs.{code_behind}
+use Rattle.all_links.specs.Interfaces.{written_as, interface_of_ends}
+use Rattle.line_arrivals.specs.{code_behind}
 use Rattle.all_links.proofs.Finds.{only_says}
 use Rattle.all_links.proofs.Asked.{if_some, is_found, is_there, called}
 use Rattle.all_links.proofs.Sides.{nothing_called, called_beside, not_called}
@@ -30,7 +30,7 @@ pub returns-in-None-clause-ends : goal.returns-in-None-clause-ends
 returns-in-None-clause-ends c plan =
     only_says plan (ie.Write c.args.number c.args.register c.args.value)
     (ap (λ (o : Option (ℕ × ℕ)). Some (written_as c.args.number c.args.register c.args.value
-    (option_and_then (tdi_of_ends c.args.self.now.ends.links) o))) c.in-None.ensures)
+    (option_and_then (interface_of_ends c.args.self.now.ends.links) o))) c.in-None.ensures)
     c.only.ensures.value c.only.ensures.links c.requires.bounded
 
 -- whether it has the register

@@ -1,5 +1,5 @@
 use Rattle.ide_port.proofs.Terms.{true, sym, ap, ◌∙◌, arith, option_and_then, at_sub, Found}
-use Rattle.stream_rules.specs.Slots.{receiving_draw}
+use Rattle.spec_stream.specs.Slots.{receiving_draw}
 use Rattle.ide_port.proofs.Keeping.{inside}
 use Rattle.ide_port.proofs.Steps.{gone, reads}
 use Rattle.ide_port.proofs.port.Port.receiving_draw.Goals as goal

@@ -1,6 +1,7 @@
 use Rattle.ide_port.proofs.Terms.{◌≡◌, sym, ap, ◌∙◌, arith, Program, is_one, program_answer_at, pair_in, place_call}
-use Rattle.ide_port.proofs.Keeping.{kept-called}
-use Rattle.ide_port.proofs.Steps.{IsLane, lane-some, lane-inside, nowhere-step, called-step, key_back, key-back}
+use Rattle.ide_port.proofs.Keeping.{kept-stream_after_call}
+use Rattle.ide_port.proofs.Steps.{IsLane, lane-some, lane-inside, nowhere-step, stream_after_call-step, key_back}
+use Rattle.ide_port.proofs.Steps.{key-back}
 use Rattle.ide_port.proofs.port.PortSlotPort.program.Goals as goal
 use Rattle.ide_port.proofs.port.PortSlotPort.program.Goals.{in-Ok, in-Err}
 
@@ -24,14 +25,15 @@ lane c = lane-some c.self.inside.plans c.args.place.stream c.args.place.sub _ _ 
 
 pub invariant_of-self-in-Some : goal.invariant_of-self-in-Some
 invariant_of-self-in-Some c =
-    kept-called c.self.inside c.self.invariant c.args.place.stream c.in-Some.index c.index_mut-stream.result.now
+    kept-stream_after_call c.self.inside c.self.invariant c.args.place.stream c.in-Some.index
+    c.index_mut-stream.result.now
     (lane c).place_is c.index_mut-stream.ensures.value c.program.new.self c.args.place.direction c.in-Some.sub
     (Program (is_one c.args.set) c.args.key c.args.draw)
     c.program.ensures.stream
 
 pub returns-after-program : goal.returns-after-program
 returns-after-program c =
-    let x = called-step c.self.inside c.args.self.now c.self.view_is c.self.invariant
+    let x = stream_after_call-step c.self.inside c.args.self.now c.self.view_is c.self.invariant
     (place_call c.args.place (Program (is_one c.args.set) c.args.key c.args.draw))
     c.in-Some.index c.in-Some.sub c.index_mut-stream.result.now c.program.new.self (lane c)
     c.index_mut-stream.ensures.value c.program.ensures.stream in

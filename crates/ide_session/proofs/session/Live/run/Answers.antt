@@ -2,14 +2,15 @@ use Rattle.std.proofs.Common.{Option, Ok, sym, ap, subst}
 use Rattle.link_events.specs.declared.script.ScriptEvent.{ScriptEvent}
 use Rattle.line_runs.specs.Gain.{Text}
 use Rattle.ide_runs.specs.Works.{ScriptPast, by_meaning, ran_script_event}
-use Rattle.ide_session.specs.Sessions.{Gave}
+use Rattle.ide_session.specs.Sessions.{GaveText}
 use Rattle.ide_session.proofs.session.Live.run.Goals as goal
 
 pub returns-in-Ok-clause-gave : goal.returns-in-Ok-clause-gave
 returns-in-Ok-clause-gave c = λ past follows.
     let came = c.in-Ok.ensures.came past follows in
     let later : ScriptPast = (ran_script_event past c.in-Some.event).0 in
-    subst (λ (asked : Option ScriptEvent). Gave (by_meaning past (Ok asked)) c.run_script_event.new.self c.in-Ok.text)
+    subst (λ (asked : Option ScriptEvent). GaveText (by_meaning past (Ok asked)) c.run_script_event.new.self
+    c.in-Ok.text)
     (sym c.in-Some.is)
     (record {
       past = later;

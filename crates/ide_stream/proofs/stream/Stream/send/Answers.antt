@@ -3,7 +3,7 @@ use Rattle.ide_types.specs.declared.port.Side.TheVariants.{Host}
 use Rattle.stream_lanes.specs.declared.refusal.SendRefusal.TheVariants.{Insecure}
 use Rattle.ide_stream.specs.Ends.{StreamEnd}
 use Rattle.ide_stream.specs.Sends.{IsSent, sending}
-use Rattle.ide_stream.specs.Both.{end_of}
+use Rattle.ide_stream.specs.Both.{end_of_directions}
 use Rattle.ide_stream.proofs.Settling.{send-kept, insecure-so, sent-among, senders-alone}
 use Rattle.ide_stream.proofs.stream.Stream.send.Goals as goal
 
@@ -12,7 +12,7 @@ returns-then-self-clause-sent c port number trusted side is_trusted =
     let inside = c.self.inside in
     subst (λ (e : StreamEnd). IsSent e c.args.head.now c.args.payload.now
     (sending port e.id c.args.sub c.args.more trusted) number (Err Insecure) c.args.out.now.items c.args.out.now.items
-    (end_of inside.side inside.directions (inside.calls + 1))) c.self.view_is
+    (end_of_directions inside.side inside.directions (inside.calls + 1))) c.self.view_is
     (insecure-so inside.side inside.directions inside.calls c.args.head.now c.args.payload.now
     (sending port inside.directions.tx.fixed.stream c.args.sub c.args.more trusted) number c.args.out.now.items
     c.if-self.true)
@@ -24,7 +24,8 @@ returns-clause-sent c port number trusted side is_trusted =
     subst (λ (e : StreamEnd). IsSent e c.args.head.now c.args.payload.now
     (sending port e.id c.args.sub c.args.more trusted) number c.send.result c.args.out.now.items
     c.send.new.out.items
-    (end_of inside.side (record inside.directions { tx = c.send.new.self }) (inside.calls + 1))) c.self.view_is
+    (end_of_directions inside.side (record inside.directions { tx = c.send.new.self }) (inside.calls + 1)))
+    c.self.view_is
     (sent-among inside.side inside.directions inside.calls c.args.head.now c.args.payload.now s number c.send.result
     c.args.out.now.items c.send.new.out.items c.send.new.self c.if-self.false
     (c.send.ensures.sent s number refl refl refl is_trusted))
@@ -32,7 +33,7 @@ returns-clause-sent c port number trusted side is_trusted =
 pub invariant_of-self-2 : goal.invariant_of-self-2
 invariant_of-self-2 c =
     let inside = c.self.inside in
-    let s = sending (record { side = Host; link = 0 }) inside.directions.tx.fixed.stream c.args.sub c.args.more c.args.t
+    let s = sending (record { side = Host; line = 0 }) inside.directions.tx.fixed.stream c.args.sub c.args.more c.args.t
     in
     send-kept inside.directions inside.calls c.send.new.self c.self.invariant
     (senders-alone inside.directions.tx c.args.head.now c.args.payload.now s 0 c.send.result c.args.out.now.items

@@ -2,7 +2,7 @@ use Rattle.std.proofs.Common.{◌+◌, sym, ap, ◌∙◌, subst}
 use Rattle.ide_prefix.specs.Cut.{packet_of_view}
 use Rattle.ide_stream.specs.Ends.{StreamEnd, end_taken}
 use Rattle.stream_lanes.specs.{ReceiveEnds}
-use Rattle.ide_stream.specs.Both.{end_of, IsStream}
+use Rattle.ide_stream.specs.Both.{end_of_directions, IsStream}
 use Rattle.ide_stream.proofs.Settling.{take-kept, end-taken}
 use Rattle.ide_stream.proofs.stream.Stream.take.Goals as goal
 
@@ -10,7 +10,7 @@ pub returns-clause-stream : goal.returns-clause-stream
 returns-clause-stream c =
     let inside = c.self.inside in
     let p = packet_of_view c.args.packet.now in
-    (λ i. end_of inside.side
+    (λ i. end_of_directions inside.side
     (record inside.directions { rx = c.take-taken.ensures.lanes i; failed = c.failed-self-inside.ensures i })
     (inside.calls + 1))
     ∙ end-taken inside.side inside.directions inside.calls p c.take-taken.result c.self.invariant c.if-self.false

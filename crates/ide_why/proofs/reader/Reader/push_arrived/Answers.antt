@@ -1,6 +1,6 @@
 use Rattle.std.proofs.Common.{◌≡◌, Bool, [], ◌++◌, Some, None, subst, sym, ◌∙◌}
 use Rattle.std.specs.Prelude.{IfOk, if◌then◌else◌}
-use Rattle.link_history.specs.Packets.{arrival_at}
+use Rattle.spec_links.specs.Packets.{arrival_at}
 use Rattle.ide_why.specs.Facts.{arrival_facts}
 use Rattle.ide_why.proofs.reader.Reader.push_arrived.Goals as goal
 

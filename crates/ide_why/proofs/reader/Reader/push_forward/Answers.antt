@@ -1,6 +1,6 @@
 use Rattle.std.proofs.Common.{◌≡◌, true, subst, sym, ◌∙◌}
 use Rattle.ide_types.specs.declared.port.PortName.{PortName}
-use Rattle.link_history.specs.Plan.{has_port}
+use Rattle.spec_links.specs.Plan.{has_port}
 use Rattle.world.proofs.{leaving_there}
 use Rattle.ide_why.proofs.reader.Reader.push_forward.Goals as goal
 

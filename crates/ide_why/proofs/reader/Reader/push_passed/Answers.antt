@@ -1,7 +1,7 @@
 use Rattle.std.proofs.Common.{◌∙◌, ap, sym, Some}
 use Rattle.ide_types.specs.declared.port.PortName.{PortName}
 use Rattle.link_events.specs.declared.event.Event.TheVariants as event
-use Rattle.link_history.specs.Packets.{arrival_at}
+use Rattle.spec_links.specs.Packets.{arrival_at}
 use Rattle.ide_why.proofs.Brought.{brought_from, whole_arrives}
 use Rattle.ide_why.proofs.reader.Reader.push_passed.Goals as goal
 
@@ -11,5 +11,6 @@ returns-in-Some c =
     c.in-Some.bytes.now c.args.facts.now.items c.push_arrival.new.facts.items c.push_arrival.result
     (whole_arrives c.args.self.now.plan.now c.args.self.now.links.now c.args.packet c.in-Some.end c.in-Some.bytes.now
     c.in-Some.ensures
-    ∙ ap (λ (end : PortName). Some (arrival_at c.args.self.now.plan.now end c.in-Some.bytes.now)) (sym c.partner.ensures))
+    ∙ ap (λ (end : PortName). Some (arrival_at c.args.self.now.plan.now end c.in-Some.bytes.now))
+    (sym c.partner.ensures))
     c.push_arrival.ensures

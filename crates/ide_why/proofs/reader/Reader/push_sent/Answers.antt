@@ -1,8 +1,8 @@
 use Rattle.std.proofs.Common.{◌≡◌, not, true, subst, sym, ◌∙◌}
 use Rattle.std.proofs.lemmas.Bool.{and_parts}
 use Rattle.ide_types.specs.declared.port.PortName.{PortName}
-use Rattle.link_history.specs.Plan.{has_port}
-use Rattle.link_history.specs.Ports.{at_switch}
+use Rattle.spec_links.specs.Plan.{has_port}
+use Rattle.spec_links.specs.Ports.{at_switch}
 use Rattle.world.proofs.{sealing_there}
 use Rattle.ide_why.proofs.reader.Reader.push_sent.Goals as goal
 

@@ -3,8 +3,8 @@ use Rattle.ide_types.specs.declared.sub.SubKind.{SubKind}
 use Rattle.ide_types.specs.declared.sub.SubKind.TheVariants.{Pr, Npr, Cpl}
 use Rattle.ide_prefix.specs.Cut.{packet_of_view}
 use Rattle.ide_prefix.specs.Packet.{Packet}
-use Rattle.stream_rules.specs.Stream.{Taken}
-use Rattle.stream_lanes.specs.Arrivals.{ReceiveEnds, picked, taken_here, taken_among, ends_after}
+use Rattle.spec_stream.specs.Stream.{Taken}
+use Rattle.stream_lanes.specs.Arrivals.{ReceiveEnds, value_of_kind, lane_outcome, lanes_outcome, receive_ends_after}
 use Rattle.stream_lanes.proofs.Arriving.{view, AreAfter, among-here, own-after, ends-after, lanes-kept}
 use Rattle.stream_lanes.proofs.receive_lanes.ReceiveLanes.take.Goals as goal
 
@@ -12,7 +12,7 @@ packet : goal.After-self-2-1 → Packet
 packet c = packet_of_view c.args.packet.now
 
 here : goal.After-self-2-1 → Taken
-here c = taken_here (picked (packet c).prefix.sub c.self.inside.pr c.self.inside.npr c.self.inside.cpl)
+here c = lane_outcome (value_of_kind (packet c).prefix.sub c.self.inside.pr c.self.inside.npr c.self.inside.cpl)
     c.self.inside.pr.kept.got (packet c)
 
 after : (c : goal.After-self-2-1) → AreAfter (packet c) (here c) c.take_in-taken.result c.self.inside.pr
@@ -33,7 +33,7 @@ after c =
           c.drop_failed-3.ensures.delivered c.drop_failed-3.ensures.rest;
     }
 
-among : (c : goal.After-self-2-1) → here c ≡ taken_among
+among : (c : goal.After-self-2-1) → here c ≡ lanes_outcome
     (view c.self.inside.pr c.self.inside.npr c.self.inside.cpl c.self.inside.lent c.self.inside.takes) (packet c)
 unfolding here
 among c = among-here c.self.inside.pr c.self.inside.npr c.self.inside.cpl c.self.inside.lent c.self.inside.takes
@@ -48,8 +48,8 @@ returns-clause-lanes c =
     ∙ ends-after (packet c) (here c) c.take_in-taken.result inside.pr inside.npr inside.cpl c.drop_failed.new.lane
     c.drop_failed-2.new.lane c.drop_failed-3.new.lane inside.lent inside.takes c.take_in-taken.ensures.answer
     (after c)
-    ∙ ap (ends_after (view inside.pr inside.npr inside.cpl inside.lent inside.takes) (packet c)) (among c)
-    ∙ ap (λ (x : ReceiveEnds). ends_after x (packet c) (taken_among x (packet c))) c.self.view_is
+    ∙ ap (receive_ends_after (view inside.pr inside.npr inside.cpl inside.lent inside.takes) (packet c)) (among c)
+    ∙ ap (λ (x : ReceiveEnds). receive_ends_after x (packet c) (lanes_outcome x (packet c))) c.self.view_is
 
 pub invariant_of-self : goal.invariant_of-self
 unfolding packet here

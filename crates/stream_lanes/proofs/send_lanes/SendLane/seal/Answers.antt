@@ -1,12 +1,12 @@
 use Rattle.std.proofs.Common.{◌≡◌, ◌+◌, ◌++◌, true, if◌then◌else◌, [], ℕ, List, Result, Ok, sym, ap, ◌∙◌, subst, refl}
 use Rattle.ide_prefix.specs.Packet.{packet_bytes}
-use Rattle.stream_rules.specs.Slots.{any_live}
+use Rattle.spec_stream.specs.Slots.{any_live}
 use Rattle.sub_stream.specs.{Sender, Sealing, Content, tlp_content, sealing_of, sealing_answer, sealing_bytes}
 use Rattle.sub_stream.specs.{sender_after}
-use Rattle.sub_stream.specs.Gathered.{lent_ahead}
+use Rattle.sub_stream.specs.Gathered.{lent_totals}
 use Rattle.sub_stream.specs.declared.answer.MeasuredPacket.{MeasuredPacket}
 use Rattle.sub_stream.specs.declared.answer.TxRefusal.{TxRefusal}
-use Rattle.stream_lanes.specs.Lanes.{SendEnd, IsSendLane, is_spent, tlp_said, packet_said, sealed_end, measured}
+use Rattle.stream_lanes.specs.Lanes.{SendEnd, IsSendLane, is_spent, tlp_said, packet_said, sealed_end, measured_packet}
 use Rattle.stream_lanes.proofs.Sealing.{view, sealing_right, sealing-is, sealed-kept}
 use Rattle.stream_lanes.proofs.send_lanes.SendLane.seal.Goals as goal
 
@@ -23,13 +23,13 @@ sealed : goal.After-count → Sealing
 sealed c = sealing_right c.self.inside.tx c.self.inside.closed c.self.inside.posted c.self.inside.total (content c)
     c.args.more
 
-right : (c : goal.After-count) → sealing_of c.self.inside.tx (lent_ahead c.lent_total-lent.result) (content c)
+right : (c : goal.After-count) → sealing_of c.self.inside.tx (lent_totals c.lent_total-lent.result) (content c)
     c.args.more
     ≡ Ok (sealed c)
 unfolding sealed content
 right c =
     sealing-is c.self.inside.tx c.self.inside.limit c.self.inside.closed c.self.inside.posted c.self.inside.total
-    (lent_ahead c.lent_total-lent.result) (content c) c.args.more
+    (lent_totals c.lent_total-lent.result) (content c) c.args.more
     c.self.invariant (live c) (ap is_spent c.self.view_is ∙ c.requires.unworn)
     (c.lent_total-lent.ensures ∙ ap (λ (b : List ℕ). if c.self.inside.closed then b else [])
     c.to_be_bytes-total.ensures)
@@ -38,7 +38,7 @@ right c =
 ok_is : (a b : MeasuredPacket) (r : Result MeasuredPacket TxRefusal) → r ≡ Ok a → r ≡ Ok b → a ≡ b
 ok_is a b r e f = cc
 
-packet_is : (c : goal.After-count) → c.in-Ok.packet ≡ measured (tlp_said (end c) c.args.more c.args.t)
+packet_is : (c : goal.After-count) → c.in-Ok.packet ≡ measured_packet (tlp_said (end c) c.args.more c.args.t)
     (packet_said (end c) c.args.head.now c.args.payload.now (tlp_said (end c) c.args.more c.args.t))
 unfolding sealed content end
 packet_is c = ok_is _ _ _ (sym c.in-Ok.ensures.answer) (ap sealing_answer (right c))
@@ -47,7 +47,7 @@ pub returns-clause-answer : goal.returns-clause-answer
 unfolding end
 returns-clause-answer c =
     packet_is c
-    ∙ ap (λ (e : SendEnd). measured (tlp_said e c.args.more c.args.t)
+    ∙ ap (λ (e : SendEnd). measured_packet (tlp_said e c.args.more c.args.t)
     (packet_said e c.args.head.now c.args.payload.now (tlp_said e c.args.more c.args.t))) c.self.view_is
 
 pub returns-clause-bytes : goal.returns-clause-bytes

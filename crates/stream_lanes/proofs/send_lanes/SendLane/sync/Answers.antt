@@ -1,15 +1,15 @@
 use Rattle.std.proofs.Common.{◌≡◌, ◌+◌, ◌++◌, true, false, if◌then◌else◌, [], ℕ, List, length, Result, Ok, sym, ap, ◌∙◌}
 use Rattle.std.proofs.Common.{subst, refl, arith, length-append, ◌≤◌}
 use Rattle.ide_prefix.specs.Packet.{Packet, packet_bytes, sync_head}
-use Rattle.stream_rules.specs.Sending.{ahead_with}
-use Rattle.stream_rules.specs.Stream.{live_sender, sealed_slots}
-use Rattle.stream_rules.specs.Slots.{any_live}
+use Rattle.spec_stream.specs.Sending.{total_ahead}
+use Rattle.spec_stream.specs.Stream.{live_sender, sealed_slots}
+use Rattle.spec_stream.specs.Slots.{any_live}
 use Rattle.sub_stream.specs.{Sender, Sealing, Content, sync_content, sealing_of, sealing_answer, sealing_bytes}
 use Rattle.sub_stream.specs.{sender_after}
-use Rattle.sub_stream.specs.Gathered.{lent_ahead}
+use Rattle.sub_stream.specs.Gathered.{lent_totals}
 use Rattle.sub_stream.specs.declared.answer.MeasuredPacket.{MeasuredPacket}
 use Rattle.sub_stream.specs.declared.answer.TxRefusal.{TxRefusal}
-use Rattle.stream_lanes.specs.Lanes.{SendEnd, IsSendLane, is_spent, sync_said, packet_said, sealed_end, measured}
+use Rattle.stream_lanes.specs.Lanes.{SendEnd, IsSendLane, is_spent, sync_said, packet_said, sealed_end, measured_packet}
 use Rattle.stream_lanes.proofs.Sealing.{view, sealing-is, sealed-kept, sync-short, sync-same}
 use Rattle.stream_lanes.proofs.send_lanes.SendLane.sync.Goals as goal
 
@@ -24,18 +24,18 @@ content c = sync_content c.self.inside.posted
 
 with_sealed : goal.After-count → Packet → Sealing
 with_sealed c p = record {
-  description = measured (sync_said (end c)) p;
+  description = measured_packet (sync_said (end c)) p;
   packet = p;
   sender = record c.self.inside.tx { ahead = []; slots = sealed_slots true p c.self.inside.tx.slots };
 }
 
-sealing_so : (c : goal.After-count) → sealing_of c.self.inside.tx (lent_ahead c.lent_total-lent.result) (content c)
+sealing_so : (c : goal.After-count) → sealing_of c.self.inside.tx (lent_totals c.lent_total-lent.result) (content c)
     false
     ≡ Ok (with_sealed c (packet_said (end c) sync_head [] (sync_said (end c))))
 unfolding with_sealed content end
 sealing_so c =
     sealing-is c.self.inside.tx c.self.inside.limit c.self.inside.closed c.self.inside.posted c.self.inside.total
-    (lent_ahead c.lent_total-lent.result) (content c) false
+    (lent_totals c.lent_total-lent.result) (content c) false
     c.self.invariant (live c) (ap is_spent c.self.view_is ∙ c.requires.unworn)
     (c.lent_total-lent.ensures ∙ ap (λ (b : List ℕ). if c.self.inside.closed then b else [])
     c.to_be_bytes-total.ensures)
@@ -44,19 +44,19 @@ sealing_so c =
 sealed : goal.After-count → Sealing
 sealed c = with_sealed c (packet_said (end c) [] [] (sync_said (end c)))
 
-right : (c : goal.After-count) → sealing_of c.self.inside.tx (lent_ahead c.lent_total-lent.result) (content c) false
+right : (c : goal.After-count) → sealing_of c.self.inside.tx (lent_totals c.lent_total-lent.result) (content c) false
     ≡ Ok (sealed c)
 unfolding sealed end
 right c =
     sealing_so c
     ∙ ap (λ (p : Packet). Ok (with_sealed c p))
-    (sync-same (ahead_with c.self.inside.closed (sync_said (end c)).unit c.self.inside.total)
+    (sync-same (total_ahead c.self.inside.closed (sync_said (end c)).unit c.self.inside.total)
     (live_sender c.self.inside.tx.slots) (sync_said (end c)) sync_head [] [] [] refl)
 
 ok_is : (a b : MeasuredPacket) (r : Result MeasuredPacket TxRefusal) → r ≡ Ok a → r ≡ Ok b → a ≡ b
 ok_is a b r e f = cc
 
-packet_is : (c : goal.After-count) → c.in-Ok.packet ≡ measured (sync_said (end c))
+packet_is : (c : goal.After-count) → c.in-Ok.packet ≡ measured_packet (sync_said (end c))
     (packet_said (end c) [] [] (sync_said (end c)))
 unfolding sealed with_sealed end content
 packet_is c = ok_is _ _ _ (sym c.in-Ok.ensures.answer) (ap sealing_answer (right c))
@@ -65,7 +65,7 @@ pub returns-clause-answer : goal.returns-clause-answer
 unfolding end
 returns-clause-answer c =
     packet_is c
-    ∙ ap (λ (e : SendEnd). measured (sync_said e) (packet_said e [] [] (sync_said e))) c.self.view_is
+    ∙ ap (λ (e : SendEnd). measured_packet (sync_said e) (packet_said e [] [] (sync_said e))) c.self.view_is
 
 pub returns-clause-bytes : goal.returns-clause-bytes
 unfolding sealed with_sealed end content

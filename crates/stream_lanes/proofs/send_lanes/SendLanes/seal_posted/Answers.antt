@@ -1,6 +1,6 @@
 use Rattle.std.proofs.Common.{◌≡◌, ◌+◌, ◌≤◌, true, length, sym, subst}
 use Rattle.ide_types.specs.declared.sub.SubKind.TheVariants.{Pr, Npr, Cpl}
-use Rattle.stream_rules.specs.Slots.{any_live}
+use Rattle.spec_stream.specs.Slots.{any_live}
 use Rattle.stream_lanes.specs.Lanes.{SendEnd, SendEnds, HasPostedRoom, open_in, tlp_said, packet_said}
 use Rattle.stream_lanes.proofs.Sealing.{room-sealed}
 use Rattle.stream_lanes.proofs.Sent.{lane-kept}
@@ -13,11 +13,13 @@ invariant_of-self c =
     let p = packet_said inside.pr c.args.head.now c.args.payload.now d in
     let live : any_live inside.pr.kept.slots ≡ true = subst (λ (x : SendEnds). any_live x.tx.pr.slots ≡ true)
     (sym c.self.view_is) c.requires.live in
-    let npr : inside.npr.kept.posted + inside.fixed.mode ≤ 255 + length (open_in inside.pr.kept.slots) =
-    subst (λ (x : SendEnds). x.tx.npr.posted + x.fixed.mode ≤ 255 + length (open_in x.tx.pr.slots)) (sym c.self.view_is)
+    let npr : inside.npr.kept.posted + inside.fixed.aggregation ≤ 255 + length (open_in inside.pr.kept.slots) =
+    subst (λ (x : SendEnds). x.tx.npr.posted + x.fixed.aggregation ≤ 255 + length (open_in x.tx.pr.slots))
+    (sym c.self.view_is)
     c.requires.npr_room in
-    let cpl : inside.cpl.kept.posted + inside.fixed.mode ≤ 255 + length (open_in inside.pr.kept.slots) =
-    subst (λ (x : SendEnds). x.tx.cpl.posted + x.fixed.mode ≤ 255 + length (open_in x.tx.pr.slots)) (sym c.self.view_is)
+    let cpl : inside.cpl.kept.posted + inside.fixed.aggregation ≤ 255 + length (open_in inside.pr.kept.slots) =
+    subst (λ (x : SendEnds). x.tx.cpl.posted + x.fixed.aggregation ≤ 255 + length (open_in x.tx.pr.slots))
+    (sym c.self.view_is)
     c.requires.cpl_room in
     record {
       is_pr = lane-kept inside.fixed Pr inside.pr c.seal-packet.new.self _ c.self.invariant.is_pr
@@ -26,13 +28,13 @@ invariant_of-self c =
           c.count_posted.ensures;
       is_cpl = lane-kept inside.fixed Cpl inside.cpl c.count_posted-2.new.self _ c.self.invariant.is_cpl
           c.count_posted-2.ensures;
-      small_mode = c.self.invariant.small_mode;
+      small_aggregation = c.self.invariant.small_aggregation;
       npr_room =
-          subst (λ (y : SendEnd × SendEnd). HasPostedRoom inside.fixed.mode y.0.kept y.1.kept)
+          subst (λ (y : SendEnd × SendEnd). HasPostedRoom inside.fixed.aggregation y.0.kept y.1.kept)
           (λ i. (sym c.seal-packet.ensures.lane i, sym c.count_posted.ensures i))
-          (room-sealed inside.fixed.mode inside.npr.kept.posted d.m p inside.pr.kept.slots live npr);
+          (room-sealed inside.fixed.aggregation inside.npr.kept.posted d.m p inside.pr.kept.slots live npr);
       cpl_room =
-          subst (λ (y : SendEnd × SendEnd). HasPostedRoom inside.fixed.mode y.0.kept y.1.kept)
+          subst (λ (y : SendEnd × SendEnd). HasPostedRoom inside.fixed.aggregation y.0.kept y.1.kept)
           (λ i. (sym c.seal-packet.ensures.lane i, sym c.count_posted-2.ensures i))
-          (room-sealed inside.fixed.mode inside.cpl.kept.posted d.m p inside.pr.kept.slots live cpl);
+          (room-sealed inside.fixed.aggregation inside.cpl.kept.posted d.m p inside.pr.kept.slots live cpl);
     }

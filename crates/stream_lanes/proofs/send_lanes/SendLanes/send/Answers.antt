@@ -1,7 +1,7 @@
 use Rattle.std.proofs.Common.{refl, sym, ap, ◌∙◌}
 use Rattle.std.specs.Option.{option_map}
 use Rattle.ide_types.specs.declared.sub.SubKind.{SubKind}
-use Rattle.stream_rules.specs.Sending.{refusals, first_that_holds}
+use Rattle.spec_stream.specs.Sending.{refusals, first_that_holds}
 use Rattle.stream_lanes.specs.Sends.{refusal_verdict}
 use Rattle.stream_lanes.specs.Lanes.{sealing_lanes}
 use Rattle.stream_lanes.proofs.send_lanes.SendLanes.send.Goals as goal

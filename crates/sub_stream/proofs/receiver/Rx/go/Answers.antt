@@ -6,10 +6,10 @@ use Rattle.sub_stream.proofs.receiver.Rx.go.Goals as goal
 
 pub returns-clause-receiver : goal.returns-clause-receiver
 returns-clause-receiver c =
-    (λ i. view c.self.inside.stream c.self.inside.sub c.self.inside.mode (c.restart.ensures.zero i)
+    (λ i. view c.self.inside.stream c.self.inside.sub c.self.inside.aggregation (c.restart.ensures.zero i)
     (c.restart.ensures.one i) (c.arm.ensures.slots i) (c.held-self-inside.ensures i) c.self.inside.unit
     c.self.inside.takes)
-    ∙ view-gone (is_one c.args.set) c.self.inside.stream c.self.inside.sub c.self.inside.mode c.self.inside.zero
+    ∙ view-gone (is_one c.args.set) c.self.inside.stream c.self.inside.sub c.self.inside.aggregation c.self.inside.zero
     c.self.inside.one c.self.inside.slots c.self.inside.holds c.self.inside.unit c.self.inside.takes
     c.self.invariant.sender
     c.self.invariant.few

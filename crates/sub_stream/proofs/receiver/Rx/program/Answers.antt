@@ -1,17 +1,18 @@
 use Rattle.std.proofs.Common.{◌≡◌, ℕ, Bool, true, false, not, if◌then◌else◌, List, Result, Ok, Err, refl, sym, ap, ◌∙◌}
 use Rattle.ide_types.specs.declared.sub.SubKind.{SubKind}
 use Rattle.ide_prefix.specs.Packet.{Packet}
-use Rattle.stream_rules.specs.Stream.{with_slot, Programmed as ProgrammedSlot}
+use Rattle.spec_stream.specs.Stream.{with_slot, Programmed as ProgrammedSlot}
 use Rattle.key_slots.specs.declared.slot.Slot.{Slot as KeySlot}
 use Rattle.key_slots.specs.declared.slot.Slot.TheVariants.{Empty, Programmed, Armed, Live}
 use Rattle.key_slots.specs.declared.slots.OnlyLive.{OnlyLive}
 use Rattle.key_slots.specs.{DrawnKey, is_one, SlotPair, slot_in, with_both, is_only_live, program_answer}
 use Rattle.key_slots.specs.{programmed}
 use Rattle.sub_stream.specs.declared.receiver.Holds.{Holds}
-use Rattle.sub_stream.specs.declared.receiver.Holds.TheVariants.{Nothing, Zero, One, Delivered}
+use Rattle.sub_stream.specs.declared.receiver.Holds.TheVariants.{Nothing, HeldZero, HeldOne, Delivered}
 use Rattle.sub_stream.specs.Gathered.{Gathered}
 use Rattle.sub_stream.specs.Seen.{slot_as_seen, key_slot, slot_pair}
-use Rattle.sub_stream.specs.Receivers.{Receiver, held_zero, held_one, seen_in, left_without, HoldsFew, with_slots}
+use Rattle.sub_stream.specs.Receivers.{Receiver, held_zero, held_one, receiver_slots_seen, holds_without, HoldsFew}
+use Rattle.sub_stream.specs.Receivers.{with_slots}
 use Rattle.sub_stream.specs.Receivers.{programmed_receiver}
 use Rattle.sub_stream.proofs.Receiving.{other_holds}
 use Rattle.sub_stream.proofs.Answering.{view}
@@ -33,59 +34,62 @@ key_as_seen (Armed held) units ps = refl
 key_as_seen (Live held) units ps = refl
 
 pair_as_seen : (pair : SlotPair) (u0 u1 : ℕ) (h : Holds) (ps : List Packet) → pair.sender ≡ false
-    → slot_pair false (seen_in pair u0 u1 h ps) ≡ pair
+    → slot_pair false (receiver_slots_seen pair u0 u1 h ps) ≡ pair
 pair_as_seen pair u0 u1 h ps s = λ i. record {
   sender = sym s i;
   zero = key_as_seen pair.zero u0 (held_zero h ps) i;
   one = key_as_seen pair.one u1 (held_one h ps) i;
 }
 
-placed : (k : Bool) (stream : ℕ) (sub : SubKind) (mode u0 u1 : ℕ) (pair : SlotPair) (h : Holds) (unit : Gathered)
-    (takes : ℕ) (key : List ℕ) (draw : ℕ) → HoldsFew pair mode h unit.packets
-    → view stream sub mode u0 u1
+placed : (k : Bool) (stream : ℕ) (sub : SubKind) (aggregation u0 u1 : ℕ) (pair : SlotPair) (h : Holds) (unit : Gathered)
+    (takes : ℕ) (key : List ℕ) (draw : ℕ) → HoldsFew pair aggregation h unit.packets
+    → view stream sub aggregation u0 u1
     (with_both pair.sender k (Programmed (record { key = key; draw = draw }), slot_in pair (not k)))
-    (left_without k h) unit takes
-    ≡ with_slots (view stream sub mode u0 u1 pair h unit takes)
-    (with_slot (seen_in pair u0 u1 h unit.packets) k (ProgrammedSlot draw key))
-placed true stream sub mode u0 u1 pair Zero unit takes key draw few =
-    rw (other_holds true pair u0 u1 Zero mode unit.packets few) refl
-placed true stream sub mode u0 u1 pair One unit takes key draw few =
-    rw (other_holds true pair u0 u1 One mode unit.packets few) refl
-placed true stream sub mode u0 u1 pair Nothing unit takes key draw few =
-    rw (other_holds true pair u0 u1 Nothing mode unit.packets few) refl
-placed true stream sub mode u0 u1 pair Delivered unit takes key draw few =
-    rw (other_holds true pair u0 u1 Delivered mode unit.packets few) refl
-placed false stream sub mode u0 u1 pair Zero unit takes key draw few =
-    rw (other_holds false pair u0 u1 Zero mode unit.packets few) refl
-placed false stream sub mode u0 u1 pair One unit takes key draw few =
-    rw (other_holds false pair u0 u1 One mode unit.packets few) refl
-placed false stream sub mode u0 u1 pair Nothing unit takes key draw few =
-    rw (other_holds false pair u0 u1 Nothing mode unit.packets few) refl
-placed false stream sub mode u0 u1 pair Delivered unit takes key draw few =
-    rw (other_holds false pair u0 u1 Delivered mode unit.packets few) refl
+    (holds_without k h) unit takes
+    ≡ with_slots (view stream sub aggregation u0 u1 pair h unit takes)
+    (with_slot (receiver_slots_seen pair u0 u1 h unit.packets) k (ProgrammedSlot draw key))
+placed true stream sub aggregation u0 u1 pair HeldZero unit takes key draw few =
+    rw (other_holds true pair u0 u1 HeldZero aggregation unit.packets few) refl
+placed true stream sub aggregation u0 u1 pair HeldOne unit takes key draw few =
+    rw (other_holds true pair u0 u1 HeldOne aggregation unit.packets few) refl
+placed true stream sub aggregation u0 u1 pair Nothing unit takes key draw few =
+    rw (other_holds true pair u0 u1 Nothing aggregation unit.packets few) refl
+placed true stream sub aggregation u0 u1 pair Delivered unit takes key draw few =
+    rw (other_holds true pair u0 u1 Delivered aggregation unit.packets few) refl
+placed false stream sub aggregation u0 u1 pair HeldZero unit takes key draw few =
+    rw (other_holds false pair u0 u1 HeldZero aggregation unit.packets few) refl
+placed false stream sub aggregation u0 u1 pair HeldOne unit takes key draw few =
+    rw (other_holds false pair u0 u1 HeldOne aggregation unit.packets few) refl
+placed false stream sub aggregation u0 u1 pair Nothing unit takes key draw few =
+    rw (other_holds false pair u0 u1 Nothing aggregation unit.packets few) refl
+placed false stream sub aggregation u0 u1 pair Delivered unit takes key draw few =
+    rw (other_holds false pair u0 u1 Delivered aggregation unit.packets few) refl
 
-view-programmed : (k : Bool) (stream : ℕ) (sub : SubKind) (mode u0 u1 : ℕ) (pair : SlotPair) (h : Holds)
-    (unit : Gathered) (takes : ℕ) (key : List ℕ) (draw : ℕ) → pair.sender ≡ false → HoldsFew pair mode h unit.packets
+view-programmed : (k : Bool) (stream : ℕ) (sub : SubKind) (aggregation u0 u1 : ℕ) (pair : SlotPair) (h : Holds)
+    (unit : Gathered) (takes : ℕ) (key : List ℕ) (draw : ℕ) → pair.sender ≡ false
+    → HoldsFew pair aggregation h unit.packets
     → is_only_live pair k ≡ false
-    → view stream sub mode u0 u1 (programmed pair k (record { key = key; draw = draw })) (left_without k h) unit takes
-    ≡ programmed_receiver (view stream sub mode u0 u1 pair h unit takes) k key draw
-view-programmed k stream sub mode u0 u1 pair h unit takes key draw s few only =
-    let rx : Receiver = view stream sub mode u0 u1 pair h unit takes in
+    → view stream sub aggregation u0 u1 (programmed pair k (record { key = key; draw = draw })) (holds_without k h) unit
+    takes
+    ≡ programmed_receiver (view stream sub aggregation u0 u1 pair h unit takes) k key draw
+view-programmed k stream sub aggregation u0 u1 pair h unit takes key draw s few only =
+    let rx : Receiver = view stream sub aggregation u0 u1 pair h unit takes in
     let held : DrawnKey = record { key = key; draw = draw } in
     let new : SlotPair = with_both pair.sender k (Programmed held, slot_in pair (not k)) in
     let seen : is_only_live (slot_pair false rx.slots) k ≡ false =
     ap (λ p. is_only_live p k) (pair_as_seen pair u0 u1 h unit.packets s) ∙ only in
-    ap (λ b. view stream sub mode u0 u1 (if b then pair else new) (left_without k h) unit takes) only
-    ∙ placed k stream sub mode u0 u1 pair h unit takes key draw few
+    ap (λ b. view stream sub aggregation u0 u1 (if b then pair else new) (holds_without k h) unit takes) only
+    ∙ placed k stream sub aggregation u0 u1 pair h unit takes key draw few
     ∙ sym (ap (λ b. if b then rx else with_slots rx (with_slot rx.slots k (ProgrammedSlot draw key))) seen)
 
 pub returns-in-Ok-clause-receiver : goal.returns-in-Ok-clause-receiver
 returns-in-Ok-clause-receiver c =
     let k : Bool = is_one c.args.set in
-    let left = c.without-self-inside.ensures ∙ ap (λ b. left_without b c.self.inside.holds) c.is_one.ensures in
-    (λ i. view c.self.inside.stream c.self.inside.sub c.self.inside.mode c.self.inside.zero c.self.inside.one
+    let left = c.without-self-inside.ensures ∙ ap (λ b. holds_without b c.self.inside.holds) c.is_one.ensures in
+    (λ i. view c.self.inside.stream c.self.inside.sub c.self.inside.aggregation c.self.inside.zero c.self.inside.one
     (c.program.ensures.slots i) (left i) c.self.inside.unit c.self.inside.takes)
-    ∙ view-programmed k c.self.inside.stream c.self.inside.sub c.self.inside.mode c.self.inside.zero c.self.inside.one
+    ∙ view-programmed k c.self.inside.stream c.self.inside.sub c.self.inside.aggregation c.self.inside.zero
+    c.self.inside.one
     c.self.inside.slots c.self.inside.holds c.self.inside.unit c.self.inside.takes c.args.key c.args.draw
     c.self.invariant.sender c.self.invariant.few
     (allowed c.self.inside.slots k c.args.key c.in-Ok.field-0 c.in-Ok.ensures.answer)

@@ -2,19 +2,19 @@ use Rattle.std.proofs.Common.{◌≡◌, ℕ, ◌+◌, Bool, true, false, List, 
 use Rattle.std.proofs.Common.{subst, if◌then◌else◌}
 use Rattle.ide_prefix.specs.Cut.{packet_of_view}
 use Rattle.ide_prefix.specs.Packet.{Packet}
-use Rattle.stream_rules.specs.Stream.{Taken}
+use Rattle.spec_stream.specs.Stream.{Taken}
 use Rattle.key_slots.specs.{DrawnKey, SlotPair, slot_in, live_held}
 use Rattle.sub_stream.specs.declared.receiver.Holds.{Holds}
-use Rattle.sub_stream.specs.Answers.{answer_of}
-use Rattle.sub_stream.specs.Gathered.{Gathered, lent_ahead}
-use Rattle.sub_stream.specs.Seen.{live_with}
+use Rattle.sub_stream.specs.Answers.{answer_taken}
+use Rattle.sub_stream.specs.Gathered.{Gathered, lent_totals}
+use Rattle.sub_stream.specs.Seen.{live_key_seen}
 use Rattle.sub_stream.specs.Senders.{begun_where_empty}
-use Rattle.sub_stream.specs.Receivers.{Receiver, fits_held, judged_packet, early_of, taken_of, after_answer}
+use Rattle.sub_stream.specs.Receivers.{Receiver, fits_held, judged_packet, early_of, receiver_outcome, after_answer}
 use Rattle.sub_stream.specs.Receivers.{BufferAfter}
 use Rattle.sub_stream.specs.Receivers.{IsReceiver}
 use Rattle.sub_stream.proofs.Receiving.{units_of, key_held}
 use Rattle.sub_stream.proofs.Answering.{kept, view, judged-is, not_apart, fits-early, taken-keyed, view-answered}
-use Rattle.sub_stream.proofs.Answering.{receiver-answered, mode_kept, IsJudged}
+use Rattle.sub_stream.proofs.Answering.{receiver-answered, aggregation_kept, IsJudged}
 use Rattle.sub_stream.proofs.receiver.Rx.take_keyed.Goals as goal
 
 packet : goal.After-self-1 → Packet
@@ -28,51 +28,54 @@ unfolding packet held
 key c = key_held c.self.inside.slots c.args.packet.now.prefix.k _ _ _ c.live_key.ensures c.of_bit.ensures.one
     c.in-Some.is
 
-fits : (c : goal.After-self-1) → fits_held c.self.inside.holds (length c.self.inside.unit.packets) c.self.inside.mode
+fits : (c : goal.After-self-1) → fits_held c.self.inside.holds (length c.self.inside.unit.packets)
+    c.self.inside.aggregation
     (packet c).prefix.k (packet c).prefix.m ≡ true
 unfolding packet
 fits c =
     fits-early (packet c).prefix.k c.self.inside.slots c.self.inside.zero c.self.inside.one c.self.inside.holds
-    c.self.inside.mode c.self.inside.unit (packet c) (held c)
+    c.self.inside.aggregation c.self.inside.unit (packet c) (held c)
     c.self.invariant.few refl (key c) (ap (λ (rx : Receiver). early_of rx (packet c)) c.self.view_is ∙ c.requires.early)
 
 answer : goal.After-self-1 → Taken
 answer c =
-    judged_packet (begun_where_empty (kept c.self.inside.holds c.self.inside.unit) (lent_ahead c.args.total)
+    judged_packet (begun_where_empty (kept c.self.inside.holds c.self.inside.unit) (lent_totals c.args.total)
     (units_of (packet c).prefix.k c.self.inside.zero c.self.inside.one + 1)).ahead
-    c.args.allowed (live_with (units_of (packet c).prefix.k c.self.inside.zero c.self.inside.one)
+    c.args.allowed (live_key_seen (units_of (packet c).prefix.k c.self.inside.zero c.self.inside.one)
     (kept c.self.inside.holds c.self.inside.unit).packets (held c)) (packet c)
 
-taken_is : (c : goal.After-self-1) → taken_of c.args.self.now c.args.allowed (lent_ahead c.args.total) (packet c)
+taken_is : (c : goal.After-self-1) → receiver_outcome c.args.self.now c.args.allowed (lent_totals c.args.total)
+    (packet c)
     ≡ answer c
 unfolding packet answer
 taken_is c =
-    ap (λ (rx : Receiver). taken_of rx c.args.allowed (lent_ahead c.args.total) (packet c)) (sym c.self.view_is)
-    ∙ taken-keyed c.self.inside.stream c.self.inside.sub c.self.inside.mode c.self.inside.zero c.self.inside.one
+    ap (λ (rx : Receiver). receiver_outcome rx c.args.allowed (lent_totals c.args.total) (packet c))
+    (sym c.self.view_is)
+    ∙ taken-keyed c.self.inside.stream c.self.inside.sub c.self.inside.aggregation c.self.inside.zero c.self.inside.one
     c.self.inside.slots c.self.inside.holds c.self.inside.unit c.self.inside.takes
-    c.args.allowed (lent_ahead c.args.total) (packet c) (held c) c.self.invariant.few (key c) (fits c)
+    c.args.allowed (lent_totals c.args.total) (packet c) (held c) c.self.invariant.few (key c) (fits c)
 
-answered : (c : goal.After-self-1) → Some c.take_under-taken.result ≡ answer_of (answer c)
+answered : (c : goal.After-self-1) → Some c.take_under-taken.result ≡ answer_taken (answer c)
 unfolding packet held answer
 answered c =
     c.take_under-taken.ensures.answer
-    ∙ (λ i. answer_of (judged_packet
-    (begun_where_empty (c.keep_held.ensures i) (lent_ahead c.args.total) (c.units_in-units.ensures i + 1)).ahead
-    c.args.allowed (live_with (c.units_in-units.ensures i) (c.keep_held.ensures i).packets
+    ∙ (λ i. answer_taken (judged_packet
+    (begun_where_empty (c.keep_held.ensures i) (lent_totals c.args.total) (c.units_in-units.ensures i + 1)).ahead
+    c.args.allowed (live_key_seen (c.units_in-units.ensures i) (c.keep_held.ensures i).packets
     (held c)) (packet c)))
 
 buffer : (c : goal.After-self-1) → BufferAfter
-    (begun_where_empty (kept c.self.inside.holds c.self.inside.unit) (lent_ahead c.args.total)
+    (begun_where_empty (kept c.self.inside.holds c.self.inside.unit) (lent_totals c.args.total)
     (units_of (packet c).prefix.k c.self.inside.zero c.self.inside.one + 1))
-    (live_with (units_of (packet c).prefix.k c.self.inside.zero c.self.inside.one)
+    (live_key_seen (units_of (packet c).prefix.k c.self.inside.zero c.self.inside.one)
     (kept c.self.inside.holds c.self.inside.unit).packets (held c)) (packet c) (answer c)
     c.take_under-taken.new.unit
 unfolding packet held answer
 buffer c =
-    let Left : ℕ × Gathered → Type 0 = λ y. BufferAfter (begun_where_empty y.1 (lent_ahead c.args.total) (y.0 + 1))
-    (live_with y.0 y.1.packets (held c)) (packet c)
-    (judged_packet (begun_where_empty y.1 (lent_ahead c.args.total) (y.0 + 1)).ahead
-    c.args.allowed (live_with y.0 y.1.packets (held c)) (packet c)) c.take_under-taken.new.unit in
+    let Left : ℕ × Gathered → Type 0 = λ y. BufferAfter (begun_where_empty y.1 (lent_totals c.args.total) (y.0 + 1))
+    (live_key_seen y.0 y.1.packets (held c)) (packet c)
+    (judged_packet (begun_where_empty y.1 (lent_totals c.args.total) (y.0 + 1)).ahead
+    c.args.allowed (live_key_seen y.0 y.1.packets (held c)) (packet c)) c.take_under-taken.new.unit in
     subst Left (λ i. (c.units_in-units.ensures i, c.keep_held.ensures i)) c.take_under-taken.ensures.buffer
 
 tagless : (c : goal.After-self-1) → (packet c).prefix.m ≡ false → (packet c).tag ≡ []
@@ -92,29 +95,31 @@ judged_so c = judged-is _ c.args.allowed _ (packet c)
 
 pub returns-clause-answer : goal.returns-clause-answer
 unfolding packet
-returns-clause-answer c = answered c ∙ ap answer_of (sym (taken_is c))
+returns-clause-answer c = answered c ∙ ap answer_taken (sym (taken_is c))
 
 pub returns-clause-receiver : goal.returns-clause-receiver
 unfolding packet
 returns-clause-receiver c =
-    (λ i. view c.self.inside.stream c.self.inside.sub c.self.inside.mode (c.count_accepted.ensures.zero i)
+    (λ i. view c.self.inside.stream c.self.inside.sub c.self.inside.aggregation (c.count_accepted.ensures.zero i)
     (c.count_accepted.ensures.one i) (c.count_accepted.ensures.slots i) (c.after-self-inside.ensures i)
     c.take_under-taken.new.unit
     (c.self.inside.takes + 1))
-    ∙ view-answered c.self.inside.stream c.self.inside.sub c.self.inside.mode c.self.inside.zero c.self.inside.one
+    ∙ view-answered c.self.inside.stream c.self.inside.sub c.self.inside.aggregation c.self.inside.zero
+    c.self.inside.one
     c.self.inside.slots c.self.inside.holds c.self.inside.unit c.take_under-taken.new.unit c.self.inside.takes
-    (lent_ahead c.args.total) (packet c) (held c) c.take_under-taken.result (answer c) (key c)
-    (not_apart c.self.inside.holds (length c.self.inside.unit.packets) c.self.inside.mode (packet c).prefix.k
+    (lent_totals c.args.total) (packet c) (held c) c.take_under-taken.result (answer c) (key c)
+    (not_apart c.self.inside.holds (length c.self.inside.unit.packets) c.self.inside.aggregation (packet c).prefix.k
     (packet c).prefix.m (fits c)) (tagless c) (judged_so c) (answered c) (buffer c)
-    ∙ ap (λ (rx : Receiver). record (after_answer rx (lent_ahead c.args.total) (packet c) (answer c))
+    ∙ ap (λ (rx : Receiver). record (after_answer rx (lent_totals c.args.total) (packet c) (answer c))
     { takes = rx.takes + 1 }) c.self.view_is
-    ∙ ap (λ (t : Taken). record (after_answer c.args.self.now (lent_ahead c.args.total) (packet c) t)
+    ∙ ap (λ (t : Taken). record (after_answer c.args.self.now (lent_totals c.args.total) (packet c) t)
     { takes = c.args.self.now.takes + 1 }) (sym (taken_is c))
 
 pub invariant_of-self : goal.invariant_of-self
 unfolding packet
 invariant_of-self c =
-    let Kept : ℕ × ℕ × SlotPair × Holds → Type 0 = λ y. IsReceiver c.self.inside.mode y.0 y.1 (c.self.inside.takes + 1)
+    let Kept : ℕ × ℕ × SlotPair × Holds → Type 0 = λ y. IsReceiver c.self.inside.aggregation y.0 y.1
+    (c.self.inside.takes + 1)
     y.2 y.3 c.take_under-taken.new.unit in
     subst Kept (λ i. (
       sym c.count_accepted.ensures.zero i,
@@ -123,9 +128,13 @@ invariant_of-self c =
           c.count_accepted.ensures.slots i,
       sym c.after-self-inside.ensures i,
     ))
-    (receiver-answered c.self.inside.mode c.self.inside.zero c.self.inside.one c.self.inside.takes c.self.inside.slots
+    (receiver-answered c.self.inside.aggregation c.self.inside.zero c.self.inside.one c.self.inside.takes
+    c.self.inside.slots
     c.self.inside.holds c.self.inside.unit c.take_under-taken.new.unit
-    (lent_ahead c.args.total) (packet c) (held c) c.take_under-taken.result (answer c) c.self.invariant (key c) (fits c)
+    (lent_totals c.args.total) (packet c) (held c) c.take_under-taken.result (answer c) c.self.invariant (key c)
+    (fits c)
     (judged_so c) (answered c) (buffer c)
-    (c.take_under-taken.ensures.mode ∙ ap (λ (u : Gathered). u.mode) c.keep_held.ensures ∙ mode_kept c.self.inside.holds
-    c.self.inside.unit ∙ c.self.invariant.same_mode))
+    (c.take_under-taken.ensures.aggregation ∙ ap (λ (u : Gathered). u.aggregation) c.keep_held.ensures ∙
+    aggregation_kept
+    c.self.inside.holds
+    c.self.inside.unit ∙ c.self.invariant.same_aggregation))

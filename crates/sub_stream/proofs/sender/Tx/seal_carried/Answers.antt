@@ -2,12 +2,12 @@ use Rattle.std.proofs.Common.{◌≡◌, ℕ, ◌+◌, ◌-◌, Bool, false, Lis
 use Rattle.std.proofs.Common.{sym, ap, ◌∙◌, arith, length-append}
 use Rattle.ide_prefix.specs.declared.packet.Prefix.{Prefix}
 use Rattle.ide_prefix.specs.Packet.{Packet, packet_bytes}
-use Rattle.stream_rules.specs.Stream.{LiveKey, sealed_slots}
-use Rattle.sub_stream.specs.Gathered.{Gathered, lent_ahead}
+use Rattle.spec_stream.specs.Stream.{LiveKey, sealed_slots}
+use Rattle.sub_stream.specs.Gathered.{Gathered, lent_totals}
 use Rattle.sub_stream.specs.Masked.{masked_packet, packet_with_tag}
-use Rattle.sub_stream.specs.Seen.{seen_out, live_with}
+use Rattle.sub_stream.specs.Seen.{sender_slots_seen, live_key_seen}
 use Rattle.sub_stream.specs.Senders.{Sender, Content, carried_content, sealing_of, sealing_as, sealing_answer}
-use Rattle.sub_stream.specs.Senders.{sealing_bytes, sender_after, tagged_packet, ahead_for}
+use Rattle.sub_stream.specs.Senders.{sealing_bytes, sender_after, tagged_packet, sender_ahead}
 use Rattle.sub_stream.proofs.Sealed.{sealing_with, packet-tagged, slots-sealed, ahead-sealed, sender-sealed}
 use Rattle.sub_stream.proofs.sender.Tx.seal_carried.Goals as goal
 
@@ -16,16 +16,16 @@ tx : goal.After-len → Sender
 tx c = record {
   stream = c.self.inside.stream;
   sub = c.self.inside.sub;
-  mode = c.self.inside.mode;
+  aggregation = c.self.inside.aggregation;
   limit = c.self.inside.limit;
   ahead = c.self.inside.unit.ahead;
-  slots = seen_out c.self.inside.slots c.self.inside.units c.self.inside.unit.packets;
+  slots = sender_slots_seen c.self.inside.slots c.self.inside.units c.self.inside.unit.packets;
 }
 
 key : goal.After-len → Bool × LiveKey
 key c = (
   c.in-Ok.key.0,
-  live_with c.self.inside.units c.self.inside.unit.packets
+  live_key_seen c.self.inside.units c.self.inside.unit.packets
       (record { key = c.in-Ok.key.1.now; draw = c.in-Ok.key.2 }),
 )
 
@@ -40,7 +40,7 @@ prefix c = record {
 }
 
 total : goal.After-len → List ℕ
-total c = lent_ahead c.args.total
+total c = lent_totals c.args.total
 
 content : goal.After-len → Content
 content c = carried_content c.args.carried.now
@@ -109,16 +109,16 @@ more_packets c e =
     c.args.carried.now.head.now c.args.carried.now.payload.now ∷ [])
     (ap (λ (u : Gathered). u.packets) c.begin_where_empty.ensures)
 
-slots : (c : goal.After-len) → seen_out c.end_unit.new.slots c.end_unit.new.units c.end_unit.new.unit.packets
+slots : (c : goal.After-len) → sender_slots_seen c.end_unit.new.slots c.end_unit.new.units c.end_unit.new.unit.packets
     ≡ sealed_slots c.is_last-m.result (packet c)
-    (seen_out c.self.inside.slots c.self.inside.units c.self.inside.unit.packets)
+    (sender_slots_seen c.self.inside.slots c.self.inside.units c.self.inside.unit.packets)
 unfolding prefix unit packet open_packets
 slots c =
     slots-sealed c.is_last-m.result c.self.inside.slots c.self.inside.units c.self.inside.unit.packets
     c.append_packet.new.unit.packets _ _ (unit c) _ _ refl (more_packets c) c.end_unit.ensures.slots
 
 ahead : (c : goal.After-len) → c.end_unit.new.unit.ahead ≡
-    (if c.is_last-m.result then [] else ahead_for (tx c) (key c).1 (total c))
+    (if c.is_last-m.result then [] else sender_ahead (tx c) (key c).1 (total c))
 unfolding tx key total
 ahead c =
     ahead-sealed c.is_last-m.result c.append_packet.new.unit c.end_unit.new.unit _ c.end_unit.ensures.unit
@@ -131,7 +131,7 @@ unfolding tx total content
 returns-clause-sender c =
     (λ i. record (tx c) { ahead = ahead c i; slots = slots c i })
     ∙ ap (λ p. record (tx c) {
-      ahead = (if c.is_last-m.result then [] else ahead_for (tx c) (key c).1 (total c));
+      ahead = (if c.is_last-m.result then [] else sender_ahead (tx c) (key c).1 (total c));
       slots = sealed_slots
           c.is_last-m.result p (tx c).slots;
     }) (packet_is c)
@@ -145,6 +145,6 @@ invariant_of-self c =
     λ e. ap length (more_packets c e) ∙ length-append c.self.inside.unit.packets _ in
     sender-sealed _ _ _ _ _ _ _ _ _ c.is_last-m.result c.args.more (key c) c.self.invariant c.in-Ok.ensures
     c.is_last-m.ensures count
-    (c.append_packet.ensures.mode ∙ ap (λ (u : Gathered). u.mode) c.begin_where_empty.ensures)
+    (c.append_packet.ensures.aggregation ∙ ap (λ (u : Gathered). u.aggregation) c.begin_where_empty.ensures)
     c.end_unit.ensures.unit c.end_unit.ensures.sender c.end_unit.ensures.live c.end_unit.ensures.one_live
     c.end_unit.ensures.units

@@ -13,7 +13,7 @@ place c =
       count,
       length-packets_in _ _ c.self.invariant.parts,
       c.self.invariant.fits,
-      c.self.invariant.small_mode,
+      c.self.invariant.small_aggregation,
       c.requires,
     )
 

@@ -3,7 +3,7 @@ use Rattle.ide_prefix.specs.Packet.{prefix_bytes}
 use Rattle.sub_stream.proofs.Views.{has_place, gathered-added, view-added}
 use Rattle.sub_stream.proofs.unit_packets.UnitPackets.push.Goals as goal
 
-place : (c : goal.After-add) → length c.self.inside.buf.packets < c.self.inside.buf.mode
+place : (c : goal.After-add) → length c.self.inside.buf.packets < c.self.inside.buf.aggregation
 place c = has_place _ _ _ _ c.self.invariant c.self.view_is c.requires.room
 
 clear : (c : goal.After-add) → c.write_prefix.result ++ c.args.head.now

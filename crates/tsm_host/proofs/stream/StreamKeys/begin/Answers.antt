@@ -2,13 +2,14 @@ use Rattle.std.proofs.Common.{◌≡◌, ℕ, Bool, true, false, [], refl}
 use Rattle.std.specs.Prelude.{if◌then◌else◌}
 use Rattle.link_verdicts.specs.declared.verdict.Operation.TheVariants as op
 use Rattle.key_slots.specs.{Pool}
-use Rattle.key_laws.specs.Operations.{Op, Idle, Establishing, Up, Refreshing, Stopping, work_of}
+use Rattle.spec_keys.specs.Operations.{StreamStage, Idle, Establishing, Up, Refreshing, Stopping, work_of}
 use Rattle.tsm_host.specs.Local.{halts}
 use Rattle.tsm_host.specs.Streams.{HostView, refusal_of, unless, begun_calls, has_host}
 use Rattle.tsm_host.proofs.stream.StreamKeys.begin.Goals as goal
 
 -- a stop that begins empties all slots of a host's port
-stop_calls : (hosted : Bool) (o : Op) (host : HostView) (pool : Pool) (id : ℕ) → (work_of op.Stop o 0).begins ≡ true
+stop_calls : (hosted : Bool) (o : StreamStage) (host : HostView) (pool : Pool) (id : ℕ) → (work_of op.Stop o 0).begins
+    ≡ true
     → unless (refusal_of op.Stop o host pool) [] (begun_calls hosted (work_of op.Stop o pool.draws) pool id)
     ≡ (if hosted then halts id else [])
 stop_calls true Idle host pool id begins = refl

@@ -15,7 +15,7 @@ returns-then-len-self-clause-answer c = sym (full c)
 pub returns-then-len-self-clause-unit : goal.returns-then-len-self-clause-unit
 returns-then-len-self-clause-unit c = view-full c.args.self.now _ _ (full c)
 
-less : (c : goal.After-push) → length c.self.inside.ends.items < c.self.inside.mode
+less : (c : goal.After-push) → length c.self.inside.ends.items < c.self.inside.aggregation
 less c = omega (arith, c.if-len-self.false, c.len.ensures.value)
 
 head : goal.After-push → List ℕ

@@ -1,13 +1,13 @@
 use Rattle.std.proofs.Common.{refl, arith, ◌∙◌}
 use Rattle.unit_aggregation.proofs.Parts.{joined_bodies}
-use Rattle.unit_aggregation.proofs.Views.{view-rebodied}
+use Rattle.unit_aggregation.proofs.Views.{view-packets_with_bodies}
 use Rattle.unit_aggregation.proofs.unit_buf.UnitBuf.body_mut.Goals as goal
 
 pub returns : goal.returns
 returns c = (
   (
     refl,
-    λ w. view-rebodied _ _ _ _ _ w _ c.args.self.now c.self.view_is c.self.invariant.rising
+    λ w. view-packets_with_bodies _ _ _ _ _ w _ c.args.self.now c.self.view_is c.self.invariant.rising
         c.self.inside.bodies.ok.0,
   ),
   record {
@@ -15,6 +15,6 @@ returns c = (
     value = rw (← c.self.view_is)
         (c.as_mut_slice.ensures.value ∙ joined_bodies c.self.inside.heads.items _ _ _ c.self.invariant.rising);
     short = let p = c.self.invariant in let e = c.as_mut_slice.ensures in rw e.value
-        (omega (arith, p.bodies_fit, p.packets_fit, p.mode_fits));
+        (omega (arith, p.bodies_fit, p.packets_fit, p.aggregation_fits));
   },
 )

@@ -3,8 +3,8 @@ use Rattle.std.proofs.lemmas.List.{length-set}
 use Rattle.std.specs.Prelude.{length}
 use Rattle.link_events.specs.declared.event.Event.TheVariants.{Access}
 use Rattle.link_events.specs.declared.event.AccessEvent.TheVariants as ae
-use Rattle.waiting_reads.specs.declared.queue.WaitingRead.{WaitingRead}
-use Rattle.accesses.specs.declared.link.LinkAccesses.{LinkAccesses}
+use Rattle.trusted_memory.specs.declared.queue.WaitingRead.{WaitingRead}
+use Rattle.link_stores.specs.declared.link.LinkAccesses.{LinkAccesses}
 use Rattle.all_links.specs.{waiting_reads_after}
 use Rattle.all_links.specs.Accesses.{same_floors, nothing_happens, same_carried, AccessesTurn}
 use Rattle.all_links.proofs.Sides.{keeps_all}

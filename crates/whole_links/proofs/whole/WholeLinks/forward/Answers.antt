@@ -5,10 +5,10 @@ use Rattle.ide_types.specs.declared.direction.Direction.{Direction}
 use Rattle.hop_queues.specs.declared.queue.HopTlp.{HopTlp}
 use Rattle.hop_queues.specs.declared.queues.HopQueues.{HopQueues}
 use Rattle.link_events.specs.declared.event.Event.TheVariants.{Forward}
-use Rattle.accesses.specs.declared.link.LinkAccesses.{LinkAccesses}
+use Rattle.link_stores.specs.declared.link.LinkAccesses.{LinkAccesses}
 use Rattle.all_links.specs.Accesses.{same_reads, same_floors, nothing_happens, AccessesTurn}
 use Rattle.whole_links.specs.declared.whole.WholeLinks.{WholeLinks}
-use Rattle.whole_links.specs.Accesses.{carried_by}
+use Rattle.whole_links.specs.Accesses.{carried_after_event}
 use Rattle.whole_links.specs.Whole.{WholeEnds}
 use Rattle.whole_links.proofs.Ends.{whole_noted}
 use Rattle.whole_links.proofs.Forwards.{forward_nowhere, forward_unkept}
@@ -44,7 +44,7 @@ pub returns-clause-accesses : goal.returns-clause-accesses
 returns-clause-accesses c =
     let mid : WholeLinks = c.forwarded.new.self in
     let carried : ℕ → Direction → List HopTlp → List HopTlp =
-    carried_by (Forward c.args.link c.args.direction) c.in_ok-verdict.verdict in
+    carried_after_event (Forward c.args.link c.args.direction) c.in_ok-verdict.verdict in
     let finish = λ (new : WholeLinks) (is : c.if-is_sealed.self ≡ new)
     (turn : AccessesTurn same_reads same_floors nothing_happens carried mid.accesses new.accesses).
     subst (λ (s : WholeLinks). AccessesTurn same_reads same_floors nothing_happens carried c.args.self.now.accesses

@@ -6,7 +6,7 @@ use Rattle.std.specs.Option.{option_map_or}
 use Rattle.ide_types.specs.declared.port.PortName.{PortName}
 use Rattle.hop_queues.specs.declared.queue.HopTlp.{HopTlp}
 use Rattle.hop_queues.specs.{queue_of}
-use Rattle.accesses.specs.declared.link.LinkAccesses.{LinkAccesses}
+use Rattle.link_stores.specs.declared.link.LinkAccesses.{LinkAccesses}
 use Rattle.all_links.specs.Links.{EndsSendingOr}
 use Rattle.whole_links.proofs.Forwards.{forward_empty, forward_sent_or}
 use Rattle.whole_links.proofs.whole.WholeLinks.forwarded.Goals as goal

@@ -2,18 +2,18 @@ use Rattle.std.proofs.Common.{ℕ, ◌≡◌, ◌++◌, List, ap, sym, ◌∙◌
 use Rattle.std.proofs.lemmas.Option.{same_Some}
 use Rattle.std.specs.Prelude.{Option, Some, Err}
 use Rattle.link_verdicts.specs.declared.verdict.Verdict.{Verdict}
-use Rattle.tdi_host.specs.Managers.{InterfaceManagerView, granted}
+use Rattle.interface_host.specs.Managers.{InterfaceManagerView, granted}
 use Rattle.trusted_memory.specs.{byte_at}
-unfoldable use Rattle.waiting_reads.specs.{completion_bytes}
+unfoldable use Rattle.trusted_memory.specs.{completion_bytes}
 use Rattle.all_links.specs.{LinkEnds}
-use Rattle.whole_links.specs.Besides.{judged_bound, replied, host_stream}
+use Rattle.whole_links.specs.Besides.{judged_bound, completion_with_bytes, host_stream}
 use Rattle.whole_links.proofs.whole.WholeLinks.granted.Goals as goal
 
 pub returns-in-None : goal.returns-in-None
 returns-in-None c = λ l is.
     let bytes : List ℕ = completion_bytes (byte_at c.args.self.now.links.trusted.contents) c.args.waiting.now.read in
-    ap (λ (w : Verdict). replied (Err w) bytes) c.dropped.ensures
-    ∙ ap (λ (o : Option (ℕ × ℕ)). replied
+    ap (λ (w : Verdict). completion_with_bytes (Err w) bytes) c.dropped.ensures
+    ∙ ap (λ (o : Option (ℕ × ℕ)). completion_with_bytes
     (judged_bound (host_stream l bytes) c.args.interface c.args.waiting.now.draw o)
     bytes)
     (c.in-None.ensures ∙ ap (λ (m : InterfaceManagerView). granted m c.args.link c.args.waiting.now.read.requester)
@@ -33,5 +33,5 @@ returns-in-Some c = λ l is.
     c.args.waiting.now.read.requester =
     c.in-Some.ensures ∙ ap (λ (m : InterfaceManagerView). granted m c.args.link c.args.waiting.now.read.requester)
     c.manager.ensures in
-    (λ i. replied (c.judged.ensures i) (made i))
-    ∙ (λ i. replied (judged_bound (taken i) c.args.interface c.args.waiting.now.draw (bound i)) bytes)
+    (λ i. completion_with_bytes (c.judged.ensures i) (made i))
+    ∙ (λ i. completion_with_bytes (judged_bound (taken i) c.args.interface c.args.waiting.now.draw (bound i)) bytes)

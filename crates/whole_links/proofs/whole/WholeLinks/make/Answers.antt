@@ -1,6 +1,6 @@
 use Rattle.std.proofs.Common.{◌∙◌, ap}
-use Rattle.ide_plan.specs.declared.plan.Plan.{Plan}
-use Rattle.accesses.specs.{new_accesses}
+use Rattle.ide_types.specs.declared.plan.Plan.{Plan}
+use Rattle.link_stores.specs.{new_accesses}
 use Rattle.whole_links.proofs.whole.WholeLinks.make.Goals as goal
 
 pub returns : goal.returns

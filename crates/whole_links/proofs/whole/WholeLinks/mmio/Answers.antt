@@ -1,7 +1,7 @@
 use Rattle.std.proofs.Common.{ℕ, refl, ◌++◌, take, drop, List, true, false, length, ap, sym, ◌∙◌, ◌≡◌, arith}
 use Rattle.std.proofs.Math.Seq.{take-append_seam}
 use Rattle.std.specs.Prelude.{vec_len}
-use Rattle.link_history.specs.Guarded.{mmio_if}
+use Rattle.spec_links.specs.Guarded.{mmio_if}
 use Rattle.whole_links.specs.Besides.{has_shown, bytes_shown}
 use Rattle.all_links.proofs.Sides.{keeps_all}
 use Rattle.whole_links.proofs.Answers.{mmio_only, length-shown}

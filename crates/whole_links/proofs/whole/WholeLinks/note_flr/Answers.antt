@@ -1,7 +1,7 @@
 use Rattle.std.proofs.Common.{ℕ, ◌<◌, ap, sym, subst, refl}
 use Rattle.guarded_memory.specs.Contents.{GuardedMemory}
 use Rattle.guarded_memory.specs.Happenings.{InterfaceReset}
-use Rattle.interface_states.specs.Exchanges.{changes_device}
+use Rattle.spec_interfaces.specs.Exchanges.{changes_device}
 use Rattle.all_links.specs.Interfaces.{interface_named}
 use Rattle.all_links.proofs.Asked.{is_there}
 use Rattle.whole_links.proofs.Accesses.{happens_here}

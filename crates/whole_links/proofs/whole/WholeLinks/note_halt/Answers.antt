@@ -1,9 +1,9 @@
 use Rattle.std.proofs.Common.{ℕ, ◌<◌, List, [], ◌∷◌, ap, sym, subst, refl}
 use Rattle.std.specs.Prelude.{Some}
-use Rattle.ide_plan.specs.declared.interface.BarPlan.{BarPlan}
+use Rattle.ide_types.specs.declared.interface.BarPlan.{BarPlan}
 use Rattle.guarded_memory.specs.Contents.{GuardedMemory, MmioLeads}
 use Rattle.guarded_memory.specs.Happenings.{InterfaceStopped}
-use Rattle.interface_states.specs.Exchanges.{carries}
+use Rattle.spec_interfaces.specs.Exchanges.{carries}
 use Rattle.all_links.specs.Interfaces.{interface_named}
 use Rattle.all_links.proofs.Asked.{is_there}
 use Rattle.whole_links.specs.Accesses.{bars_named}
@@ -29,9 +29,10 @@ returns-in-Some-clause-accesses c =
     let a = c.at_mut.result.now in
     happens_here (carries c.args.verdict.now 1) (interface_named s.keeper.interfaces s.ends.links c.args.interface)
     (λ place. InterfaceStopped place (bars_named s c.args.interface)) (c.in-Some.link, c.in-Some.place)
-    c.args.self.now.accesses a (record a { guarded = c.stop.new.self }) (sym c.if-not-reaches.ensures) c.in-Some.ensures
-    c.at_mut.ensures.value refl (ap (λ (g : GuardedMemory). g.sizes) c.stop.ensures.kept)
+    c.args.self.now.accesses a (record a { guarded = c.stop_interface.new.self }) (sym c.if-not-reaches.ensures)
+    c.in-Some.ensures
+    c.at_mut.ensures.value refl (ap (λ (g : GuardedMemory). g.sizes) c.stop_interface.ensures.kept)
     (subst (λ (bars : List BarPlan). MmioLeads a.guarded (Some (InterfaceStopped c.in-Some.place bars) ∷ [])
-    c.stop.new.self)
+    c.stop_interface.new.self)
     (bars_at s c.args.interface (c.in-Some.link, c.in-Some.place) c.bars-bars.result.now c.in-Some.ensures
-    c.bars-bars.ensures) c.stop.ensures.leads)
+    c.bars-bars.ensures) c.stop_interface.ensures.leads)

@@ -1,7 +1,7 @@
 use Rattle.std.proofs.Common.{ℕ, List, refl, ap, sym, subst, ◌∙◌}
 use Rattle.std.specs.Prelude.{Some}
 use Rattle.link_events.specs.declared.event.Event.{Event}
-use Rattle.link_ports.specs.Machine.{LinkPacket}
+use Rattle.machine_ports.specs.Machine.{LinkPacket}
 use Rattle.all_links.specs.Sides.{SidesArriveAt}
 use Rattle.all_links.specs.States.{links_state}
 use Rattle.whole_links.specs.Accesses.{AccessesArriveAt}
@@ -38,7 +38,8 @@ returns-in_ok-verdict-in-Some-2-clause-ends c =
     (ap (λ (bytes : List ℕ). Some bytes) c.as_slice.ensures.value
     ∙ (rw c.in-Some-2.is at c.in_ok-bytes_left-in-Some.ensures)))
     c.in_ok-verdict-in-Some-2.ensures.lands c.requires.bounded in
-    let IsSo = λ (s : WholeLinks). WholeEnds c.args.plan.now c.in_ok-verdict-in-Some-2.verdict c.args.self.now s event in
+    let IsSo = λ (s : WholeLinks). WholeEnds c.args.plan.now c.in_ok-verdict-in-Some-2.verdict c.args.self.now s event
+    in
     elim c.match-bytes-2.branch [
       | in-Borrowed-2 w ↦ subst IsSo (sym w.self-is) came
       | in-Owned-2 w ↦ subst IsSo (sym w.self-is) came
@@ -55,7 +56,8 @@ returns-in_ok-verdict-in-Some-2-clause-sides c =
     (ap (λ (bytes : List ℕ). Some bytes) c.as_slice.ensures.value
     ∙ (rw c.in-Some-2.is at c.in_ok-bytes_left-in-Some.ensures)))
     c.in_ok-verdict-in-Some-2.ensures.lands in
-    let IsSo = λ (s : WholeLinks). SidesArriveAt c.args.plan.now event c.in_ok-verdict-in-Some-2.verdict c.args.self.now.links s.links in
+    let IsSo = λ (s : WholeLinks). SidesArriveAt c.args.plan.now event c.in_ok-verdict-in-Some-2.verdict
+    c.args.self.now.links s.links in
     elim c.match-bytes-2.branch [
       | in-Borrowed-2 w ↦ subst IsSo (sym w.self-is) came
       | in-Owned-2 w ↦ subst IsSo (sym w.self-is) came
@@ -72,7 +74,8 @@ returns-in_ok-verdict-in-Some-2-clause-accesses c =
     (ap (λ (bytes : List ℕ). Some bytes) c.as_slice.ensures.value
     ∙ (rw c.in-Some-2.is at c.in_ok-bytes_left-in-Some.ensures)))
     c.in_ok-verdict-in-Some-2.ensures.lands in
-    let IsSo = λ (s : WholeLinks). AccessesArriveAt c.args.plan.now event c.in_ok-verdict-in-Some-2.verdict c.args.self.now s in
+    let IsSo = λ (s : WholeLinks). AccessesArriveAt c.args.plan.now event c.in_ok-verdict-in-Some-2.verdict
+    c.args.self.now s in
     elim c.match-bytes-2.branch [
       | in-Borrowed-2 w ↦ subst IsSo (sym w.self-is) came
       | in-Owned-2 w ↦ subst IsSo (sym w.self-is) came

@@ -4,7 +4,7 @@ use Rattle.std.specs.Option.{option_map_or}
 use Rattle.std.specs.Bool.{OnTrue}
 use Rattle.trusted_memory.specs.{bytes_from}
 use Rattle.guarded_memory.specs.Contents.{has_bytes, mmio_byte}
-use Rattle.accesses.specs.declared.link.LinkAccesses.{LinkAccesses}
+use Rattle.link_stores.specs.declared.link.LinkAccesses.{LinkAccesses}
 use Rattle.all_links.specs.Accesses.{sizes_at, mmio_at}
 use Rattle.all_links.proofs.Asked.{is_there}
 use Rattle.whole_links.proofs.whole.WholeLinks.peek.Goals as goal

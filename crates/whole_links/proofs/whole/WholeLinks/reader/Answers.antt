@@ -1,7 +1,7 @@
 use Rattle.std.proofs.Common.{ℕ, ap, ◌∙◌}
 use Rattle.std.specs.Prelude.{Option}
 use Rattle.std.specs.Option.{option_and_then}
-use Rattle.tdi_host.specs.Managers.{InterfaceManagerView, interface_of_requester}
+use Rattle.interface_host.specs.Managers.{InterfaceManagerView, interface_of_requester}
 use Rattle.whole_links.specs.Besides.{small_number}
 use Rattle.whole_links.proofs.whole.WholeLinks.reader.Goals as goal
 

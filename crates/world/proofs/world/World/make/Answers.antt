@@ -1,7 +1,7 @@
 use Rattle.std.proofs.Common.{subst, sym}
-use Rattle.ide_plan.specs.declared.plan.Plan.{Plan}
-use Rattle.ide_plan.specs.Fits.{FitsPlan}
-use Rattle.access_states.specs.{IsNewWorld, world_of}
+use Rattle.ide_types.specs.declared.plan.Plan.{Plan}
+use Rattle.ide_types.specs.Fits.{FitsPlan}
+use Rattle.join_accesses.specs.{IsNewWorld, world_of}
 use Rattle.world.proofs.First.{first_is, first_world}
 use Rattle.world.proofs.world.World.make.Goals as goal
 

@@ -1,2 +1,0 @@
-pub mod Turns
-pub use Rattle.read_order.specs.Waiting.{waiting_next}

@@ -1,6 +1,0 @@
-use Rattle.std.proofs.Common.{◌≡◌, take}
-use Rattle.accesses.specs.Accesses.{new_accesses}
-use Rattle.accesses.proofs.accesses.Accesses.make.Given as goal
-
-abbrev pub invariant-loop-link : goal.invariant-loop-link
-invariant-loop-link l = l.links.items ≡ new_accesses (take l.link-index l.plan.links)

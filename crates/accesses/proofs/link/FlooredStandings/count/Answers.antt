@@ -1,7 +1,0 @@
-use Rattle.std.proofs.Common.{sym, ◌∙◌}
-use Rattle.accesses.proofs.Standings.{as_many}
-use Rattle.accesses.proofs.link.FlooredStandings.count.Goals as goal
-
-pub returns : goal.returns
-returns c =
-    c.count.ensures ∙ sym (as_many c.args.self.now.floors.now 0 c.args.self.now.interfaces.now.interfaces)

@@ -1,0 +1,18 @@
+pub mod Cipher
+mod Keys
+mod Packets
+pub mod Ends
+mod Writes
+mod Counted
+mod Unit
+mod Refreshes
+mod Unforged
+pub mod Literals
+pub mod InterfaceComputed
+mod MemoryKeys
+mod MemoryPackets
+pub mod MemoryComputed
+pub mod ReadsComputed
+pub mod MmioComputed
+mod HopLiterals
+pub mod HopComputed

@@ -1,0 +1,155 @@
+-- The worked cases of reads by computation.
+use Rattle.std.specs.Prelude.{◌≡◌, List, [], ◌∷◌, Option, true, drop, slice_get, bytes_eq}
+use Rattle.std.specs.Option.{option_map_or}
+use Rattle.std.proofs.Common.{refl, ap, ◌∙◌}
+use Rattle.ide_types.specs.Ports.{host_port}
+use Rattle.ide_types.specs.Walks.{walked_from, walk_length, reading}
+use Rattle.tlp_layout.specs.Reading.{read_head_of}
+use Rattle.ide_types.specs.declared.port.Side.TheVariants.{Host}
+use Rattle.ide_types.specs.declared.sub.SubKind.TheVariants.{Cpl}
+use Rattle.association.specs.Outgoing.{outgoing_of}
+use Rattle.spec_interfaces.specs.Views.{grant_at}
+use Rattle.trusted_memory.specs.Writes.{Write, byte_after, newest_first}
+use Rattle.trusted_memory.specs.declared.queue.WaitingRead.{WaitingRead}
+use Rattle.trusted_memory.specs.Completions.{completion_bytes}
+use Rattle.spec_links.specs.Plan.{streams_of}
+use Rattle.spec_links.specs.History.{sealed_packets}
+use Rattle.spec_links.specs.History.{sent_bytes}
+use Rattle.spec_links.specs.Packets.{Arrival, packet_in}
+use Rattle.spec_links.specs.Memory.{admitted_writes}
+use Rattle.spec_links.specs.Sent.{queued_in, reads_taken, reads_by, writes_in, bytes_by, unit_accepted}
+use Rattle.spec_links.specs.Due.{due, answer_first, outgoing_completion}
+use Rattle.link_events.specs.declared.event.Event.TheVariants.{Pass}
+use Rattle.link_verdicts.specs.declared.access.AccessVerdict.TheVariants as av
+use Rattle.link_verdicts.specs.declared.verdict.Effect.TheVariants.{Queued}
+use Rattle.link_verdicts.specs.declared.verdict.BlockCause.TheVariants.{NotRunning}
+use Rattle.link_verdicts.specs.declared.verdict.Verdict.TheVariants as v
+use Rattle.case_runs.specs.InterfaceCases.{interface_plan}
+use Rattle.case_runs.specs.MemoryCases.{IsInterfaceDue}
+use Rattle.case_runs.specs.ReadCases.{ReadCases, OneMore, sealed_request, queued_read, answer, answered_read}
+use Rattle.case_runs.specs.ReadCases.{read_unit}
+use Rattle.case_runs.specs.ReadCases.{written_history, waiting_history, halted_waiting, applied_write, waiting_read}
+use Rattle.case_runs.specs.ReadCases.{read_completion, trusted_packet}
+use Rattle.case_runs.proofs.Ends.{comes_at, ends_at}
+use Rattle.case_runs.proofs.MemoryPackets.{later_read, later_read_is, later_read_tag, later_read_tag_is, first_read_is}
+use Rattle.case_runs.proofs.MemoryComputed.{write_admitted}
+use Rattle.case_runs.proofs.Literals.{due_on_literals}
+
+-- each is a declaration of its own, since the checker counts its steps by declarations
+asked_due : IsInterfaceDue written_history (sealed_request 2 1)
+unfolding due_on_literals
+asked_due = refl
+
+queued_due : IsInterfaceDue (sealed_request 2 1 ∷ written_history) (queued_read 2)
+unfolding due_on_literals
+queued_due =
+    ends_at interface_plan (sealed_request 2 1 ∷ written_history) _ (host_port 0) later_read read_unit true
+    (ap (comes_at (host_port 0)) later_read_is) refl (ap (bytes_eq later_read_tag) later_read_tag_is)
+
+-- ---- what stands in memory, and what waits
+
+of_read : List (Option Write)
+of_read = admitted_writes interface_plan (grant_at interface_plan (sealed_request 2 1 ∷ written_history)) (host_port 0)
+    read_unit
+    (unit_accepted interface_plan (sealed_packets interface_plan waiting_history) (sealed_request 2 1 ∷ written_history)
+    (Pass 2) (host_port 0) read_unit)
+
+none_of_read : newest_first of_read (applied_write ∷ []) ≡ applied_write ∷ []
+unfolding due_on_literals of_read
+none_of_read =
+    ap (λ (o : Option Arrival). newest_first
+    (admitted_writes interface_plan (grant_at interface_plan (sealed_request 2 1 ∷ written_history)) (host_port 0)
+    read_unit (packet_in o ∷ [])) (applied_write ∷ []))
+    (ap (comes_at (host_port 0)) later_read_is)
+
+before_read : writes_in interface_plan (sealed_packets interface_plan waiting_history) written_history
+    ≡ applied_write ∷ []
+unfolding due_on_literals
+before_read = write_admitted
+
+then_read : writes_in interface_plan (sealed_packets interface_plan waiting_history) waiting_history
+    ≡ newest_first of_read
+    (writes_in interface_plan (sealed_packets interface_plan waiting_history) written_history)
+unfolding writes_in of_read
+then_read = refl
+
+writes_are : writes_in interface_plan (sealed_packets interface_plan waiting_history) waiting_history
+    ≡ applied_write ∷ []
+writes_are = then_read ∙ (ap (newest_first of_read) before_read ∙ none_of_read)
+
+queued_are : queued_in interface_plan (sealed_packets interface_plan waiting_history) waiting_history 0
+    ≡ waiting_read ∷ []
+unfolding due_on_literals
+queued_are =
+    ap (λ (o : Option Arrival). reads_by 0 (Queued ∷ []) (packet_in o ∷ [])) (ap (comes_at (host_port 0)) later_read_is)
+
+-- ---- the answer
+
+bytes_from_both : sent_bytes interface_plan waiting_history answer ≡ option_map_or
+    (λ (r : WaitingRead). completion_bytes (byte_after (applied_write ∷ [])) r.read)
+    (slice_get (waiting_read ∷ []) (reads_taken waiting_history 0)) []
+unfolding bytes_by
+bytes_from_both i = option_map_or (λ (r : WaitingRead). completion_bytes (byte_after (writes_are i)) r.read)
+    (slice_get (queued_are i) (reads_taken waiting_history 0)) []
+
+completed : option_map_or (λ (r : WaitingRead). completion_bytes (byte_after (applied_write ∷ [])) r.read)
+    (slice_get (waiting_read ∷ []) (reads_taken waiting_history 0)) [] ≡ read_completion
+unfolding completion_bytes byte_after reads_taken
+completed = refl
+
+bytes_are : sent_bytes interface_plan waiting_history answer ≡ read_completion
+bytes_are = bytes_from_both ∙ completed
+
+due_from_both : due interface_plan waiting_history answer
+    ≡ answer_first interface_plan waiting_history (host_port 0)
+    (drop (reads_taken waiting_history 0) (waiting_read ∷ []))
+    (outgoing_of (streams_of interface_plan 0) Host read_completion)
+unfolding due_on_literals
+due_from_both i =
+    answer_first interface_plan waiting_history (host_port 0) (drop (reads_taken waiting_history 0) (queued_are i))
+    (outgoing_of (streams_of interface_plan 0) Host (bytes_are i))
+
+sent_then : answer_first interface_plan waiting_history (host_port 0)
+    (drop (reads_taken waiting_history 0) (waiting_read ∷ []))
+    (outgoing_of (streams_of interface_plan 0) Host read_completion) ≡ v.Sealed (trusted_packet 3 (host_port 0) Cpl 0)
+unfolding due_on_literals
+sent_then = refl
+
+answer_due : IsInterfaceDue waiting_history answered_read
+answer_due = due_from_both ∙ sent_then
+
+queued_still : queued_in interface_plan (sealed_packets interface_plan (answered_read ∷ waiting_history))
+    (answered_read ∷ waiting_history) 0 ≡ waiting_read ∷ []
+unfolding due_on_literals
+queued_still =
+    ap (λ (o : Option Arrival). reads_by 0 (Queued ∷ []) (packet_in o ∷ [])) (ap (comes_at (host_port 0)) later_read_is)
+
+empty_due : IsInterfaceDue (answered_read ∷ waiting_history) (answer, v.Access (av.Empty 0))
+unfolding due_on_literals
+empty_due =
+    ap (λ (rs : List WaitingRead). answer_first interface_plan (answered_read ∷ waiting_history) (host_port 0)
+    (drop (reads_taken (answered_read ∷ waiting_history) 0) rs)
+    (outgoing_completion interface_plan (answered_read ∷ waiting_history) 0))
+    queued_still
+
+-- ---- of a halted interface, and of one unit
+
+queued_halted : queued_in interface_plan (sealed_packets interface_plan halted_waiting) halted_waiting 0
+    ≡ waiting_read ∷ []
+unfolding due_on_literals
+queued_halted =
+    ap (λ (o : Option Arrival). reads_by 0 (Queued ∷ []) (packet_in o ∷ [])) (ap (comes_at (host_port 0)) first_read_is)
+
+dropped_due : IsInterfaceDue halted_waiting (answer, v.Access (av.Dropped 0 NotRunning))
+unfolding due_on_literals
+dropped_due =
+    ap (λ (rs : List WaitingRead). answer_first interface_plan halted_waiting (host_port 0)
+    (drop (reads_taken halted_waiting 0) rs) (outgoing_completion interface_plan halted_waiting 0))
+    queued_halted
+
+one_more : OneMore
+unfolding read_head_of reading walk_length walked_from
+one_more = refl
+
+pub reads_computed : ReadCases
+reads_computed = (asked_due, queued_due, answer_due, bytes_are, empty_due, dropped_due, one_more)

@@ -1,0 +1,108 @@
+-- The program's forms.
+use Rattle.std.proofs.Common.{◌≡◌, ◌==◌, ℕ, List, [], ◌∷◌, Bool, true, false, Some, None, refl, codes, ap}
+use Rattle.std.proofs.Common.{if◌then◌else◌}
+use Rattle.clap.specs.Words.{Text, fault_of, subcommand_of}
+use Rattle.clap.proofs.OnLiterals.{clap_on_literals}
+use Rattle.cli_words.specs.Ide.{ide_app}
+use Rattle.cli_words.specs.Words.{CommandRequest, IsName, asked, subcommand_asked, asks_both, run, judge, check}
+use Rattle.cli_words.specs.Words.{migrate, show}
+
+-- what the words ask for if `clap` takes them, and whether they ask for two texts
+abbrev pub reading : List Text → CommandRequest × Bool
+reading words = (subcommand_asked (subcommand_of ide_app words), asks_both (subcommand_of ide_app words))
+
+pub taken : (words : List Text) (a : CommandRequest) → fault_of ide_app words ≡ [] → reading words ≡ (a, false)
+    → asked words ≡ Some a
+taken words a passes reads =
+    let one : asks_both (subcommand_of ide_app words) ≡ false = ap (λ r. r.1) reads in
+    let asks : subcommand_asked (subcommand_of ide_app words) ≡ a = ap (λ r. r.0) reads in
+    rw (passes, one, asks) refl
+
+-- words that ask for two texts ask for nothing
+pub refused_anyway : (words : List Text) (taken both : Bool) → both ≡ true
+    → (if if taken then both else true then None else Some (subcommand_asked (subcommand_of ide_app words))) ≡ None
+refused_anyway words true both two = rw two refl
+refused_anyway words false both two = refl
+
+run_passes : (p : Text) (x y : ℕ) (xs ys : Text) → (x == 45) ≡ false → (y == 45) ≡ false
+    → fault_of ide_app (p ∷ codes "run" ∷ (x ∷ xs) ∷ (y ∷ ys) ∷ []) ≡ []
+unfolding clap_on_literals
+run_passes p x y xs ys e f = simp (e, f)
+
+run_reads : (p : Text) (x y : ℕ) (xs ys : Text) → (x == 45) ≡ false → (y == 45) ≡ false
+    → reading (p ∷ codes "run" ∷ (x ∷ xs) ∷ (y ∷ ys) ∷ []) ≡ (run (x ∷ xs) (y ∷ ys), false)
+unfolding clap_on_literals
+run_reads p x y xs ys e f = simp (e, f)
+
+pub run_form : (p a b : Text) → IsName a → IsName b → asked (p ∷ codes "run" ∷ a ∷ b ∷ []) ≡ Some (run a b)
+run_form p [] b h i = absurd h
+run_form p (x ∷ xs) [] h i = absurd i
+run_form p (x ∷ xs) (y ∷ ys) e f = taken (p ∷ codes "run" ∷ (x ∷ xs) ∷ (y ∷ ys) ∷ []) _ (run_passes p x y xs ys e f)
+    (run_reads p x y xs ys e f)
+
+judge_passes : (p : Text) (x y z : ℕ) (xs ys zs : Text) → (x == 45) ≡ false → (y == 45) ≡ false → (z == 45) ≡ false
+    → fault_of ide_app (p ∷ codes "judge" ∷ (x ∷ xs) ∷ (y ∷ ys) ∷ (z ∷ zs) ∷ []) ≡ []
+unfolding clap_on_literals
+judge_passes p x y z xs ys zs e f g = simp (e, f, g)
+
+judge_reads : (p : Text) (x y z : ℕ) (xs ys zs : Text) → (x == 45) ≡ false → (y == 45) ≡ false → (z == 45) ≡ false
+    → reading (p ∷ codes "judge" ∷ (x ∷ xs) ∷ (y ∷ ys) ∷ (z ∷ zs) ∷ [])
+    ≡ (judge (x ∷ xs) (y ∷ ys) (z ∷ zs), false)
+unfolding clap_on_literals
+judge_reads p x y z xs ys zs e f g = simp (e, f, g)
+
+pub judge_form : (p a b c : Text) → IsName a → IsName b → IsName c
+    → asked (p ∷ codes "judge" ∷ a ∷ b ∷ c ∷ []) ≡ Some (judge a b c)
+judge_form p [] b c h i j = absurd h
+judge_form p (x ∷ xs) [] c h i j = absurd i
+judge_form p (x ∷ xs) (y ∷ ys) [] h i j = absurd j
+judge_form p (x ∷ xs) (y ∷ ys) (z ∷ zs) e f g =
+    taken (p ∷ codes "judge" ∷ (x ∷ xs) ∷ (y ∷ ys) ∷ (z ∷ zs) ∷ []) _ (judge_passes p x y z xs ys zs e f g)
+    (judge_reads p x y z xs ys zs e f g)
+
+check_passes : (p : Text) (x : ℕ) (xs : Text) → (x == 45) ≡ false → fault_of ide_app (p ∷ codes "check" ∷ (x ∷ xs) ∷ [])
+    ≡ []
+unfolding clap_on_literals
+check_passes p x xs e = simp e
+
+check_reads : (p : Text) (x : ℕ) (xs : Text) → (x == 45) ≡ false
+    → reading (p ∷ codes "check" ∷ (x ∷ xs) ∷ []) ≡ (check (x ∷ xs), false)
+unfolding clap_on_literals
+check_reads p x xs e = simp e
+
+pub check_form : (p a : Text) → IsName a → asked (p ∷ codes "check" ∷ a ∷ []) ≡ Some (check a)
+check_form p [] h = absurd h
+check_form p (x ∷ xs) e = taken (p ∷ codes "check" ∷ (x ∷ xs) ∷ []) _ (check_passes p x xs e) (check_reads p x xs e)
+
+migrate_passes : (p : Text) (x : ℕ) (xs : Text) → (x == 45) ≡ false
+    → fault_of ide_app (p ∷ codes "check" ∷ (x ∷ xs) ∷ codes "--migrate" ∷ []) ≡ []
+unfolding clap_on_literals
+migrate_passes p x xs e = simp e
+
+migrate_reads : (p : Text) (x : ℕ) (xs : Text) → (x == 45) ≡ false
+    → reading (p ∷ codes "check" ∷ (x ∷ xs) ∷ codes "--migrate" ∷ []) ≡ (migrate (x ∷ xs), false)
+unfolding clap_on_literals
+migrate_reads p x xs e = simp e
+
+pub migrate_form : (p a : Text) → IsName a → asked (p ∷ codes "check" ∷ a ∷ codes "--migrate" ∷ []) ≡ Some (migrate a)
+migrate_form p [] h = absurd h
+migrate_form p (x ∷ xs) e = taken (p ∷ codes "check" ∷ (x ∷ xs) ∷ codes "--migrate" ∷ []) _ (migrate_passes p x xs e)
+    (migrate_reads p x xs e)
+
+show_passes : (p : Text) (x : ℕ) (xs : Text) → (x == 45) ≡ false → fault_of ide_app (p ∷ codes "show" ∷ (x ∷ xs) ∷ [])
+    ≡ []
+unfolding clap_on_literals
+show_passes p x xs e = simp e
+
+show_reads : (p : Text) (x : ℕ) (xs : Text) → (x == 45) ≡ false
+    → reading (p ∷ codes "show" ∷ (x ∷ xs) ∷ []) ≡ (show (x ∷ xs), false)
+unfolding clap_on_literals
+show_reads p x xs e = simp e
+
+pub show_form : (p a : Text) → IsName a → asked (p ∷ codes "show" ∷ a ∷ []) ≡ Some (show a)
+show_form p [] h = absurd h
+show_form p (x ∷ xs) e = taken (p ∷ codes "show" ∷ (x ∷ xs) ∷ []) _ (show_passes p x xs e) (show_reads p x xs e)
+
+pub no_words : asked [] ≡ None
+unfolding clap_on_literals
+no_words = refl

@@ -1,3 +1,0 @@
-pub mod Statements
-pub mod PostedCounts
-pub use Rattle.delivery_laws.specs.PostedCounts.{CountLaw, CountLawHolds}

@@ -1,4 +1,0 @@
-pub mod Rows
-pub mod Streams
-pub mod Ends
-pub mod Sites

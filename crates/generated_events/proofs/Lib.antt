@@ -1,5 +1,0 @@
-pub mod Rounds
-pub mod NumberedKeys
-pub mod PlanFits
-pub mod Allowed
-pub mod Forms

@@ -1,6 +1,0 @@
-use Rattle.std.proofs.Common.{◌≡◌}
-use Rattle.generated_events.specs.Topology.{keys_below}
-use Rattle.generated_events.proofs.keys.numbered_keys.Given as goal
-
-abbrev pub invariant-loop-n : goal.invariant-loop-n
-invariant-loop-n l = l.all.items ≡ keys_below l.n

@@ -1,4 +1,0 @@
-pub mod Events
-pub mod Forms
-pub mod Left
-pub mod Topology

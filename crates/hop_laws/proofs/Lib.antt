@@ -1,9 +1,0 @@
-pub mod TlpsRead
-pub mod Forwards
-pub mod Since
-pub mod Carried
-pub mod Crossing
-pub mod Crosses
-pub mod Sends
-pub mod Through
-pub use Rattle.delivery_laws.proofs.Received.{came_fits, held_fits}

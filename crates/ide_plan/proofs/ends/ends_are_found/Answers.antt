@@ -1,5 +1,0 @@
-use Rattle.ide_plan.proofs.EndsFound.{end_found}
-use Rattle.ide_plan.proofs.ends.ends_are_found.Goals as goal
-
-pub returns : goal.returns
-returns c = end_found

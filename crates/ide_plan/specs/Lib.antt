@@ -1,4 +1,0 @@
-pub mod Plans
-pub mod Fits
-pub mod Ends
-pub mod EndLaws

@@ -1,0 +1,35 @@
+use Rattle.ide_port.proofs.Terms.{sym, ap, arith, Stop, is_one, is_there, place_call}
+use Rattle.ide_port.proofs.Keeping.{kept-stream_after_call}
+use Rattle.ide_port.proofs.Steps.{IsLane, lane-some, lane-inside, nowhere-step, stream_after_call-step}
+use Rattle.ide_port.proofs.port.PortSlotPort.stop.Goals as goal
+
+pub index_mut-stream-requires : goal.index_mut-stream-requires
+index_mut-stream-requires c =
+    let inside = lane-inside c.self.inside c.args.place.stream c.args.place.sub c.in-Some.index c.in-Some.sub
+    c.self.invariant (cc) in
+    omega (arith, inside, c.self.inside.streams.ok.0)
+
+pub returns-in-None : goal.returns-in-None
+returns-in-None c =
+    let x = nowhere-step c.self.inside c.args.self.now c.self.view_is c.self.invariant
+    (place_call c.args.place (Stop (is_one c.args.set))) (cc) in
+    record { answer = sym (ap (λ o. is_there o) x.shows); moves = x.moves; slots = x.slots }
+
+-- the place that is called
+lane : (c : goal.After-self-in-Some-1) → IsLane c.self.inside.plans c.args.place.stream c.args.place.sub c.in-Some.index
+    c.in-Some.sub
+lane c = lane-some c.self.inside.plans c.args.place.stream c.args.place.sub _ _ (cc)
+
+pub invariant_of-self-in-Some : goal.invariant_of-self-in-Some
+invariant_of-self-in-Some c =
+    kept-stream_after_call c.self.inside c.self.invariant c.args.place.stream c.in-Some.index
+    c.index_mut-stream.result.now
+    (lane c).place_is c.index_mut-stream.ensures.value c.stop.new.self c.args.place.direction c.in-Some.sub
+    (Stop (is_one c.args.set)) c.stop.ensures
+
+pub returns-in-Some : goal.returns-in-Some
+returns-in-Some c =
+    let x = stream_after_call-step c.self.inside c.args.self.now c.self.view_is c.self.invariant
+    (place_call c.args.place (Stop (is_one c.args.set))) c.in-Some.index c.in-Some.sub c.index_mut-stream.result.now
+    c.stop.new.self (lane c) c.index_mut-stream.ensures.value c.stop.ensures in
+    record { answer = sym (ap (λ o. is_there o) x.shows); moves = x.moves; slots = x.slots }

@@ -1,9 +1,0 @@
-use Rattle.ide_words.proofs.Rounds.{few_rounds, few_script_rounds, few_topology_rounds}
-use Rattle.ide_words.proofs.few_rounds.Goals as goal
-
-pub returns : goal.returns
-returns c = record {
-  totals = few_rounds;
-  script = few_script_rounds;
-  topology = few_topology_rounds;
-}

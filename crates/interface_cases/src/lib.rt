@@ -1,6 +1,0 @@
-//! Worked cases of device interfaces, computed.
-#![tactic(auto)]
-
-mod cases;
-
-pub use cases::interface_cases;

@@ -1,0 +1,9 @@
+pub mod Walks
+pub mod Carried
+pub mod Refused
+pub mod Widths
+pub mod Due
+pub mod Exchanges
+pub mod Operations
+pub mod Reports
+pub mod Kept

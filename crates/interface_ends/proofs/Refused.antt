@@ -1,0 +1,34 @@
+-- An operation that is refused at its beginning.
+use Rattle.std.proofs.Common.{◌≡◌, ℕ, Option, Some, None, Err, refl}
+use Rattle.std.specs.Prelude.{IfSome}
+use Rattle.ide_types.specs.declared.status.StreamStatus.{StreamStatus}
+use Rattle.link_events.specs.declared.event.Loss.{Loss}
+use Rattle.interface_host.specs.declared.operation.InterfaceOperation.{InterfaceOperation}
+use Rattle.interface_host.specs.declared.operation.InterfaceOutcome.TheVariants as outcome
+use Rattle.interface_host.specs.declared.operation.InterfaceRefusal.{InterfaceRefusal}
+use Rattle.interface_host.specs.Views.{HostTdi, interface_refusal_of, interface_ok_unless, interface_unless}
+use Rattle.interface_host.specs.Managers.{InterfaceManagerView, begun_interface_manager}
+use Rattle.interface_device.specs.declared.said.StreamSaid.{StreamSaid}
+use Rattle.interface_device.specs.Replies.{DeviceTdis}
+use Rattle.interface_ends.specs.Keepers.{Ended, unless_refused, interface_operated}
+
+refused_by : (x : Option InterfaceRefusal) (r : InterfaceRefusal) (m begun new : InterfaceManagerView) (d : DeviceTdis)
+    (rest : Ended)
+    → Err r ≡ interface_ok_unless x → new ≡ interface_unless x m begun
+    → (let e : Ended = record { outcome = outcome.Refused r; manager = new; device = d } in e)
+    ≡ unless_refused x m d rest
+refused_by None r m begun new d rest answer is = absurd cc
+refused_by (Some y) r m begun new d rest answer is =
+    let same : r ≡ y = cc in
+    rw (same, is) refl
+
+pub begin_refused : (o : Option HostTdi) (place draws : ℕ) (op : InterfaceOperation) (status : StreamStatus)
+    (said : StreamSaid)
+    (loss : Option Loss) (m new : InterfaceManagerView) (d : DeviceTdis) (r : InterfaceRefusal)
+    → IfSome o (λ i. Err r ≡ interface_ok_unless (interface_refusal_of op status i))
+    → IfSome o (λ i. new ≡ begun_interface_manager m place op status draws i)
+    → IfSome o (λ i. (let e : Ended = record { outcome = outcome.Refused r; manager = new; device = d } in e)
+    ≡ interface_operated place op status draws said loss m d i)
+begin_refused None place draws op status said loss m new d r answer is = tt
+begin_refused (Some i) place draws op status said loss m new d r answer is =
+    refused_by (interface_refusal_of op status i) r m _ new d _ answer is

@@ -1,0 +1,4 @@
+pub mod Keepers
+pub mod Exchanges
+pub mod Operations
+pub mod Reports

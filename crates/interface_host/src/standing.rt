@@ -1,0 +1,162 @@
+//! The views of an interface, each as its own value.
+
+ghost use Rattle.std.specs.Prelude.{◌≡◌};
+ghost use Rattle.interface_host.specs.Facts.{reported_in};
+ghost use Rattle.interface_host.specs.Judging.{answer_shown};
+ghost use Rattle.interface_host.specs.Views.{seen, IsUnlocked, seen_after_lock, reported, started, compared};
+ghost use Rattle.interface_host.specs.Views.{seen_after_step, broken};
+
+use crate::judge::Answer;
+use crate::step::Step;
+use crate::tdi::{Broken, Doubt, Locked, Running, Tdi, Unlocked};
+use ide_types::View;
+
+/// The manager's view of an interface, whichever it is. The device may leave a lock by itself, so this is the manager's
+/// view alone.
+#[derive(Drop)]
+pub(crate) enum ManagedTdi {
+    Unlocked(Tdi<Unlocked>),
+    Locked(Tdi<Locked>),
+    Running(Tdi<Running>),
+    Doubt(Tdi<Doubt>),
+    Broken(Tdi<Broken>),
+}
+
+impl ManagedTdi {
+    ghost use Rattle.interface_host.specs.Views.{view_of, nonce_of, floor_of};
+
+    /// As the manager begins.
+    pub(crate) fn new() -> ManagedTdi
+        ensures { seen result ≡ IsUnlocked }
+    {
+        ManagedTdi::Unlocked(Tdi::unlocked())
+    }
+
+    /// Which it is.
+    pub(crate) fn view(&self) -> View
+        ensures { result ≡ view_of (seen self.now) }
+    {
+        match self {
+            ManagedTdi::Unlocked(_) => View::Unlocked,
+            ManagedTdi::Locked(_) => View::Locked,
+            ManagedTdi::Running(_) => View::Running,
+            ManagedTdi::Doubt(_) => View::Doubt,
+            ManagedTdi::Broken(_) => View::Broken,
+        }
+    }
+
+    /// The draw that the stream of a run had as it was started.
+    pub(crate) fn floor(&self) -> Option<u32>
+        ensures { result ≡ floor_of (seen self.now) }
+    {
+        match self {
+            ManagedTdi::Running(tdi) => Some(tdi.floor()),
+            _ => None,
+        }
+    }
+
+    /// The nonce of a lock; 32 zero bytes stand for none.
+    pub(crate) fn nonce(&self) -> [u8; 32]
+        ensures { result ≡ nonce_of (seen self.now) }
+    {
+        match self {
+            ManagedTdi::Locked(tdi) => tdi.nonce(),
+            _ => [0; 32],
+        }
+    }
+
+    // The device locked it with this nonce.
+    fn locked(self, nonce: [u8; 32]) -> ManagedTdi
+        ensures { seen result ≡ seen_after_lock nonce (seen self) }
+    {
+        match self {
+            ManagedTdi::Unlocked(tdi) => ManagedTdi::Locked(tdi.lock(nonce)),
+            standing => standing,
+        }
+    }
+
+    // Its report was read.
+    fn reported(self) -> ManagedTdi
+        ensures { seen result ≡ reported (seen self) }
+    {
+        match self {
+            ManagedTdi::Locked(tdi) => ManagedTdi::Locked(tdi.report()),
+            standing => standing,
+        }
+    }
+
+    // The device started it, with its stream under this draw.
+    fn started(self, draw: u32) -> ManagedTdi
+        ensures { seen result ≡ started draw (seen self) }
+    {
+        match self {
+            ManagedTdi::Locked(tdi) => ManagedTdi::Running(tdi.start(draw)),
+            standing => standing,
+        }
+    }
+
+    // The device is in the state of this code.
+    fn compared(self, code: u8) -> ManagedTdi
+        ensures { seen result ≡ compared code (seen self) }
+    {
+        match self {
+            ManagedTdi::Locked(tdi) => {
+                if code == 1 {
+                    ManagedTdi::Locked(tdi)
+                } else {
+                    ManagedTdi::Broken(Tdi::broken())
+                }
+            }
+            ManagedTdi::Running(tdi) => {
+                if code == 2 {
+                    ManagedTdi::Running(tdi)
+                } else {
+                    ManagedTdi::Broken(Tdi::broken())
+                }
+            }
+            standing => standing,
+        }
+    }
+
+    /// What ends a lock happened: a view of a lock, and one in doubt, breaks.
+    pub(crate) fn broken(self) -> ManagedTdi
+        ensures { seen result ≡ broken (seen self) }
+    {
+        match self {
+            ManagedTdi::Unlocked(tdi) => ManagedTdi::Unlocked(tdi),
+            _ => ManagedTdi::Broken(Tdi::broken()),
+        }
+    }
+
+    /// The view after an exchange; `draw` is that of the bound stream.
+    pub(crate) fn after(self, step: Step, draw: u32, answer: Answer) -> ManagedTdi
+        ensures { seen result ≡ seen_after_step step draw (answer_shown answer.entry) (seen self) }
+    {
+        match (step, answer) {
+            (Step::Lock, Answer::Nonce(nonce)) => self.locked(nonce),
+            (Step::Report, Answer::Portion { remainder: 0, .. }) => self.reported(),
+            (Step::Start, Answer::Passed) => self.started(draw),
+            (Step::Start, Answer::Refused(_)) => ManagedTdi::Broken(Tdi::broken()),
+            (Step::Halt, Answer::Passed) => ManagedTdi::Unlocked(Tdi::unlocked()),
+            (Step::State, Answer::State(code)) => self.compared(code),
+            (Step::Lock | Step::Halt, Answer::Refused(_)) => self,
+            (Step::Lock | Step::Start | Step::Halt, _) => ManagedTdi::Doubt(Tdi::doubted()),
+            _ => self,
+        }
+    }
+}
+
+// ---- what is seen of it
+
+impl ManagedTdi {
+    /// Whether the report of a lock was read; `None` if it is no lock.
+    pub(crate) fn reported_in(&self) -> Option<bool>
+        ensures { result ≡ reported_in (seen self.now) }
+    {
+        match self {
+            ManagedTdi::Locked(tdi) => Some(tdi.is_reported()),
+            ManagedTdi::Unlocked(_) | ManagedTdi::Running(_) => None,
+            ManagedTdi::Doubt(_) | ManagedTdi::Broken(_) => None,
+        }
+    }
+}

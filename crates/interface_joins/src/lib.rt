@@ -1,8 +1,0 @@
-//! An operation of the manager on an interface, carried exchange by exchange to the device that has it, gives the
-//! verdict that is due, and leaves manager and device as the machine of interfaces does (TDISP, PCI Express Base 6.0
-//! chapter 11, in this profile). Definitions and one theorem.
-#![tactic(auto)]
-
-mod joined;
-
-pub use joined::interface_operations_join;

@@ -1,8 +1,0 @@
-use Rattle.interface_states.proofs.Bound.{bind_law as holds, peer_seals_bound}
-use Rattle.interface_states.proofs.laws.bind_law.Goals as goal
-
-pub returns-clause-law : goal.returns-clause-law
-returns-clause-law c = holds
-
-pub returns-clause-sealed : goal.returns-clause-sealed
-returns-clause-sealed c = peer_seals_bound

@@ -1,0 +1,40 @@
+//! Bytes that arrive at a port of one of the links.
+
+ghost use Rattle.std.specs.Prelude.{◌≡◌, ◌<◌, ◌^◌, IfOk, OnErr, length};
+ghost use Rattle.join_ends.specs.{CallsBelow};
+ghost use Rattle.join_arrivals.specs.Accesses.{AccessesStay, Brings};
+
+use ide_types::{OutOfMemory, PortName};
+use interface_ends::InterfaceKeeper;
+use join_ends::AllEnds;
+use link_stores::Accesses;
+use link_verdicts::Verdict;
+use trusted_memory::Trusted;
+
+/// The most pages of trusted memory that the writes of a unit go to: it has at most 8 packets, each in one page.
+const MOST_PAGES: u8 = 8;
+
+/// Bytes arrive at an end that is at this port of a host or a device; if there is no such end nothing is taken. The
+/// pages that a unit may need are taken first, so for want of memory nothing changes.
+pub fn bytes_arrive(
+    ends: &mut AllEnds,
+    keeper: &InterfaceKeeper,
+    trusted: &mut Trusted,
+    accesses: &mut Accesses,
+    end: PortName,
+    port: PortName,
+    bytes: &[u8],
+) -> Result<Verdict, OutOfMemory>
+    requires link { port.line < length ends.old.links }
+    requires few { CallsBelow (2 ^ 40) ends.old }
+    requires many { length accesses.old ≡ length ends.old.links }
+    ensures brings { IfOk result (λ v. Brings keeper.now end port bytes.now v ends.old trusted.old.contents
+        accesses.old ends.new trusted.new.contents accesses.new) }
+    ensures ends { OnErr result (ends.new ≡ ends.old) }
+    ensures memory { OnErr result (trusted.new.contents ≡ trusted.old.contents) }
+    ensures accesses { OnErr result (AccessesStay accesses.old accesses.new) }
+{
+    trusted.spare(MOST_PAGES)?;
+    accesses.at_mut(port.line).spare()?;
+    Ok(ends.arrive(end, port, bytes, keeper, trusted, accesses))
+}

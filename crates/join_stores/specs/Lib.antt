@@ -1,0 +1,2 @@
+pub mod Turns
+pub use Rattle.law_reads.specs.Waiting.{waiting_next}

@@ -1,0 +1,12 @@
+pub mod SealedBy
+pub mod Ranges
+pub mod Parts
+pub mod ByteOrigins
+pub mod Shown
+pub mod MmioOrigins
+pub mod AllLaws
+pub mod Taken
+pub mod StreamDraws
+pub mod NoOtherRun
+pub mod PeerEnds
+pub mod BindFloors

@@ -1,0 +1,293 @@
+-- What is shown of trusted memory was sent.
+use Rattle.law_sealing.proofs.Terms.{◌≡◌, ◌≢◌, ◌⊎◌, inl, inr, ℕ, ◌+◌, ◌<◌, ◌==◌, ◌&&◌, zero, suc, Bool, true, false}
+use Rattle.law_sealing.proofs.Terms.{not}
+use Rattle.law_sealing.proofs.Terms.{List, [], ◌∷◌, ◌++◌, length, slice_get, Option, Some, None, Result, Ok, Err, refl}
+use Rattle.law_sealing.proofs.Terms.{ap}
+use Rattle.law_sealing.proofs.Terms.{sym, subst, ◌∙◌, arith, if◌then◌else◌, Plan, History, Event, Verdict, Accepted}
+use Rattle.law_sealing.proofs.Terms.{UnitName, Effect, Packet, PortName, received_in, CauseLaw, NoForgery, DrawFacts}
+use Rattle.law_sealing.proofs.Terms.{StreamsFit, body, key_of, iv_of, is_sync_packet}
+use Rattle.law_sealing.proofs.OfPlans.{streams_fit}
+use Rattle.law_verdicts.proofs.{accepted_known, admitted_means, at_port, cause_at, draws, get_less, memory_law}
+use Rattle.ide_types.specs.Fits.{FitsPlan}
+use Rattle.ide_types.specs.declared.plan.Region.{Region}
+use Rattle.ide_types.specs.Sub.{sent_direction}
+use Rattle.tlp_layout.specs.declared.head.HeadView.{HeadView}
+use Rattle.law_sealing.proofs.Terms.{Tlp, header}
+use Rattle.tlp_layout.specs.declared.fault.TlpFault.{TlpFault}
+use Rattle.tlp_layout.specs.Reading.{read_head_of}
+use Rattle.trusted_memory.specs.Spans.{enables}
+use Rattle.trusted_memory.specs.Writes.{Write, memory_write, newest_first, last_enabling, written_byte, payload_byte}
+unfoldable use Rattle.trusted_memory.specs.Writes.{byte_after}
+use Rattle.trusted_memory.specs.Admitted.{if_placed}
+use Rattle.spec_links.specs.Ports.{at_switch, port_of, goes_to_hop}
+unfoldable use Rattle.spec_links.specs.Ports.{sealing_end}
+use Rattle.ide_types.specs.Ends.{hop_end}
+use Rattle.ide_types.specs.Ports.{device_port}
+use Rattle.ide_types.specs.declared.port.Side.{Side}
+use Rattle.ide_types.specs.declared.port.Side.TheVariants.{Host, Device}
+use Rattle.std.specs.Prelude.{◌≤◌, nat_lt}
+use Rattle.spec_interfaces.specs.Sites.{Site, site_at}
+use Rattle.spec_interfaces.proofs.OnLinks.{number_on_link}
+use Rattle.law_sealing.proofs.Terms.{nat_tests, Send, Sealed}
+use Rattle.spec_links.specs.Memory.{Grants, admitted, payload_write, admitted_each, unit_ended, plain_of}
+use Rattle.spec_links.specs.Memory.{accepted_unit_writes}
+unfoldable use Rattle.spec_links.specs.Memory.{writes}
+use Rattle.spec_interfaces.specs.Views.{grant_at}
+use Rattle.spec_interfaces.specs.Cause.{owner_of}
+use Rattle.spec_interfaces.proofs.Floors.{found}
+use Rattle.law_verdicts.specs.{CameFrom}
+use Rattle.law_bytes.specs.ByteOrigin.{HasByteOrigin, ShowsSent, ByteOriginLaw}
+use Rattle.law_bytes.proofs.Parts.{part_at, part_opens, part_admitted}
+use Rattle.law_bytes.proofs.ByteOrigins.{own, for, host_device}
+use Rattle.link_events.specs.declared.event.Event.TheVariants as event
+use Rattle.link_events.specs.declared.event.InterfaceEvent.TheVariants as ie
+use Rattle.link_verdicts.specs.declared.verdict.Verdict.TheVariants as v
+use Rattle.ide_types.specs.declared.verdict.InterfaceVerdict.TheVariants as iv
+
+-- ---- the write that left a byte
+
+record LeftBy (ws : List Write) (at byte : ℕ) : Type 0 where
+  write : Write
+  place : ℕ
+  stands : slice_get ws place ≡ Some write
+  enabled : enables write.span at ≡ true
+  byte_is : payload_byte write at ≡ byte
+
+left_by : (ws : List Write) (at byte : ℕ) → byte_after ws at ≡ byte → byte ≢ 0 → LeftBy ws at byte
+unfolding byte_after
+left_by ws at byte is some = by (last_enabling ws at) refl is
+  where
+    by : (o : Option Write) → last_enabling ws at ≡ o → written_byte o at ≡ byte → LeftBy ws at byte
+    by None none is = absurd (some (sym is))
+    by (Some w) there is =
+        let it = found (λ z. enables z.span at) ws w there in
+        record { write = w; place = it.place; stands = it.stands; enabled = it.passes; byte_is = is }
+
+-- ---- the pair that admitted it
+
+-- a write among those of a unit that ends
+record AdmittedBy (plan : Plan) (h : History) (w : Write) : Type 0 where
+  event : Event
+  port : PortName
+  unit : UnitName
+  effects : List Effect
+  older : History
+  came : CameFrom ((event, Accepted port unit effects) ∷ older) h
+  number : ℕ
+  is : slice_get (accepted_unit_writes plan older event port unit) number ≡ Some (Some w)
+
+newest_at : (os : List (Option Write)) (ws : List Write) (k : ℕ) (w : Write)
+    → slice_get (newest_first os ws) k ≡ Some w
+    → ((n : ℕ) × (slice_get os n ≡ Some (Some w))) ⊎ ((j : ℕ) × (slice_get ws j ≡ Some w))
+newest_at [] ws k w is = inr (k, is)
+newest_at (None ∷ os) ws k w is = elim (newest_at os ws k w is) [ inl n ↦ inl (suc n.0, n.1) | inr j ↦ inr j ]
+newest_at (Some x ∷ os) ws k w is = elim (newest_at os (x ∷ ws) k w is) [
+  | inl n ↦ inl (suc n.0, n.1)
+  | inr j ↦ first j.0 j.1
+]
+  where
+    first : (j : ℕ) → slice_get (x ∷ ws) j ≡ Some w
+        → ((n : ℕ) × (slice_get (Some x ∷ os) n ≡ Some (Some w))) ⊎ ((j : ℕ) × (slice_get ws j ≡ Some w))
+    first zero is = inl (0, ap Some is)
+    first (suc j) is = inr (j, is)
+
+later : (plan : Plan) (h : History) (pair : Event × Verdict) (w : Write) → AdmittedBy plan h w
+    → AdmittedBy plan (pair ∷ h) w
+later plan h pair w at = record {
+  event = at.event;
+  port = at.port;
+  unit = at.unit;
+  effects = at.effects;
+  older = at.older;
+  came = record { since = pair ∷ at.came.since; is = ap (λ (g : History). pair ∷ g) at.came.is };
+  number = at.number;
+  is = at.is;
+}
+
+admitted_at : (plan : Plan) (h : History) (k : ℕ) (w : Write) → slice_get (writes plan h) k ≡ Some w
+    → AdmittedBy plan h w
+unfolding writes
+admitted_at plan [] k w is = absurd cc
+admitted_at plan ((e, Accepted port unit effects) ∷ h) k w is =
+    elim (newest_at (accepted_unit_writes plan h e port unit) (writes plan h) k w is) [
+      | inl n ↦ record {
+        event = e;
+        port = port;
+        unit = unit;
+        effects = effects;
+        older = h;
+        came = record { since = []; is = refl };
+        number = n.0;
+        is = n.1;
+      }
+      | inr j ↦ later plan h (e, Accepted port unit effects) w (admitted_at plan h j.0 w j.1)
+    ]
+admitted_at plan (pair ∷ h) k w is = later plan h pair w (admitted_at plan h k w is)
+
+-- ---- its packet
+
+record IsPacketAt (ps : List Packet) (n : ℕ) : Type 0 where
+  packet : Packet
+  stands : slice_get ps n ≡ Some packet
+
+packet_at : (plan : Plan) (grants : Grants) (port : PortName) (unit : UnitName) (plain : List ℕ) (ps : List Packet)
+    (n : ℕ) (o : Option Write) → slice_get (admitted_each plan grants port unit plain ps) n ≡ Some o → IsPacketAt ps n
+packet_at plan grants port unit plain [] n o is = absurd cc
+packet_at plan grants port unit plain (p ∷ ps) zero o is = record { packet = p; stands = refl }
+packet_at plan grants port unit plain (p ∷ ps) (suc n) o is =
+    let rest = packet_at plan grants port unit _ ps n o is in record { packet = rest.packet; stands = rest.stands }
+
+placed_is : (regions : List Region) (b : Bool) (o : Option Write) (w : Write) → if_placed regions b o ≡ Some w → o
+    ≡ Some w
+placed_is regions b None w is = absurd cc
+placed_is regions b (Some z) w is = grind arith
+
+write_is : (plan : Plan) (grants : Grants) (port : PortName) (unit : UnitName) (p : Packet) (payload : List ℕ)
+    (w : Write) (head : HeadView) → admitted plan grants port unit p payload ≡ Some w → read_head_of p.head ≡ Ok head
+    → memory_write head payload ≡ Some w
+write_is plan grants port unit p payload w head is reads =
+    by (not (is_sync_packet p)) (at_switch plan port) (sent_direction port.side == 0) (read_head_of p.head) reads is
+  where
+    by : (a c b : Bool) (r : Result HeadView TlpFault) → r ≡ Ok head
+        → (if a && (not c && b) then payload_write plan grants port unit p.prefix.t payload r else None) ≡ Some w
+        → memory_write head payload ≡ Some w
+    by false c b r reads is = absurd cc
+    by true true b r reads is = absurd cc
+    by true false false r reads is = absurd cc
+    by true false true (Err f) reads is = absurd cc
+    by true false true (Ok k) reads is =
+        let same : k ≡ head = cc (reads) in
+        subst (λ (z : HeadView). memory_write z payload ≡ Some w) same
+        (placed_is plan.memory _ (memory_write k payload) w is)
+
+-- ---- the port that it was given to
+
+not_there : (links line link : ℕ) → links ≤ 8 → nat_lt line links ≡ true → 16 + link ≡ line → ⊥
+not_there links line link most is far = absurd (omega (arith, most, far, lt_of line links is))
+  where
+    lt_of : (m n : ℕ) → nat_lt m n ≡ true → m < n
+    lt_of m n is = grind (arith, nat_tests, is)
+
+-- what is sealed at the end of a link's device was given to that device's port
+given_there : (plan : Plan) → FitsPlan plan → (x : Site) → site_at plan x.number ≡ Some x → (q : PortName)
+    (bytes : List ℕ) → sealing_end plan q bytes ≡ device_port x.link → q ≡ device_port x.link
+unfolding sealing_end
+given_there plan fits x known q bytes is = by (goes_to_hop plan q bytes) is
+  where
+    by_side : (side : Side) (link : ℕ) → hop_end side link ≡ device_port x.link → ⊥
+    by_side Host link is = host_device (ap (λ (r : PortName). r.side) is)
+    by_side Device link is = not_there (length plan.links) x.link link fits.links_most (number_on_link plan x known)
+        (ap (λ (r : PortName). r.line) is)
+
+    by : (b : Bool) → (if b then hop_end q.side q.line else q) ≡ device_port x.link → q ≡ device_port x.link
+    by false is = is
+    by true is = absurd (by_side q.side q.line is)
+
+-- ---- one write
+
+forged_at : (plan : Plan) (since g h : History) → since ++ g ≡ h → NoForgery plan h → NoForgery plan g
+forged_at plan since g h is forged = by since (subst (NoForgery plan) (sym is) forged)
+  where
+    by : (since : History) → NoForgery plan (since ++ g) → NoForgery plan g
+    by [] f = f
+    by ((e, w) ∷ since) f = by since f.1
+
+-- the write of an admitted packet whose body masks the payload of a TLP that its interface sent
+write_sent : (plan : Plan) (grants : Grants) (q : PortName) (unit : UnitName) (p : Packet) (payload : List ℕ)
+    (w : Write)
+    (head : HeadView) (tlp : Tlp) → admitted plan grants q unit p payload ≡ Some w → read_head_of p.head ≡ Ok head
+    → header tlp ≡ head → payload ≡ body tlp → memory_write (header tlp) (body tlp) ≡ Some w
+write_sent plan grants q unit p payload w head tlp is reads head_is opens =
+    (λ i. memory_write (head_is i) (sym opens i)) ∙ write_is plan grants q unit p payload w head is reads
+
+origin_by : (plan : Plan) → FitsPlan plan → StreamsFit plan → DrawFacts plan → (h older : History) (e : Event)
+    (port : PortName) (unit : UnitName) (effects : List Effect)
+    → CameFrom ((e, Accepted port unit effects) ∷ older) h → CauseLaw plan ((e, Accepted port unit effects) ∷ older)
+    → NoForgery plan ((e, Accepted port unit effects) ∷ older) → (n : ℕ) (w : Write)
+    → slice_get (accepted_unit_writes plan older e port unit) n ≡ Some (Some w) → (at byte : ℕ) → enables w.span at
+    ≡ true
+    → payload_byte w at ≡ byte → HasByteOrigin plan h at byte
+origin_by plan whole fits facts h older e port unit effects came here none n w admits at byte enabled byte_is =
+    let q = port_of plan port in
+    let ps = unit_ended plan older e port unit in
+    let plain = plain_of plan port unit ps in
+    let it = packet_at plan (grant_at plan older) q unit plain ps n (Some w) admits in
+    let payload = part_at plain ps n it.packet in
+    let is = part_admitted plan (grant_at plan older) q unit plain ps n it.packet (Some w) admits it.stands in
+    let adm = at_port plan whole older port unit it.packet (accepted_known plan older e port unit effects here.0)
+    (admitted_means plan older q unit it.packet payload w is) in
+    let sent = own plan whole fits facts older e port unit effects here none n it.packet adm it.stands in
+    let site = for plan whole fits facts older e port unit effects here none n it.packet adm it.stands in
+    let opens : payload ≡ body sent.tlp =
+    part_opens (key_of plan unit.draw (received_in port unit)) (iv_of unit.sub unit.unit) ps n it.packet (body sent.tlp)
+    it.stands sent.body_is in
+    record {
+      event = e;
+      port = port;
+      unit = unit;
+      effects = effects;
+      older = older;
+      came = came;
+      number = n;
+      write = w;
+      admitted = admits;
+      interface = site.site;
+      known = site.known;
+      link = site.link_is;
+      sent = record {
+        bytes = sent.bytes;
+        more = sent.more;
+        trusted = sent.trusted;
+        ds = sent.ds;
+        older = sent.older;
+        came = subst (λ (r : PortName). CameFrom
+            ((Send r sent.bytes sent.more sent.trusted, Sealed sent.ds) ∷ sent.older)
+            older) (given_there plan whole site.site site.known sent.port_sent sent.bytes sent.at_device) sent.came;
+        tlp = sent.tlp;
+        reads = sent.reads;
+        is_write = write_sent plan (grant_at plan older) q unit it.packet payload w adm.head sent.tlp is adm.reads
+            sent.head_is opens;
+        requester = requested sent.tlp adm.head (Some site.site.plan.requester) sent.head_is site.requester;
+        runs = sent.runs;
+        same_lock = sent.same_lock;
+      };
+      enabled = enabled;
+      byte_is = byte_is;
+    }
+  where
+    requested : (tlp : Tlp) (head : HeadView) (o : Option ℕ) → header tlp ≡ head → owner_of head ≡ o
+        → owner_of (header tlp) ≡ o
+    requested tlp head o same is = ap owner_of same ∙ is
+
+origin_at : (plan : Plan) → FitsPlan plan → StreamsFit plan → DrawFacts plan → (h : History) → CauseLaw plan h
+    → NoForgery plan h → (at byte : ℕ) (left : LeftBy (writes plan h) at byte) → HasByteOrigin plan h at byte
+origin_at plan whole fits facts h cause forged at byte left =
+    let by = admitted_at plan h left.place left.write left.stands in
+    let pairs = (by.event, Accepted by.port by.unit by.effects) ∷ by.older in
+    origin_by plan whole fits facts h by.older by.event by.port by.unit by.effects by.came
+    (cause_at plan by.came.since pairs h by.came.is cause) (forged_at plan by.came.since pairs h by.came.is forged)
+    by.number left.write by.is at byte left.enabled left.byte_is
+
+-- ---- the law
+
+some_byte : (a b : ℕ) → Some a ≡ Some b → a ≡ b
+some_byte a b is = cc (is)
+
+shows_sent : (plan : Plan) → FitsPlan plan → (h : History) (e : Event) (w : Verdict)
+    → CauseLaw plan ((e, w) ∷ h) → NoForgery plan h → ShowsSent plan h e w
+shows_sent plan fits h (event.Interface (ie.Memory at len)) (v.Interface (iv.Memory bytes)) cause forged = λ k byte is
+    some.
+    let shown = (memory_law plan ((event.Interface (ie.Memory at len), v.Interface (iv.Memory bytes)) ∷ h) cause).1 in
+    let less : k < len = omega (arith, get_less bytes k byte is, shown.0) in
+    origin_at plan fits (streams_fit plan fits) (draws plan) h cause.1 forged (at + k) byte
+    (left_by (writes plan h) (at + k) byte (some_byte _ byte (sym (shown.1 k less) ∙ is)) some)
+shows_sent plan fits h (event.Interface (ie.Memory at len)) (v.Interface w) cause forged = tt
+shows_sent plan fits h (event.Interface (ie.Memory at len)) w cause forged = tt
+shows_sent plan fits h (event.Interface e) w cause forged = tt
+shows_sent plan fits h e w cause forged = tt
+
+pub byte_origin : (plan : Plan) → FitsPlan plan → (h : History) → CauseLaw plan h → NoForgery plan h
+    → ByteOriginLaw plan h
+byte_origin plan fits [] cause forged = tt
+byte_origin plan fits ((e, w) ∷ h) cause forged =
+    (shows_sent plan fits h e w cause forged.1, byte_origin plan fits h cause.1 forged.1)

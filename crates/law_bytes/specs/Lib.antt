@@ -1,0 +1,11 @@
+pub mod KeyStream
+pub mod ByteOrigin
+pub mod MmioOrigin
+pub mod Statements
+pub mod NoOtherRun
+-- the laws, with those of verdicts and of locks
+pub use Rattle.law_bytes.specs.KeyStream.{KeyStreamFresh}
+pub use Rattle.law_bytes.specs.ByteOrigin.{ByteOriginLaw}
+pub use Rattle.law_bytes.specs.MmioOrigin.{MmioOriginLaw}
+pub use Rattle.law_verdicts.specs.{AnswerLaw, AnswersLaw, Attested, EffectLaw, FailedLaw, LockLaw, NamedLaw}
+pub use Rattle.law_verdicts.specs.{OneLockPerKey, Scrubbed, TrustLaw, ViewsAreTrue}

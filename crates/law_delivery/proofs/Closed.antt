@@ -1,0 +1,268 @@
+-- On a closed stream, nothing of a newer key is accepted before all of the older ones. By induction on the history; the
+-- hard case is the first unit that is accepted under its draw, whose tag covers the total of units. There the sender's
+-- total of all smaller draws from Base on is the receiver's, and since under each draw no more units were got than were
+-- sealed, each count is equal. No unit of a smaller draw is open, so all of its packets were got.
+use Rattle.law_sealing.proofs.Terms.{◌≡◌, ℕ, suc, ◌<◌, ◌≤◌, ◌==◌, ◌&&◌, Bool, true, List, [], ◌∷◌, ◌++◌, length, take}
+use Rattle.law_sealing.proofs.Terms.{slice_get, Some, refl, ap, sym, ◌∙◌, subst, arith, length-append, inl, inr, ◌⊎◌}
+use Rattle.law_sealing.proofs.Terms.{if◌then◌else◌, AllByRecursion, and_parts, both_ways, cases_Bool, eqb-true}
+use Rattle.law_sealing.proofs.Terms.{nat_tests, append-nil, take_all}
+use Rattle.law_sealing.proofs.Terms.{PortName, Event, Verdict, Accepted, UnitName, Effect, Packet, Plan, SubStream}
+use Rattle.law_sealing.proofs.Terms.{is_same, is_closed, units, open_unit, is_of, is_under, sealed_packets, sent}
+use Rattle.law_sealing.proofs.Terms.{received_in, arrived_packet, packets_in_hold, accepted_packets, units_got}
+use Rattle.law_sealing.proofs.Terms.{draws_got, total_in, ahead_of_unit}
+use Rattle.law_sealing.proofs.Terms.{ahead_sent, ahead_due, units_since, History, base, CauseLaw, DrawFacts}
+use Rattle.law_sealing.proofs.Terms.{StreamsFit, NoForgery, NotForged, ClosedLaw, TotalsFit, same_stream, eqb-refl}
+use Rattle.law_sealing.proofs.Terms.{joined, joined_units, ending, AcceptedBy, WasSealed, accepted_by, received_there}
+use Rattle.law_sealing.proofs.Terms.{numbered}
+use Rattle.std.specs.Int.{w64, to_be_bytes, from_be_bytes}
+use Rattle.std.proofs.lemmas.Nat.{from_be_bytes-to_be_bytes_8}
+use Rattle.law_delivery.proofs.Orders.{NoneAbove, below_next, on_there, none_above, from_base}
+use Rattle.law_delivery.proofs.Prefixes.{all_first, got_begins}
+use Rattle.law_sealing.proofs.Totals.{total-le, first_and_rest}
+use Rattle.law_sealing.proofs.Sums.{total-eq, total_within, since_total}
+use Rattle.law_sealing.proofs.Fronts.{IsSealedIn, sealed_later, sent_kept, base_kept, first_sealed}
+use Rattle.law_sealing.proofs.FirstFronts.{front_is, last_none, sum_sent, units_sent}
+
+-- ---- draws that were got were sealed
+
+all_both : (P Q R : ℕ → Type 0) (js : List ℕ) → ((j : ℕ) → P j → Q j → R j) → AllByRecursion P js → AllByRecursion Q js
+    → AllByRecursion R js
+all_both P Q R [] each one two = tt
+all_both P Q R (j ∷ js) each one two = (each j one.0 two.0, all_both P Q R js each one.1 two.1)
+
+all_map : (P Q : ℕ → Type 0) (js : List ℕ) → ((j : ℕ) → P j → Q j) → AllByRecursion P js → AllByRecursion Q js
+all_map P Q js each all = all_both P P Q js (λ j one two. each j one) all all
+
+got_drawn : (P : ℕ → Type 0) (h : History) (s : SubStream) (j : ℕ) → AllByRecursion P (draws_got h s)
+    → (units_got h s j ≡ 0) ⊎ P j
+unfolding units_got draws_got
+got_drawn P [] s j all = inl refl
+got_drawn P ((e, Accepted port unit effects) ∷ h) s j all =
+    let parts = first_and_rest P (is_same (received_in port unit) s) unit.draw (draws_got h s) all in
+    elim (cases_Bool (is_of s j port unit)) [
+      | inl is ↦
+          let tests = and_parts (is_same (received_in port unit) s) (unit.draw == j) is in
+          inr (subst P (eqb-true unit.draw j tests.1) (parts.0 tests.0))
+      | inr other ↦ rw other (got_drawn P h s j parts.1)
+    ]
+got_drawn P (_ ∷ h) s j all = got_drawn P h s j all
+
+got_some : (plan : Plan) (h : History) (s : SubStream) → AllByRecursion
+    (λ (k : ℕ). 1 ≤ length (accepted_packets plan h s k))
+    (draws_got h s)
+unfolding accepted_packets draws_got
+got_some plan [] s = tt
+got_some plan ((e, Accepted port unit effects) ∷ h) s =
+    let more = λ (k : ℕ). if t && (unit.draw == k) then accepted_packets plan h s k
+    ++ u k else accepted_packets plan h s k in
+    let later = all_map (λ (k : ℕ). 1 ≤ length (accepted_packets plan h s k)) (λ (k : ℕ). 1 ≤ length (more k))
+    (draws_got h s)
+    (λ k some. grind (arith, some, length-append (accepted_packets plan h s k) (u k))) (got_some plan h s) in
+    let last = length-append (packets_in_hold plan h s unit.draw unit.unit) (arrived_packet plan h e ∷ []) in
+    let some : 1 ≤ length (accepted_packets plan h s unit.draw ++ u unit.draw) = omega
+    (arith, length-append (accepted_packets plan h s unit.draw) (u unit.draw), last) in
+    elim (cases_Bool t) [
+      | inl here ↦ rw here (rw (eqb-refl unit.draw) some, rw here at later)
+      | inr other ↦ rw other (rw other at later)
+    ]
+  where
+    t : Bool
+    t = is_same (received_in port unit) s
+
+    u : ℕ → List Packet
+    u k = packets_in_hold plan h s k unit.unit ++ arrived_packet plan h e ∷ []
+got_some plan (_ ∷ h) s = got_some plan h s
+
+sealed_draws : (plan : Plan) → StreamsFit plan → DrawFacts plan → (h : History) → CauseLaw plan h → NoForgery plan h
+    → (s : SubStream) → AllByRecursion (IsSealedIn plan h s) (draws_got h s)
+sealed_draws plan fits facts h cause forged s =
+    all_map (λ (k : ℕ). 1 ≤ length (accepted_packets plan h s k)) (IsSealedIn plan h s) (draws_got h s)
+    (λ k some.
+    let begins = got_begins plan fits facts h cause forged s k in
+    let all = ap length (sym begins.1) in
+    (first_sealed plan h s k (omega (arith, some, all, length-append (accepted_packets plan h s k) begins.0))).0)
+    (got_some plan h s)
+
+-- ---- the pair at which a unit is accepted
+
+front_total : (plan : Plan) (s : SubStream) (a b : ℕ) → is_closed plan s.line s.stream ≡ true → a < 18446744073709551616
+    → b < 18446744073709551616 → ahead_of_unit plan s 1 a ≡ ahead_of_unit plan s 1 b → a ≡ b
+unfolding ahead_of_unit
+front_total plan s a b closed a_fits b_fits same =
+    let bytes : to_be_bytes w64 a ≡ to_be_bytes w64 b = rw closed at same in
+    sym (from_be_bytes-to_be_bytes_8 a a_fits) ∙ (ap (from_be_bytes w64) bytes ∙ from_be_bytes-to_be_bytes_8 b b_fits)
+
+-- all was got of the smaller draws from Base on
+abbrev pub Older : Plan → History → SubStream → ℕ → Type 0
+Older plan h s j = (i : ℕ) → base h s.line s.stream ≤ i → i < j → accepted_packets plan h s i ≡ sent plan h s i
+
+all_units_got : (plan : Plan) → StreamsFit plan → DrawFacts plan → (h : History) → CauseLaw plan h → NoForgery plan h
+    → (s : SubStream) (i : ℕ) → units_got h s i ≡ length (units (sent plan h s i)) → open_unit (sent plan h s i) ≡ []
+    → accepted_packets plan h s i ≡ sent plan h s i
+all_units_got plan fits facts h cause forged s i count none =
+    let are = all_first plan fits facts h cause forged s i in
+    let us = units (sent plan h s i) in
+    let whole : take (units_got h s i) us ≡ us = take_all (units_got h s i) us (omega (arith, count)) in
+    are.first ∙ (ap joined whole ∙
+    (sym (append-nil (joined us)) ∙
+    (ap (λ (ps : List Packet). joined us ++ ps) (sym none) ∙ joined_units (sent plan h s i))))
+
+some_sent : (ps : List Packet) (k : ℕ) (u : List Packet) → slice_get (units ps) k ≡ Some u → 1 ≤ length ps
+unfolding units
+some_sent [] k u is = absurd cc
+some_sent (p ∷ ps) k u is = omega arith
+
+older_later : (plan : Plan) → DrawFacts plan → (h : History) (e : Event) (w : Verdict) → CauseLaw plan ((e, w) ∷ h)
+    → (s : SubStream) (k : ℕ)
+    → IsSealedIn plan h s k → ((i : ℕ) → i < k → accepted_packets plan ((e, w) ∷ h) s i ≡ accepted_packets plan h s i)
+    → Older plan h s k
+    → Older plan ((e, w) ∷ h) s k
+older_later plan facts h e w law s k x stays older i up less =
+    let same = base_kept plan facts h e w law s k (sealed_later plan h e w s k x) (omega (arith, up, less)) in
+    stays i less ∙ (older i (omega (arith, up, same)) less ∙ sym (sent_kept plan facts h e w law s i k x less))
+
+-- only its own sub-stream gets packets at an accepted unit, under its own draw
+pub got_kept : (plan : Plan) (h : History) (e : Event) (port : PortName) (unit : UnitName) (effects : List Effect)
+    (s : SubStream) (k : ℕ)
+    → (is_same (received_in port unit) s ≡ true → k < unit.draw)
+    → accepted_packets plan ((e, Accepted port unit effects) ∷ h) s k
+    ≡ accepted_packets plan h s k
+unfolding accepted_packets
+got_kept plan h e port unit effects s k less = grind (arith, nat_tests, less)
+
+-- no total passes 8 bytes
+abbrev Fit : Plan → History → Type 0
+Fit plan h = (s : SubStream) (from : ℕ) → total_in (sealed_packets plan h) s from < 18446744073709551616
+
+module _
+    (plan : Plan) (fits : StreamsFit plan) (facts : DrawFacts plan) (h : History) (e : Event) (port : PortName)
+    (unit : UnitName) (effects : List Effect)
+    (cause : CauseLaw plan ((e, Accepted port unit effects) ∷ h)) (forged_here : NotForged plan h e)
+    (forged : NoForgery plan h) (fit : Fit plan h) where
+  abbrev r : SubStream
+  r = received_in port unit
+
+  abbrev by : AcceptedBy plan h e port unit effects
+  by = accepted_by plan h e port unit effects cause.0
+
+  abbrev was : WasSealed plan h port (ending by.packet unit)
+  was = forged_here (record { port = port; bytes = by.came.bytes }) (ending by.packet unit) by.came.arrival by.before
+      by.verified
+
+  -- the draw of the unit was sealed
+  accepted_sealed : IsSealedIn plan h r unit.draw
+  accepted_sealed = (first_sealed plan h r unit.draw
+      (some_sent (sent plan h r unit.draw) was.place was.unit was.finished)).0
+
+  -- at the first unit of its draw
+  first_of_draw : is_closed plan port.line unit.stream ≡ true → units_got h r unit.draw ≡ 0 → Older plan h r unit.draw
+  first_of_draw closed zero_got i up less =
+      let j = unit.draw in
+      let from = base h r.line r.stream in
+      let number : unit.unit ≡ 1 = omega (arith, numbered plan h port by.packet unit by.passed, zero_got) in
+      let x = accepted_sealed in
+      let sealed_front = front_is plan fits facts h cause.1 r j x (from_base plan facts h e port unit effects cause) in
+      let fronts : ahead_of_unit plan r 1 (sum_sent plan h r from j) ≡ ahead_of_unit plan r 1 (units_since h r from) =
+      sym sealed_front ∙ (ap (ahead_sent plan h r j) (sym number) ∙ (was.same_ahead ∙ ap (ahead_due plan h r) number))
+      in
+      let draws = below_next j (draws_got h r) (none_above plan facts h e port unit effects cause) in
+      let received = since_total h r from (suc j) draws ∙ last_none from j (λ k. units_got h r k) zero_got in
+      let within = (λ (k : ℕ) (up : from ≤ k) (less : k < j). (all_first plan fits facts h cause.1 forged r k).within)
+      in
+      let most = total-le from j (λ k. units_got h r k) (units_sent plan h r) within in
+      let sealed_fits : sum_sent plan h r from j < 18446744073709551616 = omega
+      (arith, total_within (sealed_packets plan h) r from j, fit r from) in
+      let sums = front_total plan r (sum_sent plan h r from j) (units_since h r from) closed sealed_fits
+      (omega (arith, received, most, sealed_fits)) fronts in
+      let count = total-eq from j (λ k. units_got h r k) (units_sent plan h r) within (sym received ∙ sym sums) i up
+      less in
+      let p = by.packet in
+      let there = received_there plan h port p unit by.passed in
+      let under = subst (λ (t : SubStream). is_under t j x.sealed ≡ true) there x.under in
+      let up_there = subst (λ (t : SubStream). base h t.line t.stream ≤ i) there up in
+      let on = on_there plan h e port unit effects by in
+      let none : open_unit (sent plan h r i) ≡ [] =
+      rw there (facts.ended h cause.1 port p.prefix.stream p.prefix.sub p.prefix.k j i x.place x.sealed on x.stands
+      under up_there less) in
+      all_units_got plan fits facts h cause.1 forged r i count none
+
+  pub older_first : is_closed plan port.line unit.stream ≡ true
+      → AllByRecursion (Older plan h (received_in port unit)) (draws_got h (received_in port unit))
+      → Older plan h (received_in port unit) unit.draw
+  older_first closed before = elim (got_drawn (Older plan h r) h r unit.draw before)
+      [ inl none ↦ first_of_draw closed none | inr older ↦ older ]
+
+  -- ---- of every history
+
+  accepted_older : (s : SubStream) → is_closed plan s.line s.stream ≡ true
+      → AllByRecursion (Older plan h s) (draws_got h s)
+      → AllByRecursion (Older plan ((e, Accepted port unit effects) ∷ h) s)
+      (draws_got ((e, Accepted port unit effects) ∷ h) s)
+  unfolding draws_got
+  accepted_older s closed before = elim (cases_Bool (is_same r s)) [
+    | inl here ↦
+        let same = same_stream r s here in
+        let closed_here = ap (λ (t : SubStream). is_closed plan t.line t.stream) same ∙ closed in
+        let first = older_first closed_here
+        (subst (λ (t : SubStream). AllByRecursion (Older plan h t) (draws_got h t)) (sym same) before) in
+        let new = subst (λ (t : SubStream). Older plan h t unit.draw) same first in
+        let x = subst (λ (t : SubStream). IsSealedIn plan h t unit.draw) same accepted_sealed in
+        rw here (later unit.draw (λ is. omega arith) x new, each)
+    | inr other ↦ rw other each
+  ]
+    where
+      g : History
+      g = (e, Accepted port unit effects) ∷ h
+
+      Below : ℕ → Type 0
+      Below k = is_same (received_in port unit) s ≡ true → k ≤ unit.draw
+
+      Stays : ℕ → Type 0
+      Stays k = Older plan h s k → Older plan g s k
+
+      later : (k : ℕ) → (is_same (received_in port unit) s ≡ true → k ≤ unit.draw) → IsSealedIn plan h s k
+          → Older plan h s k
+          → Older plan ((e, Accepted port unit effects) ∷ h) s k
+      later k most x older =
+          let kept = λ (i : ℕ) (less : i < k). got_kept plan h e port unit effects s i
+          (λ is. omega (arith, less, most is)) in
+          older_later plan facts h e (Accepted port unit effects) cause s k x kept older
+
+      below : AllByRecursion Below (draws_got h s)
+      below = elim (cases_Bool (is_same r s)) [
+        | inl here ↦
+            let there = none_above plan facts h e port unit effects cause in
+            let above = subst (λ (t : SubStream). NoneAbove unit.draw (draws_got h t)) (same_stream r s here) there in
+            all_map (λ (k : ℕ). k ≤ unit.draw) Below (draws_got h s) (λ k le is. le) above
+        | inr other ↦ all_map (Older plan h s) Below (draws_got h s) (λ k older is. absurd (both_ways _ other is))
+            before
+      ]
+
+      each : AllByRecursion (Older plan g s) (draws_got h s)
+      each =
+          let stays = all_both Below (IsSealedIn plan h s) Stays (draws_got h s) later below
+          (sealed_draws plan fits facts h cause.1 forged s) in
+          all_both Stays (Older plan h s) (Older plan g s) (draws_got h s) (λ k more older. more older) stays before
+
+pub all_older : (plan : Plan) → StreamsFit plan → DrawFacts plan → (h : History) → CauseLaw plan h → NoForgery plan h
+    → TotalsFit plan h → (s : SubStream) → is_closed plan s.line s.stream ≡ true → AllByRecursion (Older plan h s)
+    (draws_got h s)
+unfolding draws_got accepted_packets
+all_older plan fits facts [] cause forged fit s closed = tt
+all_older plan fits facts ((e, Accepted port unit effects) ∷ h) cause forged fit s closed =
+    accepted_older plan fits facts h e port unit effects cause forged.0 forged.1 fit.0 s closed
+    (all_older plan fits facts h cause.1 forged.1 fit.1 s closed)
+all_older plan fits facts ((e, w) ∷ h) cause forged fit s closed =
+    all_both (IsSealedIn plan h s) (Older plan h s) (Older plan ((e, w) ∷ h) s) (draws_got h s)
+    (λ k x older. older_later plan facts h e w cause s k x (λ i less. refl) older)
+    (sealed_draws plan fits facts h cause.1 forged.1 s) (all_older plan fits facts h cause.1 forged.1 fit.1 s closed)
+
+pub closed_law : (plan : Plan) → StreamsFit plan → DrawFacts plan → (h : History) → CauseLaw plan h → NoForgery plan h
+    → TotalsFit plan h → ClosedLaw plan h
+closed_law plan fits facts [] cause forged fit = tt
+closed_law plan fits facts ((e, Accepted port unit effects) ∷ h) cause forged fit = (
+  λ closed. older_first plan fits facts h e port unit effects cause forged.0 forged.1 fit.0 closed
+      (all_older plan fits facts h cause.1 forged.1 fit.1 (received_in port unit) closed),
+  closed_law plan fits facts h cause.1 forged.1 fit.1,
+)
+closed_law plan fits facts (_ ∷ h) cause forged fit = (tt, closed_law plan fits facts h cause.1 forged.1 fit.1)

@@ -1,0 +1,9 @@
+pub mod TlpsRead
+pub mod Forwards
+pub mod Since
+pub mod Carried
+pub mod Crossing
+pub mod Crosses
+pub mod Sends
+pub mod Through
+pub use Rattle.law_delivery.proofs.Received.{came_fits, held_fits}

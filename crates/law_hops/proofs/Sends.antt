@@ -1,0 +1,63 @@
+-- A forward is a send of the first TLP that waits, on the hop's stream.
+use Rattle.law_sealing.proofs.Terms.{◌≡◌, ℕ, ◌<◌, ◌+◌, Bool, true, false, List, [], ◌∷◌, length, slice_get, Option}
+use Rattle.law_sealing.proofs.Terms.{Some, Ok}
+use Rattle.law_sealing.proofs.Terms.{refl, ap, sym, ◌∙◌, arith, nat_tests, if◌then◌else◌, is_some, and_parts, Plan}
+use Rattle.law_sealing.proofs.Terms.{History}
+use Rattle.law_sealing.proofs.Terms.{CauseLaw, Tlp, header, read_of, class_of, sent_bytes, sealed_packets, lanes_at}
+use Rattle.law_sealing.proofs.Terms.{streams_of, SubKind, PortName}
+unfoldable use Rattle.law_sealing.proofs.Terms.{due}
+use Rattle.ide_types.specs.Lines.{is_link_line}
+use Rattle.ide_types.specs.declared.port.Side.{Side}
+use Rattle.ide_types.specs.declared.direction.Direction.{Direction}
+use Rattle.ide_types.specs.declared.direction.Direction.TheVariants.{Downstream, Upstream}
+use Rattle.ide_types.specs.Ends.{link_hop}
+use Rattle.ide_types.specs.Fits.{FitsPlan}
+use Rattle.ide_types.specs.declared.plan.HopPlan.{HopPlan}
+use Rattle.ide_types.specs.declared.stream.StreamPlan.{StreamPlan}
+unfoldable use Rattle.association.specs.Choice.{choice_of}
+use Rattle.association.specs.Outgoing.{Outgoing, OnStream, outgoing_as}
+unfoldable use Rattle.association.specs.Outgoing.{outgoing_of}
+use Rattle.link_events.specs.declared.event.Event.TheVariants.{Forward}
+use Rattle.link_verdicts.specs.declared.verdict.Verdict.TheVariants as v
+use Rattle.spec_links.specs.Plan.{lone_stream}
+use Rattle.spec_links.specs.Due.{send_due, verdict_of_send, forward_out, forward_first}
+use Rattle.spec_links.specs.Hops.{HopTlp, has_hop, entering_end, leaving_end, forwarded_count}
+use Rattle.spec_links.specs.Memory.{accepted_tlps, hop_waiting}
+use Rattle.spec_links.proofs.HopFirst.{drop_first, forwarded_bytes}
+use Rattle.spec_links.proofs.HopRows.{near_row, far_row}
+use Rattle.law_hops.specs.Sends.{ForwardSends}
+use Rattle.law_hops.proofs.TlpsRead.{ReadsAs, taken_read, read_at}
+use Rattle.law_hops.proofs.Forwards.{own_t}
+
+lone_takes : (id : ℕ) (side : Side) (bytes : List ℕ) (t : Tlp) → read_of bytes ≡ Ok t
+    → outgoing_of (lone_stream id 1 ∷ []) side bytes ≡ OnStream t id
+unfolding outgoing_of choice_of
+lone_takes id side bytes t reads = ap (outgoing_as (lone_stream id 1 ∷ []) side) reads
+
+pub leaving_row : (plan : Plan) (link : ℕ) (d : Direction) (hop : HopPlan) → link < 8
+    → link_hop (slice_get plan.links link) ≡ Some hop → streams_of plan (leaving_end link d).line ≡ lone_stream hop.id 1
+    ∷ []
+leaving_row plan link Downstream hop less is = far_row plan link hop less is
+leaving_row plan link Upstream hop less is = near_row plan link hop less is
+
+pub forward_sends : ForwardSends
+unfolding due
+forward_sends plan fits h cause link d hop known is x xs waits =
+    let end = leaving_end link d in
+    let n = length (sealed_packets plan h) + 1 in
+    let less : link < 8 =
+    let first = and_parts (is_link_line link) (is_some (link_hop (slice_get plan.links link))) known in
+    grind (arith, nat_tests, first.0) in
+    let reads = read_at (accepted_tlps plan h link (entering_end link d)) (forwarded_count h link d) x
+    (taken_read plan h cause link (entering_end link d))
+    (drop_first (forwarded_count h link d) (accepted_tlps plan h link (entering_end link d)) x xs waits) in
+    let bytes = forwarded_bytes plan h link d x xs waits in
+    let out : forward_out plan h link d ≡ OnStream reads.tlp hop.id =
+    (λ i. outgoing_of (leaving_row plan link d hop less is i) end.side (bytes i))
+    ∙ lone_takes hop.id end.side x.bytes reads.tlp reads.reads in
+    let t = own_t plan fits h link d reads.tlp hop.id x.t known in
+    rw known
+    (ap (forward_first plan h link d) waits
+    ∙ (ap (λ (o : Outgoing). send_due plan h end o false x.t) out
+    ∙ (λ i. verdict_of_send (lanes_at plan h end hop.id)
+    (record { port = end; stream = hop.id; class = reads.class i; more = false; trusted = t i }) n)))

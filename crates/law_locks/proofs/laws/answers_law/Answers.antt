@@ -1,0 +1,5 @@
+use Rattle.law_locks.proofs.AllLaws.{answers_law as holds}
+use Rattle.law_locks.proofs.laws.answers_law.Goals as goal
+
+pub returns : goal.returns
+returns c = holds

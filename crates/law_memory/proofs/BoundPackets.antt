@@ -1,0 +1,193 @@
+-- Each accepted packet with T on a stream between devices was sealed while the owner of its TLP was in RUN and bound to
+-- the stream. It is a packet that was got, so packet m of what was got is packet m of what was sealed, with its T.
+use Rattle.law_sealing.proofs.Terms.{◌≡◌, ℕ, ◌+◌, ◌<◌, Bool, true, false, List, [], ◌∷◌, length}
+use Rattle.law_sealing.proofs.Terms.{slice_get, Option, Some, None, refl, ap, sym, subst, ◌∙◌, arith, nat_tests}
+use Rattle.law_sealing.proofs.Terms.{if◌then◌else◌, Plan, SubStream, History, Event, Send, Verdict, Sealed, Accepted}
+use Rattle.law_sealing.proofs.Terms.{UnitName, Effect, SealedPacket, Packet, Prefix, PortName, received_in, sent}
+use Rattle.law_sealing.proofs.Terms.{CauseLaw}
+use Rattle.law_sealing.proofs.Terms.{NoForgery, DrawFacts, StreamsFit}
+unfoldable use Rattle.law_sealing.proofs.Terms.{accepted_packets, sealed_packets}
+use Rattle.std.specs.Prelude.{◌-◌, nat_le, nat_lt}
+use Rattle.std.specs.Option.{unwrap_or}
+use Rattle.std.proofs.lemmas.List.{length-take-le}
+use Rattle.ide_types.specs.declared.port.Side.{Side}
+use Rattle.ide_types.specs.declared.port.Side.TheVariants.{Host, Device}
+use Rattle.ide_types.specs.Ports.{host_port, device_port}
+use Rattle.ide_types.specs.declared.direction.Direction.{Direction}
+use Rattle.ide_types.specs.declared.direction.Direction.TheVariants.{Downstream, Upstream}
+use Rattle.ide_types.specs.declared.plan.PeerPlan.{PeerPlan}
+use Rattle.ide_types.specs.Fits.{FitsPlan, FitsPeer}
+use Rattle.ide_types.specs.Ends.{end_on, hop_end, line_has, link_hop, own_has_id, peer_link, port_at}
+use Rattle.ide_types.specs.Plans.{hop_has_id}
+use Rattle.ide_types.proofs.EndsFound.{all_at, end_found}
+use Rattle.spec_links.specs.Plan.{has_link}
+use Rattle.spec_links.specs.Hops.{has_hop, leaving_end}
+use Rattle.spec_links.proofs.Ends.{stream_is_there}
+use Rattle.spec_interfaces.specs.Cause.{SealFits, is_peer, owners_link}
+unfoldable use Rattle.spec_interfaces.specs.Peers.{peer_end}
+use Rattle.spec_interfaces.specs.Laws.{OwnerIsBound, PeerSealFits}
+use Rattle.spec_interfaces.proofs.Bound.{peer_seals_bound}
+use Rattle.law_sealing.proofs.Bounds.{prefix_is}
+use Rattle.law_sealing.proofs.Places.{place_among}
+use Rattle.law_sealing.proofs.Sums.{in_parts}
+use Rattle.law_memory.specs.Bindings.{AreBound, BindOriginLaw}
+use Rattle.law_memory.proofs.Causes.{interface_cause}
+use Rattle.law_memory.proofs.Found.{all_get, cause_before, get_less, sealing_by}
+use Rattle.law_memory.proofs.Origins.{accepted_known, sent_at}
+
+-- ---- the end at a device
+
+low_link : (a b : PortName) → a ≡ b → a.line < 24 → nat_le 24 b.line ≡ true → ⊥
+low_link a b same low late = let links = ap (λ (q : PortName). q.line) same in grind (arith, nat_tests)
+
+-- an ID that gives an end of a line from 24 on at a device's port gives it among the streams between devices
+among_peers : (low own hop : Bool) (o : Option PortName) (link : ℕ) (e : PortName) → link < 8
+    → nat_le 24 e.line ≡ true
+    → (if low then (if own then device_port link else if hop then hop_end Device link
+    else unwrap_or o (device_port link)) else device_port link) ≡ e
+    → o ≡ Some e
+among_peers false own hop o link e few late is = absurd (low_link _ e is (omega (arith, few)) late)
+among_peers true true hop o link e few late is = absurd (low_link _ e is (omega (arith, few)) late)
+among_peers true false true o link e few late is = absurd (low_link _ e is (omega (arith, few)) late)
+among_peers true false false None link e few late is = absurd (low_link _ e is (omega (arith, few)) late)
+among_peers true false false (Some x) link e few late is = ap (λ (q : PortName). Some q) is
+
+-- an end of a stream between devices
+record AtDevice (plan : Plan) (e : PortName) (id : ℕ) : Type 0 where
+  is_peer : is_peer plan e ≡ true
+  found : peer_end plan.peers 0 (owners_link plan e) id ≡ Some e
+
+at_device : (plan : Plan) → FitsPlan plan → (e : PortName) (id : ℕ) → nat_le 24 e.line ≡ true
+    → line_has plan e.line id ≡ true → AtDevice plan e id
+at_device plan fits e id late has = by (slice_get plan.peers (e.line - 24)) refl
+  where
+    a : nat_lt e.line 8 ≡ false
+    a = grind (arith, nat_tests)
+
+    b : nat_lt e.line 16 ≡ false
+    b = grind (arith, nat_tests)
+
+    c : nat_lt e.line 24 ≡ false
+    c = grind (arith, nat_tests)
+
+    peer : is_peer plan e ≡ true
+    peer = let most = fits.links_most in grind (arith, nat_tests)
+
+    few : (side : Side) (p : PeerPlan) → FitsPeer plan.links p → peer_link side p < 8
+    few Host p fit = omega (arith, fit.near, fits.links_most)
+    few Device p fit = omega (arith, fit.far, fits.links_most)
+
+    by : (x : Option PeerPlan) → slice_get plan.peers (e.line - 24) ≡ x → AtDevice plan e id
+    by None is = absurd (let none = rw (a, b, c, is) at has in cc)
+    by (Some p) is =
+        let port : port_at plan.peers e ≡ device_port (peer_link e.side p) = rw (a, b, c, is) refl in
+        let fit = all_at (FitsPeer plan.links) plan.peers (e.line - 24) p fits.each_peer is in
+        let met = ap (λ (q : PortName). end_on plan q id) (sym port) ∙ end_found plan fits e id has in
+        let there = among_peers (nat_lt (peer_link e.side p) 8)
+        (own_has_id (slice_get plan.links (peer_link e.side p)) id)
+        (hop_has_id (link_hop (slice_get plan.links (peer_link e.side p))) id)
+        (peer_end plan.peers 0 (peer_link e.side p) id) (peer_link e.side p) e (few e.side p fit) late met in
+        let link : owners_link plan e ≡ peer_link e.side p = rw peer (ap (λ (q : PortName). q.line) port) in
+        record {
+          is_peer = peer;
+          found = ap (λ (l : ℕ). peer_end plan.peers 0 l id) link ∙ there;
+        }
+
+-- ---- neither an answer nor what a switch forwards is sealed there
+
+no_answer : (plan : Plan) → FitsPlan plan → (e : PortName) → nat_le 24 e.line ≡ true → (link : ℕ)
+    → has_link plan link ≡ true → e ≡ host_port link → ⊥
+no_answer plan fits e late link known same =
+    let most = fits.links_most in
+    let links = ap (λ (q : PortName). q.line) same in
+    grind (arith, nat_tests)
+
+no_forward : (plan : Plan) → FitsPlan plan → (e : PortName) → nat_le 24 e.line ≡ true → (link : ℕ) (way : Direction)
+    → has_hop plan link ≡ true → e ≡ leaving_end link way → ⊥
+no_forward plan fits e late link Downstream known same =
+    let links = ap (λ (q : PortName). q.line) same in
+    let low : nat_lt link 8 ≡ true = grind arith in
+    grind (arith, nat_tests)
+no_forward plan fits e late link Upstream known same =
+    let links = ap (λ (q : PortName). q.line) same in
+    let low : nat_lt link 8 ≡ true = grind arith in
+    grind (arith, nat_tests)
+
+-- ---- one packet
+
+peer_fit : (plan : Plan) (h : History) (bytes : List ℕ) (trusted : Bool) (d : SealedPacket)
+    → is_peer plan d.port ≡ true → SealFits plan h bytes trusted d
+    → PeerSealFits plan h (owners_link plan d.port) bytes d
+peer_fit plan h bytes trusted d peer fit = fit.t_is
+    ∙ ap (λ (t : Bool). if d.sync then false else t) (rw peer refl)
+
+bound_at : (plan : Plan) → FitsPlan plan → StreamsFit plan → DrawFacts plan
+    → (h : History) (e : Event) (port : PortName)
+    (unit : UnitName) (effects : List Effect)
+    → CauseLaw plan ((e, Accepted port unit effects) ∷ h) → NoForgery plan ((e, Accepted port unit effects) ∷ h)
+    → AreBound plan h e (Accepted port unit effects)
+bound_at plan whole fits facts h e port unit effects cause forged late n p is has_t =
+    let s = received_in port unit in
+    let m = length (accepted_packets plan h s unit.draw) + n in
+    let at = sent_at plan fits facts h e port unit effects cause forged n p is in
+    let among = place_among (sealed_packets plan h) s unit.draw m p at in
+    let names = in_parts s unit.draw among.sealed among.under in
+    let d = among.sealed.0 in
+    let line : d.port.line ≡ port.line = ap (λ (t : SubStream). t.line) names.2 in
+    let stream : d.stream ≡ unit.stream = ap (λ (t : SubStream). t.stream) names.2 in
+    let there : nat_le 24 d.port.line ≡ true = ap (λ (l : ℕ). nat_le 24 l) line ∙ late in
+    let known : line_has plan d.port.line unit.stream ≡ true =
+    ap (λ (l : ℕ). line_has plan l unit.stream) line
+    ∙ (sym (stream_is_there plan port.line unit.stream)
+    ∙ accepted_known plan h e port unit effects cause.0) in
+    let device = at_device plan whole d.port unit.stream there known in
+    let seal = sealing_by plan h cause.1 among.place d among.sealed.1 (no_answer plan whole d.port there)
+    (no_forward plan whole d.port there) among.stands in
+    let fit = all_get (SealFits plan seal.older seal.bytes seal.trusted) seal.ds seal.new.index d
+    (cause_before plan ((Send seal.port seal.bytes seal.more seal.trusted, Sealed seal.ds) ∷ seal.older) h seal.came
+    (interface_cause plan h cause.1)).0 seal.new.listed in
+    let prefix = ap (λ (r : Packet). r.prefix) seal.new.packet
+    ∙ prefix_is plan seal.new.ahead seal.bytes d seal.new.unfinished in
+    let trusted : d.t ≡ true = sym (ap (λ (f : Prefix). f.t) prefix)
+    ∙ (ap (λ (r : Packet). r.prefix.t) among.packet ∙ has_t) in
+    let owner = peer_seals_bound plan seal.older (owners_link plan d.port) seal.bytes d
+    (peer_fit plan seal.older seal.bytes seal.trusted d device.is_peer fit) trusted in
+    let less = get_less (sent plan h s unit.draw) m p at in
+    record {
+      was = record {
+        place = among.place;
+        stands = record {
+          sealed = among.sealed;
+          stands = among.stands;
+          under = among.under;
+          number = sym (ap length among.before ∙ length-take-le m (sent plan h s unit.draw) (omega (arith, less)));
+        };
+        port = seal.port;
+        bytes = seal.bytes;
+        more = seal.more;
+        trusted = seal.trusted;
+        packets = seal.ds;
+        older = seal.older;
+        came = seal.came;
+        from = seal.from;
+        until = seal.until;
+        link = owners_link plan d.port;
+        at_device = device.found;
+        owner = subst (λ (i : ℕ). OwnerIsBound plan seal.older (owners_link plan d.port) i seal.bytes) stream owner;
+      };
+      same = among.packet;
+    }
+
+-- ---- the law
+
+are_bound : (plan : Plan) → FitsPlan plan → StreamsFit plan → DrawFacts plan → (h : History) (e : Event) (w : Verdict)
+    → CauseLaw plan ((e, w) ∷ h) → NoForgery plan ((e, w) ∷ h) → AreBound plan h e w
+are_bound plan whole fits facts h e (Accepted port unit effects) cause forged =
+    bound_at plan whole fits facts h e port unit effects cause forged
+are_bound plan whole fits facts h e w cause forged = tt
+
+pub bind_origin_law : (plan : Plan) → FitsPlan plan → StreamsFit plan → DrawFacts plan → (h : History)
+    → CauseLaw plan h → NoForgery plan h → BindOriginLaw plan h
+bind_origin_law plan whole fits facts [] cause forged = tt
+bind_origin_law plan whole fits facts ((e, w) ∷ h) cause forged =
+    (are_bound plan whole fits facts h e w cause forged, bind_origin_law plan whole fits facts h cause.1 forged.1)

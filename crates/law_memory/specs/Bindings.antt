@@ -1,0 +1,50 @@
+-- Trusted packets on streams between devices: each was sealed while its owner was in RUN and bound to the stream.
+use Rattle.std.specs.Prelude.{ℕ, ◌+◌, ◌<◌, ◌≤◌, ◌≡◌, ◌∷◌, Bool, true, List, [], length, Some, slice_get, nat_le}
+use Rattle.spec_links.specs.Terms.{PortName, Plan, Event, Verdict, Accepted, Sealed, SealedPacket, Packet}
+use Rattle.spec_links.specs.Terms.{History}
+use Rattle.spec_links.specs.Plan.{SubStream}
+use Rattle.spec_links.specs.History.{sealed_packets, accepted_packets, received_in}
+use Rattle.spec_links.specs.Memory.{unit_ended}
+use Rattle.spec_links.specs.Ordered.{StandsAt}
+use Rattle.link_events.specs.declared.event.Event.TheVariants as event
+use Rattle.spec_interfaces.specs.Peers.{peer_end}
+use Rattle.spec_interfaces.specs.Laws.{OwnerIsBound}
+use Rattle.law_memory.specs.Origin.{CameFrom}
+
+-- Packet m, from 0, of what was sealed in a sub-stream under a draw was sealed by a send at an end at the device of a
+-- link, before which the owner of its TLP, an interface of that link, was in RUN and bound to the stream.
+pub record WasBound (plan : Plan) (h : History) (s : SubStream) (j m : ℕ) : Type 0 where
+  pub place : ℕ
+  pub stands : StandsAt (sealed_packets plan h) s j m place
+  pub port : PortName
+  pub bytes : List ℕ
+  pub more : Bool
+  pub trusted : Bool
+  pub packets : List SealedPacket
+  pub older : History
+  pub came : CameFrom ((event.Send port bytes more trusted, Sealed packets) ∷ older) h
+  pub from : length (sealed_packets plan older) ≤ place
+  pub until : place < length (sealed_packets plan ((event.Send port bytes more trusted, Sealed packets) ∷ older))
+  pub link : ℕ
+  pub at_device : peer_end plan.peers 0 link s.stream ≡ Some stands.sealed.0.port
+  pub owner : OwnerIsBound plan older link s.stream bytes
+
+-- a packet that came so
+pub record IsBoundPacket (plan : Plan) (h : History) (s : SubStream) (j m : ℕ) (p : Packet) : Type 0 where
+  pub was : WasBound plan h s j m
+  pub same : was.stands.sealed.1 ≡ p
+
+-- Packet n of a unit that an end of a stream between devices accepted is the one after those got and those before it in
+-- the unit.
+abbrev pub AreBound : Plan → History → Event → Verdict → Type 0
+AreBound plan h e (Accepted port unit effects) =
+    nat_le 24 port.line ≡ true → (n : ℕ) (p : Packet) → slice_get (unit_ended plan h e port unit) n ≡ Some p
+    → p.prefix.t ≡ true
+    → IsBoundPacket plan h (received_in port unit) unit.draw
+    (length (accepted_packets plan h (received_in port unit) unit.draw) + n) p
+AreBound plan h e w = Unit {0}
+
+-- each accepted packet with T on a stream between devices
+abbrev pub BindOriginLaw : Plan → History → Type 0
+BindOriginLaw plan [] = Unit {0}
+BindOriginLaw plan ((e, w) ∷ h) = AreBound plan h e w × BindOriginLaw plan h

@@ -1,0 +1,51 @@
+//! Laws of interfaces and of trusted memory.
+
+ghost use Rattle.law_memory.specs.Statements.{InterfacesHaveCauses, MemoryLawHolds, OriginLawHolds, RunLawHolds};
+ghost use Rattle.law_memory.specs.Statements.{BindOriginLawHolds, ReadLawHolds, ReadOriginLawHolds};
+
+/// What is due of events on interfaces is due by the interfaces alone, and T is set as they say.
+pub fn interfaces_have_causes()
+    ensures { InterfacesHaveCauses }
+{}
+
+/// In every history in which each verdict is the one that is due: in RUN and CONFIG_LOCKED the listed registers of an
+/// interface are those at its lock; a report shows the registers at the lock; a listed change, a level reset and a
+/// firmware update that lock flag 0 forbids show state 3 (ERROR) in their own verdict.
+pub fn run_law()
+    ensures { RunLawHolds }
+{}
+
+/// In every history in which each verdict is the one that is due, exactly the admitted writes are applied, and what is
+/// shown of trusted memory is what they left, else 0.
+pub fn memory_law()
+    ensures { MemoryLawHolds }
+{}
+
+/// In every history in which each verdict is the one that is due: provided no tag verified on a unit that its partner
+/// had not sealed, each admitted write was sealed while its interface was in the very RUN, under the very lock, that it
+/// is admitted for.
+pub fn origin_law()
+    ensures { OriginLawHolds }
+{}
+
+/// In every history in which each verdict is the one that is due, answers take the reads of a link in the order in
+/// which they were queued since its last reset, and no more than 64 wait. A completion is that of the oldest read, from
+/// memory as it is then. It has T, and is sealed on its interface's bound stream under a draw from its floor on, while
+/// the manager's view of the interface is Running.
+pub fn read_law()
+    ensures { ReadLawHolds }
+{}
+
+/// In every history in which each verdict is the one that is due: provided no tag verified on a unit that its partner
+/// had not sealed, each queued read was sealed while its interface was in the very RUN, under the very lock, that it is
+/// queued for.
+pub fn read_origin_law()
+    ensures { ReadOriginLawHolds }
+{}
+
+/// In every history in which each verdict is the one that is due: provided no tag verified on a unit that its partner
+/// had not sealed, each accepted packet with T on a stream between devices was sealed while the owner of its TLP was in
+/// RUN and bound to that stream.
+pub fn bind_origin_law()
+    ensures { BindOriginLawHolds }
+{}

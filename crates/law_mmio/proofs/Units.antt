@@ -1,0 +1,105 @@
+-- What a unit stores in a range, by the packets' own causes and by the effects in the verdict.
+use Rattle.spec_links.specs.Ports.{at_switch}
+use Rattle.spec_links.specs.Admission.{switch_effect}
+use Rattle.std.proofs.Common.{◌≡◌, ℕ, Bool, true, false, List, [], ◌∷◌, Option, Some, None, Result}
+use Rattle.std.proofs.Common.{Ok, Err, length, if◌then◌else◌, refl, sym, ap, ◌∙◌}
+use Rattle.std.specs.Prelude.{take, drop}
+use Rattle.std.specs.List.{cons_option}
+use Rattle.std.specs.Option.{option_map}
+use Rattle.spec_links.specs.Terms.{Plan, UnitName, Packet, is_sync_packet, read_head_of, TlpFault, Write}
+use Rattle.spec_links.specs.Terms.{newest_first, write_span}
+use Rattle.tlp_layout.specs.declared.head.HeadView.{HeadView}
+use Rattle.spec_links.specs.Memory.{Policy, device_effect, effect_by, waiting_then, effects_each}
+use Rattle.spec_links.specs.Guarded.{tlp_happened, stored_packet, stored_each}
+use Rattle.trusted_memory.specs.declared.span.Span.{Span}
+use Rattle.link_verdicts.specs.declared.verdict.BlockCause.{BlockCause}
+use Rattle.link_verdicts.specs.declared.verdict.Effect.TheVariants as effect
+use Rattle.guarded_memory.specs.declared.standing.InterfaceStatus.{InterfaceStatus}
+use Rattle.guarded_memory.specs.declared.claims.Claim.{Claim}
+use Rattle.guarded_memory.specs.Claims.{claim_of}
+use Rattle.guarded_memory.specs.Causes.{mmio_cause, cause_effect, claim_effect, mmio_effect}
+use Rattle.guarded_memory.specs.Happenings.{Happened, writes_since, newest_happened}
+use Rattle.guarded_memory.specs.Stored.{stored_unless, stored_by_claim, write_happened}
+use Rattle.law_mmio.specs.Stored.{write_read, if_claims, claimed_write, if_stored, unit_stored_writes}
+use Rattle.ide_types.specs.Ports.{device_port}
+
+-- ---- one packet
+
+-- the write that a happening stored in a range, if any
+abbrev pub StoresAs : Option Happened → ℕ → ℕ → Option Write → Type 0
+StoresAs h place bar o = (older : List Happened) → writes_since (cons_option h older) place bar
+    ≡ cons_option o (writes_since older place bar)
+
+by_cause : (c : Claim) (w : Write) (place bar : ℕ) (o : Option BlockCause) → StoresAs (stored_unless o c w) place bar
+    (if_stored (cause_effect o) (if_claims place bar w (Some c)))
+by_cause c w place bar None older = refl
+by_cause c w place bar (Some cause) older = refl
+
+by_claim : (o : Option Claim) (w : Write) (t : Bool) (stream draw place bar : ℕ)
+    → StoresAs (stored_by_claim o w t stream draw) place bar
+    (if_stored (claim_effect o w.span t stream draw) (if_claims place bar w o))
+by_claim None w t stream draw place bar older = refl
+by_claim (Some c) w t stream draw place bar older =
+    by_cause c w place bar (mmio_cause c.standing c.range w.span t stream draw) older
+
+by_span : (xs : List InterfaceStatus) (t : Bool) (stream draw place bar : ℕ) (payload : List ℕ) (o : Option Span)
+    → StoresAs (write_happened xs t stream draw (option_map (λ s. record { span = s; payload = payload }) o)) place bar
+    (if_stored (mmio_effect xs t stream draw o)
+    (claimed_write xs place bar (option_map (λ s. record { span = s; payload = payload }) o)))
+by_span xs t stream draw place bar payload None older = refl
+by_span xs t stream draw place bar payload (Some s) older =
+    by_claim (claim_of xs s) (record { span = s; payload = payload }) t stream draw place bar older
+
+by_head : (xs : List InterfaceStatus) (unit : UnitName) (p : Packet) (place bar : ℕ) (payload : List ℕ)
+    (r : Result HeadView TlpFault)
+    → StoresAs (tlp_happened xs unit p.prefix.t payload r) place bar
+    (if_stored (device_effect xs unit p r) (claimed_write xs place bar (write_read payload r)))
+by_head xs unit p place bar payload (Err f) older = refl
+by_head xs unit p place bar payload (Ok head) older =
+    by_span xs p.prefix.t unit.stream unit.draw place bar payload (write_span head) older
+
+one_packet : (plan : Plan) (policy : Policy) (n link : ℕ) (unit : UnitName) (p : Packet) (place bar : ℕ)
+    (payload : List ℕ) → at_switch plan (device_port link) ≡ false
+    → StoresAs (stored_packet (policy.standings link) unit p payload) place bar
+    (if_stored (effect_by plan policy n (device_port link) unit p)
+    (claimed_write (policy.standings link) place bar (write_read payload (read_head_of p.head))))
+one_packet plan policy n link unit p place bar payload off older =
+    by (is_sync_packet p) (at_switch plan (device_port link)) off
+  where
+    by : (s c : Bool) → c ≡ false
+        → writes_since (cons_option
+        (if s then None else tlp_happened (policy.standings link) unit p.prefix.t payload (read_head_of p.head)) older)
+        place bar
+        ≡ cons_option (if_stored
+        (if s then effect.Sync else if c then switch_effect
+        else device_effect (policy.standings link) unit p (read_head_of p.head))
+        (claimed_write (policy.standings link) place bar (write_read payload (read_head_of p.head))))
+        (writes_since older place bar)
+    by true c is = refl
+    by false true is = absurd cc
+    by false false is = by_head (policy.standings link) unit p place bar payload (read_head_of p.head) older
+
+-- ---- all of them
+
+first_of : (o : Option Write) (os : List (Option Write)) (ws : List Write) → newest_first (o ∷ os) ws
+    ≡ newest_first os (cons_option o ws)
+first_of None os ws = refl
+first_of (Some w) os ws = refl
+
+pub unit_stores : (plan : Plan) (policy : Policy) (n link : ℕ) (unit : UnitName) (place bar : ℕ) (plain : List ℕ)
+    (ps : List Packet) (older : List Happened) → at_switch plan (device_port link) ≡ false
+    → writes_since (newest_happened (stored_each (policy.standings link) unit plain ps) older) place bar
+    ≡ newest_first (unit_stored_writes (policy.standings link) place bar plain
+    (effects_each plan policy n (device_port link) unit ps) ps) (writes_since older place bar)
+unit_stores plan policy n link unit place bar plain [] older off = refl
+unit_stores plan policy n link unit place bar plain (p ∷ ps) older off =
+    let e = effect_by plan policy n (device_port link) unit p in
+    let h = stored_packet (policy.standings link) unit p (take (length p.body) plain) in
+    let o = if_stored e (claimed_write (policy.standings link) place bar
+    (write_read (take (length p.body) plain) (read_head_of p.head))) in
+    let os = unit_stored_writes (policy.standings link) place bar (drop (length p.body) plain)
+    (effects_each plan policy (waiting_then e n) (device_port link) unit ps) ps in
+    unit_stores plan policy (waiting_then e n) link unit place bar (drop (length p.body) plain) ps (cons_option h older)
+    off
+    ∙ ap (newest_first os) (one_packet plan policy n link unit p place bar (take (length p.body) plain) off older)
+    ∙ sym (first_of o os (writes_since older place bar))

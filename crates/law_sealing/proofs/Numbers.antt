@@ -1,0 +1,175 @@
+-- No key is used twice with one IV. Equal keys of the pool stand at one place in it, so they are of one draw, direction
+-- and sub-stream, and a draw is on one stream. Equal IVs are of one number, since a key seals fewer than 2 to the 64
+-- units. That number counts the units that were finished before.
+use Rattle.law_sealing.proofs.Terms.{◌≡◌, ℕ, suc, ◌+◌, ◌*◌, ◌<◌, ◌≤◌, Bool, true, false, List, [], ◌∷◌, ◌++◌}
+use Rattle.law_sealing.proofs.Terms.{length, filter, take, drop, slice_get, slice_index_or, Some, inl, inr, refl}
+use Rattle.law_sealing.proofs.Terms.{ap, sym, ◌∙◌, subst, arith, nat_tests, cases_lt, length-append}
+use Rattle.law_sealing.proofs.Terms.{sub_bits, SealedPacket, Packet, Plan, SubStream, is_same, units}
+use Rattle.law_sealing.proofs.Terms.{open_unit, History, SealedList, sealed_packets, sent, sub_stream_packets, is_under}
+use Rattle.law_sealing.proofs.Terms.{sub_stream_of, CauseLaw, same_stream, sub_stream_packets-snoc}
+use Rattle.law_sealing.proofs.Terms.{units-end}
+use Rattle.law_sealing.proofs.Sums.{in_parts, next_taken, units_within}
+use Rattle.law_sealing.proofs.Places.{Placed, placed, place_among, unit_is}
+use Rattle.law_sealing.proofs.OfPlans.{streams_fit}
+use Rattle.law_sealing.proofs.Drawn.{draws_within}
+use Rattle.law_sealing.proofs.Worn.{unworn}
+use Rattle.spec_links.specs.Numbers.{AreOfOneUnit, NumbersFresh, iv_used, key_used, sealed_of_draw}
+use Rattle.std.specs.Prelude.{◌≢◌, ◌^◌, ◌/◌, AllPairs}
+use Rattle.std.proofs.lemmas.Option.{slice_get-map}
+use Rattle.byteorder.specs.Endian.{big_bytes, big_number}
+use Rattle.byteorder.specs.Numbers.{big_number-reads_back}
+use Rattle.ide_types.specs.declared.port.Side.{Side}
+use Rattle.ide_types.specs.Fits.{FitsPlan}
+use Rattle.spec_keys.specs.Places.{sent_direction}
+use Rattle.spec_keys.specs.History.{manager}
+use Rattle.spec_keys.proofs.Owners.{Owner, owner}
+use Rattle.spec_keys.specs.Operations.{Begun}
+use Rattle.spec_links.specs.Plan.{key_plan}
+unfoldable use Rattle.spec_links.specs.Plan.{key_of}
+use Rattle.law_key_facts.proofs.Given.{key_cause}
+use Rattle.law_key_facts.proofs.SealedKeys.{all_owned, below_draws}
+use Rattle.law_key_facts.proofs.Draws.{draws as draws_hold}
+use Rattle.ide_prefix.proofs.Units.{sub_small}
+
+-- ---- keys
+
+-- if no two elements are equal, equal ones stand at one place
+one_place : (keys : List (List ℕ)) (m n : ℕ) → AllPairs (λ key other. key ≢ other) keys → m < length keys
+    → n < length keys → slice_index_or keys m [] ≡ slice_index_or keys n [] → m ≡ n
+one_place keys m n differ m_less n_less same = elim (cases_lt m n) [
+  | inl less ↦ absurd (differ m n [] less n_less same)
+  | inr not_less ↦ elim (cases_lt n m) [
+    | inl more ↦ absurd (differ n m [] more m_less (sym same))
+    | inr not_more ↦ omega (arith, not_less, not_more)
+  ]
+]
+
+direction_small : (side : Side) → sent_direction side < 2
+direction_small side = grind arith
+
+-- two packets are under keys of one draw, direction and sub-stream
+record SameKey (d e : SealedPacket) : Type 0 where
+  draw : d.draw ≡ e.draw
+  direction : sent_direction d.port.side ≡ sent_direction e.port.side
+  sub : sub_bits d.sub ≡ sub_bits e.sub
+
+key_stands : (plan : Plan) (d : SealedPacket) → d.draw < length plan.pool / 6
+    → 6 * d.draw + 3 * sent_direction d.port.side + sub_bits d.sub < length plan.pool
+key_stands plan d less = omega (arith, less, direction_small d.port.side, sub_small d.sub)
+
+same_key : (plan : Plan) → FitsPlan plan → (d e : SealedPacket) → d.draw < length plan.pool / 6
+    → e.draw < length plan.pool / 6 → key_used plan d ≡ key_used plan e → SameKey d e
+unfolding key_of
+same_key plan fits d e d_less e_less keys =
+    let place = one_place plan.pool _ _ fits.keys_differ (key_stands plan d d_less) (key_stands plan e e_less) keys in
+    let d_side = direction_small d.port.side in
+    let e_side = direction_small e.port.side in
+    let d_sub = sub_small d.sub in
+    let e_sub = sub_small e.sub in
+    record {
+      draw = omega (arith, place, d_side, e_side, d_sub, e_sub);
+      direction = omega (arith, place, d_side, e_side, d_sub, e_sub);
+      sub = omega (arith, place, d_side, e_side, d_sub, e_sub);
+    }
+
+-- ---- IVs
+
+number_again : (n : ℕ) → n < 2 ^ 64 → big_number 8 (big_bytes 8 n) ≡ n
+number_again n less = big_number-reads_back 8 n [] less
+
+same_number : (d e : SealedPacket) → d.unit < 2 ^ 64 → e.unit < 2 ^ 64 → iv_used d ≡ iv_used e → d.unit ≡ e.unit
+same_number d e d_less e_less ivs =
+    sym (number_again d.unit d_less)
+    ∙ (ap (λ (iv : List ℕ). big_number 8 (drop 4 iv)) ivs ∙ number_again e.unit e_less)
+
+-- ---- packets of one sub-stream and draw
+
+one_begun : (a b : Begun) → Some a ≡ Some b → a ≡ b
+one_begun a b is = cc
+
+same_sealed : (x y : SealedPacket × Packet) → Some x ≡ Some y → x ≡ y
+same_sealed x y is = cc
+
+-- none between two packets of one number ends a unit
+none_ends : (plan : Plan) (xs : SealedList) → Placed plan xs → (i k : ℕ) (x y : SealedPacket × Packet)
+    → slice_get xs i ≡ Some x → slice_get xs k ≡ Some y → sub_stream_of y.0 ≡ sub_stream_of x.0 → y.0.draw ≡ x.0.draw
+    → x.0.unit ≡ y.0.unit → (n : ℕ) (z : SealedPacket × Packet) → i ≤ n → n < k → slice_get xs n ≡ Some z
+    → is_under (sub_stream_of x.0) x.0.draw z ≡ true → z.1.prefix.m ≡ false
+none_ends plan xs placed i k x y at also stream draw unit n z le less stands under = by_end z.1.prefix.m refl
+  where
+    s : SubStream
+    s = sub_stream_of x.0
+
+    done : ℕ → List Packet
+    done place = sub_stream_packets (take place xs) s x.0.draw
+
+    next : done (suc n) ≡ done n ++ z.1 ∷ []
+    next =
+        ap (λ (ys : SealedList). sub_stream_packets ys s x.0.draw) (next_taken xs n z stands)
+        ∙ (sub_stream_packets-snoc (take n xs) z s x.0.draw ∙ rw under refl)
+
+    by_end : (b : Bool) → z.1.prefix.m ≡ b → b ≡ false
+    by_end false m = refl
+    by_end true m =
+        let first = unit_is plan xs placed i x at s x.0.draw refl refl in
+        let last = unit_is plan xs placed k y also s x.0.draw stream draw in
+        let before = units_within xs s x.0.draw i n le in
+        let after = units_within xs s x.0.draw (suc n) k less in
+        let ended = ap (λ (ps : List Packet). length (units ps)) next
+        ∙ ap (λ (us : List (List Packet)). length us) (units-end (done n) z.1 m) in
+        let grown = length-append (units (done n)) ((open_unit (done n) ++ z.1 ∷ []) ∷ []) in
+        absurd (omega (arith, first, last, before, after, ended, grown, unit))
+
+-- ---- the law
+
+module _ (plan : Plan) (fits : FitsPlan plan) (h : History) (law : CauseLaw plan h) where
+  abbrev xs : SealedList
+  xs = sealed_packets plan h
+
+  all_placed : Placed plan xs
+  all_placed = placed plan (streams_fit plan fits) (draws_hold plan) h law
+
+  counted : (s : SubStream) (j place : ℕ) (x : SealedPacket × Packet)
+      → slice_get (sealed_of_draw plan h s j) place ≡ Some x
+      → x.0.unit ≡ length (units (take place (sent plan h s j))) + 1
+  unfolding sub_stream_packets
+  counted s j place x at =
+      let among = place_among xs s j place x.1
+      (slice_get-map (λ (y : SealedPacket × Packet). y.1) (filter (is_under s j) xs) place ∙ rw at refl) in
+      let same = same_sealed among.sealed x (sym among.listed ∙ at) in
+      let names = in_parts s j among.sealed among.under in
+      let unit = unit_is plan xs all_placed among.place among.sealed among.stands s j names.2 names.1 in
+      ap (λ (y : SealedPacket × Packet). y.0.unit) (sym same)
+      ∙ (unit ∙ ap (λ (ps : List Packet). length (units ps) + 1) among.before)
+
+  in_pool : (i : ℕ) (x : SealedPacket × Packet) → slice_get xs i ≡ Some x → x.0.draw < length plan.pool / 6
+  in_pool i x at =
+      omega (arith, below_draws plan h law i x at, draws_within (key_plan plan) h (key_cause plan h law))
+
+  number_small : (i : ℕ) (x : SealedPacket × Packet) → slice_get xs i ≡ Some x → x.0.unit < 2 ^ 64
+  number_small i x at = omega (arith, (unworn plan (draws_hold plan) h law).numbers i x at, fits.units_most)
+
+  fresh : (i k : ℕ) (x y : SealedPacket × Packet) → i < k → slice_get xs i ≡ Some x → slice_get xs k ≡ Some y
+      → key_used plan x.0 ≡ key_used plan y.0 → iv_used x.0 ≡ iv_used y.0 → AreOfOneUnit xs i k x.0 y.0
+  fresh i k x y less at also keys ivs =
+      let key = same_key plan fits x.0 y.0 (in_pool i x at) (in_pool k y also) keys in
+      let unit = same_number x.0 y.0 (number_small i x at) (number_small k y also) ivs in
+      let mine = subst (Owner (manager h).begun x.0.port.line x.0.stream x.0.k) key.draw
+      (all_owned plan h law i x at) in
+      let begun = one_begun (owner x.0.port.line x.0.stream x.0.k) (owner y.0.port.line y.0.stream y.0.k)
+      (sym mine ∙ all_owned plan h law k y also) in
+      let link = ap (λ (b : Begun). b.line) begun in
+      let stream = ap (λ (b : Begun). b.stream) begun in
+      let same : is_same (sub_stream_of x.0) (sub_stream_of y.0) ≡ true = grind
+      (arith, nat_tests, link, stream, key.direction, key.sub) in
+      record {
+        sub_stream = same;
+        draw = key.draw;
+        unit = unit;
+        no_end = none_ends plan xs all_placed i k x y at also
+            (sym (same_stream (sub_stream_of x.0) (sub_stream_of y.0) same)) (sym key.draw) unit;
+      }
+
+pub numbers_fresh : (plan : Plan) → FitsPlan plan → (h : History) → CauseLaw plan h → NumbersFresh plan h
+numbers_fresh plan fits h law =
+    record { counted = counted plan fits h law; fresh = fresh plan fits h law }

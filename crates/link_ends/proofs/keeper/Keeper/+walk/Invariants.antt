@@ -1,4 +1,0 @@
-use Rattle.link_ends.proofs.keeper.Keeper.+walk.Given as goal
-
-abbrev pub decreases-walk : goal.decreases-walk
-decreases-walk l = l.more

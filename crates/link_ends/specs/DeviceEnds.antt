@@ -1,0 +1,87 @@
+-- The device's end of a link: its port, what its responder of keys answers, and its interfaces (PCI Express Base 6.0
+-- section 6.33 and chapter 11, in this profile).
+use Rattle.std.specs.Prelude.{ℕ, ◌||◌, Bool, true, false, List, Option, Some, None, is_some}
+use Rattle.ide_types.specs.Ports.{device_port}
+use Rattle.ide_types.specs.declared.port.Side.TheVariants as side
+use Rattle.ide_types.specs.declared.status.StreamStatus.{StreamStatus}
+use Rattle.ide_types.specs.declared.status.StreamStatus.TheVariants.{Secure}
+use Rattle.ide_types.specs.declared.interface.InterfacePlan.{InterfacePlan}
+use Rattle.ide_types.specs.declared.stream.StreamPlan.{StreamPlan}
+use Rattle.tlp_layout.specs.declared.head.HeadView.{HeadView}
+use Rattle.association.specs.Choice.{id_of}
+use Rattle.key_messages.specs.{PlaceCall, call_of, is_done, reply_bytes}
+use Rattle.interface_device.specs.Replies.{DeviceTdis, new_tdis, settled_interfaces, interfaces_set_t}
+use Rattle.interface_device.specs.Replies.{interfaces_set_peer_t}
+use Rattle.interface_device.specs.Replies.{reset_tdis}
+use Rattle.ide_port.specs.{PortEnd, new_port, reset_port, slot_pair_at, called_port, port_stream_status}
+use Rattle.link_ends.specs.declared.device.Device.{Device}
+
+-- its port, the requester ID that it is asked for, and its interfaces
+abbrev pub DeviceEnd : Type 0
+DeviceEnd = Device
+
+abbrev pub new_device : ℕ → List StreamPlan → ℕ → ℕ → List InterfacePlan → List (List ℕ) → DeviceEnd
+new_device link plans limit requester interfaces nonces = record {
+  port = new_port (device_port link) plans limit;
+  requester = requester;
+  interfaces = new_tdis interfaces nonces;
+}
+
+-- ---- streams
+
+abbrev pub says_secure : Option StreamStatus → Bool
+says_secure (Some Secure) = true
+says_secure status = false
+
+-- the port has the stream, and it is Secure there
+abbrev pub secure_at : PortEnd → ℕ → Bool
+secure_at port stream = says_secure (port_stream_status port stream)
+
+-- `live` says of streams between the device and others which draw is Live where the device receives posted requests, if
+-- the stream is Secure at its end
+abbrev pub secure_with : PortEnd → (ℕ → Option ℕ) → ℕ → Bool
+secure_with port live stream = secure_at port stream || is_some (live stream)
+
+-- interfaces that are bound to a stream that is not Secure leave their lock
+abbrev pub settled_device : (ℕ → Option ℕ) → DeviceEnd → DeviceEnd
+settled_device live e = record e { interfaces = settled_interfaces (secure_with e.port live) e.interfaces }
+
+-- with another port, they do so by that one
+abbrev pub device_with_port : (ℕ → Option ℕ) → DeviceEnd → PortEnd → DeviceEnd
+device_with_port live e port = settled_device live (record e { port = port })
+
+-- ---- keys
+
+-- as the port takes the call that the request makes, or not
+abbrev pub reply_given : DeviceEnd → List ℕ → ℕ → List ℕ
+reply_given e request draw = reply_bytes e.requester request (is_done (slot_pair_at e.port) (call_of request draw))
+
+abbrev pub after_call : PortEnd → Option PlaceCall → PortEnd
+after_call port None = port
+after_call port (Some call) = called_port call port
+
+abbrev pub asked_device : DeviceEnd → List ℕ → ℕ → DeviceEnd
+asked_device e request draw = record e { port = after_call e.port (call_of request draw) }
+
+-- ---- T
+
+abbrev pub owner_sets : DeviceTdis → ℕ → Option ℕ → Bool
+owner_sets d stream None = false
+owner_sets d stream (Some requester) = interfaces_set_t d requester stream
+
+-- of a TLP with this header on a stream
+abbrev pub device_trusting : DeviceTdis → HeadView → ℕ → Bool
+device_trusting d head stream = owner_sets d stream (id_of side.Device head.fields)
+
+abbrev pub bound_owner_sets : DeviceTdis → ℕ → Option ℕ → Bool
+bound_owner_sets d stream None = false
+bound_owner_sets d stream (Some requester) = interfaces_set_peer_t d requester stream
+
+-- of one on a stream between two devices
+abbrev pub peer_trusting : DeviceTdis → HeadView → ℕ → Bool
+peer_trusting d head stream = bound_owner_sets d stream (id_of side.Device head.fields)
+
+-- ---- a reset of the link
+
+abbrev pub reset_device : DeviceEnd → DeviceEnd
+reset_device e = record e { port = reset_port e.port; interfaces = reset_tdis e.interfaces }

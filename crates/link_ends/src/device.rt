@@ -1,0 +1,176 @@
+//! A device.
+
+ghost use Rattle.std.specs.Prelude.{◌≡◌, ◌+◌, ◌<◌, ◌≤◌, ◌^◌, ◌++◌, ℕ, true, IfOk, IfSome, All, length};
+ghost use Rattle.std.specs.Prelude.{slice_get, vec_len, vec_capacity};
+ghost use Rattle.ide_types.specs.Fits.{FitsStream};
+ghost use Rattle.interface_state.specs.Held.{FitsTdi};
+ghost use Rattle.ide_types.specs.RegisterNames.{has_register, width_of};
+ghost use Rattle.interface_state.specs.Machine.{state_code, LevelReset, FirmwareUpdate, WriteRegister};
+ghost use Rattle.interface_device.specs.Replies.{called_at};
+ghost use Rattle.ide_port.specs.{IsSentAtPort};
+ghost use Rattle.link_ends.specs.DeviceEnds.{secure_at};
+
+use crate::wiring::{Owners, PeerStreams, SecureStreams, is_secure_at};
+use ide_port::{Port, Sent};
+use ide_types::{InterfacePlan, Items, OutOfMemory, PortName, Side, StreamPlan};
+use interface_device::DeviceInterfaces;
+use interface_state::Register;
+use key_messages::Responder;
+use std::alloc::Global;
+
+/// The device of a link: its port with the link's streams, whose keys its responder moves, and its interfaces (PCI
+/// Express Base 6.0 section 6.33 and chapter 11, in this profile).
+#[derive(Drop)]
+pub struct Device {
+    /// The port, whose keys are moved by `answer_of_keys` alone. After an arrival there the caller calls `settle`.
+    pub port: Port,
+    /// The requester ID that the responder gives in its answer to QUERY.
+    pub requester: u16,
+    /// The interfaces, by their place on the link.
+    pub interfaces: DeviceInterfaces,
+}
+
+impl Device {
+    ghost use Rattle.link_ends.specs.DeviceEnds.{new_device, settled_device, asked_device, reply_given};
+    ghost use Rattle.link_ends.specs.DeviceEnds.{device_trusting, reset_device};
+
+    /// The device of a link with these streams, without keys, and these interfaces, whose locks get these nonces; a key
+    /// seals at most `limit` units. `requester` is the requester ID that it gives in its answer to QUERY, 0 if it has
+    /// no interface.
+    pub fn make(
+        alloc: Global,
+        link: u8,
+        plans: &[StreamPlan],
+        limit: u64,
+        requester: u16,
+        interfaces: &Items<InterfacePlan>,
+        nonces: &Items<[u8; 32]>,
+    ) -> Result<Device, OutOfMemory>
+        requires streams { All FitsStream plans.now }
+        requires interfaces { All FitsTdi interfaces.now }
+        ensures { IfOk result (λ d. d ≡ new_device link plans.now limit requester interfaces.now nonces.now) }
+    {
+        let name = PortName {
+            side: Side::Device,
+            line: link,
+        };
+        let port = Port::make(alloc, name, plans, limit)?;
+        let interfaces = DeviceInterfaces::make(alloc, interfaces, nonces)?;
+        Ok(Device {
+            port,
+            requester,
+            interfaces,
+        })
+    }
+
+    /// Sends each interface in CONFIG_LOCKED or RUN to ERROR if a stream that it is bound to is not Secure at the
+    /// device. `peers` says what stands at its ends of streams between it and others.
+    pub fn settle<P: PeerStreams>(&mut self, peers: &P)
+        ensures { self.new ≡ settled_device (P.live peers.now) self.old }
+    {
+        let streams = SecureStreams {
+            port: &self.port,
+            peers,
+        };
+        self.interfaces.settle(&streams);
+    }
+
+    /// Answers a message of key management, one of several that reach the device at one event; after the last of them
+    /// the caller calls `settle`. `reply` has 8 bytes of room.
+    pub fn answer_of_keys(&mut self, request: &[u8], draw: u32, reply: &mut Vec<u8>)
+        requires { vec_len reply.old + 8 ≤ vec_capacity reply.old }
+        ensures device { self.new ≡ asked_device self.old request.now draw }
+        ensures reply { reply.new.items ≡ reply.old.items ++ reply_given self.old request.now draw }
+        ensures capacity { vec_capacity reply.old ≤ vec_capacity reply.new }
+    {
+        let mut responder = Responder::make(self.requester);
+        responder.answer(&mut self.port, request, draw, reply);
+    }
+
+    /// Whether the port has the stream, and it is Secure there.
+    pub fn is_secure(&self, stream: u8) -> bool
+        ensures { result ≡ secure_at self.now.port stream }
+    {
+        is_secure_at(&self.port, stream)
+    }
+
+    /// Sends a TLP's bytes, as its port does; T is set if the TLP's owner is an interface in RUN and the TLP takes the
+    /// stream that the interface is bound to.
+    pub fn send(&mut self, tlp: &[u8], more: bool) -> Sent
+        requires { self.old.port.calls < 2 ^ 40 }
+        ensures sent { (number : ℕ) → IsSentAtPort self.old.port tlp.now more (device_trusting self.old.interfaces)
+            number result self.new.port }
+        ensures others { self.new ≡ record self.old { port = self.new.port } }
+    {
+        let owners = Owners {
+            interfaces: &self.interfaces,
+        };
+        self.port.send(tlp, more, &owners)
+    }
+
+    /// Resets its end of the link: drops all keys, open units, held packets, counts and failures of the port; each
+    /// interface is in CONFIG_UNLOCKED, with the topology's registers. No nonce that was given is given again.
+    pub fn reset(&mut self)
+        ensures { self.new ≡ reset_device self.old }
+    {
+        self.port.reset();
+        self.interfaces.reset();
+    }
+
+    /// How many interfaces it has.
+    pub fn count(&self) -> usize
+        ensures { result ≡ length self.now.interfaces.interfaces }
+    {
+        self.interfaces.count()
+    }
+
+    /// The code of the state of the interface at this place: CONFIG_UNLOCKED 0, CONFIG_LOCKED 1, RUN 2, ERROR 3.
+    pub fn state(&self, place: usize) -> u8
+        requires { place < length self.now.interfaces.interfaces }
+        ensures { IfSome (slice_get self.now.interfaces.interfaces place) (λ tdi. result ≡ state_code tdi.state) }
+    {
+        self.interfaces.state(place)
+    }
+
+    /// Whether the interface at this place has this register.
+    pub fn has_register(&self, place: usize, register: Register) -> bool
+        requires { place < length self.now.interfaces.interfaces }
+        ensures { IfSome (slice_get self.now.interfaces.interfaces place)
+            (λ tdi. result ≡ has_register tdi.plan register) }
+    {
+        self.interfaces.has_register(place, register)
+    }
+
+    /// Writes a register that the interface at this place has, with a value of its width.
+    pub fn write_register(&mut self, place: usize, register: Register, value: u64)
+        requires place { place < length self.old.interfaces.interfaces }
+        requires exists { IfSome (slice_get self.old.interfaces.interfaces place)
+            (λ tdi. has_register tdi.plan register ≡ true) }
+        requires width { value < 2 ^ width_of register }
+        ensures { IfSome (slice_get self.old.interfaces.interfaces place) (λ tdi. self.new ≡ record self.old {
+          interfaces = called_at self.old.interfaces place tdi (WriteRegister register value);
+        }) }
+    {
+        self.interfaces.write_register(place, register, value)
+    }
+
+    /// Makes a function level reset of the interface at this place.
+    pub fn flr(&mut self, place: usize)
+        requires { place < length self.old.interfaces.interfaces }
+        ensures { IfSome (slice_get self.old.interfaces.interfaces place) (λ tdi. self.new ≡ record self.old {
+          interfaces = called_at self.old.interfaces place tdi LevelReset;
+        }) }
+    {
+        self.interfaces.flr(place)
+    }
+
+    /// Makes a firmware update at the interface at this place.
+    pub fn firmware(&mut self, place: usize)
+        requires { place < length self.old.interfaces.interfaces }
+        ensures { IfSome (slice_get self.old.interfaces.interfaces place) (λ tdi. self.new ≡ record self.old {
+          interfaces = called_at self.old.interfaces place tdi FirmwareUpdate;
+        }) }
+    {
+        self.interfaces.firmware(place)
+    }
+}

@@ -1,8 +1,0 @@
-//! The cause of each verdict.
-
-ghost use Rattle.link_history.specs.Cause.{OneHistory};
-
-/// Two histories of the same events, in which each verdict is the one that is due, are equal.
-pub fn one_history()
-    ensures { OneHistory }
-{}

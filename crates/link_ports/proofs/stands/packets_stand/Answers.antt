@@ -1,5 +1,0 @@
-use Rattle.link_ports.proofs.Steps.{packets_stand as holds}
-use Rattle.link_ports.proofs.stands.packets_stand.Goals as goal
-
-pub returns : goal.returns
-returns c = holds

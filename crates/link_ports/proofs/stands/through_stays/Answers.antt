@@ -1,5 +1,0 @@
-use Rattle.link_ports.proofs.Through.{through_stays as holds}
-use Rattle.link_ports.proofs.stands.through_stays.Goals as goal
-
-pub returns : goal.returns
-returns c = holds

@@ -1,0 +1,76 @@
+-- What stands at each link beside its ports and its device's interfaces, and how these stand by it (this profile).
+use Rattle.std.specs.Prelude.{ℕ, ◌+◌, Bool, false, if◌then◌else◌, List, [], ◌∷◌, length, map, replicate, slice_index}
+use Rattle.std.specs.Prelude.{Option}
+use Rattle.std.specs.Prelude.{Some, None}
+use Rattle.ide_types.specs.declared.interface.InterfacePlan.{InterfacePlan}
+use Rattle.ide_types.specs.declared.plan.LinkPlan.{LinkPlan}
+use Rattle.link_verdicts.specs.declared.verdict.Effect.{Effect}
+use Rattle.tlp_layout.specs.declared.head.HeadView.{HeadView}
+use Rattle.interface_state.specs.Machine.{Tdi}
+use Rattle.interface_device.specs.Replies.{DeviceTdis}
+use Rattle.trusted_memory.specs.declared.read.MemReadView.{MemReadView}
+use Rattle.trusted_memory.specs.declared.queue.WaitingRead.{WaitingRead}
+use Rattle.trusted_memory.specs.{memory_read, waiting_after}
+use Rattle.guarded_memory.specs.declared.standing.InterfaceStatus.{InterfaceStatus}
+use Rattle.guarded_memory.specs.{standing_of, new_guarded}
+use Rattle.hop_queues.specs.declared.queues.HopQueues.{HopQueues}
+use Rattle.hop_queues.specs.{WaitingTlps}
+use Rattle.link_stores.specs.declared.link.LinkAccesses.{LinkAccesses}
+
+-- ---- at first
+
+-- nothing waits at a switch, and there is no room yet
+abbrev pub new_queue : WaitingTlps
+new_queue = record { tlps = []; has_room = false }
+
+abbrev pub new_queues : HopQueues
+new_queues = record { downstream = new_queue; upstream = new_queue }
+
+-- nothing waits, and all memory and all floors are 0
+abbrev pub new_link_accesses : List InterfacePlan → LinkAccesses
+new_link_accesses interfaces = record {
+  reads = [];
+  guarded = new_guarded interfaces;
+  floors = replicate (length interfaces) 0;
+  carried = new_queues;
+}
+
+abbrev pub new_at_link : LinkPlan → LinkAccesses
+new_at_link l = new_link_accesses l.interfaces
+
+abbrev pub new_accesses : List LinkPlan → List LinkAccesses
+new_accesses links = map new_at_link links
+
+-- ---- how interfaces stand
+
+-- those from this place on, with floors by place
+abbrev pub numbered_standings : List ℕ → ℕ → List Tdi → List InterfaceStatus
+numbered_standings floors n [] = []
+numbered_standings floors n (t ∷ ts) = standing_of t (slice_index floors n) ∷ numbered_standings floors (n + 1) ts
+
+-- those of a device
+abbrev pub device_standings : List ℕ → DeviceTdis → List InterfaceStatus
+device_standings floors d = numbered_standings floors 0 d.interfaces
+
+-- ---- TLPs at a switch
+
+-- without those that wait
+abbrev pub without_tlps : HopQueues → HopQueues
+without_tlps q = record {
+  downstream = record q.downstream { tlps = [] };
+  upstream = record q.upstream { tlps = [] };
+}
+
+-- ---- reads
+
+-- the memory read that a TLP of this header is, if it has T
+abbrev pub trusted_read : Bool → HeadView → Option MemReadView
+trusted_read t head = if t then memory_read head else None
+
+abbrev pub waiting_with : Effect → ℕ → Option MemReadView → List WaitingRead → List WaitingRead
+waiting_with effect draw None ws = ws
+waiting_with effect draw (Some read) ws = waiting_after effect (record { read = read; draw = draw }) ws
+
+-- those that wait after a TLP of this header got its effect
+abbrev pub reads_after : Effect → ℕ → HeadView → List WaitingRead → List WaitingRead
+reads_after effect draw head ws = waiting_with effect draw (memory_read head) ws

@@ -1,5 +1,0 @@
-use Rattle.lock_laws.proofs.AllLaws.{one_lock_per_key as holds}
-use Rattle.lock_laws.proofs.laws.one_lock_per_key.Goals as goal
-
-pub returns : goal.returns
-returns c = holds

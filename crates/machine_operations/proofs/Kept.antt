@@ -1,0 +1,105 @@
+-- A send, an answer to a read or an arrival leaves the manager's operations and the draws.
+use Rattle.machine_ports.specs.Machine.{BesidePorts, port_at, sealing_draw_at, stepped_completion, stepped_reply}
+use Rattle.machine_ports.specs.Machine.{stepped_forward}
+use Rattle.link_events.specs.declared.event.Event.TheVariants.{Forward}
+use Rattle.machine_ports.specs.{HopTlp, leaving_end, may_send, outgoing_at}
+use Rattle.machine_ports.specs.Replies.{BoundCompletion}
+use Rattle.link_events.specs.declared.event.Event.TheVariants.{Access}
+use Rattle.link_events.specs.declared.event.AccessEvent.TheVariants as ae
+use Rattle.ide_types.specs.declared.verdict.InterfaceVerdict.TheVariants as iv
+use Rattle.ide_types.specs.declared.port.Side.TheVariants.{Host}
+use Rattle.ide_types.specs.declared.sub.SubKind.TheVariants.{Cpl}
+use Rattle.machine_operations.proofs.Terms.{◌≡◌, ℕ, Bool, true, false, List, Option, Some, None, Result, Ok, Err, refl}
+use Rattle.std.specs.Prelude.{unwrap_or}
+use Rattle.spec_keys.specs.Keys.{is_below}
+use Rattle.machine_operations.proofs.Terms.{arith, if◌then◌else◌, Alter, stepped_answer, Arrival, Arrive}
+use Rattle.machine_operations.proofs.Terms.{stepped_arrival}
+use Rattle.machine_operations.proofs.Terms.{Cut}
+unfoldable use Rattle.machine_ports.specs.{sealing_end}
+use Rattle.machine_ports.specs.{arrival_at}
+use Rattle.machine_operations.proofs.Terms.{Dump, Event, find, has_port, is_of_packets, LinkState, Pass, Plan, PortName}
+use Rattle.machine_operations.proofs.Terms.{put, Send, stepped_on_stream, stepped_send, streams_of}
+use Rattle.machine_operations.proofs.Terms.{Sending, step_of, Stepped}
+use Rattle.machine_operations.proofs.Terms.{StreamState, Verdict}
+use Rattle.link_verdicts.specs.declared.verdict.Verdict.TheVariants as v
+use Rattle.link_verdicts.specs.declared.verdict.SealedPacket.{SealedPacket}
+use Rattle.tlp_layout.specs.Class.{class_of}
+use Rattle.tlp_layout.specs.Tlp.{header}
+use Rattle.tlp_layout.specs.declared.tlp.Tlp.{Tlp}
+use Rattle.association.specs.Outgoing.{Outgoing, NoTlp, OnNone, OnStream, outgoing_of}
+
+abbrev pub Kept : LinkState → Stepped → Type 0
+Kept st r = (r.1.ops ≡ st.ops) × (r.1.draws ≡ st.draws)
+
+arrive_kept : (plan : Plan) (beside : BesidePorts) (st : LinkState) (a : Option Arrival)
+    → Kept st (stepped_arrival plan beside st a)
+unfolding put
+arrive_kept plan beside st a = grind arith
+
+answered_kept : (plan : Plan) (st : LinkState) (s : Sending) (t : Tlp) (x : StreamState) (o : Option Verdict)
+    (ds : List SealedPacket) → Kept st (stepped_answer plan st s t x o ds)
+unfolding put
+answered_kept plan st s t x o ds = grind arith
+
+found_kept : (plan : Plan) (st : LinkState) (s : Sending) (t : Tlp) (o : Option StreamState)
+    → Kept st (stepped_on_stream plan st s t o)
+found_kept plan st s t None = (refl, refl)
+found_kept plan st s t (Some x) = answered_kept plan st s t x _ _
+
+send_kept : (plan : Plan) (beside : BesidePorts) (st : LinkState) (port : PortName) (o : Outgoing)
+    (more trusted b : Bool)
+    → Kept st (if b then stepped_send plan beside st port o more trusted else (v.Nothing, st))
+send_kept plan beside st port (NoTlp f) more trusted true = (refl, refl)
+send_kept plan beside st port OnNone more trusted true = (refl, refl)
+send_kept plan beside st port (OnStream t stream) more trusted true =
+    found_kept plan st (record {
+      port = port;
+      stream = stream;
+      class = class_of (header t);
+      more = more;
+      trusted = beside.t port (header t)
+          stream trusted;
+    }) t (find plan st port stream)
+send_kept plan beside st port o more trusted false = (refl, refl)
+
+completed_kept : (plan : Plan) (beside : BesidePorts) (st : LinkState) (port : PortName) (r : BoundCompletion)
+    (draw : Option ℕ)
+    → Kept st (stepped_completion plan beside st port r draw)
+completed_kept plan beside st port r draw = by (is_below draw r.floor)
+  where
+    by : (b : Bool) → Kept st (if b then (v.Interface (iv.RefusedRefreshFirst (unwrap_or draw 0) r.floor), st)
+        else stepped_send plan beside st port (outgoing_of (streams_of plan port.line) port.side r.bytes) false true)
+    by true = (refl, refl)
+    by false = send_kept plan beside st port (outgoing_of (streams_of plan port.line) port.side r.bytes) false true true
+
+reply_kept : (plan : Plan) (beside : BesidePorts) (st : LinkState) (port : PortName)
+    (r : Result BoundCompletion Verdict)
+    → Kept st (stepped_reply plan beside st port r)
+reply_kept plan beside st port (Err w) = (refl, refl)
+reply_kept plan beside st port (Ok r) =
+    completed_kept plan beside st port r (sealing_draw_at Cpl (find plan st port r.stream))
+
+forward_kept : (plan : Plan) (beside : BesidePorts) (st : LinkState) (port : PortName) (r : Result HopTlp Verdict)
+    → Kept st (stepped_forward plan beside st port r)
+forward_kept plan beside st port (Err w) = (refl, refl)
+forward_kept plan beside st port (Ok x) = send_kept plan beside st port (outgoing_at plan port x.bytes) false x.t true
+
+pub step_kept : (plan : Plan) (beside : BesidePorts) (st : LinkState) (e : Event) → is_of_packets e ≡ true
+    → Kept st (step_of plan beside st e)
+unfolding step_of
+step_kept plan beside st (Send port bytes more trusted) is = send_kept plan beside st (sealing_end plan port bytes)
+    (outgoing_at plan (sealing_end plan port bytes) bytes) more trusted (may_send plan port)
+step_kept plan beside st (Access (ae.Answer link)) is =
+    reply_kept plan beside st (port_at Host link) (beside.reply link)
+step_kept plan beside st (Forward link d) is = forward_kept plan beside st (leaving_end link d) (beside.forward link d)
+step_kept plan beside st (Arrive port bytes) is = by_port (has_port plan port)
+  where
+    by_port : (b : Bool) → Kept st
+        (if b then stepped_arrival plan beside st (Some (arrival_at plan port bytes)) else (v.Nothing, st))
+    by_port true = arrive_kept plan beside st (Some (arrival_at plan port bytes))
+    by_port false = (refl, refl)
+step_kept plan beside st (Pass n) is = arrive_kept plan beside st _
+step_kept plan beside st (Alter n at mask) is = arrive_kept plan beside st _
+step_kept plan beside st (Cut n len) is = arrive_kept plan beside st _
+step_kept plan beside st (Dump n) is = (refl, refl)
+step_kept plan beside st _ is = absurd cc

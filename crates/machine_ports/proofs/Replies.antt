@@ -1,0 +1,178 @@
+-- An answer to a read that waits gets the verdict that is due, and the state after it stands for the history with it:
+-- the port's key of completions is the history's, and a completion is sent as any TLP is.
+use Rattle.spec_keys.specs.Keys.{is_below}
+use Rattle.machine_ports.proofs.Terms.{◌≡◌, ℕ, Bool, true, false, not, nat_lt, List, [], ◌∷◌, Option, Some, None}
+use Rattle.machine_ports.proofs.Terms.{option_map, Err, Ok, refl, ap, sym, ◌∙◌, subst, arith, nat_tests, if◌then◌else◌}
+use Rattle.machine_ports.proofs.Terms.{unwrap_or, Cpl, Event, find, has_stream, History, is_quiet, KeyFacts, KeyName}
+use Rattle.machine_ports.proofs.Terms.{port_keys, lane_out, LinkState, live_key, LiveKey, Plan, PortName, PortsStand}
+use Rattle.machine_ports.proofs.Terms.{sealed_packets, send_due, standing, streams_of, StreamState, Verdict}
+unfoldable use Rattle.machine_ports.proofs.Terms.{due}
+use Rattle.ide_types.specs.declared.port.Side.TheVariants.{Host}
+use Rattle.association.specs.Outgoing.{Outgoing, NoTlp, OnNone, OnStream, outgoing_of, stream_taken}
+use Rattle.spec_links.specs.{Site, site_with, grant_at, granted_to, WaitingRead}
+use Rattle.link_events.specs.declared.event.AccessEvent.TheVariants as ae
+use Rattle.link_events.specs.declared.event.Event.TheVariants.{Access}
+use Rattle.ide_types.specs.declared.verdict.InterfaceVerdict.TheVariants as iv
+use Rattle.link_verdicts.specs.declared.access.AccessVerdict.TheVariants as av
+use Rattle.link_verdicts.specs.declared.verdict.BlockCause.TheVariants as cause
+use Rattle.link_verdicts.specs.declared.verdict.Verdict.TheVariants as v
+use Rattle.spec_links.specs.Plan.{has_link}
+use Rattle.spec_links.specs.History.{sent_bytes}
+use Rattle.spec_links.specs.Memory.{waiting}
+use Rattle.spec_links.specs.Due.{is_stream, is_before, draw_of, answer_with_key, completion_verdict, site_answer}
+use Rattle.spec_links.specs.Due.{answer_first}
+use Rattle.spec_links.specs.Due.{outgoing_completion}
+use Rattle.spec_links.proofs.Choices.{stream_known}
+use Rattle.machine_ports.specs.Replies.{completion_by, site_completion, completion_first, link_completion}
+use Rattle.machine_ports.specs.Machine.{port_at, sealing_draw_at, stepped_completion, stepped_reply}
+use Rattle.machine_ports.specs.Stands.{beside_at}
+use Rattle.machine_ports.proofs.Changes.{Steps, kept_is, not_kept}
+use Rattle.machine_ports.proofs.Lanes.{sealer, live_sender_is}
+use Rattle.machine_ports.proofs.Sends.{if_steps, by_outgoing, tells}
+
+-- ---- the key of completions
+
+abbrev draw_named : Option KeyName → Option ℕ
+draw_named key = option_map (λ (k : KeyName). k.draw) key
+
+draw_stands : (plan : Plan) (h : History) (port : PortName) (stream : ℕ)
+    → sealing_draw_at Cpl (Some (standing plan h port stream))
+    ≡ draw_named (live_key h port (lane_out port stream Cpl))
+unfolding standing
+draw_stands plan h port stream =
+    ap (λ (o : Option (Bool × LiveKey)). option_map (λ (x : Bool × LiveKey). x.1.draw) o)
+    (live_sender_is plan (sealed_packets plan h) (lane_out port stream Cpl)
+    (port_keys h port (lane_out port stream Cpl)))
+    ∙ by (live_key h port (lane_out port stream Cpl))
+  where
+    by : (o : Option KeyName) → option_map (λ (x : Bool × LiveKey). x.1.draw)
+        (sealer plan (sealed_packets plan h) (lane_out port stream Cpl) o) ≡ draw_named o
+    by None = refl
+    by (Some key) = refl
+
+draw_is : (plan : Plan) (st : LinkState) (h : History) (port : PortName) (stream : ℕ) → PortsStand plan st h
+    → (o : Option StreamState) → find plan st port stream ≡ o → has_stream plan port stream ≡ true
+    → sealing_draw_at Cpl o ≡ draw_named (live_key h port (lane_out port stream Cpl))
+draw_is plan st h port stream stands None found known =
+    let other = not_kept plan st h port stream stands found in absurd cc
+draw_is plan st h port stream stands (Some y) found known =
+    let kept = kept_is plan st h port stream y stands found in
+    ap (λ (z : StreamState). sealing_draw_at Cpl (Some z)) kept.same ∙ draw_stands plan h port stream
+
+below_is : (key : Option KeyName) (floor : ℕ) → is_below (draw_named key) floor ≡ is_before key floor
+below_is None floor = refl
+below_is (Some key) floor = refl
+
+named_is : (key : Option KeyName) → unwrap_or (draw_named key) 0 ≡ draw_of key
+named_is None = refl
+named_is (Some key) = refl
+
+-- ---- an answer
+
+taken_known : (plan : Plan) (port : PortName) (bytes : List ℕ) (stream : ℕ) (o : Outgoing)
+    → outgoing_of (streams_of plan port.line) port.side bytes ≡ o → is_stream stream (stream_taken o) ≡ true
+    → has_stream plan port stream ≡ true
+taken_known plan port bytes stream (NoTlp f) comes is = absurd cc
+taken_known plan port bytes stream OnNone comes is = absurd cc
+taken_known plan port bytes stream (OnStream t s) comes is =
+    let same : s ≡ stream = grind (arith, nat_tests) in
+    subst (λ (n : ℕ). has_stream plan port n ≡ true) same (stream_known plan port bytes t s comes)
+
+abbrev answering : ℕ → Event
+answering link = Access (ae.Answer link)
+
+abbrev host : ℕ → PortName
+host link = port_at Host link
+
+abbrev bytes_at : Plan → History → ℕ → List ℕ
+bytes_at plan h link = sent_bytes plan h (Access (ae.Answer link))
+
+abbrev key_at : History → ℕ → ℕ → Option KeyName
+key_at h link stream = live_key h (port_at Host link) (lane_out (port_at Host link) stream Cpl)
+
+module _ (plan : Plan) (facts : KeyFacts plan) (st : LinkState) (h : History) (stands : PortsStand plan st h)
+    (link : ℕ) where
+  quiet_reply : (w : Verdict) → is_quiet w ≡ true → w ≡ due plan h (answering link)
+      → Steps plan h (answering link) (w, st)
+  quiet_reply w none is = tells plan facts st h stands (answering link) refl false true (host link) w none is
+
+  completes : (stream floor : ℕ) → answer_with_key plan h (host link) floor (key_at h link stream)
+      (outgoing_completion plan h link)
+      ≡ due plan h (answering link)
+      → Steps plan h (answering link)
+      (stepped_completion plan (beside_at plan h) st (host link)
+      (record { stream = stream; floor = floor; bytes = bytes_at plan h link }) (draw_named (key_at h link stream)))
+  completes stream floor is =
+      let key = key_at h link stream in
+      if_steps plan h (answering link) (is_below (draw_named key) floor) _ _
+      (λ below. quiet_reply (v.Interface (iv.RefusedRefreshFirst (unwrap_or (draw_named key) 0) floor)) refl
+      (ap (λ (n : ℕ). v.Interface (iv.RefusedRefreshFirst n floor)) (named_is key)
+      ∙ (ap (λ (b : Bool). under b) (sym (sym (below_is key floor) ∙ below)) ∙ is)))
+      (λ fresh. by_outgoing plan facts st h stands (answering link) refl false true (host link)
+      (outgoing_completion plan h link) refl
+      (ap (λ (b : Bool). under b) (sym (sym (below_is key floor) ∙ fresh)) ∙ is))
+    where
+      under : Bool → Verdict
+      under b = if b then v.Interface (iv.RefusedRefreshFirst (draw_of (key_at h link stream)) floor)
+          else send_due plan h (host link) (outgoing_completion plan h link) false true
+
+  by_bound : (number draw : ℕ) (o : Option (ℕ × ℕ))
+      → completion_verdict plan h (host link) number draw o (outgoing_completion plan h link)
+      ≡ due plan h (answering link)
+      → Steps plan h (answering link)
+      (stepped_reply plan (beside_at plan h) st (host link)
+      (completion_by plan link number draw (bytes_at plan h link) o))
+  by_bound number draw None is = quiet_reply (v.Access (av.Dropped number cause.NotRunning)) refl is
+  by_bound number draw (Some b) is =
+      by (is_stream b.0 (stream_taken (outgoing_completion plan h link))) (nat_lt draw b.1) refl is
+    where
+      by : (p q : Bool) → is_stream b.0 (stream_taken (outgoing_completion plan h link)) ≡ p
+          → (if not p then v.Access (av.Dropped number cause.WrongStream)
+          else if q then v.Access (av.Dropped number cause.Stale)
+          else answer_with_key plan h (host link) b.1 (key_at h link b.0) (outgoing_completion plan h link))
+          ≡ due plan h (answering link)
+          → Steps plan h (answering link) (stepped_reply plan (beside_at plan h) st (host link)
+          (if not p then Err (v.Access (av.Dropped number cause.WrongStream))
+          else if q then Err (v.Access (av.Dropped number cause.Stale))
+          else Ok (record { stream = b.0; floor = b.1; bytes = bytes_at plan h link })))
+      by false q takes is = quiet_reply (v.Access (av.Dropped number cause.WrongStream)) refl is
+      by true true takes is = quiet_reply (v.Access (av.Dropped number cause.Stale)) refl is
+      by true false takes is =
+          let known = taken_known plan (host link) (bytes_at plan h link) b.0 (outgoing_completion plan h link) refl
+          takes in
+          subst (λ (draw : Option ℕ). Steps plan h (answering link)
+          (stepped_completion plan (beside_at plan h) st (host link)
+          (record { stream = b.0; floor = b.1; bytes = bytes_at plan h link }) draw))
+          (sym (draw_is plan st h (host link) b.0 stands (find plan st (host link) b.0) refl known))
+          (completes b.0 b.1 is)
+
+  by_site : (draw : ℕ) (o : Option Site)
+      → site_answer plan h (host link) draw o (outgoing_completion plan h link) ≡ due plan h (answering link)
+      → Steps plan h (answering link)
+      (stepped_reply plan (beside_at plan h) st (host link)
+      (site_completion plan link draw (bytes_at plan h link) (granted_to h o) o))
+  by_site draw None is = quiet_reply v.Nothing refl is
+  by_site draw (Some x) is = by_bound x.number draw (granted_to h (Some x)) is
+
+  by_waiting : (rs : List WaitingRead)
+      → answer_first plan h (host link) rs (outgoing_completion plan h link) ≡ due plan h (answering link)
+      → Steps plan h (answering link)
+      (stepped_reply plan (beside_at plan h) st (host link)
+      (completion_first plan (grant_at plan h) (λ r. bytes_at plan h link) link rs))
+  by_waiting [] is = quiet_reply (v.Access (av.Empty link)) refl is
+  by_waiting (r ∷ rs) is = by_site r.draw (site_with plan link r.read.requester) is
+
+  pub replies : Steps plan h (answering link)
+      (stepped_reply plan (beside_at plan h) st (host link)
+      (link_completion plan (grant_at plan h) (λ r. bytes_at plan h link) link (waiting plan h link)))
+  unfolding due
+  replies = by (has_link plan link) refl
+    where
+      by : (b : Bool) → (if b then answer_first plan h (host link) (waiting plan h link)
+          (outgoing_completion plan h link)
+          else v.Nothing) ≡ due plan h (answering link)
+          → Steps plan h (answering link) (stepped_reply plan (beside_at plan h) st (host link)
+          (if b then completion_first plan (grant_at plan h) (λ r. bytes_at plan h link) link (waiting plan h link)
+          else Err v.Nothing))
+      by true is = by_waiting (waiting plan h link) is
+      by false is = quiet_reply v.Nothing refl is

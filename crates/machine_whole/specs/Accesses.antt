@@ -1,0 +1,93 @@
+-- What is kept of reads that wait, of TLPs that wait at switches and of the memory of devices' interfaces, and what an
+-- event makes of it.
+use Rattle.std.specs.Prelude.{ℕ, ◌==◌, ◌++◌, List, [], ◌∷◌, drop, map, unwrap_or, if◌then◌else◌}
+use Rattle.ide_types.specs.declared.direction.Direction.{Direction}
+use Rattle.ide_types.specs.declared.port.PortName.{PortName}
+use Rattle.ide_types.specs.declared.port.Side.TheVariants.{Device}
+use Rattle.ide_types.specs.declared.sub.SubKind.TheVariants.{Pr}
+use Rattle.ide_types.specs.declared.plan.Plan.{Plan}
+use Rattle.ide_prefix.specs.Packet.{Packet}
+use Rattle.link_events.specs.declared.event.Event.{Event}
+use Rattle.link_events.specs.declared.event.Event.TheVariants as event
+use Rattle.link_verdicts.specs.declared.verdict.Verdict.{Verdict}
+use Rattle.link_verdicts.specs.declared.verdict.Verdict.TheVariants as v
+use Rattle.link_verdicts.specs.declared.access.AccessVerdict.TheVariants as av
+use Rattle.spec_interfaces.specs.Sites.{Site, sites}
+use Rattle.spec_interfaces.specs.Devices.{is_run}
+use Rattle.spec_interfaces.specs.Floors.{floor_after}
+use Rattle.machine_interfaces.specs.Machine.{Face, Faces}
+use Rattle.spec_links.specs.{WaitingRead}
+use Rattle.spec_interfaces.specs.{InterfaceStatus, standing_of, Happened, newest_happened}
+use Rattle.spec_links.specs.Sent.{is_answer_on, reads_by}
+use Rattle.spec_links.specs.Hops.{HopTlp, tlps_with}
+use Rattle.spec_links.specs.Memory.{plain_of}
+use Rattle.spec_links.specs.Ports.{port_of}
+use Rattle.spec_links.specs.Guarded.{happens_by}
+use Rattle.machine_operations.specs.{LinkState, find, port_at, receiving_draw_at}
+use Rattle.law_reads.specs.Waiting.{waiting_next}
+
+-- of each link the reads that wait, the oldest first, and what happened to its device's memory, the newest first; of
+-- each interface, in the topology's order, the least draw that its device takes trusted writes under; and of each
+-- link's hop the TLPs that wait in a direction, the first first
+pub record Accesses : Type 0 where
+  pub waiting : ℕ → List WaitingRead
+  pub floors : List ℕ
+  pub happened : ℕ → List Happened
+  pub carried : ℕ → Direction → List HopTlp
+
+abbrev pub first_accesses : Plan → Accesses
+first_accesses plan =
+    record {
+      waiting = λ link. [];
+      floors = map (λ x. 0) (sites plan);
+      happened = λ link. [];
+      carried = λ link d. [];
+    }
+
+-- ---- how a device's interfaces stand
+
+abbrev pub face_standings : ℕ → List Site → List Face → List ℕ → List InterfaceStatus
+face_standings link (x ∷ xs) (f ∷ fs) (n ∷ ns) =
+    if x.link == link then standing_of f.tdi n ∷ face_standings link xs fs ns else face_standings link xs fs ns
+face_standings link _ _ _ = []
+
+-- ---- one step
+
+-- if an event had this verdict, and ended a unit of these packets, or none
+abbrev pub waiting_reads_after : Plan → List Packet → Event → Verdict → ℕ → List WaitingRead → List WaitingRead
+waiting_reads_after plan ps e (v.Accepted port unit effects) link rs =
+    if (port_of plan port).line == link then rs ++ reads_by unit.draw effects ps else rs
+waiting_reads_after plan ps e (v.Sealed ds) link rs = if is_answer_on link e then drop 1 rs else rs
+waiting_reads_after plan ps e (v.Access (av.Dropped interface cause)) link rs = if is_answer_on link e then drop 1 rs
+    else rs
+waiting_reads_after plan ps (event.Reset k ends) (v.Reset l) link rs = if l == link then [] else rs
+waiting_reads_after plan ps e w link rs = rs
+
+-- the TLPs of the unit that a verdict ends, if it ends one of these packets
+abbrev pub unit_tlps : Plan → List Packet → Verdict → List HopTlp
+unit_tlps plan ps (v.Accepted port unit effects) = tlps_with (plain_of plan port unit ps) ps
+unit_tlps plan ps w = []
+
+-- the greatest draw that an end receives posted requests under on a stream, 0 if none
+abbrev pub posted_draw_at : Plan → LinkState → PortName → ℕ → ℕ
+posted_draw_at plan st port stream = unwrap_or (receiving_draw_at Pr (find plan st port stream)) 0
+
+-- that of the device on an interface's stream
+abbrev pub device_draw_at : Plan → LinkState → Site → ℕ
+device_draw_at plan st x = posted_draw_at plan st (port_at Device x.link) x.plan.stream
+
+-- by what is kept of the interfaces before the event, and after it
+abbrev pub floors_after : Event → (Site → ℕ) → List Site → List Face → List Face → List ℕ → List ℕ
+floors_after e draw (x ∷ xs) (f ∷ fs) (g ∷ gs) (n ∷ ns) =
+    floor_after e x (is_run f.tdi.state) (is_run g.tdi.state) (draw x) n ∷ floors_after e draw xs fs gs ns
+floors_after e draw _ _ _ _ = []
+
+-- by the ports before the event
+abbrev pub accesses_after : Plan → LinkState → Faces → Faces → List Packet → Event → Verdict → Accesses → Accesses
+accesses_after plan st before after ps e w a = record {
+  waiting = λ link. waiting_reads_after plan ps e w link (a.waiting link);
+  floors = floors_after e (device_draw_at plan st) (sites plan) before.list after.list a.floors;
+  happened = λ link. newest_happened
+      (happens_by plan (λ l. face_standings l (sites plan) before.list a.floors) ps e w link) (a.happened link);
+  carried = λ link d. waiting_next (unit_tlps plan ps w) link d e w (a.carried link d);
+}

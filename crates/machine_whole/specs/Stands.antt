@@ -1,0 +1,38 @@
+-- What is kept stands for the whole history.
+use Rattle.std.specs.Prelude.{ℕ, ◌≡◌, ◌∷◌, [], map}
+use Rattle.ide_types.specs.declared.plan.Plan.{Plan}
+use Rattle.link_events.specs.declared.event.Event.{Event}
+use Rattle.spec_keys.specs.History.{History}
+use Rattle.spec_interfaces.specs.Views.{stream_draw}
+use Rattle.machine_interfaces.specs.Stands.{FacesStandFor}
+use Rattle.ide_types.specs.declared.direction.Direction.{Direction}
+use Rattle.spec_links.specs.Memory.{writes, waiting, hop_waiting}
+use Rattle.spec_links.specs.Guarded.{happened}
+use Rattle.spec_interfaces.specs.Sites.{sites}
+use Rattle.spec_interfaces.specs.Floors.{device_floor}
+use Rattle.machine_whole.specs.Accesses.{Accesses}
+use Rattle.spec_links.specs.Due.{due}
+use Rattle.machine_operations.specs.{PortsStandFor}
+use Rattle.machine_whole.specs.Machine.{Whole, new_whole, whole_step}
+
+pub record AccessesStandFor (plan : Plan) (a : Accesses) (h : History) : Type 0 where
+  pub waiting : (link : ℕ) → a.waiting link ≡ waiting plan h link
+  pub floors : a.floors ≡ map (device_floor plan h) (sites plan)
+  pub happened : (link : ℕ) → a.happened link ≡ happened plan h link
+  pub carried : (link : ℕ) (d : Direction) → a.carried link d ≡ hop_waiting plan h link d
+
+pub record StandsFor (plan : Plan) (w : Whole) (h : History) : Type 0 where
+  pub links : PortsStandFor plan w.links h
+  pub faces : FacesStandFor plan w.faces h
+  pub draw : w.draw ≡ stream_draw h
+  pub written : w.written ≡ writes plan h
+  pub accesses : AccessesStandFor plan w.accesses h
+
+abbrev pub WholeBegins : Type 0
+WholeBegins = (plan : Plan) → StandsFor plan (new_whole plan) []
+
+abbrev pub WholeSteps : Type 0
+WholeSteps =
+    (plan : Plan) (w : Whole) (h : History) (e : Event) → StandsFor plan w h
+    → ((whole_step plan w e).0 ≡ due plan h e) × StandsFor plan (whole_step plan w e).1
+    ((e, (whole_step plan w e).0) ∷ h)

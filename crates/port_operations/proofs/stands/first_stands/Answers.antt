@@ -1,5 +1,0 @@
-use Rattle.port_operations.proofs.Resets.{begins as proof}
-use Rattle.port_operations.proofs.stands.first_stands.Goals as goal
-
-pub returns : goal.returns
-returns c = proof

@@ -1,5 +1,0 @@
-use Rattle.port_operations.proofs.OperationSteps.{operation_steps as proof}
-use Rattle.port_operations.proofs.stands.operation_steps.Goals as goal
-
-pub returns : goal.returns
-returns c = proof

@@ -1,5 +1,0 @@
-use Rattle.port_operations.proofs.Points.{points as holds}
-use Rattle.port_operations.proofs.stands.points_stand.Goals as goal
-
-pub returns : goal.returns
-returns c = holds

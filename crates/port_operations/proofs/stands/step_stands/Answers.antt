@@ -1,5 +1,0 @@
-use Rattle.port_operations.proofs.AllSteps.{steps as proof}
-use Rattle.port_operations.proofs.stands.step_stands.Goals as goal
-
-pub returns : goal.returns
-returns c = proof

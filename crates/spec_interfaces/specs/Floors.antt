@@ -1,0 +1,61 @@
+-- How the interfaces of each link's device stand over whole histories: the least draw that each takes trusted writes
+-- under, and its state, ranges and bound stream (this profile).
+use Rattle.std.specs.Prelude.{ℕ, zero, suc, ◌+◌, ◌-◌, ◌==◌, ◌&&◌, not, Bool, false, if◌then◌else◌, List, [], ◌∷◌}
+use Rattle.std.specs.Prelude.{length, map, filter}
+use Rattle.spec_keys.specs.Places.{KeyPlace}
+use Rattle.spec_keys.specs.History.{place_keys}
+use Rattle.ide_types.specs.declared.sub.SubKind.TheVariants.{Pr}
+use Rattle.guarded_memory.specs.declared.standing.InterfaceStatus.{InterfaceStatus}
+use Rattle.guarded_memory.specs.Standings.{standing_of}
+use Rattle.spec_interfaces.specs.Terms.{Device, Plan, LinkPlan, Event, History}
+use Rattle.spec_interfaces.specs.Sites.{Site, sites}
+pub use Rattle.spec_interfaces.specs.Peers.{greatest_on}
+use Rattle.spec_interfaces.specs.Devices.{interface_at, runs_at}
+use Rattle.link_events.specs.declared.event.Event.TheVariants as event
+use Rattle.link_events.specs.declared.event.InterfaceEvent.TheVariants as ie
+
+-- ---- the draw at the device
+
+-- where the device receives posted requests on the interface's stream
+abbrev pub posted_receiver : Site → KeyPlace
+posted_receiver x = record { side = Device; line = x.link; stream = x.plan.stream; sends = false; sub = Pr }
+
+abbrev pub draw_at_device : History → Site → ℕ
+draw_at_device h x = greatest_on (place_keys h (posted_receiver x))
+
+-- ---- the floor
+
+-- the draw, at a start of the interface that brings it into RUN; at any other event as it was
+abbrev pub floor_after : Event → Site → Bool → Bool → ℕ → ℕ → ℕ
+floor_after (event.Interface (ie.Start i loss)) x ran runs draw floor =
+    if (i == x.number) && (not ran && runs) then draw else floor
+floor_after e x ran runs draw floor = floor
+
+-- the least draw that the device takes trusted writes to the interface under; 0 before its first start
+unfoldable pub device_floor : Plan → History → Site → ℕ
+device_floor plan [] x = 0
+device_floor plan ((e, w) ∷ h) x =
+    floor_after e x (runs_at plan h x) (runs_at plan ((e, w) ∷ h) x) (draw_at_device h x) (device_floor plan h x)
+
+-- ---- the interfaces of a link
+
+-- in order
+abbrev pub sites_of : Plan → ℕ → List Site
+sites_of plan link = filter (λ x. x.link == link) (sites plan)
+
+-- how many interfaces are on the links before this one
+abbrev pub interfaces_before : List LinkPlan → ℕ → ℕ
+interfaces_before [] link = 0
+interfaces_before (l ∷ ls) zero = 0
+interfaces_before (l ∷ ls) (suc link) = length l.interfaces + interfaces_before ls link
+
+-- the place of an interface on its link, from 0
+abbrev pub place_of : Plan → Site → ℕ
+place_of plan x = x.number - interfaces_before plan.links x.link
+
+-- how they stand
+abbrev pub device_standing : Plan → History → Site → InterfaceStatus
+device_standing plan h x = standing_of (interface_at plan h x) (device_floor plan h x)
+
+abbrev pub history_standings : Plan → History → ℕ → List InterfaceStatus
+history_standings plan h link = map (device_standing plan h) (sites_of plan link)

@@ -1,7 +1,0 @@
-use Rattle.std.proofs.Common.{◌≡◌, ◌++◌, map, take, drop}
-use Rattle.tdi_device.specs.Replies.{settled_tdi}
-use Rattle.tdi_device.proofs.device_interfaces.settle_all.Given as goal
-
-abbrev pub invariant-loop-interface : goal.invariant-loop-interface
-invariant-loop-interface g l = l.interface-items ≡ map (settled_tdi (g.P.StreamStates.is_secure l.streams))
-    (take l.interface-index l.initial.interface-items) ++ drop l.interface-index l.initial.interface-items

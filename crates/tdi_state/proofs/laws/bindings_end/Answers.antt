@@ -1,5 +1,0 @@
-use Rattle.tdi_state.proofs.Bound.{bindings_end}
-use Rattle.tdi_state.proofs.laws.bindings_end.Goals as goal
-
-pub returns : goal.returns
-returns c = bindings_end

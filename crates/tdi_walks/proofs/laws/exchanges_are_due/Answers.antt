@@ -1,5 +1,0 @@
-use Rattle.tdi_walks.proofs.Exchanges.{exchange_due}
-use Rattle.tdi_walks.proofs.laws.exchanges_are_due.Goals as goal
-
-pub returns : goal.returns
-returns c = exchange_due c.request_read_again.ensures.reads c.reply_read_again.ensures.reads

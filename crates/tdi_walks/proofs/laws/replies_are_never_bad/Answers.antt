@@ -1,5 +1,0 @@
-use Rattle.tdi_walks.proofs.Exchanges.{never_bad}
-use Rattle.tdi_walks.proofs.laws.replies_are_never_bad.Goals as goal
-
-pub returns : goal.returns
-returns c = never_bad c.exchanges_are_due.ensures

@@ -1,0 +1,11 @@
+use Rattle.std.proofs.Common.{refl}
+use Rattle.trusted_memory.specs.Writes.{byte_after}
+use Rattle.trusted_memory.specs.Completions.{completion_bytes}
+use Rattle.trusted_memory.proofs.read_laws.answer_cases.Goals as goal
+
+pub returns-clause-answers : goal.returns-clause-answers
+unfolding completion_bytes byte_after
+returns-clause-answers c = (refl, refl, refl, refl)
+
+pub returns-clause-tables : goal.returns-clause-tables
+returns-clause-tables c = (refl, refl, refl)

@@ -1,0 +1,201 @@
+//! The completion that answers a read.
+
+ghost use Rattle.std.specs.Prelude.{◌≡◌, ◌+◌, ◌≤◌, ◌<◌, ◌++◌, ◌∷◌, ℕ, List, Some, true, false, IfSome, length};
+ghost use Rattle.std.specs.Prelude.{slice_index, vec_len, vec_capacity, if◌then◌else◌};
+ghost use Rattle.tlp_layout.specs.Head.{head_bytes, first_byte, field_bytes as field_bytes_of};
+ghost use Rattle.tlp_layout.specs.Head.{lead_bytes as lead_bytes_of};
+ghost use Rattle.trusted_memory.specs.Spans.{span_byte_count, is_enabled};
+ghost use Rattle.trusted_memory.specs.Writes.{Write, byte_after};
+ghost use Rattle.trusted_memory.specs.Memory.{byte_at, IsLeftBy};
+ghost use Rattle.trusted_memory.specs.Requests.{FitsRead};
+ghost use Rattle.trusted_memory.specs.Completions.{enabled_places, first_and_last, first_or, byte_count};
+ghost use Rattle.trusted_memory.specs.Completions.{lower_address, read_bytes, completion_head, completion_bytes};
+
+use crate::{MemReadView, Span, Trusted};
+
+/// The most bytes of a completion with data: a header of 3 double words, and 1,024 double words (PCI Express Base 6.0
+/// section 2.2.9).
+pub const COMPLETION_BYTES: usize = 4_108;
+
+// The most bytes of its data.
+const DATA_BYTES: usize = 4_096;
+
+// ---- the enabled bytes
+
+// The first of the places, or else this one.
+fn first_or(ends: Option<(usize, usize)>, place: usize) -> usize
+    ensures { result ≡ first_or ends place }
+{
+    match ends {
+        Some((first, _)) => first,
+        None => place,
+    }
+}
+
+// The first and the last of the enabled places, with the place `i`, by those of the places before it.
+fn ends_with(span: Span, ends: Option<(usize, usize)>, i: usize) -> Option<(usize, usize)>
+    ensures { result ≡ (if is_enabled span i then Some (first_or ends i, i) else ends) }
+{
+    if span.is_enabled(i) {
+        Some((first_or(ends, i), i))
+    } else {
+        ends
+    }
+}
+
+// Whether all byte enables are set, and there is a byte.
+fn enables_all(span: Span) -> bool
+    ensures { result ≡ true → (1 ≤ span.length) × ((i : ℕ) → is_enabled span i ≡ true) }
+{
+    if span.length == 0 {
+        false
+    } else if span.first_be != 15 {
+        false
+    } else {
+        span.last_be == 15
+    }
+}
+
+// The places of the first enabled byte and of the last.
+fn enabled_ends(span: Span) -> Option<(usize, usize)>
+    ensures ends { result ≡ first_and_last (enabled_places span) }
+    ensures within { IfSome result (λ ends. (ends.0 ≤ ends.1) × (ends.1 < span_byte_count span)) }
+{
+    if enables_all(span) {
+        return Some((0, span.bytes() - 1));
+    }
+    let mut ends = None;
+    for i in 0..span.bytes() {
+        ends = ends_with(span, ends, i);
+    }
+    ends
+}
+
+fn byte_count(span: Span) -> u16
+    ensures { result ≡ byte_count span }
+{
+    match enabled_ends(span) {
+        Some((first, last)) => ((last - first + 1) % 4_096) as u16,
+        None => 1,
+    }
+}
+
+fn lower_address(span: Span) -> u8
+    ensures { result ≡ lower_address span }
+{
+    let skipped = first_or(enabled_ends(span), 0);
+    ((span.address % 128 + (skipped % 128) as u64) % 128) as u8
+}
+
+// ---- the header
+
+// Its first double word.
+fn lead_bytes(read: &MemReadView) -> [u8; 4]
+    requires { FitsRead read.now }
+    ensures { let head = completion_head read.now in
+        result ≡ first_byte head ∷ lead_bytes_of head.lead read.now.tag }
+{
+    let length = read.span.length % 1_024;
+    let second = (((read.tag >> 9) as u8) << 7)
+        + (read.tc << 4)
+        + ((((read.tag >> 8) & 1) as u8) << 3)
+        + ((read.attr >> 2) << 2);
+    let third = ((read.attr & 3) << 4) + (length >> 8) as u8;
+    [0x4a, second, third, (length & 0xff) as u8]
+}
+
+// The other two.
+fn field_bytes(read: &MemReadView) -> [u8; 8]
+    requires { FitsRead read.now }
+    ensures { result ≡ field_bytes_of false (completion_head read.now).fields }
+{
+    let count = byte_count(read.span);
+    let lower = lower_address(read.span);
+    [
+        0,
+        0,
+        (count / 256) as u8,
+        (count % 256) as u8,
+        (read.requester / 256) as u8,
+        (read.requester % 256) as u8,
+        (read.tag % 256) as u8,
+        lower,
+    ]
+}
+
+// Appends the bytes, for which there is room.
+fn append(out: &mut Vec<u8>, bytes: &[u8])
+    requires { vec_len out.old + length bytes.now ≤ vec_capacity out.old }
+    ensures items { out.new.items ≡ out.old.items ++ bytes.now }
+    ensures len { vec_len out.new ≡ vec_len out.old + length bytes.now }
+    ensures capacity { vec_capacity out.old ≤ vec_capacity out.new }
+{
+    let _ = out.extend_from_slice(bytes);
+}
+
+fn append_head(read: &MemReadView, out: &mut Vec<u8>)
+    requires fits { FitsRead read.now }
+    requires room { vec_len out.old + 12 ≤ vec_capacity out.old }
+    ensures items { out.new.items ≡ out.old.items ++ head_bytes (completion_head read.now) }
+    ensures len { vec_len out.new ≡ vec_len out.old + 12 }
+    ensures capacity { vec_capacity out.old ≤ vec_capacity out.new }
+{
+    append(out, &lead_bytes(read));
+    append(out, &field_bytes(read));
+}
+
+// ---- the data
+
+// What is shown of byte `i` where this one stands.
+fn shown(span: Span, i: usize, byte: u8) -> u8
+    ensures { result ≡ (if is_enabled span i then byte else 0) }
+{
+    if span.is_enabled(i) { byte } else { 0 }
+}
+
+// Makes the bytes that are not enabled 0.
+fn clear_others(span: Span, bytes: &mut [u8])
+    ensures { (k : ℕ) → k < length bytes.old → slice_index bytes.new k
+        ≡ (if is_enabled span k then slice_index bytes.old k else 0) }
+{
+    for (i, byte) in bytes.iter_mut().enumerate() {
+        *byte = shown(span, i, *byte);
+    }
+}
+
+fn read_into(memory: &Trusted, span: Span, bytes: &mut [u8])
+    requires { length bytes.old ≡ span_byte_count span }
+    ensures { bytes.new ≡ read_bytes (byte_at memory.now.contents) span }
+{
+    memory.copy(span.address, bytes);
+    clear_others(span, bytes);
+}
+
+fn append_data(memory: &Trusted, span: Span, out: &mut Vec<u8>)
+    requires short { span_byte_count span ≤ 4096 }
+    requires room { vec_len out.old + 4096 ≤ vec_capacity out.old }
+    ensures items { out.new.items ≡ out.old.items ++ read_bytes (byte_at memory.now.contents) span }
+    ensures capacity { vec_capacity out.old ≤ vec_capacity out.new }
+{
+    let mut page = [0u8; DATA_BYTES];
+    let bytes = &mut page[..span.bytes()];
+    read_into(memory, span, bytes);
+    append(out, bytes);
+}
+
+/// Appends the completion that answers a read of this memory as it stands, with as many bytes of data as the read names
+/// (PCI Express Base 6.0 section 2.2.9). Its completer ID is 0, and a byte that the read does not enable, or that no
+/// region has, is 0 (this profile). That there is room for 4,108 bytes and that the read's fields are in range are the
+/// caller's conditions. It takes no memory.
+pub fn complete(memory: &Trusted, read: &MemReadView, out: &mut Vec<u8>)
+    requires fits { FitsRead read.now }
+    requires room { vec_len out.old + COMPLETION_BYTES ≤ vec_capacity out.old }
+    ensures bytes { out.new.items ≡ out.old.items ++ completion_bytes (byte_at memory.now.contents) read.now }
+    // That is, of each enabled byte, what the last applied write that enables it left, else 0.
+    ensures last { (writes : List Write) → IsLeftBy memory.now.contents writes
+        → out.new.items ≡ out.old.items ++ completion_bytes (byte_after writes) read.now }
+    ensures capacity { vec_capacity out.old ≤ vec_capacity out.new }
+{
+    append_head(read, out);
+    append_data(memory, read.span, out);
+}

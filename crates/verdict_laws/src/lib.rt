@@ -1,8 +1,0 @@
-//! Laws of single verdicts: of failed streams, of T at a host's port, of what is named, of effects and of answers. The
-//! laws of locks are passed on.
-#![tactic(auto)]
-
-mod laws;
-
-pub use laws::{answer_law, effect_law, failed_law, named_law, trust_law};
-pub use lock_laws::{answers_law, attested, lock_law, one_lock_per_key, scrubbed, views_are_true};

@@ -1,4 +1,0 @@
-pub mod Places
-pub mod Shown
-pub mod Spelled
-mod Full

@@ -1,6 +1,0 @@
-pub mod Accesses
-pub mod Machine
-pub mod Stands
-pub use Rattle.port_operations.specs.{LinkState, PortsStandFor, receiving_key, rx_slot, rx_slots}
-pub use Rattle.port_operations.specs.Points.{StreamPoints}
-unfoldable pub use Rattle.port_operations.specs.{standing, find}

@@ -1,9 +1,0 @@
-pub mod Cipher
-mod Keys
-mod Packets
-pub mod Ends
-mod Writes
-mod Counted
-mod Unit
-mod Refreshes
-mod Unforged

@@ -1,8 +1,0 @@
-use Rattle.worked_cases.proofs.Writes.{trusted_due, rekeyed_due}
-use Rattle.worked_cases.proofs.cases.write_is_altered.Goals as goal
-
-pub returns-clause-trusted : goal.returns-clause-trusted
-returns-clause-trusted c = trusted_due
-
-pub returns-clause-rekeyed : goal.returns-clause-rekeyed
-returns-clause-rekeyed c = rekeyed_due
