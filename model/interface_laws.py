@@ -97,7 +97,7 @@ def scrubbed(past: Past, pair: Pair) -> Instances:
 # ---- views
 
 
-def view_facts(past: Past, pair: Pair) -> Instances:
+def trusted_packets_fit_view(past: Past, pair: Pair) -> Instances:
     """While the view is Unlocked or Locked, or no START was asked since LOCK was last asked, the interface is not in
     RUN, and each packet with T that it sealed on its stream has a draw below the one that it needs. While the view is
     Running, START was asked, and each such packet of a draw from the floor on was sealed in RUN under this lock."""

@@ -27,15 +27,15 @@ LAWS: Dict[Callable[[Past, Pair], Instances], List[str]] = {
     + [f"held{on}" for on in (ON[0], ON[2], " on a link that is closed")],
     stream.order_is_no_forgery: [f"a tag{on}" for on in ON],
     stream.count_law: [f"{what} count{on}" for what in ("a", "no") for on in ON],
-    stream.settled: [
+    stream.operations_settle: [
         f"{letter}{done}{when}"
         for letter, done in [("", "refreshed")] + [(one, end) for one in KINDS for end in ("established", "stopped")]
         for when in ("", " at last")
     ],
     stream.stays_secure: [f"a refresh that is {what}" for what in ("refreshed", "lost", "refused")],
-    stream.stream_facts: ["a place of a packet", "the draws of a stream", "a stream that is refresh"]
+    stream.keys_follow_operations: ["a place of a packet", "the draws of a stream", "a stream that is refresh"]
     + [f"a stream that is {letter}{name}" for letter in KINDS for name in ("idle", "establish", "up", "stop")],
-    stream.gos_find_keys: [f"a GO{on}" for on in ON],
+    stream.set_go_finds_key: [f"a GO{on}" for on in ON],
     stream.never_again: ["a program", "a go", "a stop", "another touch"],
     stream.failed_law: [f"an arrival{on}" for on in ON] + ["a send", "a psend", "a forward", "an answer"],
     stream.numbers_fresh: [f"a number{on}" for on in ON] + ["a key and an IV again"],
@@ -57,7 +57,7 @@ LAWS: Dict[Callable[[Past, Pair], Instances], List[str]] = {
     interface.lock_law: ["a lock", "a binding"],
     interface.scrubbed: [f"a {event}{filled}" for event in ("halt", "reset") for filled in ("", " over bytes")],
     interface.bind_law: [f"a binding in state {state}" for state in (LOCKED, RUN)],
-    interface.view_facts: [
+    interface.trusted_packets_fit_view: [
         f"{what}{beside}"
         for what in ("no START", "a view unlocked", "a view locked", "a view running")
         for beside in ("", " over packets with T")

@@ -144,7 +144,7 @@ def order_law(past: Past, pair: Pair) -> Instances:
 # ---- keys
 
 
-def settled(past: Past, pair: Pair) -> Instances:
+def operations_settle(past: Past, pair: Pair) -> Instances:
     """At an established or refreshed verdict the draw of the operation is On in all places of the stream; at the first
     no other draw is kept there, at the second only smaller ones are On. At a stopped verdict none is kept."""
     work, done = pair.work, pair.verdict[0]
@@ -174,7 +174,7 @@ def stays_secure(past: Past, pair: Pair) -> Instances:
                 yield f"a refresh that is {pair.verdict[0]}", end.status() == "secure"
 
 
-def stream_facts(past: Past, pair: Pair) -> Instances:
+def keys_follow_operations(past: Past, pair: Pair) -> Instances:
     """On a stream of which nothing was asked no key is kept. While one is established each place that its GO reached
     has the draw On, and no place keeps another; once it is up its draw is On in all places, and no greater one; while
     it is refreshed the new draw is On where its GO came. A draw is kept in one set, and on one stream."""
@@ -234,7 +234,7 @@ def kept_on(line: Line) -> set:
     return {draw for end in line.ends for lane in LANES for draw in kept(keys_of(end, *lane))}
 
 
-def gos_find_keys(past: Past, pair: Pair) -> Instances:
+def set_go_finds_key(past: Past, pair: Pair) -> Instances:
     """Each GO that reaches a place finds its draw kept there, in the set that it names."""
     for touch in pair.touches:
         if touch.what == "go":
