@@ -3,7 +3,9 @@ the event (docs/COMMAND.md, Facts). `told` runs an event and gives its verdict w
 
 from typing import List, Optional, Tuple
 
-from links import CPL, HOST, NPR, PR, SUB_NAMES, End, Line, Malformed, Operation, cut, kind_of, link_of, number, read_tlp
+from interfaces import LOCKED, RUN
+from links import CPL, FAR, HOST, NEAR, NPR, PR, SUB_NAMES, End, Line, Malformed, Operation, cut, kind_of, link_of, number
+from links import read_tlp
 from world import BINDINGS, CHANGES, OPERATIONS, World
 
 ARRIVALS = ["pass", "alter", "cut", "arrive"]
@@ -217,18 +219,63 @@ class Facts:
         facts += [f"set {key_set} {slot_word(slot)}" for key_set, slot in enumerate(lane.slots)]
         facts += [f"counts {lane.carried} of {end.rx[PR].got}"] if packet.sub != PR else []
         facts += [f"total {lane.total}"] if end.plan.closed else []
-        if end.failed or slot.state != "live" or packet.sync or not end.is_at_host:
+        if end.failed or slot.state != "live":
             return facts
-        request = self.host_request(end, packet)
-        return facts + ([f"packet {len(slot.packets) + 1} t{packet.t}"] + request if request is not None else [])
+        unit = slot.packets + [packet]
+        facts += [f"adds {sum(part.posted for part in unit)}"] if packet.sub != PR else []
+        for place, part in enumerate(unit, 1):
+            facts += self.request(end, place, part)
+        return facts
 
-    def host_request(self, end: End, packet) -> Optional[List[str]]:
-        kind = kind_of(packet.header[0]).name
-        if not (kind == "memwrite" or kind == "memread" and packet.t):
-            return None
+    def request(self, end: End, place: int, packet) -> List[str]:
+        """What a packet of a unit asks of memory."""
+        if packet.sync or end.is_at_switch:
+            return []
+        kind, address = kind_of(packet.header[0]).name, int.from_bytes(packet.header[8:], "big")
+        length = 4 * (((packet.header[2] & 3) << 8 | packet.header[3]) or 1024)
+        if kind != "memwrite" and not (kind == "memread" and packet.t and end.is_at_host):
+            return []
+        facts = [f"packet {place} t{packet.t}", f"bytes {address} {length}"]
+        if end.is_at_device:
+            return facts + self.claim(end.link, address, length)
+        facts += self.region(address, length)
         owner = self.owner(end.link, packet.header)
-        facts = self.face(owner) if owner else []
+        facts += self.face(owner) if owner else []
         return facts + ([f"waiting {len(self.world.reads[end.link])}"] if kind == "memread" else [])
+
+    def claim(self, link: int, address: int, length: int) -> List[str]:
+        for handle in self.world.on_link(link):
+            bar = handle.interface.claims(address, length)
+            if bar is not None:
+                return self.face(handle) + self.bar(handle.interface, bar) + self.takes(handle.interface)
+        return []
+
+    # -- ranges of memory
+
+    def region(self, address: int, length: int) -> List[str]:
+        place = self.world.memory.region_of(address, length)
+        if place is None:
+            return []
+        base, contents = self.world.memory.regions[place]
+        return [f"region {base} {len(contents)}"]
+
+    def bar(self, interface, bar: int) -> List[str]:
+        bars = interface.plan.bars
+        if bar >= len(bars) or not bars[bar].pages:
+            return []
+        is_open = int(interface.guarded.is_open(bar))
+        return [f"bar {bar} base {interface.registers[f'bar{bar}']} pages {bars[bar].pages} open {is_open}"]
+
+    def takes(self, interface, own: bool = True) -> List[str]:
+        """The streams of trusted writes: that of the link while a lock stands, and those between devices."""
+        floors = [(interface.stream, interface.floor)] if own and interface.state in (LOCKED, RUN) else []
+        return [f"takes {stream} floor {floor}" for stream, floor in floors + list(interface.bindings.items())]
+
+    def shown(self, place: int, bar: int) -> List[str]:
+        if place >= len(self.world.handles):
+            return []
+        interface = self.world.handles[place].interface
+        return [f"interface {place} state {interface.state}"] + self.bar(interface, bar)
 
     # -- operations
 
@@ -238,6 +285,8 @@ class Facts:
             facts.append(f"stream {line.ends[HOST].status()}")
         if name != "stop":
             facts.append(self.draws())
+        if name == "refresh" and line.operation.name == "up":
+            facts += self.opens(line)
         goes = {"establish": ("idle", "establish"), "refresh": ("up", "refresh")}
         if name != "stop" and line.operation.name not in goes[name]:
             return facts
@@ -245,6 +294,11 @@ class Facts:
         exchanges = line.exchanges[name]
         facts.append(f"exchanges {first} to {len(exchanges)}")
         return facts + self.refuses(name, line, first, exchanges)
+
+    def opens(self, line: Line) -> List[str]:
+        """The host's senders that are in use in the set that a refresh would program."""
+        key_set, lanes = 1 - line.operation.key_set, line.ends[HOST].tx
+        return [f"open {SUB_NAMES[sub]}" for sub in (PR, NPR, CPL) if lanes[sub].slots[key_set].state == "live"]
 
     def refuses(self, name: str, line: Line, first: int, exchanges) -> List[str]:
         """The first KEY_PROG that a slot refuses, as the slots are now."""
@@ -279,7 +333,17 @@ class Facts:
             facts.append(f"draw {handle.line.draw}")
         if event == "halt":
             facts += [f"started {int(handle.start_was_asked)}", self.draws()]
+        if event == "bind":
+            facts += self.between(handle.link, self.world.peers[number(words[0])])
+        if event in BINDINGS:
+            facts += self.takes(handle.interface, own=False)
         return facts
+
+    def between(self, link: int, line: Line) -> List[str]:
+        """Of a stream between devices, of which one is on this link."""
+        end = next(end for end in line.ends if end.link == link)
+        facts = [manager_word(line.operation), f"draw {line.draw}"]
+        return facts + ([f"live {end.rx[PR].live_draw()}"] if end.status() == "secure" else [])
 
     def has_peer(self, link: int, peer: int) -> bool:
         return peer < len(self.world.peers) and link in map(link_of, self.world.peers[peer].ports)
@@ -304,8 +368,12 @@ class Facts:
             return self.of_packet(event, rest)
         if event in OPERATIONS + BINDINGS + CHANGES + ["view"]:
             return self.asked(event, number(rest[0]), rest[1:])
-        if event in ("memory", "mmio", "reset"):
-            return []
+        if event == "memory":
+            return self.region(*map(number, rest))
+        if event == "mmio":
+            return self.shown(*map(number, rest[:2]))
+        if event == "reset":
+            return self.reset(number(rest[0]))
         return self.on_line(event, rest)
 
     def of_packet(self, event: str, rest: List[str]) -> List[str]:
@@ -325,6 +393,20 @@ class Facts:
                 return packets
             data = data[: number(rest[1])]
         return self.arrival(port, data)
+
+    def reset(self, link: int) -> List[str]:
+        """Each stream at each end that is cleared: of the link's two ports, of its hop's four, and of each stream
+        between its device and another the one end there."""
+        world, facts = self.world, []
+        if link >= len(world.plan.links):
+            return []
+        own = [world.streams[link, stream.id] for stream in world.plan.links[link].streams]
+        hop = [world.segments[link, segment] for segment in (0, 1) if (link, segment) in world.segments]
+        ends = [line.ends[side] for side in (NEAR, FAR) for line in own] + [end for line in hop for end in line.ends]
+        ends += [next(end for end in line.ends if end.link == link) for line in world.peers if link in map(link_of, line.ports)]
+        for end in ends:
+            facts += [f"clears {end.port} {end.plan.id} {end.status()}", manager_word(end.line.operation)]
+        return facts
 
     def on_line(self, event: str, rest: List[str]) -> List[str]:
         letter = event[0] if event[0] in "ph" else ""

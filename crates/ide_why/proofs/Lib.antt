@@ -2,6 +2,8 @@ mod SeenStreams
 mod Brought
 mod Packets
 mod SeenOperations
+mod SeenStandings
+mod Held
 mod SeenFaces
 mod SeenInterfaces
 mod Read

@@ -1,72 +1,62 @@
 -- What is read of packets is what the machine keeps.
-use Rattle.std.proofs.Common.{◌≡◌, ℕ, ◌+◌, ◌||◌, not, Bool, true, false, List, [], ◌∷◌, ◌++◌, length, refl, ap, sym}
-use Rattle.std.proofs.Common.{◌∙◌}
+use Rattle.std.proofs.Common.{◌≡◌, ℕ, Bool, true, false, List, [], ◌∷◌, ◌++◌, length, refl, ap, sym, ◌∙◌}
 use Rattle.std.proofs.Common.{Option, Some, None, Result, Ok, Err}
-use Rattle.std.specs.Prelude.{if◌then◌else◌, is_some}
-use Rattle.std.specs.Option.{option_map}
+use Rattle.std.specs.Prelude.{if◌then◌else◌}
+use Rattle.std.specs.Option.{option_map, option_map_or}
 use Rattle.ide_types.specs.declared.port.PortName.{PortName}
 use Rattle.ide_types.specs.declared.sub.SubKind.{SubKind}
 use Rattle.ide_types.specs.declared.sub.SubKind.TheVariants.{Pr, Npr, Cpl}
 use Rattle.ide_types.specs.declared.plan.Plan.{Plan}
 use Rattle.association.specs.Outgoing.{Outgoing, NoTlp, OnNone, OnStream}
-use Rattle.ide_prefix.specs.Packet.{Packet, is_sync_packet}
+use Rattle.ide_port.specs.Facts.{held_by}
+use Rattle.ide_prefix.specs.Packet.{Packet}
 use Rattle.ide_prefix.specs.Reading.{CutValue, PlainTlp, IdePacket, cut_of}
 use Rattle.ide_prefix.specs.declared.fault.PacketFault.{PacketFault}
 use Rattle.tlp_layout.specs.Class.{class_of}
-use Rattle.tlp_layout.specs.Reading.{read_head_of}
 use Rattle.tlp_layout.specs.Tlp.{header}
-use Rattle.tlp_layout.specs.declared.fault.TlpFault.{TlpFault}
 use Rattle.tlp_layout.specs.declared.head.HeadView.{HeadView}
-use Rattle.trusted_memory.specs.Requests.{memory_read}
 use Rattle.spec_interfaces.specs.Cause.{owner_of, owners_link}
+use Rattle.spec_interfaces.specs.Sites.{sites}
 use Rattle.machine_interfaces.specs.Machine.{with_requester}
 use Rattle.spec_links.specs.History.{Arrival}
 use Rattle.spec_links.specs.Plan.{is_closed}
-use Rattle.spec_links.specs.Ports.{goes_through, is_host_port, port_of}
+use Rattle.spec_links.specs.Ports.{goes_through, port_of}
 use Rattle.machine_operations.specs.{LinkState, find}
 use Rattle.spec_stream.specs.Slots.{stream_status}
-use Rattle.spec_stream.specs.Stream.{LaneSlot, Empty, Programmed, Armed, Live, LiveKey, StreamState, at_sub, live_in}
+use Rattle.spec_stream.specs.Stream.{LaneSlot, Empty, Programmed, Armed, Live, StreamState, at_sub, live_in}
 use Rattle.spec_stream.specs.Stream.{slot_in_set}
-use Rattle.sub_stream.specs.Facts.{lane_seen, slot_facts, stream_facts}
+use Rattle.sub_stream.specs.Facts.{held_packets, lane_seen, slot_facts, stream_facts}
+use Rattle.sub_stream.specs.declared.facts.SlotFacts.{SlotFacts}
+use Rattle.machine_whole.specs.Accesses.{face_standings}
 use Rattle.why_lines.specs.declared.fact.Fact.{Fact}
 use Rattle.why_facts.specs.Due.{sets_own_t}
-use Rattle.why_facts.specs.Forms.{arrives_fact, at_port, host_facts, is_request_head, packet_fact}
-use Rattle.why_facts.specs.Forms.{request_facts, sends_fact, state_fact, waiting_facts}
+use Rattle.why_facts.specs.Forms.{Readings, arrives_fact, at_port, sends_fact, state_fact, unit_facts}
 use Rattle.why_facts.specs.Kept.{arrival_facts_in, asks_in, asks_live, known_of, owner_found, owner_in, packet_facts}
 use Rattle.why_facts.specs.Kept.{readings_in, received_by, send_facts_in, sent_stream_facts}
 use Rattle.world.specs.{WorldStandsFor, WholeLinks, world_of}
 use Rattle.spec_keys.specs.History.{History}
-use Rattle.ide_why.specs.Facts.{arrival_facts, host_read_facts, asks_read_facts, keyed_read_facts, known_read}
-use Rattle.ide_why.specs.Facts.{met_facts, owner_facts}
-use Rattle.ide_why.specs.Facts.{received_read, request_read, sending_facts, state_of_whole, stream_sends}
-use Rattle.ide_why.specs.Reading.{owner_face, requester_read}
-use Rattle.ide_why.specs.Streams.{live_count}
+use Rattle.ide_why.specs.Facts.{arrival_facts, asks_if, asks_read_facts, known_read, met_facts, owner_facts}
+use Rattle.ide_why.specs.Facts.{readings_read}
+use Rattle.ide_why.specs.Facts.{received_read, sending_facts, state_of_whole, stream_sends}
+use Rattle.ide_why.specs.Reading.{owner_face, requester_read, standings_read}
+use Rattle.ide_why.specs.Streams.{is_live_seen, set_seen}
 use Rattle.ide_why.proofs.SeenStreams.{receiver_is, senders_are}
 
-abbrev held_packets : LiveKey → ℕ
-held_packets x = length x.packets
+set_is : (closed : Bool) (x : StreamState) (u : SubKind) (k : Bool)
+    → set_seen k (lane_seen (stream_facts closed x) u).receiver.sets ≡ slot_facts (slot_in_set (at_sub x.rx u).slots k)
+set_is closed x Pr true = refl
+set_is closed x Pr false = refl
+set_is closed x Npr true = refl
+set_is closed x Npr false = refl
+set_is closed x Cpl true = refl
+set_is closed x Cpl false = refl
 
-slot_count : (sl : LaneSlot) → live_count (slot_facts sl) ≡ option_map held_packets (live_in sl)
-slot_count Empty = refl
-slot_count (Programmed draw key) = refl
-slot_count (Armed draw key) = refl
-slot_count (Live x) = refl
-
-count_is : (closed : Bool) (x : StreamState) (u : SubKind) (k : Bool)
-    → live_count (if k then (lane_seen (stream_facts closed x) u).receiver.sets.one
-    else (lane_seen (stream_facts closed x) u).receiver.sets.zero)
-    ≡ option_map held_packets (live_in (slot_in_set (at_sub x.rx u).slots k))
-count_is closed x Pr true = slot_count x.rx.pr.slots.second
-count_is closed x Pr false = slot_count x.rx.pr.slots.first
-count_is closed x Npr true = slot_count x.rx.npr.slots.second
-count_is closed x Npr false = slot_count x.rx.npr.slots.first
-count_is closed x Cpl true = slot_count x.rx.cpl.slots.second
-count_is closed x Cpl false = slot_count x.rx.cpl.slots.first
-
--- `known` says of each owner what is known of it
+-- `known` says of each interface what is known of it, and `stand` how those of a link's device stand
 module _ (plan : Plan) (s : WholeLinks) (h : History) (stood : WorldStandsFor (world_of plan s) h)
     (known : (link requester : ℕ)
     → known_read (requester_read s link requester) ≡ known_of (with_requester plan stood.whole.faces link requester))
+    (stand : (link : ℕ) → standings_read s link
+    ≡ face_standings link (sites plan) stood.whole.faces.list stood.whole.accesses.floors)
   where
     pub state_is : state_of_whole plan s ≡ stood.whole.links
     state_is = sym stood.is.links
@@ -82,37 +72,36 @@ module _ (plan : Plan) (s : WholeLinks) (h : History) (stood : WorldStandsFor (w
 
     -- ---- requests
 
-    host_is : (link place : ℕ) (p : Packet) (r : Result HeadView TlpFault)
-        → request_read s link place p r ≡ host_facts (readings_in plan stood.whole) link place p r
-    host_is link place p (Err f) = refl
-    host_is link place p (Ok head) =
-        (λ i. if is_request_head p.prefix.t head
-        then packet_fact place p ∷ (owner_is link head i
-        ++ waiting_facts (is_some (memory_read head)) (length (stood.is.accesses.reads link i)))
-        else [])
+    readings_are : readings_read s ≡ readings_in plan stood.whole
+    readings_are = λ i. record {
+      known = λ link requester. known link requester i;
+      waiting = λ link. length (stood.is.accesses.reads link i);
+      standings = λ link. stand link i;
+    }
 
-    asks_at_is : (port : PortName) (place : ℕ) (p : Packet)
-        → host_read_facts plan s port place p ≡ request_facts plan (readings_in plan stood.whole) port place p
-    asks_at_is port place p =
-        ap (λ (fs : List Fact). if is_sync_packet p || not (is_host_port plan port) then [] else fs)
-        (host_is port.line place p (read_head_of p.head))
-
-    asks_with_is : (port : PortName) (p : Packet) (o : Option LiveKey)
-        → keyed_read_facts plan s port p (option_map held_packets o) ≡ asks_live plan stood.whole port p o
-    asks_with_is port p None = refl
-    asks_with_is port p (Some x) = asks_at_is (port_of plan port) (length x.packets + 1) p
+    asks_slot : (port : PortName) (p : Packet) (sl : LaneSlot)
+        → asks_if plan s port (held_packets sl) p (is_live_seen (slot_facts sl))
+        ≡ asks_live plan stood.whole port p (live_in sl)
+    asks_slot port p Empty = refl
+    asks_slot port p (Programmed draw key) = refl
+    asks_slot port p (Armed draw key) = refl
+    asks_slot port p (Live x) =
+        ap (λ (r : Readings). unit_facts plan r (port_of plan port) p.prefix.sub x.packets p) readings_are
 
     asks_are : (closed : Bool) (port : PortName) (x : StreamState) (p : Packet)
-        → asks_read_facts plan s port (stream_facts closed x) p ≡ asks_in plan stood.whole port x p
+        → asks_read_facts plan s port (stream_facts closed x) (held_by p.prefix.sub p.prefix.k x) p
+        ≡ asks_in plan stood.whole port x p
     asks_are closed port x p =
         ap (λ (fs : List Fact). if x.failed then [] else fs)
-        (ap (keyed_read_facts plan s port p) (count_is closed x p.prefix.sub p.prefix.k)
-        ∙ asks_with_is port p (live_in (slot_in_set (at_sub x.rx p.prefix.sub).slots p.prefix.k)))
+        (ap (λ (sl : SlotFacts). asks_if plan s port (held_by p.prefix.sub p.prefix.k x) p (is_live_seen sl))
+        (set_is closed x p.prefix.sub p.prefix.k)
+        ∙ asks_slot port p (slot_in_set (at_sub x.rx p.prefix.sub).slots p.prefix.k))
 
     -- ---- arrivals
 
     received_is : (port : PortName) (p : Packet) (o : Option StreamState)
-        → received_read plan s port p (option_map (stream_facts (is_closed plan port.line p.prefix.stream)) o)
+        → received_read plan s port (option_map_or (held_by p.prefix.sub p.prefix.k) o []) p
+        (option_map (stream_facts (is_closed plan port.line p.prefix.stream)) o)
         ≡ received_by plan stood.whole port p o
     received_is port p None = refl
     received_is port p (Some x) =

@@ -3,7 +3,7 @@ use Rattle.std.proofs.Common.{◌≡◌, ℕ, ◌<◌, ◌≤◌, ◌&&◌, Bool
 use Rattle.std.proofs.Common.{arith, Option, Some, None, subst}
 use Rattle.std.proofs.lemmas.Bool.Decides.{nat_tests}
 use Rattle.std.proofs.lemmas.Option.{none-some, same_Some}
-use Rattle.std.specs.Option.{option_map}
+use Rattle.std.specs.Option.{option_and_then, option_map}
 use Rattle.std.specs.Prelude.{IfSome, if◌then◌else◌, nat_le, nat_lt, slice_get}
 use Rattle.ide_types.specs.declared.port.PortName.{PortName}
 use Rattle.ide_types.specs.declared.plan.Plan.{Plan}
@@ -23,7 +23,7 @@ use Rattle.world.proofs.{end_found, none_found, op_is, unnamed}
 use Rattle.world.proofs.{get_there}
 use Rattle.world.proofs.{IsLocated, located_read}
 use Rattle.ide_why.specs.Facts.{state_of_whole}
-use Rattle.ide_why.specs.Reading.{face_located, face_of, face_read, stream_read}
+use Rattle.ide_why.specs.Reading.{face_located, face_of, face_read, stream_read, tdi_read}
 
 abbrev named_if : Bool → ℕ → ℕ → Option (ℕ × ℕ)
 named_if b line stream = if b then Some (line, stream) else None
@@ -127,3 +127,11 @@ face_made s number link place state l facts is there state_is facts_are =
         → slice_get l.device.interfaces.interfaces place ≡ Some t
         → interface_of_ends s.links.ends.links (link, place) ≡ Some t
     interface_at there at = rw there at
+
+-- the interface of a number at its device
+pub tdi_made : (s : WholeLinks) (number link place : ℕ) (l : LinkEnds) (t : Tdi)
+    → interface_named s.links.keeper.interfaces s.links.ends.links number ≡ Some (link, place)
+    → slice_get s.links.ends.links link ≡ Some l
+    → slice_get l.device.interfaces.interfaces place ≡ Some t → Some t ≡ tdi_read s number
+tdi_made s number link place l t is there at =
+    sym (ap (option_and_then (interface_of_ends s.links.ends.links)) is ∙ rw there at)

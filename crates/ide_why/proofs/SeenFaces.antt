@@ -18,9 +18,9 @@ use Rattle.interface_state.specs.{Tdi, state_code}
 use Rattle.ide_types.specs.declared.view.View.{View}
 use Rattle.why_lines.specs.declared.fact.InterfaceFact.TheVariants as face
 use Rattle.why_lines.specs.declared.fact.Fact.TheVariants as fact
-use Rattle.why_facts.specs.Forms.{bound_facts, face_facts, interface_fact, reported_facts}
-use Rattle.why_facts.specs.Kept.{known_of}
-use Rattle.world.specs.{AreLinks, WorldStandsFor, WholeLinks, world_of}
+use Rattle.why_facts.specs.Forms.{bound_facts, face_facts, interface_fact, reported_facts, shown_facts}
+use Rattle.why_facts.specs.Kept.{known_of, shown_in}
+use Rattle.world.specs.{AreLinks, WorldStandsFor, WholeLinks, interface_of_ends, world_of}
 use Rattle.world.specs.{IsPlaced}
 use Rattle.spec_keys.specs.History.{History}
 use Rattle.world.proofs.{tdi_there}
@@ -28,27 +28,27 @@ use Rattle.world.proofs.{requester_found, requester_nowhere, requester_true}
 use Rattle.world.proofs.{IsSomeSite, get_there, position_at, position_none, site_or_none}
 use Rattle.world.proofs.{face_absent, face_found, interface_absent, interface_there, site_apart, site_numbered}
 use Rattle.ide_why.specs.declared.faces.FaceSeen.{FaceSeen}
-use Rattle.ide_why.specs.Facts.{known_read}
+use Rattle.ide_why.specs.Facts.{known_read, shown_read, shown_seen}
 use Rattle.ide_why.specs.Faces.{AreFacesSeen, IsFaceSeen, face_seen, reported_seen}
-use Rattle.ide_why.specs.Reading.{face_located, face_of, face_read, requester_read}
+use Rattle.ide_why.specs.Reading.{face_located, face_of, face_read, requester_read, tdi_read}
 
 abbrev is_site_requester : ℕ → ℕ → Site → Bool
 is_site_requester link requester x = (x.link == link) && (x.plan.requester == requester)
 
 -- ---- the lines of an interface that is seen
 
-pub face_is : (draw : ℕ → ℕ → ℕ) (y : Site × Face) (f : FaceSeen) → IsFaceSeen draw y f
+pub face_is : (draw : ℕ → ℕ → ℕ) (tdis : ℕ → Option Tdi) (y : Site × Face) (f : FaceSeen) → IsFaceSeen draw tdis y f
     → face_seen f ≡ face_facts y.0 y.1.tdi y.1.managed
-face_is draw y f is =
+face_is draw tdis y f is =
     (λ i. interface_fact (is.number i) (is.state i) ∷ fact.Interface (face.View (is.view i))
     ∷ fact.Interface (face.Needs (is.needs i)) ∷ bound_facts (is.bound i))
 
-pub known_is : (draw : ℕ → ℕ → ℕ) (o : Option (Site × Face)) (f : Option FaceSeen) → AreFacesSeen draw o f
-    → known_read f ≡ known_of o
-known_is draw None None is = refl
-known_is draw None (Some f) is = absurd is
-known_is draw (Some y) None is = absurd is
-known_is draw (Some y) (Some f) is = face_is draw y f is
+pub known_is : (draw : ℕ → ℕ → ℕ) (tdis : ℕ → Option Tdi) (o : Option (Site × Face)) (f : Option FaceSeen)
+    → AreFacesSeen draw tdis o f → known_read f ≡ known_of o
+known_is draw tdis None None is = refl
+known_is draw tdis None (Some f) is = absurd is
+known_is draw tdis (Some y) None is = absurd is
+known_is draw tdis (Some y) (Some f) is = face_is draw tdis y f is
 
 -- ---- an interface that is seen
 
@@ -65,8 +65,17 @@ module _ (plan : Plan) (s : WholeLinks) (links : AreLinks plan s.links.ends s.li
   abbrev Placed : ℕ → Site → Type 0
   Placed i x = IsPlaced plan s.links.ends.links s.links.keeper.interfaces stood.whole i x
 
+  pub interface_at : (i : ℕ) (x : Site) (p : Placed i x) → slice_get (sites plan) i ≡ Some x
+      → tdi_read s i ≡ Some p.face.tdi
+  interface_at i x p at =
+      ap (option_and_then (interface_of_ends s.links.ends.links)) (interface_there plan s.links.ends.links
+      s.links.keeper.interfaces s.links.trusted.contents stood.whole i x p stood.is.beside links.fits at)
+      ∙ (tdi_there plan s.links.ends.links s.links.keeper.interfaces s.links.trusted.contents stood.whole
+      stood.is.beside links.fits links.many i x p
+      ∙ ap (λ (t : Tdi). Some t) p.keeps.tdi_is)
+
   placed_seen : (i : ℕ) (x : Site) (p : Placed i x) → slice_get (sites plan) i ≡ Some x
-      → IsFaceSeen stood.whole.draw (x, p.face)
+      → IsFaceSeen stood.whole.draw (tdi_read s) (x, p.face)
       (record { number = i; state = state_code p.tdi.state; manager = interface_facts p.interface })
   placed_seen i x p at =
       let kept = p.keeps.managed in record {
@@ -81,6 +90,7 @@ module _ (plan : Plan) (s : WholeLinks) (links : AreLinks plan s.links.ends s.li
         bound = ap (λ (n : ℕ). option_map (λ floor. (n, floor)) (interface_facts p.interface).floor)
             kept.laid_out.stream
             ∙ bound_is p.interface.seen p.face.managed x.plan.stream kept.seen;
+        tdi = interface_at i x p at;
         reported = reported_is p.interface.seen p.face.managed kept.seen;
       }
     where
@@ -114,30 +124,54 @@ module _ (plan : Plan) (s : WholeLinks) (links : AreLinks plan s.links.ends s.li
       stood.is.beside links.fits links.many i x p j) (p.interface_is j))
 
   pub face_read_is : (i : ℕ)
-      → AreFacesSeen stood.whole.draw (find_face (λ x. x.number == i) (sites plan) stood.whole.faces.list)
+      → AreFacesSeen stood.whole.draw (tdi_read s) (find_face (λ x. x.number == i) (sites plan) stood.whole.faces.list)
       (face_read s i)
   face_read_is i = ⊎_elim here nowhere (cases_lt i (length (sites plan)))
     where
-      here : i < length (sites plan) → AreFacesSeen stood.whole.draw
+      here : i < length (sites plan) → AreFacesSeen stood.whole.draw (tdi_read s)
           (find_face (λ x. x.number == i) (sites plan) stood.whole.faces.list)
           (face_read s i)
       here lt =
           let x = get_there (sites plan) i lt in
           let p = stood.is.beside.placed i x.0 x.1 in
-          subst (λ o. AreFacesSeen stood.whole.draw o (face_read s i))
+          subst (λ o. AreFacesSeen stood.whole.draw (tdi_read s) o (face_read s i))
           (sym (face_found plan stood.whole.faces.list i x.0 p.face x.1 p.face_is))
-          (subst (λ f. AreFacesSeen stood.whole.draw (Some (x.0, p.face)) f) (sym (face_there i x.0 p x.1))
+          (subst (λ f. AreFacesSeen stood.whole.draw (tdi_read s) (Some (x.0, p.face)) f) (sym (face_there i x.0 p x.1))
           (placed_seen i x.0 p x.1))
 
       nowhere : length (sites plan) ≤ i
-          → AreFacesSeen stood.whole.draw (find_face (λ x. x.number == i) (sites plan) stood.whole.faces.list)
+          → AreFacesSeen stood.whole.draw (tdi_read s)
+          (find_face (λ x. x.number == i) (sites plan) stood.whole.faces.list)
           (face_read s i)
       nowhere le =
-          subst (λ o. AreFacesSeen stood.whole.draw o (face_read s i))
+          subst (λ o. AreFacesSeen stood.whole.draw (tdi_read s) o (face_read s i))
           (sym (face_absent plan stood.whole.faces.list i le))
-          (subst (λ f. AreFacesSeen stood.whole.draw None f)
+          (subst (λ f. AreFacesSeen stood.whole.draw (tdi_read s) None f)
           (sym (ap (face_located s i) (interface_absent plan s.links.ends.links
           s.links.keeper.interfaces s.links.trusted.contents stood.whole i stood.is.beside le))) tt)
+
+  -- ---- at its device
+
+  pub shown_is : (i bar : ℕ) → shown_read s i bar
+      ≡ shown_in bar (find_face (λ x. x.number == i) (sites plan) stood.whole.faces.list)
+  shown_is i bar = ⊎_elim here nowhere (cases_lt i (length (sites plan)))
+    where
+      here : i < length (sites plan) → shown_read s i bar
+          ≡ shown_in bar (find_face (λ x. x.number == i) (sites plan) stood.whole.faces.list)
+      here lt =
+          let x = get_there (sites plan) i lt in
+          let p = stood.is.beside.placed i x.0 x.1 in
+          ap (shown_seen i bar) (interface_at i x.0 p x.1)
+          ∙ (ap (λ (n : ℕ). shown_facts n p.face.tdi bar) (sym (site_numbered plan i x.0 x.1))
+          ∙ sym (ap (shown_in bar) (face_found plan stood.whole.faces.list i x.0 p.face x.1 p.face_is)))
+
+      nowhere : length (sites plan) ≤ i → shown_read s i bar
+          ≡ shown_in bar (find_face (λ x. x.number == i) (sites plan) stood.whole.faces.list)
+      nowhere le =
+          ap (λ (o : Option (ℕ × ℕ)). shown_seen i bar (option_and_then (interface_of_ends s.links.ends.links) o))
+          (interface_absent plan s.links.ends.links s.links.keeper.interfaces s.links.trusted.contents stood.whole i
+          stood.is.beside le)
+          ∙ sym (ap (shown_in bar) (face_absent plan stood.whole.faces.list i le))
 
   -- ---- by its requester ID
 
@@ -209,37 +243,37 @@ module _ (plan : Plan) (s : WholeLinks) (links : AreLinks plan s.links.ends s.li
           (λ not_so. not_so) cases
 
   pub requester_read_is : (link requester : ℕ)
-      → AreFacesSeen stood.whole.draw (with_requester plan stood.whole.faces link requester)
+      → AreFacesSeen stood.whole.draw (tdi_read s) (with_requester plan stood.whole.faces link requester)
       (requester_read s link requester)
   requester_read_is link requester =
       ⊎_elim here nowhere (site_or_none (is_site_requester link requester) (sites plan))
     where
       here : IsSomeSite (is_site_requester link requester) (sites plan)
-          → AreFacesSeen stood.whole.draw (with_requester plan stood.whole.faces link requester)
+          → AreFacesSeen stood.whole.draw (tdi_read s) (with_requester plan stood.whole.faces link requester)
           (requester_read s link requester)
       here t =
           let p = stood.is.beside.placed t.place t.site t.site_is in
-          subst (λ o. AreFacesSeen stood.whole.draw o (requester_read s link requester))
+          subst (λ o. AreFacesSeen stood.whole.draw (tdi_read s) o (requester_read s link requester))
           (sym (requester_found plan s.links.ends.links s.links.keeper.interfaces s.links.trusted.contents stood.whole
           stood.is.beside
           links.fits links.many link requester t.place t.site p t.site_is t.passes))
-          (subst (λ f. AreFacesSeen stood.whole.draw (Some (t.site, p.face)) f)
+          (subst (λ f. AreFacesSeen stood.whole.draw (tdi_read s) (Some (t.site, p.face)) f)
           (sym (ap (option_and_then (face_read s)) (reader_known link requester t.place t.site t.site_is t.passes)
           ∙ face_there t.place t.site p t.site_is))
           (placed_seen t.place t.site p t.site_is))
 
       nowhere : ((k : ℕ) (y : Site) → slice_get (sites plan) k ≡ Some y → is_site_requester link requester y ≡ false)
-          → AreFacesSeen stood.whole.draw (with_requester plan stood.whole.faces link requester)
+          → AreFacesSeen stood.whole.draw (tdi_read s) (with_requester plan stood.whole.faces link requester)
           (requester_read s link requester)
       nowhere fails =
-          subst (λ o. AreFacesSeen stood.whole.draw o (requester_read s link requester))
+          subst (λ o. AreFacesSeen stood.whole.draw (tdi_read s) o (requester_read s link requester))
           (sym (requester_nowhere plan s.links.ends.links s.links.keeper.interfaces s.links.trusted.contents stood.whole
           stood.is.beside
           links.fits links.many link requester fails))
-          (subst (λ f. AreFacesSeen stood.whole.draw None f)
+          (subst (λ f. AreFacesSeen stood.whole.draw (tdi_read s) None f)
           (sym (ap (option_and_then (face_read s)) (reader_unknown link requester fails))) tt)
 
   pub known : (link requester : ℕ)
       → known_read (requester_read s link requester) ≡ known_of (with_requester plan stood.whole.faces link requester)
-  known link requester = known_is stood.whole.draw (with_requester plan stood.whole.faces link requester)
+  known link requester = known_is stood.whole.draw (tdi_read s) (with_requester plan stood.whole.faces link requester)
       (requester_read s link requester) (requester_read_is link requester)

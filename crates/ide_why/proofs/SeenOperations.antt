@@ -4,6 +4,7 @@ use Rattle.std.proofs.Common.{Option, Some, None}
 use Rattle.std.specs.Prelude.{if◌then◌else◌, is_some, nat_le, not}
 use Rattle.std.specs.Option.{option_map, option_map_or}
 use Rattle.ide_types.specs.{is_hosted}
+use Rattle.ide_types.specs.Ports.{host_port}
 use Rattle.ide_types.specs.declared.port.Side.{Side}
 use Rattle.ide_types.specs.declared.port.Side.TheVariants.{Host, Device}
 use Rattle.ide_types.specs.declared.sub.SubKind.{SubKind}
@@ -18,19 +19,21 @@ use Rattle.spec_links.specs.Plan.{is_closed}
 use Rattle.machine_ports.specs.Machine.{is_last_in, refuses_at, refuses_in}
 use Rattle.link_verdicts.specs.declared.verdict.Operation.{Operation}
 use Rattle.link_verdicts.specs.declared.verdict.Operation.TheVariants as op
-use Rattle.machine_operations.specs.{find, port_at, ports_of}
-use Rattle.spec_stream.specs.Slots.{slots_at}
-use Rattle.spec_stream.specs.Stream.{LaneSlot, Empty, Programmed, Armed, Live, LaneSlots, StreamState}
+use Rattle.machine_operations.specs.{find, is_live_at, port_at, ports_of}
+use Rattle.spec_stream.specs.Slots.{is_live_slot, slots_at}
+use Rattle.spec_stream.specs.Stream.{LaneSlot, Empty, Programmed, Armed, Live, LaneSlots, StreamState, slot_in_set}
 use Rattle.sub_stream.specs.Facts.{lane_seen, set_facts, slot_facts, stream_facts}
 use Rattle.why_lines.specs.declared.fact.Fact.{Fact}
 use Rattle.why_lines.specs.declared.fact.Fact.TheVariants as fact
 use Rattle.why_lines.specs.declared.fact.OperationFact.TheVariants as of
-use Rattle.why_facts.specs.Forms.{exchange_facts, refuses_fact, refusing_facts}
+use Rattle.why_facts.specs.Forms.{exchange_facts, open_facts, opens_facts, refuses_fact, refusing_facts}
 use Rattle.world.specs.{WholeLinks}
 use Rattle.ide_why.specs.declared.places.Place.{Place}
-use Rattle.ide_why.specs.Facts.{exchanges_read, refusal_facts, state_of_whole}
+use Rattle.ide_why.specs.Facts.{exchanges_read, open_seen, opens_read, opens_seen, refusal_facts, state_of_whole}
 use Rattle.ide_why.specs.Places.{first_refusing, if_refusing, is_last_seen, is_refusing, key_place, place_or}
 use Rattle.ide_why.specs.Places.{refuses_seen, refusing_on, refusing_or, seen_place_at, sets_in}
+use Rattle.ide_why.specs.Reading.{stream_read}
+use Rattle.ide_why.specs.Streams.{is_live_seen, set_seen}
 
 -- ---- what refuses
 
@@ -207,3 +210,48 @@ module _ (plan : Plan) (s : WholeLinks) (line stream next : ℕ) where
   exchanges_are op.Stop (Up set draw) = refl
   exchanges_are op.Stop (Refreshing set draw n) = refl
   exchanges_are op.Stop (Stopping n) = refl
+
+-- ---- senders that are in use
+
+live_slot : (sl : LaneSlot) → is_live_seen (slot_facts sl) ≡ is_live_slot sl
+live_slot Empty = refl
+live_slot (Programmed draw key) = refl
+live_slot (Armed draw key) = refl
+live_slot (Live x) = refl
+
+live_set : (closed : Bool) (x : StreamState) (u : SubKind) (k : Bool)
+    → is_live_seen (set_seen k (lane_seen (stream_facts closed x) u).sender.sets)
+    ≡ is_live_slot (slot_in_set (slots_at true u x) k)
+live_set closed x Pr true = live_slot x.tx.pr.slots.second
+live_set closed x Pr false = live_slot x.tx.pr.slots.first
+live_set closed x Npr true = live_slot x.tx.npr.slots.second
+live_set closed x Npr false = live_slot x.tx.npr.slots.first
+live_set closed x Cpl true = live_slot x.tx.cpl.slots.second
+live_set closed x Cpl false = live_slot x.tx.cpl.slots.first
+
+abbrev opened_if : SubKind → Bool → List Fact
+opened_if u b = if b then fact.Operation (of.Open u) ∷ [] else []
+
+open_by : (closed : Bool) (o : Option StreamState) (set : Bool) (u : SubKind)
+    → open_seen (option_map (stream_facts closed) o) set u ≡ opened_if u (is_live_at true u set o)
+open_by closed None set u = refl
+open_by closed (Some x) set u = ap (opened_if u) (live_set closed x u set)
+
+module _ (plan : Plan) (s : WholeLinks) (line stream : ℕ) where
+  open_is : (set : Bool) (u : SubKind) → open_seen (stream_read plan s (host_port line) stream) set u
+      ≡ open_facts (ports_of plan (state_of_whole plan s)) line stream set u
+  open_is set u = open_by (is_closed plan line stream) (find plan (state_of_whole plan s) (host_port line) stream) set u
+
+  opens_in : (set : Bool) → opens_seen (stream_read plan s (host_port line) stream) set
+      ≡ open_facts (ports_of plan (state_of_whole plan s)) line stream set Pr
+      ++ open_facts (ports_of plan (state_of_whole plan s)) line stream set Npr
+      ++ open_facts (ports_of plan (state_of_whole plan s)) line stream set Cpl
+  opens_in set = (λ i. open_is set Pr i ++ open_is set Npr i ++ open_is set Cpl i)
+
+  pub opens_are : (q : StreamStage) → opens_read plan s line stream q
+      ≡ opens_facts (ports_of plan (state_of_whole plan s)) line stream q
+  opens_are Idle = refl
+  opens_are (Establishing draw n) = refl
+  opens_are (Up set draw) = opens_in (not set)
+  opens_are (Refreshing set draw n) = refl
+  opens_are (Stopping n) = refl

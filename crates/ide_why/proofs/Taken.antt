@@ -1,7 +1,10 @@
 -- What bytes that are sent come to at an end.
-use Rattle.std.proofs.Common.{◌≡◌, ℕ, List, [], ◌∷◌, refl, ap, sym, subst, Option, Some, None, Result, Ok, Err}
+use Rattle.std.proofs.Common.{◌≡◌, ℕ, ◌||◌, Bool, List, [], ◌∷◌, length, refl, ap, arith, inl, inr, sym, subst, Option}
+use Rattle.std.proofs.Common.{Some, None, Result, Ok, Err}
+use Rattle.std.proofs.lemmas.Bool.{cases_Bool}
+use Rattle.std.proofs.lemmas.Bool.Decides.{nat_tests}
 use Rattle.std.proofs.lemmas.Option.{none-some, same_Some}
-use Rattle.std.specs.Prelude.{true, false, is_some}
+use Rattle.std.specs.Prelude.{true, false, is_some, nat_lt}
 use Rattle.ide_types.specs.declared.port.PortName.{PortName}
 use Rattle.ide_types.specs.declared.port.Side.{Side}
 use Rattle.ide_types.specs.declared.plan.Plan.{Plan}
@@ -9,7 +12,7 @@ use Rattle.ide_types.specs.declared.stream.StreamPlan.{StreamPlan}
 use Rattle.association.specs.Choice.{choice_of, chosen_stream}
 use Rattle.association.specs.Outgoing.{Outgoing, NoTlp, OnNone, OnStream, outgoing_as, outgoing_on, stream_taken}
 unfoldable use Rattle.association.specs.Outgoing.{outgoing_of}
-use Rattle.spec_links.specs.Plan.{has_port}
+use Rattle.spec_links.specs.Plan.{has_link, has_port, streams_of}
 use Rattle.spec_links.specs.Ports.{outgoing_at}
 use Rattle.tlp_layout.specs.Reading.{read_of}
 use Rattle.tlp_layout.specs.Tlp.{header}
@@ -63,3 +66,22 @@ module _ (plan : Plan) (s : WholeLinks) (end : PortName) (bytes : List ℕ) wher
   end_there links has none =
       let some = ends_there plan s.links.ends s.links.keeper.keys links end has in
       let no : false ≡ true = subst (λ o. is_some o ≡ true) (sym none) some in absurd cc
+
+-- an end that is not there has no streams
+module _ (plan : Plan) (s : WholeLinks) (end : PortName) where
+  empty : (streams : List StreamPlan) → nat_lt 0 (length streams) ≡ false → streams ≡ []
+  empty [] few = refl
+  empty (x ∷ xs) few =
+      let none : length (x ∷ xs) ≡ 0 = grind (arith, nat_tests, few) in absurd (omega (arith, none))
+
+  second_of : (a b : Bool) → (a || b) ≡ false → b ≡ false
+  second_of a b is = grind arith
+
+  pub none_there : AreLinks plan s.links.ends s.links.keeper.keys → None ≡ port_on s.links.ends end
+      → streams_of plan end.line ≡ []
+  none_there links none = elim (cases_Bool (has_port plan end)) [
+    | inl has ↦ absurd (end_there plan s end [] links has none)
+    | inr lacks ↦
+        empty (streams_of plan end.line)
+        (second_of (has_link plan end.line) (nat_lt 0 (length (streams_of plan end.line))) lacks)
+  ]

@@ -4,7 +4,7 @@ use Rattle.std.specs.Option.{option_map}
 use Rattle.machine_interfaces.specs.Machine.{Face}
 use Rattle.spec_interfaces.specs.Sites.{Site}
 use Rattle.spec_interfaces.specs.Views.{bound_if}
-use Rattle.interface_state.specs.{state_code}
+use Rattle.interface_state.specs.{Tdi, state_code}
 use Rattle.why_lines.specs.declared.fact.Fact.{Fact}
 use Rattle.why_lines.specs.declared.fact.InterfaceFact.TheVariants as face
 use Rattle.why_lines.specs.declared.fact.Fact.TheVariants as fact
@@ -25,8 +25,9 @@ abbrev pub reported_seen : Option Bool → List Fact
 reported_seen None = []
 reported_seen (Some reported) = fact.Interface (face.Reported reported) ∷ []
 
--- it is this interface, of which the machine keeps this; `draw` is that of its stream
-pub record IsFaceSeen (draw : ℕ → ℕ → ℕ) (y : Site × Face) (f : FaceSeen) : Type 0 where
+-- it is this interface, of which the machine keeps this; `draw` is that of its stream, and `tdis` are the interfaces at
+-- devices by their numbers
+pub record IsFaceSeen (draw : ℕ → ℕ → ℕ) (tdis : ℕ → Option Tdi) (y : Site × Face) (f : FaceSeen) : Type 0 where
   pub number : f.number ≡ y.0.number
   pub state : f.state ≡ state_code y.1.tdi.state
   pub link : f.manager.link ≡ y.0.link
@@ -36,10 +37,11 @@ pub record IsFaceSeen (draw : ℕ → ℕ → ℕ) (y : Site × Face) (f : FaceS
   pub started : f.manager.started ≡ y.1.managed.started
   pub draw_is : f.manager.draw ≡ draw y.0.link y.0.plan.stream
   pub bound : grant_seen f ≡ bound_if y.1.managed.view y.0.plan.stream y.1.managed.floor
+  pub tdi : tdis f.number ≡ Some y.1.tdi
   pub reported : reported_seen f.manager.reported ≡ reported_facts y.1.managed.view y.1.managed.reported
 
 -- the interface that is looked for, or none
-abbrev pub AreFacesSeen : (ℕ → ℕ → ℕ) → Option (Site × Face) → Option FaceSeen → Type 0
-AreFacesSeen draw None None = Unit {0}
-AreFacesSeen draw (Some y) (Some f) = IsFaceSeen draw y f
-AreFacesSeen draw _ _ = ⊥
+abbrev pub AreFacesSeen : (ℕ → ℕ → ℕ) → (ℕ → Option Tdi) → Option (Site × Face) → Option FaceSeen → Type 0
+AreFacesSeen draw tdis None None = Unit {0}
+AreFacesSeen draw tdis (Some y) (Some f) = IsFaceSeen draw tdis y f
+AreFacesSeen draw tdis _ _ = ⊥

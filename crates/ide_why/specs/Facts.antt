@@ -1,28 +1,30 @@
 -- What the verdict of an event comes from, by what is read of a world.
-use Rattle.std.specs.Prelude.{ℕ, Bool, ◌+◌, ◌||◌, not, if◌then◌else◌}
-use Rattle.std.specs.Prelude.{List, [], ◌∷◌, ◌++◌, length, is_some, Option, Some, None, Result, Ok, Err}
+use Rattle.std.specs.Prelude.{ℕ, Bool, not, if◌then◌else◌, List, [], ◌∷◌, ◌++◌, length, Option, Some, None, Result}
+use Rattle.std.specs.Prelude.{Ok, Err}
+use Rattle.std.specs.List.{slice_index_or}
 use Rattle.ide_types.specs.{is_hosted, is_link_line}
 use Rattle.ide_types.specs.declared.direction.Direction.{Direction}
 use Rattle.ide_types.specs.declared.port.PortName.{PortName}
 use Rattle.ide_types.specs.declared.port.Side.TheVariants.{Host}
-use Rattle.ide_types.specs.declared.sub.SubKind.TheVariants.{Cpl}
+use Rattle.ide_types.specs.declared.sub.SubKind.{SubKind}
+use Rattle.ide_types.specs.declared.sub.SubKind.TheVariants.{Pr, Npr, Cpl}
 use Rattle.ide_types.specs.Ports.{host_port}
 use Rattle.ide_types.specs.declared.plan.Plan.{Plan}
+use Rattle.ide_types.specs.declared.stream.StreamPlan.{StreamPlan}
 use Rattle.association.specs.Outgoing.{Outgoing, NoTlp, OnNone, OnStream}
-use Rattle.ide_prefix.specs.Packet.{Packet, is_sync_packet}
+use Rattle.ide_prefix.specs.Packet.{Packet}
 use Rattle.ide_prefix.specs.Reading.{CutValue, PlainTlp, IdePacket, cut_of}
 use Rattle.ide_prefix.specs.declared.fault.PacketFault.{PacketFault}
 use Rattle.tlp_layout.specs.Class.{class_of}
-use Rattle.tlp_layout.specs.Reading.{read_head_of}
 use Rattle.tlp_layout.specs.Tlp.{header}
-use Rattle.tlp_layout.specs.declared.fault.TlpFault.{TlpFault}
 use Rattle.tlp_layout.specs.declared.head.HeadView.{HeadView}
-use Rattle.trusted_memory.specs.Requests.{memory_read}
 use Rattle.trusted_memory.specs.declared.queue.WaitingRead.{WaitingRead}
+use Rattle.interface_state.specs.{Tdi}
 use Rattle.spec_interfaces.specs.Cause.{owners_link}
-use Rattle.spec_interfaces.specs.Views.{number_in}
+use Rattle.spec_interfaces.specs.Peers.{has_peer}
+use Rattle.spec_interfaces.specs.Views.{number_in, peer_of}
 use Rattle.spec_keys.specs.History.{program_at}
-use Rattle.spec_keys.specs.Operations.{StreamStage, last_exchange_of, work_of}
+use Rattle.spec_keys.specs.Operations.{StreamStage, Up, last_exchange_of, work_of}
 use Rattle.link_verdicts.specs.declared.verdict.Operation.{Operation}
 use Rattle.link_verdicts.specs.declared.verdict.Operation.TheVariants as op
 use Rattle.link_events.specs.declared.event.Event.{Event}
@@ -32,28 +34,29 @@ use Rattle.link_events.specs.declared.event.InterfaceEvent.{InterfaceEvent}
 use Rattle.link_events.specs.declared.event.InterfaceEvent.TheVariants as ie
 use Rattle.spec_links.specs.{HopTlp, has_hop, leaving_end}
 use Rattle.spec_links.specs.History.{Arrival}
-use Rattle.spec_links.specs.Plan.{has_link}
-use Rattle.spec_links.specs.Ports.{goes_through, is_host_port, may_send, outgoing_at, port_of, sealing_end}
+use Rattle.spec_links.specs.Plan.{has_link, streams_of}
+use Rattle.spec_links.specs.Ports.{goes_through, may_send, outgoing_at, port_of, sealing_end}
 use Rattle.machine_operations.specs.{LinkState, find_op, machine_status}
 use Rattle.sub_stream.specs.declared.facts.StreamFacts.{StreamFacts}
 use Rattle.sub_stream.specs.Facts.{lane_seen}
-use Rattle.machine_whole.specs.Machine.{arrival_of}
+use Rattle.machine_whole.specs.Machine.{arrival_of, op_or_idle}
 use Rattle.why_lines.specs.declared.fact.Fact.{Fact}
 use Rattle.why_lines.specs.declared.fact.InterfaceFact.TheVariants as face
 use Rattle.why_lines.specs.declared.fact.OperationFact.TheVariants as of
 use Rattle.why_lines.specs.declared.fact.Fact.TheVariants as fact
 use Rattle.why_facts.specs.Due.{sets_own_t}
-use Rattle.why_facts.specs.Forms.{arrives_fact, at_port, draw_fact, draws_fact, is_request_head, manager_fact, may_go}
-use Rattle.why_facts.specs.Forms.{packet_fact, packets_fact, pool_of, read_fact, refuses_fact, sends_fact, state_fact}
-use Rattle.why_facts.specs.Forms.{waiting_fact, waiting_facts}
+use Rattle.why_facts.specs.Forms.{Readings, arrives_fact, at_port, clears_fact, draw_fact, draws_fact, manager_fact}
+use Rattle.why_facts.specs.Forms.{may_go, memory_facts, packets_fact, peer_facts, pool_of, read_fact, refuses_fact}
+use Rattle.why_facts.specs.Forms.{sends_fact, shown_facts, state_fact, takes_facts, unit_facts, waiting_fact}
 use Rattle.why_facts.specs.Kept.{if_found}
-use Rattle.world.specs.{WholeLinks, carried_on_link, links_state, reads_at}
+use Rattle.world.specs.{WholeLinks, carried_on_link, links_state, peer_live, reads_at}
 use Rattle.ide_why.specs.declared.faces.FaceSeen.{FaceSeen}
 use Rattle.ide_why.specs.declared.places.Place.{Place}
 use Rattle.ide_why.specs.Faces.{face_seen, reported_seen}
 use Rattle.ide_why.specs.Places.{key_place, refusing_on}
-use Rattle.ide_why.specs.Reading.{face_read, owner_face, requester_read, stream_read}
-use Rattle.ide_why.specs.Streams.{live_count, receiver_seen, sender_seen, senders_seen}
+use Rattle.ide_why.specs.Reading.{bindings_read, face_read, held_read, owner_face, requester_read, standings_read}
+use Rattle.ide_why.specs.Reading.{stream_read, tdi_read}
+use Rattle.ide_why.specs.Streams.{is_live_seen, receiver_seen, sender_seen, senders_seen, set_seen}
 
 abbrev pub state_of_whole : Plan → WholeLinks → LinkState
 state_of_whole plan s = links_state plan s.links
@@ -88,40 +91,37 @@ sent_facts plan s port bytes =
 
 -- ---- arrivals
 
-abbrev pub request_read : WholeLinks → ℕ → ℕ → Packet → Result HeadView TlpFault → List Fact
-request_read s link place p (Err f) = []
-request_read s link place p (Ok head) =
-    if is_request_head p.prefix.t head
-    then packet_fact place p ∷ (known_read (owner_face s link head)
-    ++ waiting_facts (is_some (memory_read head)) (length (reads_at s.accesses link)))
-    else []
+-- what is read of what stands beside the ports
+abbrev pub readings_read : WholeLinks → Readings
+readings_read s = record {
+  known = λ link requester. known_read (requester_read s link requester);
+  waiting = λ link. length (reads_at s.accesses link);
+  standings = standings_read s;
+}
 
--- at a host's port
-abbrev pub host_read_facts : Plan → WholeLinks → PortName → ℕ → Packet → List Fact
-host_read_facts plan s port place p =
-    if is_sync_packet p || not (is_host_port plan port) then []
-    else request_read s port.line place p (read_head_of p.head)
+-- under a Live key; `held` are the packets of its unit that are held
+abbrev pub asks_if : Plan → WholeLinks → PortName → List Packet → Packet → Bool → List Fact
+asks_if plan s end held p live =
+    if live then unit_facts plan (readings_read s) (port_of plan end) p.prefix.sub held p else []
 
-abbrev pub keyed_read_facts : Plan → WholeLinks → PortName → Packet → Option ℕ → List Fact
-keyed_read_facts plan s end p None = []
-keyed_read_facts plan s end p (Some n) = host_read_facts plan s (port_of plan end) (n + 1) p
-
-abbrev pub asks_read_facts : Plan → WholeLinks → PortName → StreamFacts → Packet → List Fact
-asks_read_facts plan s end f p =
+abbrev pub asks_read_facts : Plan → WholeLinks → PortName → StreamFacts → List Packet → Packet → List Fact
+asks_read_facts plan s end f held p =
     if f.failed then []
-    else keyed_read_facts plan s end p (live_count (if p.prefix.k then (lane_seen f p.prefix.sub).receiver.sets.one
-    else (lane_seen f p.prefix.sub).receiver.sets.zero))
+    else asks_if plan s end held p
+    (is_live_seen (set_seen p.prefix.k (lane_seen f p.prefix.sub).receiver.sets))
 
-abbrev pub received_read : Plan → WholeLinks → PortName → Packet → Option StreamFacts → List Fact
-received_read plan s end p None = []
-received_read plan s end p (Some f) =
-    state_fact f.status ∷ (receiver_seen f p.prefix.sub ++ asks_read_facts plan s end f p)
+abbrev pub received_read : Plan → WholeLinks → PortName → List Packet → Packet → Option StreamFacts → List Fact
+received_read plan s end held p None = []
+received_read plan s end held p (Some f) =
+    state_fact f.status ∷ (receiver_seen f p.prefix.sub ++ asks_read_facts plan s end f held p)
 
 abbrev pub met_facts : Plan → WholeLinks → PortName → Result CutValue PacketFault → List Fact
 met_facts plan s end (Err f) = at_port plan end ∷ []
 met_facts plan s end (Ok PlainTlp) = at_port plan end ∷ []
 met_facts plan s end (Ok (IdePacket p)) =
-    arrives_fact plan end p ∷ received_read plan s end p (stream_read plan s end p.prefix.stream)
+    arrives_fact plan end p
+    ∷ received_read plan s end (held_read plan s end p.prefix.stream p.prefix.sub p.prefix.k) p
+    (stream_read plan s end p.prefix.stream)
 
 abbrev pub arrival_facts : Plan → WholeLinks → List Fact → Option Arrival → List Fact
 arrival_facts plan s unnamed None = unnamed
@@ -163,6 +163,20 @@ establish_read plan s line stream =
     if_found (find_op plan st line stream) (λ q. manager_fact q ∷ draws_fact st.draws (pool_of plan)
     ∷ exchanges_read plan s op.Establish line stream q)
 
+-- the sender of a sub-stream, if it is in use in a key set
+abbrev pub open_seen : Option StreamFacts → Bool → SubKind → List Fact
+open_seen None set u = []
+open_seen (Some f) set u =
+    if is_live_seen (set_seen set (lane_seen f u).sender.sets) then fact.Operation (of.Open u) ∷ [] else []
+
+abbrev pub opens_seen : Option StreamFacts → Bool → List Fact
+opens_seen f set = open_seen f set Pr ++ open_seen f set Npr ++ open_seen f set Cpl
+
+-- at the host's port, where a refresh begins
+abbrev pub opens_read : Plan → WholeLinks → ℕ → ℕ → StreamStage → List Fact
+opens_read plan s line stream (Up set draw) = opens_seen (stream_read plan s (host_port line) stream) (not set)
+opens_read plan s line stream q = []
+
 abbrev pub refresh_read : Plan → WholeLinks → ℕ → ℕ → List Fact
 refresh_read plan s line stream =
     let st = state_of_whole plan s in
@@ -170,7 +184,7 @@ refresh_read plan s line stream =
     then if_found (find_op plan st line stream) (λ q. manager_fact q
     ∷ state_fact (machine_status plan st Host line stream)
     ∷ draws_fact st.draws (pool_of plan)
-    ∷ exchanges_read plan s op.Refresh line stream q)
+    ∷ (opens_read plan s line stream q ++ exchanges_read plan s op.Refresh line stream q))
     else []
 
 abbrev pub stop_read : Plan → WholeLinks → ℕ → ℕ → List Fact
@@ -188,11 +202,22 @@ status_read plan s line stream =
 abbrev pub host_fact : Plan → WholeLinks → FaceSeen → Fact
 host_fact plan s f = state_fact (machine_status plan (state_of_whole plan s) Host f.manager.link f.manager.stream)
 
+-- of a stream between devices
+abbrev pub bind_read : Plan → WholeLinks → FaceSeen → ℕ → ℕ → List Fact
+bind_read plan s f line stream =
+    peer_facts (op_or_idle (find_op plan (state_of_whole plan s) line stream))
+    (slice_index_or s.links.keeper.peer_draws (peer_of line) 0) (peer_live s.links.ends f.manager.link stream)
+    ++ takes_facts (bindings_read s f.number)
+
 abbrev pub besides_read : Plan → WholeLinks → FaceSeen → InterfaceEvent → List Fact
 besides_read plan s f (ie.Lock i loss) = host_fact plan s f ∷ []
 besides_read plan s f (ie.Start i loss) = host_fact plan s f ∷ draw_fact f.manager.draw ∷ []
 besides_read plan s f (ie.Halt i loss) =
     fact.Interface (face.Started f.manager.started) ∷ draws_fact (state_of_whole plan s).draws (pool_of plan) ∷ []
+besides_read plan s f (ie.Bind i line stream loss) =
+    if has_peer plan.peers f.manager.link line stream then bind_read plan s f line stream else []
+besides_read plan s f (ie.Unbind i line stream loss) =
+    if has_peer plan.peers f.manager.link line stream then takes_facts (bindings_read s f.number) else []
 besides_read plan s f e = []
 
 abbrev pub asked_by_face : Plan → WholeLinks → InterfaceEvent → Option FaceSeen → List Fact
@@ -200,7 +225,7 @@ asked_by_face plan s e None = []
 asked_by_face plan s e (Some f) = face_seen f ++ reported_seen f.manager.reported ++ besides_read plan s f e
 
 abbrev pub asked_by_number : Plan → WholeLinks → InterfaceEvent → Option ℕ → List Fact
-asked_by_number plan s e None = []
+asked_by_number plan s e None = memory_facts plan e
 asked_by_number plan s e (Some i) = asked_by_face plan s e (face_read s i)
 
 -- ---- answers to reads, and forwards
@@ -234,6 +259,27 @@ forward_read plan s link d =
     then waiting_fact (length (carried_on_link s.accesses link d))
     ∷ first_read plan s (leaving_end link d) (carried_on_link s.accesses link d) else []
 
+-- ---- the memory of interfaces
+
+abbrev pub shown_seen : ℕ → ℕ → Option Tdi → List Fact
+shown_seen number bar None = []
+shown_seen number bar (Some t) = shown_facts number t bar
+
+abbrev pub shown_read : WholeLinks → ℕ → ℕ → List Fact
+shown_read s number bar = shown_seen number bar (tdi_read s number)
+
+-- ---- resets
+
+abbrev pub cleared_read : Plan → WholeLinks → PortName → List StreamPlan → List Fact
+cleared_read plan s end [] = []
+cleared_read plan s end (x ∷ xs) =
+    clears_fact plan end x.id (machine_status plan (state_of_whole plan s) end.side end.line x.id)
+    ∷ (status_read plan s end.line x.id ++ cleared_read plan s end xs)
+
+abbrev pub reset_read : Plan → WholeLinks → List PortName → List Fact
+reset_read plan s [] = []
+reset_read plan s (e ∷ es) = cleared_read plan s e (streams_of plan e.line) ++ reset_read plan s es
+
 -- ---- all events
 
 abbrev pub facts_read : Plan → WholeLinks → Event → List Fact
@@ -249,7 +295,7 @@ facts_read plan s (event.Stop line stream loss) = stop_read plan s line stream
 facts_read plan s (event.Status line stream) = status_read plan s line stream
 facts_read plan s (event.Interface e) = asked_by_number plan s e (number_in e)
 facts_read plan s (event.Access (ae.Answer link)) = answer_read plan s link
-facts_read plan s (event.Access (ae.Mmio interface bar offset len)) = []
+facts_read plan s (event.Access (ae.Mmio interface bar offset len)) = shown_read s interface bar
 facts_read plan s (event.Forward link d) = forward_read plan s link d
-facts_read plan s (event.Reset link ends) = []
+facts_read plan s (event.Reset link ends) = if has_link plan link then reset_read plan s ends else []
 facts_read plan s event.Absent = []

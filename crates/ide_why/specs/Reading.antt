@@ -1,8 +1,12 @@
 -- What is read of a world.
-use Rattle.std.specs.Prelude.{ℕ, Option, Some, None, slice_get}
-use Rattle.std.specs.Option.{option_and_then, option_map}
+use Rattle.std.specs.Prelude.{ℕ, Bool, List, [], Option, Some, None, slice_get}
+use Rattle.std.specs.Option.{option_and_then, option_map, option_map_or}
 use Rattle.ide_types.specs.declared.port.PortName.{PortName}
+use Rattle.ide_types.specs.declared.sub.SubKind.{SubKind}
 use Rattle.ide_types.specs.declared.plan.Plan.{Plan}
+use Rattle.ide_port.specs.Facts.{held_by}
+use Rattle.ide_prefix.specs.Packet.{Packet}
+use Rattle.guarded_memory.specs.declared.standing.InterfaceStatus.{InterfaceStatus}
 use Rattle.tlp_layout.specs.declared.head.HeadView.{HeadView}
 use Rattle.spec_interfaces.specs.Cause.{owner_of}
 use Rattle.spec_links.specs.Plan.{is_closed}
@@ -13,7 +17,8 @@ use Rattle.interface_host.specs.Facts.{interface_facts}
 use Rattle.interface_host.specs.Managers.{interface_of_requester}
 use Rattle.interface_host.specs.Views.{HostTdi}
 use Rattle.interface_state.specs.{Tdi, state_code}
-use Rattle.world.specs.{WholeLinks, interface_named, links_state, interface_of_ends}
+use Rattle.interface_state.specs.declared.bindings.Binding.{Binding}
+use Rattle.world.specs.{WholeLinks, interface_named, links_state, standings_of_ends, interface_of_ends}
 use Rattle.ide_why.specs.declared.faces.FaceSeen.{FaceSeen}
 
 -- a stream at an end
@@ -44,3 +49,21 @@ requester_read s link requester =
 -- the interface at a link that owns a TLP
 abbrev pub owner_face : WholeLinks → ℕ → HeadView → Option FaceSeen
 owner_face s link head = option_and_then (requester_read s link) (owner_of head)
+
+-- an interface of a number at its device
+abbrev pub tdi_read : WholeLinks → ℕ → Option Tdi
+tdi_read s number = option_and_then (interface_of_ends s.links.ends.links)
+    (interface_named s.links.keeper.interfaces s.links.ends.links number)
+
+-- the streams between devices that it is bound to
+abbrev pub bindings_read : WholeLinks → ℕ → List Binding
+bindings_read s number = option_map_or (λ (t : Tdi). t.bindings) (tdi_read s number) []
+
+-- how the interfaces of a link's device stand
+abbrev pub standings_read : WholeLinks → ℕ → List InterfaceStatus
+standings_read s link = standings_of_ends (slice_get s.links.ends.links link) (slice_get s.accesses link)
+
+-- the packets of the next unit of a sub-stream that its receiver at an end holds in a key set
+abbrev pub held_read : Plan → WholeLinks → PortName → ℕ → SubKind → Bool → List Packet
+held_read plan s end stream u k =
+    option_map_or (held_by u k) (find plan (links_state plan s.links) end stream) []

@@ -1,5 +1,5 @@
 -- Facts of a stream at a port, by what is seen of it.
-use Rattle.std.specs.Prelude.{ℕ, List, ◌∷◌, ◌++◌, Option, Some, None}
+use Rattle.std.specs.Prelude.{Bool, true, false, List, ◌∷◌, ◌++◌, if◌then◌else◌}
 use Rattle.ide_types.specs.declared.sub.SubKind.{SubKind}
 use Rattle.sub_stream.specs.declared.facts.SlotFacts.{SlotFacts}
 use Rattle.sub_stream.specs.declared.facts.SlotFacts.TheVariants as slot
@@ -33,7 +33,10 @@ sender_seen f u =
 abbrev pub senders_seen : StreamFacts → SubKind → List Fact
 senders_seen f class = state_fact f.status ∷ each_looked_at (sender_seen f) class
 
--- how many packets are there of the next unit under a Live key
-abbrev pub live_count : SlotFacts → Option ℕ
-live_count (slot.Live draw units packets) = Some packets
-live_count s = None
+-- a slot has a Live key
+abbrev pub is_live_seen : SlotFacts → Bool
+is_live_seen (slot.Live draw units packets) = true
+is_live_seen s = false
+
+abbrev pub set_seen : Bool → SetFacts → SlotFacts
+set_seen k sets = if k then sets.one else sets.zero

@@ -1,32 +1,25 @@
 //! Facts of what arrives.
 
-ghost use Rattle.std.specs.Prelude.{◌≡◌, ◌<◌, ◌∷◌, ◌++◌, [], IfOk, List, Ok, Some, bit_xor, length, slice_index};
-ghost use Rattle.std.specs.Prelude.{slice_set};
-ghost use Rattle.std.specs.Prelude.{if◌then◌else◌};
+ghost use Rattle.std.specs.Prelude.{◌≡◌, ◌<◌, ◌∷◌, ◌++◌, [], IfOk, List, Some, bit_xor, length, slice_index, slice_set};
 ghost use Rattle.ide_prefix.specs.Cut.{packet_of_view, IsView};
 ghost use Rattle.ide_prefix.specs.Reading.{cut_of};
 ghost use Rattle.link_events.specs.declared.event.Event.TheVariants.{Pass, Alter, Cut as CutShort};
 ghost use Rattle.spec_links.specs.Packets.{arrival_at};
-ghost use Rattle.why_facts.specs.Forms.{arrives_fact, packet_fact};
-ghost use Rattle.world.specs.{IsWorld, reads_at};
-ghost use Rattle.ide_why.specs.Facts.{arrival_facts, host_read_facts, asks_read_facts, brought_facts, met_facts};
-ghost use Rattle.ide_why.specs.Facts.{received_read};
-ghost use Rattle.ide_why.specs.Facts.{request_read, sealed_facts};
-ghost use Rattle.ide_why.specs.Reading.{stream_read};
-ghost use Rattle.ide_why.specs.Streams.{live_count};
+ghost use Rattle.why_facts.specs.Forms.{arrives_fact};
+ghost use Rattle.world.specs.{IsWorld};
+ghost use Rattle.ide_why.specs.Facts.{arrival_facts, asks_read_facts, brought_facts, met_facts, received_read};
+ghost use Rattle.ide_why.specs.Facts.{sealed_facts};
+ghost use Rattle.ide_why.specs.Reading.{held_read, stream_read};
 
-use crate::faces::{push_face, push_of_interface};
 use crate::reader::Reader;
 use crate::sends::push_port;
-use crate::streams::{push, push_receiver, push_status};
+use crate::streams::{is_live, push, push_receiver, push_status};
 use ide_prefix::{Cut, PacketView, cut};
-use ide_types::{OutOfMemory, PortName, Side, ValidPlan};
-use line_routes::{at_switch, goes_through, partner, port_of, reached};
+use ide_types::{OutOfMemory, PortName, SubKind, ValidPlan};
+use line_routes::{goes_through, partner, port_of, reached};
 use std::alloc::Global;
-use sub_stream::{SetFacts, SlotFacts, StreamFacts};
-use tlp_layout::{HeadView, read_head};
-use trusted_memory::{MemReadView, Span};
-use why_lines::{Fact, InterfaceFact, StreamFact};
+use sub_stream::{Delivered, StreamFacts};
+use why_lines::{Fact, StreamFact};
 
 // A copy of the bytes, with the one at `at` combined with `mask`.
 fn altered(alloc: Global, bytes: &[u8], at: usize, mask: u8) -> Result<Vec<u8>, OutOfMemory>
@@ -51,89 +44,15 @@ fn arrives_fact(plan: &ValidPlan, end: PortName, packet: &PacketView) -> Fact
     }
 }
 
-// How many packets of the next unit are there under the Live key of a slot; `None` if it has none.
-fn live_packets(sets: SetFacts, k: bool) -> Option<u8>
-    ensures { result ≡ live_count (if k then sets.one else sets.zero) }
-{
-    match if k { sets.one } else { sets.zero } {
-        SlotFacts::Live { packets, .. } => Some(packets),
-        _ => None,
-    }
-}
-
-fn packet_fact(place: u64, packet: &PacketView) -> Fact
-    ensures { result ≡ packet_fact place (packet_of_view packet.now) }
-{
-    Fact::Interface {
-        fact: InterfaceFact::Packet {
-            place,
-            t: packet.prefix.t,
-        },
-    }
-}
-
 impl Reader<'_> {
-    // How many trusted reads of a link wait.
-    pub fn waiting(&self, link: u8) -> u64
+    // The packets of the next unit of a sub-stream that its receiver at an end holds in a key set.
+    fn held(&self, end: PortName, stream: u8, sub: SubKind, k: bool) -> Delivered<'_>
         requires { IsWorld self.now.plan.now self.now.links.now }
-        ensures { result ≡ length (reads_at self.now.links.now.accesses link) }
+        ensures { result ≡ held_read self.now.plan.now self.now.links.now end stream sub k }
     {
-        if (link as usize) < self.links.links.ends.count() {
-            self.links.accesses.at(link).reads.waiting() as u64
-        } else {
-            0
-        }
-    }
-
-    // Appends what a request looks at that is in a packet at a place of its unit, at a host's port.
-    fn push_asked_of_host(
-        &self,
-        facts: &mut Vec<Fact>,
-        link: u8,
-        place: u64,
-        packet: &PacketView,
-        head: &HeadView,
-    ) -> Result<(), OutOfMemory>
-        requires { IsWorld self.now.plan.now self.now.links.now }
-        ensures { IfOk result (λ _. facts.new.items ≡ facts.old.items ++ request_read self.now.links.now link place
-            (packet_of_view packet.now) (Ok head.now)) }
-    {
-        let reads = MemReadView::of(head).is_some();
-        if !(Span::of_write(head).is_some() || packet.prefix.t && reads) {
-            return Ok(());
-        }
-        push(facts, packet_fact(place, packet))?;
-        if let Some(face) = self.owner(link, head) {
-            push_face(facts, &face)?;
-        }
-        if reads {
-            let waiting = self.waiting(link);
-            push_of_interface(facts, InterfaceFact::Waiting { waiting })?;
-        }
-        Ok(())
-    }
-
-    // Appends what a packet at a place of its unit asks of memory at a port.
-    fn push_request(
-        &self,
-        facts: &mut Vec<Fact>,
-        port: PortName,
-        place: u64,
-        packet: &PacketView,
-    ) -> Result<(), OutOfMemory>
-        requires world { IsWorld self.now.plan.now self.now.links.now }
-        requires view { IsView packet.now }
-        ensures { IfOk result (λ _. facts.new.items
-            ≡ facts.old.items ++ host_read_facts self.now.plan.now self.now.links.now
-            port place
-            (packet_of_view packet.now)) }
-    {
-        if packet.sync || at_switch(self.plan, port) || port.side == Side::Device {
-            return Ok(());
-        }
-        match read_head(packet.head) {
-            Err(_) => Ok(()),
-            Ok(head) => self.push_asked_of_host(facts, port.line, place, packet, &head),
+        match self.links.links.ends.port(end) {
+            None => Delivered::none(),
+            Some(port) => port.held(stream, sub, k),
         }
     }
 
@@ -149,18 +68,15 @@ impl Reader<'_> {
         requires view { IsView packet.now }
         ensures { IfOk result (λ _. facts.new.items ≡ facts.old.items ++ asks_read_facts self.now.plan.now
             self.now.links.now end seen.now
-            (packet_of_view packet.now)) }
+            (held_read self.now.plan.now self.now.links.now end packet.now.prefix.stream packet.now.prefix.sub
+            packet.now.prefix.k) (packet_of_view packet.now)) }
     {
-        if seen.failed {
+        let prefix = packet.prefix;
+        if seen.failed || !is_live(seen.at(prefix.sub).receiver.sets, prefix.k) {
             return Ok(());
         }
-        match live_packets(seen.at(packet.prefix.sub).receiver.sets, packet.prefix.k) {
-            None => Ok(()),
-            Some(count) => {
-                let port = port_of(self.plan, end);
-                self.push_request(facts, port, u64::from(count) + 1, packet)
-            }
-        }
+        let held = self.held(end, prefix.stream, prefix.sub, prefix.k);
+        self.push_unit(facts, end, &held, packet)
     }
 
     // Appends the facts of a packet that arrives at an end.
@@ -173,8 +89,9 @@ impl Reader<'_> {
         requires world { IsWorld self.now.plan.now self.now.links.now }
         requires view { IsView packet.now }
         ensures { IfOk result (λ _. facts.new.items ≡ facts.old.items ++ arrives_fact self.now.plan.now end
-            (packet_of_view packet.now) ∷ received_read self.now.plan.now self.now.links.now end (packet_of_view
-            packet.now)
+            (packet_of_view packet.now) ∷ received_read self.now.plan.now self.now.links.now end
+            (held_read self.now.plan.now self.now.links.now end packet.now.prefix.stream packet.now.prefix.sub
+            packet.now.prefix.k) (packet_of_view packet.now)
             (stream_read self.now.plan.now self.now.links.now end packet.now.prefix.stream)) }
     {
         push(facts, arrives_fact(self.plan, end, packet))?;

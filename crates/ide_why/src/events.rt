@@ -82,7 +82,11 @@ impl Reader<'_> {
             Event::Access {
                 event: AccessEvent::Answer { link },
             } => self.push_answer(facts, *link),
+            Event::Access {
+                event: AccessEvent::Mmio { interface, bar, .. },
+            } => self.push_shown(facts, *interface, *bar),
             Event::Forward { link, direction } => self.push_forward(facts, *link, *direction),
+            Event::Reset { link, ends } => self.push_reset(facts, *link, ends.as_slice()),
             _ => Ok(()),
         }
     }

@@ -4,17 +4,18 @@ ghost use Rattle.std.specs.Prelude.{◌≡◌, ◌∷◌, ◌++◌, [], IfOk, Li
 ghost use Rattle.hop_queues.specs.Directions.{queue_of};
 ghost use Rattle.ide_types.specs.Ports.{host_port};
 ghost use Rattle.spec_interfaces.specs.Views.{number_in};
-ghost use Rattle.why_facts.specs.Forms.{draw_fact};
+ghost use Rattle.why_facts.specs.Forms.{draw_fact, memory_facts};
 ghost use Rattle.world.specs.{IsWorld};
 ghost use Rattle.ide_why.specs.Facts.{answer_read, asked_by_number, besides_read, completion_read};
 ghost use Rattle.ide_why.specs.Facts.{forward_read, host_fact, oldest_read};
 ghost use Rattle.ide_why.specs.Reading.{stream_read};
 
 use crate::faces::{FaceSeen, push_face, push_of_interface, push_reported};
+use crate::memory::push_region;
 use crate::reader::Reader;
 use crate::streams::{push_sender, push_status};
 use hop_queues::HopQueues;
-use ide_types::{Direction, OutOfMemory, PortName, Side, SubKind};
+use ide_types::{Direction, OutOfMemory, PortName, Side, SubKind, ValidPlan};
 use line_routes::{has_hop, leaving_end};
 use link_events::InterfaceEvent;
 use trusted_memory::WaitingRead;
@@ -40,10 +41,27 @@ fn number_in(event: &InterfaceEvent) -> Option<u64>
     }
 }
 
-fn push_draw(facts: &mut Vec<Fact>, draw: u32) -> Result<(), OutOfMemory>
+/// Appends a draw.
+pub fn push_draw(facts: &mut Vec<Fact>, draw: u32) -> Result<(), OutOfMemory>
     ensures { IfOk result (λ _. facts.new.items ≡ facts.old.items ++ draw_fact draw ∷ []) }
 {
     push_of_interface(facts, InterfaceFact::Draw { draw })
+}
+
+// Appends the region of what an event asks of memory.
+fn push_memory(
+    facts: &mut Vec<Fact>,
+    plan: &ValidPlan,
+    event: &InterfaceEvent,
+) -> Result<(), OutOfMemory>
+    ensures { IfOk result (λ _. facts.new.items ≡ facts.old.items ++ memory_facts plan.now event.now) }
+{
+    match event {
+        InterfaceEvent::Memory { address, length } => {
+            push_region(facts, plan, *address, *length)
+        }
+        _ => Ok(()),
+    }
 }
 
 // How many TLPs wait in a direction.
@@ -89,6 +107,12 @@ impl Reader<'_> {
                 push_of_interface(facts, InterfaceFact::Started { started })?;
                 self.push_draws(facts)
             }
+            InterfaceEvent::Bind { line, stream, .. } => {
+                self.push_bind(facts, seen, *line, *stream)
+            }
+            InterfaceEvent::Unbind { line, stream, .. } => {
+                self.push_unbind(facts, seen, *line, *stream)
+            }
             _ => Ok(()),
         }
     }
@@ -105,7 +129,7 @@ impl Reader<'_> {
             (number_in event.now)) }
     {
         let Some(number) = number_in(event) else {
-            return Ok(());
+            return push_memory(facts, self.plan, event);
         };
         match self.face(number) {
             None => Ok(()),

@@ -6,9 +6,13 @@ mod arrivals;
 mod events;
 mod faces;
 mod interfaces;
+mod memory;
 mod operations;
+mod peers;
 mod places;
 mod reader;
+mod requests;
+mod resets;
 mod sends;
 mod streams;
 

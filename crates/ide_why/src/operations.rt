@@ -1,19 +1,22 @@
 //! Facts of operations on streams.
 
-ghost use Rattle.std.specs.Prelude.{◌≡◌, ◌∷◌, ◌++◌, ◌<◌, [], IfOk};
+ghost use Rattle.std.specs.Prelude.{◌≡◌, ◌∷◌, ◌++◌, ◌<◌, [], IfOk, Some};
 ghost use Rattle.ide_types.specs.{is_hosted};
+ghost use Rattle.ide_types.specs.Ports.{host_port};
 ghost use Rattle.spec_keys.specs.Operations.{last_exchange_of, work_of};
 ghost use Rattle.machine_operations.specs.{machine_status};
 ghost use Rattle.tsm_host.specs.Facts.{op_seen};
 ghost use Rattle.why_facts.specs.Forms.{draws_fact, manager_fact, manager_state, may_go, pool_of};
 ghost use Rattle.world.specs.{IsWorld};
-ghost use Rattle.ide_why.specs.Facts.{establish_read, exchanges_read, refresh_read, state_of_whole, status_read};
-ghost use Rattle.ide_why.specs.Facts.{stop_read};
+ghost use Rattle.ide_why.specs.Facts.{establish_read, exchanges_read, open_seen, opens_read, opens_seen, refresh_read};
+ghost use Rattle.ide_why.specs.Facts.{state_of_whole, status_read, stop_read};
+ghost use Rattle.ide_why.specs.Reading.{stream_read};
 
 use crate::reader::{Reader, StageSeen};
-use crate::streams::{push, push_status};
-use ide_types::{OutOfMemory, PortName, Side, StreamStatus};
+use crate::streams::{is_live, push, push_status};
+use ide_types::{OutOfMemory, PortName, Side, StreamStatus, SubKind};
 use link_verdicts::Operation;
+use sub_stream::StreamFacts;
 use tsm_host::StageFacts;
 use why_lines::{Fact, ManagerState, OperationFact};
 
@@ -108,7 +111,60 @@ fn last_exchange(operation: Operation, line: u8) -> u64
     }
 }
 
+// Appends the sender of a sub-stream, if it is in use in a key set.
+fn push_open(
+    facts: &mut Vec<Fact>,
+    seen: &StreamFacts,
+    set: bool,
+    sub: SubKind,
+) -> Result<(), OutOfMemory>
+    ensures { IfOk result (λ _. facts.new.items ≡ facts.old.items ++ open_seen (Some seen.now) set sub) }
+{
+    if is_live(seen.at(sub).sender.sets, set) {
+        push_of_operation(facts, OperationFact::Open { sub })
+    } else {
+        Ok(())
+    }
+}
+
 impl Reader<'_> {
+    // Appends the senders at the host's port that are in use in a key set.
+    fn push_opens_in(
+        &self,
+        facts: &mut Vec<Fact>,
+        line: u8,
+        stream: u8,
+        set: bool,
+    ) -> Result<(), OutOfMemory>
+        requires { IsWorld self.now.plan.now self.now.links.now }
+        ensures { IfOk result (λ _. facts.new.items ≡ facts.old.items ++ opens_seen
+            (stream_read self.now.plan.now self.now.links.now (host_port line) stream) set) }
+    {
+        let side = Side::Host;
+        match self.stream(PortName { side, line }, stream) {
+            None => Ok(()),
+            Some(seen) => {
+                push_open(facts, &seen, set, SubKind::Pr)?;
+                push_open(facts, &seen, set, SubKind::Npr)?;
+                push_open(facts, &seen, set, SubKind::Cpl)
+            }
+        }
+    }
+
+    // Appends those in the set that a refresh would program that begins.
+    fn push_opens(&self, facts: &mut Vec<Fact>, seen: StageSeen) -> Result<(), OutOfMemory>
+        requires { IsWorld self.now.plan.now self.now.links.now }
+        ensures { IfOk result (λ _. facts.new.items ≡ facts.old.items ++ opens_read self.now.plan.now
+            self.now.links.now seen.line seen.stream (op_seen seen.stage)) }
+    {
+        match seen.stage {
+            StageFacts::Up { set, .. } => {
+                self.push_opens_in(facts, seen.line, seen.stream, !set.is_one())
+            }
+            _ => Ok(()),
+        }
+    }
+
     /// Appends how many of the pool's draws were made.
     pub fn push_draws(&self, facts: &mut Vec<Fact>) -> Result<(), OutOfMemory>
         ensures { IfOk result (λ _. facts.new.items ≡ facts.old.items ++ draws_fact
@@ -145,7 +201,19 @@ impl Reader<'_> {
         self.push_refusing(facts, operation, seen)
     }
 
-    // The status of a stream at the host's port, Idle if there is none.
+    /// The status of a stream at an end, Idle if there is none.
+    pub fn status(&self, end: PortName, stream: u8) -> StreamStatus
+        requires { IsWorld self.now.plan.now self.now.links.now }
+        ensures { result ≡ machine_status self.now.plan.now
+            (state_of_whole self.now.plan.now self.now.links.now) end.side end.line stream }
+    {
+        match self.stream(end, stream) {
+            None => StreamStatus::Idle,
+            Some(seen) => seen.status,
+        }
+    }
+
+    /// The status of a stream at the host's port, Idle if there is none.
     pub fn host_status(&self, line: u8, stream: u8) -> StreamStatus
         requires { IsWorld self.now.plan.now self.now.links.now }
         ensures { result ≡ machine_status self.now.plan.now (state_of_whole self.now.plan.now self.now.links.now)
@@ -153,10 +221,7 @@ impl Reader<'_> {
             stream }
     {
         let side = Side::Host;
-        match self.stream(PortName { side, line }, stream) {
-            None => StreamStatus::Idle,
-            Some(seen) => seen.status,
-        }
+        self.status(PortName { side, line }, stream)
     }
 
     /// Appends the facts of an establish.
@@ -198,6 +263,7 @@ impl Reader<'_> {
                 push_manager(facts, seen.stage)?;
                 push_status(facts, self.host_status(seen.line, seen.stream))?;
                 self.push_draws(facts)?;
+                self.push_opens(facts, seen)?;
                 self.push_exchanges(facts, Operation::Refresh, seen)
             }
         }

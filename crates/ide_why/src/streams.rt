@@ -2,7 +2,8 @@
 
 ghost use Rattle.std.specs.Prelude.{◌≡◌, ◌∷◌, ◌++◌, [], IfOk};
 ghost use Rattle.why_facts.specs.Forms.{counts_facts, posted_fact, set_facts, state_fact, total_facts};
-ghost use Rattle.ide_why.specs.Streams.{receiver_seen, sender_seen, senders_seen, sets_seen, state_seen};
+ghost use Rattle.ide_why.specs.Streams.{is_live_seen, receiver_seen, sender_seen, senders_seen, set_seen, sets_seen};
+ghost use Rattle.ide_why.specs.Streams.{state_seen};
 
 use ide_types::{OutOfMemory, StreamStatus, SubKind};
 use sub_stream::{SetFacts, SlotFacts, StreamFacts};
@@ -53,6 +54,13 @@ pub fn push_sets(facts: &mut Vec<Fact>, sets: SetFacts) -> Result<(), OutOfMemor
 {
     push(facts, set_fact(false, sets.zero))?;
     push(facts, set_fact(true, sets.one))
+}
+
+/// Whether a key set has a Live key.
+pub fn is_live(sets: SetFacts, k: bool) -> bool
+    ensures { result ≡ is_live_seen (set_seen k sets) }
+{
+    matches!(if k { sets.one } else { sets.zero }, SlotFacts::Live { .. })
 }
 
 /// Appends the stream's status.

@@ -1,5 +1,5 @@
 -- The facts of what arrives.
-use Rattle.std.proofs.Common.{◌≡◌, ◌+◌, ◌∷◌, ◌++◌, Bool, true, false, List, [], length, Option, Some, None}
+use Rattle.std.proofs.Common.{◌≡◌, ◌∷◌, ◌++◌, Bool, true, false, List, [], length, Option, Some, None}
 use Rattle.std.proofs.Common.{Result, Ok, Err, if◌then◌else◌, refl, ap, ◌∙◌}
 use Rattle.std.proofs.lemmas.List.{length-map}
 use Rattle.std.specs.Option.{option_map, option_and_then}
@@ -18,7 +18,7 @@ use Rattle.spec_stream.specs.Slots.{stream_status}
 use Rattle.spec_links.specs.Plan.{SubStream, lane_in}
 use Rattle.spec_links.specs.Ports.{goes_through, port_of}
 use Rattle.spec_links.specs.History.{Arrival, altered_arrival, arrival_at_partner, failed, port_keys, on_draw}
-use Rattle.spec_links.specs.History.{pending_packets, sealed_packets}
+use Rattle.spec_links.specs.History.{sealed_packets}
 use Rattle.spec_links.specs.History.{shortened_arrival}
 unfoldable use Rattle.spec_links.specs.History.{arrival_of_event}
 use Rattle.machine_ports.specs.Machine.{kept_packet}
@@ -29,8 +29,8 @@ use Rattle.machine_operations.proofs.Terms.{at_each}
 use Rattle.machine_whole.specs.Machine.{Whole, arrival_of}
 use Rattle.machine_whole.specs.Stands.{StandsFor}
 use Rattle.why_lines.specs.declared.fact.Fact.{Fact}
-use Rattle.why_facts.specs.Forms.{arrives_fact, packets_fact, request_facts, state_fact}
-use Rattle.why_facts.specs.Due.{arrival_facts_due, asks_due, asks_under, packet_due}
+use Rattle.why_facts.specs.Forms.{arrives_fact, packets_fact, state_fact, unit_facts}
+use Rattle.why_facts.specs.Due.{arrival_facts_due, asks_due, asks_under, held_due, packet_due}
 use Rattle.why_facts.specs.Due.{received_due, sealed_due}
 use Rattle.why_facts.specs.Kept.{arrival_facts_in, asks_in, asks_live, packet_facts, received_by, packet_count_facts}
 use Rattle.why_facts.proofs.Sites.{readings_are}
@@ -60,17 +60,14 @@ sealed_is plan w h stands = ap packets_fact
 
 -- ---- what a packet asks of memory
 
-place_is : (b : Bool) (ps : List Packet) → length (if b then [] else ps) ≡ (if b then 0 else length ps)
-place_is true ps = refl
-place_is false ps = refl
-
 asks_keyed : (plan : Plan) (w : Whole) (h : History) → StandsFor plan w h → (port : PortName) (s : SubStream)
     (p : Packet) (a : Keyed)
     → asks_live plan w port p (live_in (rx_slot plan h port s a)) ≡ asks_under plan h port s p (on_in a)
 asks_keyed plan w h stands port s p Off = refl
 asks_keyed plan w h stands port s p (Loaded j) = refl
-asks_keyed plan w h stands port s p (On j) = λ i. request_facts plan (readings_are plan w h stands i)
-    (port_of plan port) (place_is (failed h port s.stream) (pending_packets plan h s j) i + 1) p
+asks_keyed plan w h stands port s p (On j) =
+    ap (λ r. unit_facts plan r (port_of plan port) p.prefix.sub (held_due plan h port s j) p)
+    (readings_are plan w h stands)
 
 asks_is : (plan : Plan) (w : Whole) (h : History) → StandsFor plan w h → (port : PortName) (s : SubStream)
     (p : Packet) (k : Bool)

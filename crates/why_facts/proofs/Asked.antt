@@ -1,31 +1,42 @@
 -- The facts of events on interfaces.
-use Rattle.std.proofs.Common.{◌≡◌, ℕ, ◌==◌, ◌++◌, List, [], map, Option, Some, None}
-use Rattle.std.proofs.Common.{refl, ap, ◌∙◌}
+use Rattle.std.proofs.Common.{◌≡◌, ℕ, ◌==◌, ◌++◌, Bool, true, false, List, [], map, Option, Some, None}
+use Rattle.std.proofs.Common.{if◌then◌else◌, is_some, refl, ap, ◌∙◌}
 use Rattle.std.specs.Option.{option_map}
 use Rattle.ide_types.specs.declared.plan.Plan.{Plan}
 use Rattle.link_events.specs.declared.event.InterfaceEvent.{InterfaceEvent}
 use Rattle.link_events.specs.declared.event.InterfaceEvent.TheVariants as ie
 use Rattle.spec_keys.specs.History.{History}
+use Rattle.spec_interfaces.specs.Peers.{has_peer}
 use Rattle.spec_interfaces.specs.Sites.{Site, sites, site_at}
 use Rattle.spec_interfaces.specs.Devices.{used_at}
 use Rattle.machine_interfaces.specs.Machine.{Face, Streams, face_standing, find_face}
 use Rattle.machine_interfaces.specs.Stands.{face_at, streams_at}
+use Rattle.spec_links.specs.Plan.{stream_plan}
 use Rattle.machine_whole.specs.Machine.{Whole, whole_streams}
 use Rattle.machine_whole.specs.Stands.{StandsFor}
-use Rattle.machine_whole.proofs.Streams.{seen_at, streams_are}
+use Rattle.machine_whole.proofs.Streams.{peer_planned, seen_at, streams_are}
 use Rattle.why_lines.specs.declared.fact.Fact.{Fact}
-use Rattle.why_facts.specs.Forms.{asked_besides, asked_facts, face_facts, reported_facts}
+use Rattle.why_facts.specs.Forms.{asked_besides, asked_facts, bind_facts, face_facts, reported_facts}
 use Rattle.why_facts.specs.Due.{asked_facts_due, asked_site_due}
 use Rattle.why_facts.specs.Kept.{asked_face, asked_facts_in}
 use Rattle.why_facts.proofs.Sites.{found_is, with_face}
 
--- nothing is read of the manager's state of a stream
+-- the manager's state is read of a stream that the plan has, and of no other
 besides_same : (plan : Plan) (h : History) (used : ℕ → ℕ) (x : Site) (f : Face) (e : InterfaceEvent)
     → asked_besides plan x (face_standing plan (seen_at plan h) used x f) e
     ≡ asked_besides plan x (face_standing plan (streams_at h) used x f) e
 besides_same plan h used x f (ie.Lock i loss) = refl
 besides_same plan h used x f (ie.Start i loss) = refl
 besides_same plan h used x f (ie.Halt i loss) = refl
+besides_same plan h used x f (ie.Bind i line stream loss) =
+    by (has_peer plan.peers x.link line stream) (λ is. peer_planned plan x.link line stream is)
+  where
+    by : (b : Bool) → (b ≡ true → is_some (stream_plan plan line stream) ≡ true)
+        → (if b then bind_facts (face_standing plan (seen_at plan h) used x f) line stream else [])
+        ≡ (if b then bind_facts (face_standing plan (streams_at h) used x f) line stream else [])
+    by true known = rw (known refl) refl
+    by false known = refl
+besides_same plan h used x f (ie.Unbind i line stream loss) = refl
 besides_same plan h used x f e = refl
 
 -- what is said of an interface, by what is read of the streams, and by how many nonces were given

@@ -4,4 +4,5 @@ pub mod Arrivals
 pub mod Sends
 pub mod Operations
 pub mod Asked
+pub mod Beside
 pub mod Stand

@@ -12,6 +12,7 @@ use Rattle.machine_interfaces.specs.Machine.{Face, Faces, find_face, with_reques
 use Rattle.machine_interfaces.specs.Stands.{FacesStandFor, face_at}
 use Rattle.machine_whole.specs.Machine.{Whole}
 use Rattle.machine_whole.specs.Stands.{StandsFor}
+use Rattle.machine_whole.proofs.Accesses.{standings_are}
 use Rattle.why_facts.specs.Due.{site_due, readings_at}
 use Rattle.why_facts.specs.Kept.{known_of, owner_found, readings_in}
 
@@ -56,6 +57,13 @@ known_is plan h (Some x) = refl
 pub readings_are : (plan : Plan) (w : Whole) (h : History) → StandsFor plan w h
     → readings_in plan w ≡ readings_at plan h
 readings_are plan w h stands = λ i. record {
-  owner = λ link head. of_owner plan h w.faces stands.faces link head known_of (site_due plan h) (known_is plan h) i;
+  known = λ link requester. known_there link requester i;
   waiting = λ link. length (stands.accesses.waiting link i);
+  standings = λ link. standings_are plan h w.faces.list w.accesses.floors stands.faces.faces stands.accesses.floors
+      link i;
 }
+  where
+    known_there : (link requester : ℕ)
+        → known_of (with_requester plan w.faces link requester) ≡ site_due plan h (site_with plan link requester)
+    known_there link requester = ap known_of (requester_is plan h w.faces stands.faces link requester)
+        ∙ known_is plan h (site_with plan link requester)

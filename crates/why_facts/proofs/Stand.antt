@@ -3,6 +3,7 @@ use Rattle.std.proofs.Common.{[], refl}
 use Rattle.link_events.specs.declared.event.Event.TheVariants as event
 use Rattle.link_events.specs.declared.event.AccessEvent.TheVariants as ae
 use Rattle.spec_interfaces.specs.Views.{number_in}
+use Rattle.spec_links.specs.Plan.{has_link}
 use Rattle.spec_links.specs.Ports.{may_send, outgoing_at, sealing_end}
 use Rattle.why_facts.specs.Due.{sealed_due}
 unfoldable use Rattle.why_facts.specs.Due.{facts_due}
@@ -11,6 +12,7 @@ unfoldable use Rattle.why_facts.specs.Kept.{facts_in}
 use Rattle.why_facts.specs.Stands.{FactsStand}
 use Rattle.why_facts.proofs.Arrivals.{arriving_is, sealed_is}
 use Rattle.why_facts.proofs.Asked.{asked_is}
+use Rattle.why_facts.proofs.Beside.{reset_is, shown_is}
 use Rattle.why_facts.proofs.Operations.{establish_is, refresh_is, status_is, stop_is}
 use Rattle.why_facts.proofs.Sends.{answer_is, forward_is, if_same, send_is}
 
@@ -34,7 +36,9 @@ facts_stand plan w h (event.Stop line stream loss) stands = stop_is plan w h sta
 facts_stand plan w h (event.Status line stream) stands = status_is plan w h stands line stream
 facts_stand plan w h (event.Interface e) stands = asked_is plan w h stands e (number_in e)
 facts_stand plan w h (event.Access (ae.Answer link)) stands = answer_is plan w h stands link
-facts_stand plan w h (event.Access (ae.Mmio interface bar offset len)) stands = refl
+facts_stand plan w h (event.Access (ae.Mmio interface bar offset len)) stands =
+    shown_is plan w h stands interface bar
 facts_stand plan w h (event.Forward link d) stands = forward_is plan w h stands link d
-facts_stand plan w h (event.Reset link ends) stands = refl
+facts_stand plan w h (event.Reset link ends) stands =
+    if_same (has_link plan link) _ _ _ (reset_is plan w h stands ends)
 facts_stand plan w h event.Absent stands = refl

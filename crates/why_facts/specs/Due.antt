@@ -1,6 +1,6 @@
 -- What a verdict came from, by the events before it with their verdicts: each number is the one that the definitions of
 -- the history give there.
-use Rattle.std.specs.Prelude.{ℕ, ◌+◌, ◌&&◌, ◌||◌, Bool, true, false, not, is_some, if◌then◌else◌}
+use Rattle.std.specs.Prelude.{ℕ, ◌&&◌, ◌||◌, Bool, true, false, not, is_some, if◌then◌else◌}
 use Rattle.std.specs.Prelude.{List, [], ◌∷◌, ◌++◌, length, sum_by, Option, Some, None, Result, Ok, Err}
 use Rattle.ide_types.specs.{is_link_line}
 use Rattle.ide_types.specs.declared.port.PortName.{PortName}
@@ -11,6 +11,7 @@ use Rattle.ide_types.specs.declared.sub.SubKind.TheVariants.{Cpl}
 use Rattle.ide_types.specs.Ports.{host_port}
 use Rattle.ide_types.specs.declared.direction.Direction.{Direction}
 use Rattle.ide_types.specs.declared.plan.Plan.{Plan}
+use Rattle.ide_types.specs.declared.stream.StreamPlan.{StreamPlan}
 use Rattle.tlp_layout.specs.declared.head.HeadView.{HeadView}
 use Rattle.tlp_layout.specs.Class.{class_of}
 use Rattle.tlp_layout.specs.Tlp.{header}
@@ -29,10 +30,12 @@ use Rattle.spec_interfaces.specs.Sites.{Site, site_at, site_with}
 use Rattle.spec_interfaces.specs.Views.{managed, number_in}
 use Rattle.spec_interfaces.specs.Devices.{interface_at}
 use Rattle.spec_interfaces.specs.Due.{standing_at}
+use Rattle.spec_interfaces.specs.Floors.{history_standings}
 use Rattle.spec_interfaces.specs.Cause.{is_peer, owner_at, owners_link}
 use Rattle.spec_links.specs.{WaitingRead, has_hop, leaving_end, waiting, hop_waiting}
 use Rattle.spec_links.specs.Hops.{HopTlp}
 use Rattle.spec_links.specs.Plan.{SubStream, has_link, has_stream, is_closed, lane_in, lane_out, stream_plan}
+use Rattle.spec_links.specs.Plan.{streams_of}
 use Rattle.spec_links.specs.Ports.{at_switch, goes_through, may_send, outgoing_at, port_of, sealing_end}
 use Rattle.spec_links.specs.History.{Arrival, arrival_of_event, failed, got_since, has_live_in, has_live_out, port_keys}
 use Rattle.spec_links.specs.History.{on_draw, pending_packets, posted_count, posted_of, sealed_packets, sent, total_in}
@@ -42,9 +45,9 @@ use Rattle.why_lines.specs.declared.fact.Fact.{Fact}
 use Rattle.why_lines.specs.declared.fact.SetState.{SetState}
 use Rattle.why_lines.specs.declared.fact.SetState.TheVariants as set
 use Rattle.why_facts.specs.Forms.{Readings, arrives_fact, asked_facts, at_port, counts_facts, each_looked_at}
-use Rattle.why_facts.specs.Forms.{establish_facts, face_facts, manager_fact, packets_fact}
-use Rattle.why_facts.specs.Forms.{posted_fact, refresh_facts, sends_fact, set_facts, state_fact, stop_facts}
-use Rattle.why_facts.specs.Forms.{total_facts, request_facts, waiting_fact, read_fact}
+use Rattle.why_facts.specs.Forms.{clears_fact, establish_facts, face_facts, manager_fact, memory_facts, packets_fact}
+use Rattle.why_facts.specs.Forms.{posted_fact, refresh_facts, sends_fact, set_facts, shown_facts, state_fact}
+use Rattle.why_facts.specs.Forms.{stop_facts, total_facts, unit_facts, waiting_fact, read_fact}
 
 -- ---- what is known of interfaces
 
@@ -54,8 +57,9 @@ site_due plan h (Some x) = face_facts x (interface_at plan h x) (managed h x)
 
 abbrev pub readings_at : Plan → History → Readings
 readings_at plan h = record {
-  owner = λ link head. site_due plan h (owner_at plan link head);
+  known = λ link requester. site_due plan h (site_with plan link requester);
   waiting = λ link. length (waiting plan h link);
+  standings = history_standings plan h;
 }
 
 -- ---- arrivals
@@ -89,11 +93,15 @@ total_got plan h port s =
     total_facts (is_closed plan s.line s.stream)
     (if has_live_in h port s.stream then units_since h s (base h s.line s.stream) else 0)
 
+-- the packets that are held for the next unit under a draw
+abbrev pub held_due : Plan → History → PortName → SubStream → ℕ → List Packet
+held_due plan h port s j = if failed h port s.stream then [] else pending_packets plan h s j
+
 -- of a packet under the draw that its key set has
 abbrev pub asks_under : Plan → History → PortName → SubStream → Packet → Option ℕ → List Fact
 asks_under plan h port s p None = []
 asks_under plan h port s p (Some j) =
-    request_facts plan (readings_at plan h) (port_of plan port) (held_count plan h port s j + 1) p
+    unit_facts plan (readings_at plan h) (port_of plan port) p.prefix.sub (held_due plan h port s j) p
 
 -- an insecure stream takes none
 abbrev pub asks_due : Plan → History → PortName → SubStream → Packet → List Fact
@@ -218,6 +226,19 @@ forward_facts_due plan h link d =
 abbrev pub if_stream : Plan → ℕ → ℕ → List Fact → List Fact
 if_stream plan line stream facts = if is_some (stream_plan plan line stream) then facts else []
 
+-- ---- resets
+
+-- of streams at an end
+abbrev pub cleared_due : Plan → History → PortName → List StreamPlan → List Fact
+cleared_due plan h end [] = []
+cleared_due plan h end (s ∷ ss) =
+    clears_fact plan end s.id (history_status h end.side end.line s.id)
+    ∷ (if_stream plan end.line s.id (manager_fact (op_of h end.line s.id) ∷ []) ++ cleared_due plan h end ss)
+
+abbrev pub reset_facts_due : Plan → History → List PortName → List Fact
+reset_facts_due plan h [] = []
+reset_facts_due plan h (e ∷ es) = cleared_due plan h e (streams_of plan e.line) ++ reset_facts_due plan h es
+
 -- ---- events on interfaces
 
 abbrev pub asked_site_due : Plan → History → InterfaceEvent → Option Site → List Fact
@@ -225,8 +246,14 @@ asked_site_due plan h e None = []
 asked_site_due plan h e (Some x) = asked_facts plan x (standing_at plan h x) e
 
 abbrev pub asked_facts_due : Plan → History → InterfaceEvent → Option ℕ → List Fact
-asked_facts_due plan h e None = []
+asked_facts_due plan h e None = memory_facts plan e
 asked_facts_due plan h e (Some i) = asked_site_due plan h e (site_at plan i)
+
+-- ---- the memory of interfaces
+
+abbrev pub shown_due : Plan → History → ℕ → Option Site → List Fact
+shown_due plan h bar None = []
+shown_due plan h bar (Some x) = shown_facts x.number (interface_at plan h x) bar
 
 -- ---- all events
 
@@ -257,7 +284,7 @@ facts_due plan h (event.Stop line stream loss) =
 facts_due plan h (event.Status line stream) = if_stream plan line stream (manager_fact (op_of h line stream) ∷ [])
 facts_due plan h (event.Interface e) = asked_facts_due plan h e (number_in e)
 facts_due plan h (event.Access (ae.Answer link)) = answer_facts_due plan h link
-facts_due plan h (event.Access (ae.Mmio interface bar offset len)) = []
+facts_due plan h (event.Access (ae.Mmio interface bar offset len)) = shown_due plan h bar (site_at plan interface)
 facts_due plan h (event.Forward link d) = forward_facts_due plan h link d
-facts_due plan h (event.Reset link ends) = []
+facts_due plan h (event.Reset link ends) = if has_link plan link then reset_facts_due plan h ends else []
 facts_due plan h event.Absent = []

@@ -1,12 +1,19 @@
 -- Facts of values, wherever these come from.
-use Rattle.std.specs.Prelude.{ℕ, ◌/◌, ◌==◌, ◌&&◌, ◌||◌, nat_le, Bool, true, false, not, is_some, List, [], ◌∷◌, ◌++◌}
-use Rattle.std.specs.Prelude.{length, Option, Some, None, Result, Ok, Err, if◌then◌else◌}
+use Rattle.std.specs.Prelude.{ℕ, ◌+◌, ◌/◌, ◌==◌, ◌&&◌, ◌||◌, nat_le, Bool, true, false, not, is_some, List, [], ◌∷◌}
+use Rattle.std.specs.Prelude.{◌++◌, find, length, slice_get, Option, Some, None, Result, Ok, Err, if◌then◌else◌}
+use Rattle.std.specs.Option.{option_and_then, option_map}
 use Rattle.ide_types.specs.{is_hosted, sub_bits}
 use Rattle.ide_types.specs.declared.port.PortName.{PortName}
+use Rattle.ide_types.specs.declared.port.Side.{Side}
+use Rattle.ide_types.specs.declared.port.Side.TheVariants.{Host, Device}
 use Rattle.ide_types.specs.declared.status.StreamStatus.{StreamStatus}
 use Rattle.ide_types.specs.declared.sub.SubKind.{SubKind}
 use Rattle.ide_types.specs.declared.sub.SubKind.TheVariants.{Pr, Npr, Cpl}
 use Rattle.ide_types.specs.declared.plan.Plan.{Plan}
+use Rattle.ide_types.specs.declared.plan.LinkPlan.{LinkPlan}
+use Rattle.ide_types.specs.declared.plan.Region.{Region}
+use Rattle.ide_types.specs.declared.interface.BarPlan.{BarPlan}
+use Rattle.ide_types.specs.declared.interface.InterfacePlan.{InterfacePlan}
 use Rattle.tlp_layout.specs.declared.head.HeadView.{HeadView}
 use Rattle.tlp_layout.specs.declared.fault.TlpFault.{TlpFault}
 use Rattle.tlp_layout.specs.Reading.{read_head_of}
@@ -19,15 +26,26 @@ use Rattle.spec_keys.specs.Places.{KeyPlace, told_places}
 use Rattle.spec_keys.specs.Operations.{StreamStage, Idle, Establishing, Up, Refreshing, Stopping, Work, work_of}
 use Rattle.spec_keys.specs.Operations.{last_exchange_of}
 use Rattle.spec_keys.specs.History.{program_at}
-use Rattle.spec_keys.specs.Due.{PortView}
+use Rattle.spec_keys.specs.Due.{PortView, is_live_sender}
+use Rattle.spec_stream.specs.Stream.{posted_sum}
 use Rattle.interface_state.specs.{Tdi, state_code}
+use Rattle.interface_state.specs.Bars.{bars_of}
+use Rattle.interface_state.specs.declared.bindings.Binding.{Binding}
 use Rattle.trusted_memory.specs.{write_span}
+use Rattle.trusted_memory.specs.Regions.{holds_all}
+use Rattle.trusted_memory.specs.Spans.{span_byte_count, span_of}
+use Rattle.trusted_memory.specs.declared.span.Span.{Span}
 use Rattle.trusted_memory.specs.Requests.{memory_read}
+use Rattle.guarded_memory.specs.{claim_of, is_open_range}
+use Rattle.guarded_memory.specs.declared.claims.Claim.{Claim}
+use Rattle.guarded_memory.specs.declared.standing.InterfaceStatus.{InterfaceStatus}
+use Rattle.spec_interfaces.specs.Cause.{owner_of}
+use Rattle.spec_interfaces.specs.Peers.{has_peer}
 use Rattle.spec_interfaces.specs.Sites.{Site}
 use Rattle.spec_interfaces.specs.Terms.{View, Locked}
 use Rattle.spec_interfaces.specs.Views.{Managed, bound_if}
 use Rattle.spec_interfaces.specs.Due.{AskedState as Asked}
-use Rattle.spec_links.specs.Ports.{port_of, is_host_port}
+use Rattle.spec_links.specs.Ports.{port_of, at_switch}
 use Rattle.why_lines.specs.declared.fact.Fact.{Fact}
 use Rattle.why_lines.specs.declared.fact.SetState.{SetState}
 use Rattle.why_lines.specs.declared.fact.ManagerState.{ManagerState}
@@ -138,13 +156,29 @@ abbrev pub establish_facts : Plan → PortView → ℕ → ℕ → StreamStage �
 establish_facts plan ports line stream q next =
     manager_fact q ∷ draws_fact next (pool_of plan) ∷ exchange_facts plan ports op.Establish line stream q next
 
+-- the host's sender of a sub-stream, if it is in use in a key set
+abbrev pub open_facts : PortView → ℕ → ℕ → Bool → SubKind → List Fact
+open_facts ports line stream set u =
+    if is_live_sender ports line stream set u then fact.Operation (of.Open u) ∷ [] else []
+
+-- only where a refresh begins: those in the set that it would program
+abbrev pub opens_facts : PortView → ℕ → ℕ → StreamStage → List Fact
+opens_facts ports line stream (Up set draw) =
+    open_facts ports line stream (not set) Pr ++ open_facts ports line stream (not set) Npr
+    ++ open_facts ports line stream (not set) Cpl
+opens_facts ports line stream q = []
+
 abbrev pub refresh_facts : Plan → PortView → ℕ → ℕ → StreamStage → ℕ → StreamStatus → List Fact
 refresh_facts plan ports line stream q next host =
     manager_fact q ∷ state_fact host ∷ draws_fact next (pool_of plan)
-    ∷ exchange_facts plan ports op.Refresh line stream q next
+    ∷ (opens_facts ports line stream q ++ exchange_facts plan ports op.Refresh line stream q next)
 
 abbrev pub stop_facts : Plan → PortView → ℕ → ℕ → StreamStage → ℕ → List Fact
 stop_facts plan ports line stream q next = manager_fact q ∷ exchange_facts plan ports op.Stop line stream q next
+
+-- a reset clears a stream at an end
+abbrev pub clears_fact : Plan → PortName → ℕ → StreamStatus → Fact
+clears_fact plan end stream status = fact.Operation (of.Clears (port_of plan end) stream status)
 
 -- ---- interfaces
 
@@ -179,47 +213,153 @@ abbrev pub reported_facts : View → Bool → List Fact
 reported_facts Locked reported = fact.Interface (face.Reported reported) ∷ []
 reported_facts view reported = []
 
+-- the streams that a device takes trusted writes to an interface on
+abbrev pub takes_facts : List Binding → List Fact
+takes_facts [] = []
+takes_facts (b ∷ bs) = fact.Interface (face.Takes b.stream b.floor) ∷ takes_facts bs
+
+abbrev pub live_facts : Option ℕ → List Fact
+live_facts None = []
+live_facts (Some draw) = fact.Interface (face.Live draw) ∷ []
+
+-- of a stream between devices
+abbrev pub peer_facts : StreamStage → ℕ → Option ℕ → List Fact
+peer_facts q draw live = manager_fact q ∷ draw_fact draw ∷ live_facts live
+
+abbrev pub bind_facts : Asked → ℕ → ℕ → List Fact
+bind_facts s line stream =
+    peer_facts (s.peer_op line stream) (s.peer_draw line stream) (s.around.live stream) ++ takes_facts s.tdi.bindings
+
 -- what an event on it looks at besides
 abbrev pub asked_besides : Plan → Site → Asked → InterfaceEvent → List Fact
 asked_besides plan x s (ie.Lock i loss) = state_fact s.host ∷ []
 asked_besides plan x s (ie.Start i loss) = state_fact s.host ∷ draw_fact s.draw ∷ []
 asked_besides plan x s (ie.Halt i loss) =
     fact.Interface (face.Started s.managed.started) ∷ draws_fact s.drawn (pool_of plan) ∷ []
+asked_besides plan x s (ie.Bind i line stream loss) =
+    if has_peer plan.peers x.link line stream then bind_facts s line stream else []
+asked_besides plan x s (ie.Unbind i line stream loss) =
+    if has_peer plan.peers x.link line stream then takes_facts s.tdi.bindings else []
 asked_besides plan x s e = []
 
 abbrev pub asked_facts : Plan → Site → Asked → InterfaceEvent → List Fact
 asked_facts plan x s e =
     face_facts x s.tdi s.managed ++ reported_facts s.managed.view s.managed.reported ++ asked_besides plan x s e
 
+-- ---- ranges of memory
+
+abbrev pub bytes_fact : ℕ → ℕ → Fact
+bytes_fact at n = fact.Interface (face.Bytes at n)
+
+abbrev pub region_found : Option Region → List Fact
+region_found None = []
+region_found (Some r) = fact.Interface (face.Region r.base r.size) ∷ []
+
+-- the region that has all n bytes from an address on
+abbrev pub region_facts : List Region → ℕ → ℕ → List Fact
+region_facts regions at n = region_found (find (λ r. holds_all r at n) regions)
+
+abbrev pub bar_fact : ℕ → BarPlan → Fact
+bar_fact bar range = fact.Interface (face.Bar bar range.base range.pages (is_open_range range))
+
+-- of a BAR that the interface has
+abbrev pub bar_facts : ℕ → Option BarPlan → List Fact
+bar_facts bar None = []
+bar_facts bar (Some range) = if range.pages == 0 then [] else bar_fact bar range ∷ []
+
+-- of a BAR of an interface as it stands
+abbrev pub shown_facts : ℕ → Tdi → ℕ → List Fact
+shown_facts number tdi bar =
+    interface_fact number (state_code tdi.state) ∷ bar_facts bar (slice_get (bars_of tdi.plan tdi.registers) bar)
+
+-- of what an event asks of memory
+abbrev pub memory_facts : Plan → InterfaceEvent → List Fact
+memory_facts plan (ie.Memory at len) = region_facts plan.memory at len
+memory_facts plan e = []
+
 -- ---- what a packet asks of memory
 
--- what is read of what stands beside the ports: what is known of the owner of a TLP at a link, and how many reads wait
--- there
+-- what is read of what stands beside the ports: what is known of the interface of a link with a requester ID, how many
+-- reads wait there, and how the interfaces of its device stand
 pub record Readings : Type 0 where
-  pub owner : ℕ → HeadView → List Fact
+  pub known : ℕ → ℕ → List Fact
   pub waiting : ℕ → ℕ
+  pub standings : ℕ → List InterfaceStatus
 
-abbrev pub packet_fact : ℕ → Packet → Fact
-packet_fact place p = fact.Interface (face.Packet place p.prefix.t)
+abbrev pub known_to : Readings → ℕ → Option ℕ → List Fact
+known_to r link None = []
+known_to r link (Some requester) = r.known link requester
+
+abbrev pub packet_fact : ℕ → Bool → Fact
+packet_fact place t = fact.Interface (face.Packet place t)
 
 -- a write, or a read with T
 abbrev pub is_request_head : Bool → HeadView → Bool
 is_request_head t head = is_some (write_span head) || (t && is_some (memory_read head))
+
+abbrev pub span_facts : Plan → Option Span → List Fact
+span_facts plan None = []
+span_facts plan (Some s) =
+    bytes_fact s.address (span_byte_count s) ∷ region_facts plan.memory s.address (span_byte_count s)
 
 -- a read looks at how many wait
 abbrev pub waiting_facts : Bool → ℕ → List Fact
 waiting_facts true n = waiting_fact n ∷ []
 waiting_facts false n = []
 
-abbrev pub host_facts : Readings → ℕ → ℕ → Packet → Result HeadView TlpFault → List Fact
-host_facts r link place p (Err f) = []
-host_facts r link place p (Ok head) =
-    if is_request_head p.prefix.t head
-    then packet_fact place p ∷ (r.owner link head ++ waiting_facts (is_some (memory_read head)) (r.waiting link))
+abbrev pub host_facts : Plan → Readings → ℕ → ℕ → Bool → Result HeadView TlpFault → List Fact
+host_facts plan r link place t (Err f) = []
+host_facts plan r link place t (Ok head) =
+    if is_request_head t head
+    then packet_fact place t ∷ (span_facts plan (span_of head) ++ known_to r link (owner_of head)
+    ++ waiting_facts (is_some (memory_read head)) (r.waiting link))
     else []
 
--- of the packet at a place of its unit, from 1, that arrives at a port; only a host's port has trusted memory
+-- the requester ID of the interface at a place of a link
+abbrev pub requester_at : Plan → ℕ → ℕ → Option ℕ
+requester_at plan link place = option_map (λ (x : InterfacePlan). x.requester)
+    (option_and_then (λ (l : LinkPlan). slice_get l.interfaces place) (slice_get plan.links link))
+
+abbrev pub claim_facts : Plan → Readings → ℕ → Option Claim → List Fact
+claim_facts plan r link None = []
+claim_facts plan r link (Some c) =
+    known_to r link (requester_at plan link c.interface) ++ bar_fact c.bar c.range ∷ takes_facts c.standing.bound
+
+-- of a write over these bytes
+abbrev pub write_facts : Plan → Readings → ℕ → ℕ → Bool → Option Span → List Fact
+write_facts plan r link place t None = []
+write_facts plan r link place t (Some s) =
+    packet_fact place t ∷ bytes_fact s.address (span_byte_count s)
+    ∷ claim_facts plan r link (claim_of (r.standings link) s)
+
+abbrev pub device_facts : Plan → Readings → ℕ → ℕ → Bool → Result HeadView TlpFault → List Fact
+device_facts plan r link place t (Err f) = []
+device_facts plan r link place t (Ok head) = write_facts plan r link place t (write_span head)
+
+abbrev pub side_facts : Plan → Readings → Side → ℕ → ℕ → Bool → Result HeadView TlpFault → List Fact
+side_facts plan r Host link place t head = host_facts plan r link place t head
+side_facts plan r Device link place t head = device_facts plan r link place t head
+
+-- of a packet with this header at a place of its unit, from 1, that arrives at a port
+abbrev pub asks_facts : Plan → Readings → PortName → ℕ → Bool → Bool → List ℕ → List Fact
+asks_facts plan r port place sync t head =
+    if sync || at_switch plan port then [] else side_facts plan r port.side port.line place t (read_head_of head)
+
 abbrev pub request_facts : Plan → Readings → PortName → ℕ → Packet → List Fact
-request_facts plan r port place p =
-    if is_sync_packet p || not (is_host_port plan port) then []
-    else host_facts r port.line place p (read_head_of p.head)
+request_facts plan r port place p = asks_facts plan r port place (is_sync_packet p) p.prefix.t p.head
+
+-- of packets in order, the first at this place
+abbrev pub requests_facts : Plan → Readings → PortName → ℕ → List Packet → List Fact
+requests_facts plan r port place [] = []
+requests_facts plan r port place (p ∷ ps) =
+    request_facts plan r port place p ++ requests_facts plan r port (place + 1) ps
+
+-- no rule of order speaks of posted packets
+abbrev pub adds_facts : SubKind → ℕ → List Fact
+adds_facts u posted = if sub_bits u == 0 then [] else fact.Stream (sf.Adds posted) ∷ []
+
+-- of a unit's packets that are held, and of the one that arrives
+abbrev pub unit_facts : Plan → Readings → PortName → SubKind → List Packet → Packet → List Fact
+unit_facts plan r port u held p =
+    adds_facts u (posted_sum held + p.prefix.posted)
+    ++ requests_facts plan r port 1 held ++ request_facts plan r port (length held + 1) p

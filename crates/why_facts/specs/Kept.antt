@@ -1,5 +1,5 @@
 -- What a verdict came from, by the state of the whole machine.
-use Rattle.std.specs.Prelude.{ℕ, ◌+◌, ◌==◌, Bool, if◌then◌else◌}
+use Rattle.std.specs.Prelude.{ℕ, ◌==◌, Bool, if◌then◌else◌}
 use Rattle.std.specs.Prelude.{List, [], ◌∷◌, ◌++◌, length, Option, Some, None, Result, Ok, Err}
 use Rattle.std.specs.Option.{option_and_then}
 use Rattle.ide_types.specs.{is_link_line}
@@ -10,6 +10,7 @@ use Rattle.ide_types.specs.declared.sub.SubKind.TheVariants.{Cpl}
 use Rattle.ide_types.specs.Ports.{host_port}
 use Rattle.ide_types.specs.declared.direction.Direction.{Direction}
 use Rattle.ide_types.specs.declared.plan.Plan.{Plan}
+use Rattle.ide_types.specs.declared.stream.StreamPlan.{StreamPlan}
 use Rattle.tlp_layout.specs.declared.head.HeadView.{HeadView}
 use Rattle.tlp_layout.specs.Class.{class_of}
 use Rattle.tlp_layout.specs.Tlp.{header}
@@ -31,18 +32,19 @@ use Rattle.spec_interfaces.specs.Cause.{owner_of, owners_link}
 use Rattle.machine_interfaces.specs.Machine.{Face, Faces, face_standing, find_face, with_requester}
 use Rattle.spec_links.specs.{WaitingRead, has_hop, leaving_end}
 use Rattle.spec_links.specs.Hops.{HopTlp}
-use Rattle.spec_links.specs.Plan.{has_link, is_closed}
+use Rattle.spec_links.specs.Plan.{has_link, is_closed, streams_of}
 use Rattle.spec_links.specs.Ports.{goes_through, may_send, outgoing_at, port_of, sealing_end}
 use Rattle.spec_links.specs.History.{Arrival}
 use Rattle.machine_operations.specs.{find, find_op, ports_of, machine_status}
+use Rattle.machine_whole.specs.Accesses.{face_standings}
 use Rattle.machine_whole.specs.Machine.{Whole, arrival_of, whole_streams}
 use Rattle.why_lines.specs.declared.fact.Fact.{Fact}
 use Rattle.why_lines.specs.declared.fact.SetState.{SetState}
 use Rattle.why_lines.specs.declared.fact.SetState.TheVariants as set
 use Rattle.why_facts.specs.Forms.{Readings, arrives_fact, asked_facts, at_port, counts_facts, each_looked_at}
-use Rattle.why_facts.specs.Forms.{establish_facts, face_facts, manager_fact, packets_fact}
-use Rattle.why_facts.specs.Forms.{posted_fact, read_fact, refresh_facts, sends_fact, set_facts, state_fact, stop_facts}
-use Rattle.why_facts.specs.Forms.{total_facts, request_facts, waiting_fact}
+use Rattle.why_facts.specs.Forms.{clears_fact, establish_facts, face_facts, manager_fact, memory_facts, packets_fact}
+use Rattle.why_facts.specs.Forms.{posted_fact, read_fact, refresh_facts, sends_fact, set_facts, shown_facts, state_fact}
+use Rattle.why_facts.specs.Forms.{stop_facts, total_facts, unit_facts, waiting_fact}
 use Rattle.why_facts.specs.Due.{sets_own_t}
 
 -- ---- what is known of interfaces
@@ -56,8 +58,9 @@ owner_found plan fs link head = option_and_then (with_requester plan fs link) (o
 
 abbrev pub readings_in : Plan → Whole → Readings
 readings_in plan w = record {
-  owner = λ link head. known_of (owner_found plan w.faces link head);
+  known = λ link requester. known_of (with_requester plan w.faces link requester);
   waiting = λ link. length (w.accesses.waiting link);
+  standings = λ link. face_standings link (sites plan) w.faces.list w.accesses.floors;
 }
 
 -- ---- a stream at a port
@@ -88,7 +91,7 @@ sender_facts_of closed x u =
 abbrev pub asks_live : Plan → Whole → PortName → Packet → Option LiveKey → List Fact
 asks_live plan w port p None = []
 asks_live plan w port p (Some x) =
-    request_facts plan (readings_in plan w) (port_of plan port) (length x.packets + 1) p
+    unit_facts plan (readings_in plan w) (port_of plan port) p.prefix.sub x.packets p
 
 abbrev pub asks_in : Plan → Whole → PortName → StreamState → Packet → List Fact
 asks_in plan w port x p =
@@ -179,6 +182,18 @@ abbrev pub if_found : Option StreamStage → (StreamStage → List Fact) → Lis
 if_found None facts = []
 if_found (Some q) facts = facts q
 
+-- ---- resets
+
+abbrev pub cleared_in : Plan → Whole → PortName → List StreamPlan → List Fact
+cleared_in plan w end [] = []
+cleared_in plan w end (s ∷ ss) =
+    clears_fact plan end s.id (machine_status plan w.links end.side end.line s.id)
+    ∷ (if_found (find_op plan w.links end.line s.id) (λ q. manager_fact q ∷ []) ++ cleared_in plan w end ss)
+
+abbrev pub reset_facts_in : Plan → Whole → List PortName → List Fact
+reset_facts_in plan w [] = []
+reset_facts_in plan w (e ∷ es) = cleared_in plan w e (streams_of plan e.line) ++ reset_facts_in plan w es
+
 -- ---- events on interfaces
 
 abbrev pub asked_face : Plan → Whole → InterfaceEvent → Option (Site × Face) → List Fact
@@ -187,9 +202,15 @@ asked_face plan w e (Some y) =
     asked_facts plan y.0 (face_standing plan (whole_streams plan w) w.faces.used y.0 y.1) e
 
 abbrev pub asked_facts_in : Plan → Whole → InterfaceEvent → Option ℕ → List Fact
-asked_facts_in plan w e None = []
+asked_facts_in plan w e None = memory_facts plan e
 asked_facts_in plan w e (Some i) =
     asked_face plan w e (find_face (λ x. x.number == i) (sites plan) w.faces.list)
+
+-- ---- the memory of interfaces
+
+abbrev pub shown_in : ℕ → Option (Site × Face) → List Fact
+shown_in bar None = []
+shown_in bar (Some y) = shown_facts y.0.number y.1.tdi bar
 
 -- ---- all events
 
@@ -223,7 +244,8 @@ facts_in plan w (event.Status line stream) =
     if_found (find_op plan w.links line stream) (λ q. manager_fact q ∷ [])
 facts_in plan w (event.Interface e) = asked_facts_in plan w e (number_in e)
 facts_in plan w (event.Access (ae.Answer link)) = answer_facts_in plan w link
-facts_in plan w (event.Access (ae.Mmio interface bar offset len)) = []
+facts_in plan w (event.Access (ae.Mmio interface bar offset len)) =
+    shown_in bar (find_face (λ x. x.number == interface) (sites plan) w.faces.list)
 facts_in plan w (event.Forward link d) = forward_facts_in plan w link d
-facts_in plan w (event.Reset link ends) = []
+facts_in plan w (event.Reset link ends) = if has_link plan link then reset_facts_in plan w ends else []
 facts_in plan w event.Absent = []

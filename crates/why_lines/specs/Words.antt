@@ -44,6 +44,7 @@ stream_fact_word (sf.State status) = codes "stream " ++ status_word status
 stream_fact_word (sf.Posted sub posted) = codes "posted " ++ substream_word sub ++ codes " " ++ decimal posted
 stream_fact_word (sf.Set set state) = codes "set " ++ bit_word set ++ codes " " ++ set_word state
 stream_fact_word (sf.Counts sum posted) = codes "counts " ++ decimal sum ++ codes " of " ++ decimal posted
+stream_fact_word (sf.Adds posted) = codes "adds " ++ decimal posted
 stream_fact_word (sf.Total units) = codes "total " ++ decimal units
 
 -- which way a place goes
@@ -58,6 +59,9 @@ operation_fact_word (of.Exchanges first last) = codes "exchanges " ++ decimal fi
 operation_fact_word (of.Refuses exchange port sends sub) =
     codes "refuses " ++ decimal exchange ++ codes " " ++ port_word port ++ codes " " ++ way_word sends ++ codes " "
     ++ substream_word sub
+operation_fact_word (of.Open sub) = codes "open " ++ substream_word sub
+operation_fact_word (of.Clears port stream status) =
+    codes "clears " ++ port_word port ++ codes " " ++ decimal stream ++ codes " " ++ status_word status
 
 abbrev pub interface_fact_word : InterfaceFact → Text
 interface_fact_word (face.Interface interface state) =
@@ -69,6 +73,13 @@ interface_fact_word (face.Bound stream floor) = codes "bound " ++ decimal stream
 interface_fact_word (face.Needs needs) = codes "needs " ++ decimal needs
 interface_fact_word (face.Draw draw) = codes "draw " ++ decimal draw
 interface_fact_word (face.Packet place t) = codes "packet " ++ decimal place ++ codes " t" ++ bit_word t
+interface_fact_word (face.Bytes address count) = codes "bytes " ++ decimal address ++ codes " " ++ decimal count
+interface_fact_word (face.Region base size) = codes "region " ++ decimal base ++ codes " " ++ decimal size
+interface_fact_word (face.Bar bar base pages is_open) =
+    codes "bar " ++ decimal bar ++ codes " base " ++ decimal base ++ codes " pages " ++ decimal pages
+    ++ codes " open " ++ bit_word is_open
+interface_fact_word (face.Takes stream floor) = codes "takes " ++ decimal stream ++ codes " floor " ++ decimal floor
+interface_fact_word (face.Live draw) = codes "live " ++ decimal draw
 interface_fact_word (face.Waiting waiting) = codes "waiting " ++ decimal waiting
 interface_fact_word (face.Read draw) = codes "read draw " ++ decimal draw
 

@@ -77,6 +77,10 @@ pub enum StreamFact {
         sum: u64,
         posted: u64,
     },
+    /// `adds P`: the posted counts of the unit so far, with the packet that arrives, have the sum P.
+    Adds {
+        posted: u64,
+    },
     /// `total T`: so many units were finished there on a closed stream, under all draws since the last establish.
     Total {
         units: u64,
@@ -107,6 +111,17 @@ pub enum OperationFact {
         sends: bool,
         sub: SubKind,
     },
+    /// `open SUB`: the host's sender of the sub-stream is in use in the key set that a refresh would program.
+    Open {
+        sub: SubKind,
+    },
+    /// `clears PORT STREAM STATUS`: a reset clears the stream at the port, where it has this state. What the manager
+    /// knows of it follows.
+    Clears {
+        port: PortName,
+        stream: u8,
+        status: StreamStatus,
+    },
 }
 
 /// A fact of a device interface, of the manager's view of it, or of what waits (PCI Express Base 6.0 chapter 11, in
@@ -114,25 +129,75 @@ pub enum OperationFact {
 #[derive(Clone, Copy, PartialEq, Eq)]
 pub enum InterfaceFact {
     /// `interface I state N`: an interface, and its state at its device: 0 unlocked, 1 locked, 2 run, 3 error.
-    Interface { interface: u8, state: u8 },
+    Interface {
+        interface: u8,
+        state: u8,
+    },
     /// `view VIEW`: the manager's view of it.
-    View { view: View },
+    View {
+        view: View,
+    },
     /// `reported B`: 1 if its report was read since it was locked.
-    Reported { reported: bool },
+    Reported {
+        reported: bool,
+    },
     /// `started B`: 1 if its start was asked since it was last asked to be locked.
-    Started { started: bool },
+    Started {
+        started: bool,
+    },
     /// `bound STREAM floor J`: while the view is Running, the stream that it is bound to, and the draw of its start.
-    Bound { stream: u8, floor: u32 },
+    Bound {
+        stream: u8,
+        floor: u32,
+    },
     /// `needs J`: the least draw that it may be started under.
-    Needs { needs: u32 },
+    Needs {
+        needs: u32,
+    },
     /// `draw J`: the draw of the stream that it is bound to.
-    Draw { draw: u32 },
+    Draw {
+        draw: u32,
+    },
     /// `packet I tT`: packet I of the unit, from 1, and its T. What it asks of follows.
-    Packet { place: u64, t: bool },
+    Packet {
+        place: u64,
+        t: bool,
+    },
+    /// `bytes A N`: N bytes of memory are asked for, from address A on.
+    Bytes {
+        address: u64,
+        count: u64,
+    },
+    /// `region A N`: the region of trusted memory that has all of them: N bytes, from address A on.
+    Region {
+        base: u64,
+        size: u64,
+    },
+    /// `bar B base A pages P open O`: the BAR that has all of them, with its base as it stands; 1 if it is open to
+    /// writes without T.
+    Bar {
+        bar: u64,
+        base: u64,
+        pages: u32,
+        is_open: bool,
+    },
+    /// `takes STREAM floor J`: the device takes trusted writes to the interface on the stream, under draws from J on.
+    Takes {
+        stream: u8,
+        floor: u32,
+    },
+    /// `live J`: the stream between devices is Secure at the interface's device, where posted requests come under J.
+    Live {
+        draw: u32,
+    },
     /// `waiting N`: so many reads of the link wait, or TLPs at its switch.
-    Waiting { waiting: u64 },
+    Waiting {
+        waiting: u64,
+    },
     /// `read draw J`: the oldest read that waits came under this draw.
-    Read { draw: u32 },
+    Read {
+        draw: u32,
+    },
 }
 
 /// A fact of the state before an event.

@@ -73,6 +73,7 @@ impl fmt::Display for StreamFact {
                 write!(f, "set {set} {state}")
             }
             StreamFact::Counts { sum, posted } => write!(f, "counts {sum} of {posted}"),
+            StreamFact::Adds { posted } => write!(f, "adds {posted}"),
             StreamFact::Total { units } => write!(f, "total {units}"),
         }
     }
@@ -102,6 +103,12 @@ impl fmt::Display for OperationFact {
                 let way = way(*sends);
                 write!(f, "refuses {exchange} {port} {way} {sub}")
             }
+            OperationFact::Open { sub } => write!(f, "open {sub}"),
+            OperationFact::Clears {
+                port,
+                stream,
+                status,
+            } => write!(f, "clears {port} {stream} {status}"),
         }
     }
 }
@@ -130,6 +137,19 @@ impl fmt::Display for InterfaceFact {
                 let t = u8::from(*t);
                 write!(f, "packet {place} t{t}")
             }
+            InterfaceFact::Bytes { address, count } => write!(f, "bytes {address} {count}"),
+            InterfaceFact::Region { base, size } => write!(f, "region {base} {size}"),
+            InterfaceFact::Bar {
+                bar,
+                base,
+                pages,
+                is_open,
+            } => {
+                let is_open = u8::from(*is_open);
+                write!(f, "bar {bar} base {base} pages {pages} open {is_open}")
+            }
+            InterfaceFact::Takes { stream, floor } => write!(f, "takes {stream} floor {floor}"),
+            InterfaceFact::Live { draw } => write!(f, "live {draw}"),
             InterfaceFact::Waiting { waiting } => write!(f, "waiting {waiting}"),
             InterfaceFact::Read { draw } => write!(f, "read draw {draw}"),
         }

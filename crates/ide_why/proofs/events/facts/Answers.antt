@@ -14,5 +14,6 @@ returns c h stood =
     ∙ ap (λ (xs : List Fact). xs ++ facts_read c.plan.result.now c.links.result.now c.args.event.now)
     c.new-facts.ensures.items
     ∙ ap (λ (plan : Plan). facts_read plan c.links.result.now c.args.event.now) c.plan.ensures.plan
-    ∙ read_is c.args.world.now.plan c.links.result.now c.links.ensures.world.links h kept c.args.event.now
+    ∙ read_is c.args.world.now.plan c.links.result.now c.links.ensures.world.links c.links.ensures.world.bounded.whole
+    h kept c.args.event.now
     ∙ c.facts_stand.ensures c.args.world.now.plan kept.whole h c.args.event.now kept.stands

@@ -6,6 +6,7 @@ use Rattle.sub_stream.specs.declared.facts.StreamFacts.{StreamFacts}
 use Rattle.why_lines.specs.declared.fact.Fact.{Fact}
 use Rattle.why_facts.specs.Forms.{arrives_fact}
 use Rattle.ide_why.specs.Facts.{received_read}
+use Rattle.ide_why.specs.Reading.{held_read}
 use Rattle.ide_why.proofs.reader.Reader.push_packet.Goals as goal
 
 -- a fact, a fact and two lists of facts, appended one after the other
@@ -28,5 +29,7 @@ returns-in_ok-push_receiver-in-Some c =
     c.in_ok-push_status-in-Some.ensures c.in_ok-push_receiver-in-Some.ensures
     ∙ ap (λ (o : Option StreamFacts). c.args.facts.now.items
     ++ arrives_fact c.args.self.now.plan.now c.args.end (packet_of_view c.args.packet.now)
-    ∷ received_read c.args.self.now.plan.now c.args.self.now.links.now c.args.end (packet_of_view c.args.packet.now) o)
+    ∷ received_read c.args.self.now.plan.now c.args.self.now.links.now c.args.end
+    (held_read c.args.self.now.plan.now c.args.self.now.links.now c.args.end c.args.packet.now.prefix.stream
+    c.args.packet.now.prefix.sub c.args.packet.now.prefix.k) (packet_of_view c.args.packet.now) o)
     c.in-Some.ensures) c.push_asks.ensures

@@ -1,0 +1,256 @@
+//! Facts of what packets ask of memory.
+
+ghost use Rattle.std.specs.Prelude.{◌≡◌, ◌∷◌, ◌++◌, [], IfOk, Ok, length};
+ghost use Rattle.ide_prefix.specs.Cut.{packet_of_view, IsView};
+ghost use Rattle.ide_types.specs.declared.port.Side.TheVariants.{Device, Host};
+ghost use Rattle.guarded_memory.specs.{claim_of};
+ghost use Rattle.spec_links.specs.Ports.{port_of as port_of_end};
+ghost use Rattle.why_facts.specs.Forms.{adds_facts, asks_facts, claim_facts, device_facts, host_facts, known_to};
+ghost use Rattle.why_facts.specs.Forms.{packet_fact, requester_at, requests_facts, unit_facts};
+ghost use Rattle.world.specs.{IsWorld, reads_at};
+ghost use Rattle.ide_why.specs.Facts.{readings_read};
+ghost use Rattle.ide_why.specs.Reading.{standings_read};
+
+use crate::faces::{push_face, push_of_interface};
+use crate::memory::{push_bar, push_bytes, push_span, push_takes};
+use crate::reader::Reader;
+use crate::streams::push;
+use association::owner;
+use guarded_memory::Claim;
+use ide_prefix::PacketView;
+use ide_types::{OutOfMemory, PortName, Side, SubKind, ValidPlan};
+use line_routes::{at_switch, port_of};
+use sub_stream::{Delivered, PacketMark};
+use tlp_layout::{HeadView, read_head};
+use trusted_memory::{MemReadView, Span};
+use why_lines::{Fact, InterfaceFact, StreamFact};
+
+fn packet_fact(place: u64, t: bool) -> Fact
+    ensures { result ≡ packet_fact place t }
+{
+    Fact::Interface {
+        fact: InterfaceFact::Packet { place, t },
+    }
+}
+
+// The requester ID of the interface at a place of a link.
+fn requester_at(plan: &ValidPlan, link: u8, place: usize) -> Option<u16>
+    ensures { result ≡ requester_at plan.now link place }
+{
+    match plan.plan().links.as_slice().get(link as usize) {
+        None => None,
+        Some(link) => match link.interfaces.as_slice().get(place) {
+            None => None,
+            Some(interface) => Some(interface.requester),
+        },
+    }
+}
+
+// Appends the sum of a unit's posted counts, if its sub-stream has any.
+fn push_adds(facts: &mut Vec<Fact>, sub: SubKind, posted: u64) -> Result<(), OutOfMemory>
+    ensures { IfOk result (λ _. facts.new.items ≡ facts.old.items ++ adds_facts sub posted) }
+{
+    match sub {
+        SubKind::Pr => Ok(()),
+        SubKind::Npr | SubKind::Cpl => push(
+            facts,
+            Fact::Stream {
+                fact: StreamFact::Adds { posted },
+            },
+        ),
+    }
+}
+
+impl Reader<'_> {
+    // How many trusted reads of a link wait.
+    fn waiting(&self, link: u8) -> u64
+        requires { IsWorld self.now.plan.now self.now.links.now }
+        ensures { result ≡ length (reads_at self.now.links.now.accesses link) }
+    {
+        if (link as usize) < self.links.links.ends.count() {
+            self.links.accesses.at(link).reads.waiting() as u64
+        } else {
+            0
+        }
+    }
+
+    // Appends what is known of the interface of a link that has this requester ID.
+    fn push_known(
+        &self,
+        facts: &mut Vec<Fact>,
+        link: u8,
+        requester: Option<u16>,
+    ) -> Result<(), OutOfMemory>
+        requires { IsWorld self.now.plan.now self.now.links.now }
+        ensures { IfOk result (λ _. facts.new.items ≡ facts.old.items ++ known_to (readings_read self.now.links.now)
+            link requester) }
+    {
+        match requester {
+            None => Ok(()),
+            Some(requester) => match self.of_requester(link, requester) {
+                None => Ok(()),
+                Some(face) => push_face(facts, &face),
+            },
+        }
+    }
+
+    // ---- at a host's port
+
+    // Appends what a request with this header looks at that is in a packet at a place of its unit.
+    fn push_asked_of_host(
+        &self,
+        facts: &mut Vec<Fact>,
+        link: u8,
+        place: u64,
+        t: bool,
+        head: &HeadView,
+    ) -> Result<(), OutOfMemory>
+        requires { IsWorld self.now.plan.now self.now.links.now }
+        ensures { IfOk result (λ _. facts.new.items ≡ facts.old.items ++ host_facts self.now.plan.now
+            (readings_read self.now.links.now) link place t (Ok head.now)) }
+    {
+        let reads = MemReadView::of(head).is_some();
+        if !(Span::of_write(head).is_some() || t && reads) {
+            return Ok(());
+        }
+        push(facts, packet_fact(place, t))?;
+        push_span(facts, self.plan, Span::of(head))?;
+        self.push_known(facts, link, owner(head))?;
+        if reads {
+            let waiting = self.waiting(link);
+            push_of_interface(facts, InterfaceFact::Waiting { waiting })?;
+        }
+        Ok(())
+    }
+
+    // ---- at a device's port
+
+    // The claim of the interfaces of a link's device on a write over these bytes.
+    fn claim(&self, link: u8, span: Span) -> Option<Claim>
+        requires { IsWorld self.now.plan.now self.now.links.now }
+        ensures { result ≡ claim_of (standings_read self.now.links.now link) span }
+    {
+        if (link as usize) < self.links.links.ends.count() {
+            let interfaces = &self.links.links.ends.link(link).device.interfaces;
+            self.links.accesses.at(link).claim(interfaces, span)
+        } else {
+            None
+        }
+    }
+
+    // Appends what claims a write.
+    fn push_claim(
+        &self,
+        facts: &mut Vec<Fact>,
+        link: u8,
+        claim: Option<Claim>,
+    ) -> Result<(), OutOfMemory>
+        requires { IsWorld self.now.plan.now self.now.links.now }
+        ensures { IfOk result (λ _. facts.new.items ≡ facts.old.items ++ claim_facts self.now.plan.now
+            (readings_read self.now.links.now) link claim) }
+    {
+        match claim {
+            None => Ok(()),
+            Some(claim) => {
+                let requester = requester_at(self.plan, link, claim.interface);
+                self.push_known(facts, link, requester)?;
+                push_bar(facts, claim.bar as u64, &claim.range)?;
+                push_takes(facts, claim.standing.bound.as_slice())
+            }
+        }
+    }
+
+    // Appends what a write with this header looks at that is in a packet at a place of its unit.
+    fn push_asked_of_device(
+        &self,
+        facts: &mut Vec<Fact>,
+        link: u8,
+        place: u64,
+        t: bool,
+        head: &HeadView,
+    ) -> Result<(), OutOfMemory>
+        requires { IsWorld self.now.plan.now self.now.links.now }
+        ensures { IfOk result (λ _. facts.new.items ≡ facts.old.items ++ device_facts self.now.plan.now
+            (readings_read self.now.links.now) link place t (Ok head.now)) }
+    {
+        match Span::of_write(head) {
+            None => Ok(()),
+            Some(span) => {
+                push(facts, packet_fact(place, t))?;
+                push_bytes(facts, span)?;
+                self.push_claim(facts, link, self.claim(link, span))
+            }
+        }
+    }
+
+    // ---- at any port
+
+    // Appends what a packet at a place of its unit asks of memory at a port.
+    fn push_request(
+        &self,
+        facts: &mut Vec<Fact>,
+        port: PortName,
+        place: u64,
+        mark: PacketMark,
+        head: &[u8],
+    ) -> Result<(), OutOfMemory>
+        requires { IsWorld self.now.plan.now self.now.links.now }
+        ensures { IfOk result (λ _. facts.new.items ≡ facts.old.items ++ asks_facts self.now.plan.now
+            (readings_read self.now.links.now) port place mark.sync mark.t head.now) }
+    {
+        if mark.sync || at_switch(self.plan, port) {
+            return Ok(());
+        }
+        match read_head(head) {
+            Err(_) => Ok(()),
+            Ok(head) => match port.side {
+                Side::Host => self.push_asked_of_host(facts, port.line, place, mark.t, &head),
+                Side::Device => self.push_asked_of_device(facts, port.line, place, mark.t, &head),
+            },
+        }
+    }
+
+    // Appends what each packet asks that is held for a unit at a port.
+    fn push_held(
+        &self,
+        facts: &mut Vec<Fact>,
+        port: PortName,
+        held: &Delivered<'_>,
+    ) -> Result<(), OutOfMemory>
+        requires { IsWorld self.now.plan.now self.now.links.now }
+        ensures { IfOk result (λ _. facts.new.items ≡ facts.old.items ++ requests_facts self.now.plan.now
+            (readings_read self.now.links.now) port 1 held.now) }
+    {
+        for i in 0..held.count() {
+            let mark = held.mark(i);
+            let (head, _) = held.packet(i);
+            self.push_request(facts, port, i as u64 + 1, mark, head)?;
+        }
+        Ok(())
+    }
+
+    /// Appends what a unit's packets ask of memory: those that are held, and the one that arrives at an end.
+    pub fn push_unit(
+        &self,
+        facts: &mut Vec<Fact>,
+        end: PortName,
+        held: &Delivered<'_>,
+        packet: &PacketView,
+    ) -> Result<(), OutOfMemory>
+        requires world { IsWorld self.now.plan.now self.now.links.now }
+        requires view { IsView packet.now }
+        ensures { IfOk result (λ _. facts.new.items ≡ facts.old.items ++ unit_facts self.now.plan.now
+            (readings_read self.now.links.now) (port_of_end self.now.plan.now end) packet.now.prefix.sub held.now
+            (packet_of_view packet.now)) }
+    {
+        let port = port_of(self.plan, end);
+        let posted = held.posted() + u64::from(packet.prefix.posted);
+        push_adds(facts, packet.prefix.sub, posted)?;
+        self.push_held(facts, port, held)?;
+        let mark = PacketMark {
+            t: packet.prefix.t,
+            sync: packet.sync,
+        };
+        self.push_request(facts, port, held.count() as u64 + 1, mark, packet.head)
+    }
+}
