@@ -39,7 +39,7 @@ use Rattle.ide_why.specs.Facts.{arrival_facts, asks_if, asks_read_facts, known_r
 use Rattle.ide_why.specs.Facts.{readings_read}
 use Rattle.ide_why.specs.Facts.{received_read, sending_facts, state_of_whole, stream_sends}
 use Rattle.ide_why.specs.Reading.{owner_face, requester_read, standings_read}
-use Rattle.ide_why.specs.Streams.{is_live_seen, set_seen}
+use Rattle.why_appends.specs.{is_live_seen, set_seen}
 use Rattle.ide_why.proofs.SeenStreams.{receiver_is, senders_are}
 
 set_is : (closed : Bool) (x : StreamState) (u : SubKind) (k : Bool)

@@ -27,9 +27,10 @@ use Rattle.world.proofs.{tdi_there}
 use Rattle.world.proofs.{requester_found, requester_nowhere, requester_true}
 use Rattle.world.proofs.{IsSomeSite, get_there, position_at, position_none, site_or_none}
 use Rattle.world.proofs.{face_absent, face_found, interface_absent, interface_there, site_apart, site_numbered}
-use Rattle.ide_why.specs.declared.faces.FaceSeen.{FaceSeen}
+use Rattle.why_appends.specs.declared.faces.FaceSeen.{FaceSeen}
+use Rattle.why_appends.specs.{face_seen, reported_seen}
 use Rattle.ide_why.specs.Facts.{known_read, shown_read, shown_seen}
-use Rattle.ide_why.specs.Faces.{AreFacesSeen, IsFaceSeen, face_seen, reported_seen}
+use Rattle.ide_why.specs.Faces.{AreFacesSeen, IsFaceSeen}
 use Rattle.ide_why.specs.Reading.{face_located, face_of, face_read, requester_read, tdi_read}
 
 abbrev is_site_requester : ℕ → ℕ → Site → Bool

@@ -36,7 +36,7 @@ use Rattle.why_facts.specs.Kept.{forward_facts_in, oldest_read_facts, reader_in}
 use Rattle.world.specs.{AreLinks, WorldStandsFor, WholeLinks, carried_on_link, peer_live, world_of}
 use Rattle.world.proofs.{live_is, peer_line_is}
 use Rattle.spec_keys.specs.History.{History}
-use Rattle.ide_why.specs.declared.faces.FaceSeen.{FaceSeen}
+use Rattle.why_appends.specs.declared.faces.FaceSeen.{FaceSeen}
 use Rattle.ide_why.specs.Facts.{answer_read, asked_by_face, asked_by_number, besides_read, bind_read, completion_read}
 use Rattle.ide_why.specs.Facts.{first_read, forward_read, oldest_read, reader_read, state_of_whole}
 use Rattle.ide_why.specs.Faces.{AreFacesSeen, IsFaceSeen}

@@ -28,12 +28,12 @@ use Rattle.why_lines.specs.declared.fact.Fact.TheVariants as fact
 use Rattle.why_lines.specs.declared.fact.OperationFact.TheVariants as of
 use Rattle.why_facts.specs.Forms.{exchange_facts, open_facts, opens_facts, refuses_fact, refusing_facts}
 use Rattle.world.specs.{WholeLinks}
-use Rattle.ide_why.specs.declared.places.Place.{Place}
-use Rattle.ide_why.specs.Facts.{exchanges_read, open_seen, opens_read, opens_seen, refusal_facts, state_of_whole}
-use Rattle.ide_why.specs.Places.{first_refusing, if_refusing, is_last_seen, is_refusing, key_place, place_or}
-use Rattle.ide_why.specs.Places.{refuses_seen, refusing_on, refusing_or, seen_place_at, sets_in}
+use Rattle.why_appends.specs.declared.places.Place.{Place}
+use Rattle.why_appends.specs.{is_last_seen, is_live_seen, key_place, open_seen, seen_place_at, set_seen}
+use Rattle.ide_why.specs.Facts.{exchanges_read, opens_read, opens_seen, refusal_facts, state_of_whole}
+use Rattle.ide_why.specs.Places.{first_refusing, if_refusing, is_refusing, place_or, refuses_seen, refusing_on}
+use Rattle.ide_why.specs.Places.{refusing_or, sets_in}
 use Rattle.ide_why.specs.Reading.{stream_read}
-use Rattle.ide_why.specs.Streams.{is_live_seen, set_seen}
 
 -- ---- what refuses
 

@@ -8,7 +8,7 @@ use Rattle.why_lines.specs.declared.fact.Fact.{Fact}
 use Rattle.why_facts.specs.Forms.{counts_facts, each_looked_at, posted_fact, set_facts, state_fact, total_facts}
 use Rattle.why_facts.specs.Kept.{receiver_fact_list, sender_facts_of, set_state_of_slot}
 use Rattle.spec_stream.specs.Slots.{stream_status}
-use Rattle.ide_why.specs.Streams.{receiver_seen, sender_seen, senders_seen, sets_seen, state_seen}
+use Rattle.why_appends.specs.{receiver_seen, sender_seen, senders_seen, sets_seen, state_seen}
 
 slot_is : (s : LaneSlot) → state_seen (slot_facts s) ≡ set_state_of_slot s
 slot_is Empty = refl

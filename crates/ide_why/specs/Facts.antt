@@ -6,7 +6,6 @@ use Rattle.ide_types.specs.{is_hosted, is_link_line}
 use Rattle.ide_types.specs.declared.direction.Direction.{Direction}
 use Rattle.ide_types.specs.declared.port.PortName.{PortName}
 use Rattle.ide_types.specs.declared.port.Side.TheVariants.{Host}
-use Rattle.ide_types.specs.declared.sub.SubKind.{SubKind}
 use Rattle.ide_types.specs.declared.sub.SubKind.TheVariants.{Pr, Npr, Cpl}
 use Rattle.ide_types.specs.Ports.{host_port}
 use Rattle.ide_types.specs.declared.plan.Plan.{Plan}
@@ -50,13 +49,13 @@ use Rattle.why_facts.specs.Forms.{may_go, memory_facts, packets_fact, peer_facts
 use Rattle.why_facts.specs.Forms.{sends_fact, shown_facts, state_fact, takes_facts, unit_facts, waiting_fact}
 use Rattle.why_facts.specs.Kept.{if_found}
 use Rattle.world.specs.{WholeLinks, carried_on_link, links_state, peer_live, reads_at}
-use Rattle.ide_why.specs.declared.faces.FaceSeen.{FaceSeen}
-use Rattle.ide_why.specs.declared.places.Place.{Place}
-use Rattle.ide_why.specs.Faces.{face_seen, reported_seen}
-use Rattle.ide_why.specs.Places.{key_place, refusing_on}
+use Rattle.why_appends.specs.declared.faces.FaceSeen.{FaceSeen}
+use Rattle.why_appends.specs.declared.places.Place.{Place}
+use Rattle.why_appends.specs.{face_seen, is_live_seen, key_place, open_seen, receiver_seen, reported_seen}
+use Rattle.why_appends.specs.{sender_seen, senders_seen, set_seen}
+use Rattle.ide_why.specs.Places.{refusing_on}
 use Rattle.ide_why.specs.Reading.{bindings_read, face_read, held_read, owner_face, requester_read, standings_read}
 use Rattle.ide_why.specs.Reading.{stream_read, tdi_read}
-use Rattle.ide_why.specs.Streams.{is_live_seen, receiver_seen, sender_seen, senders_seen, set_seen}
 
 abbrev pub state_of_whole : Plan → WholeLinks → LinkState
 state_of_whole plan s = links_state plan s.links
@@ -162,12 +161,6 @@ establish_read plan s line stream =
     let st = state_of_whole plan s in
     if_found (find_op plan st line stream) (λ q. manager_fact q ∷ draws_fact st.draws (pool_of plan)
     ∷ exchanges_read plan s op.Establish line stream q)
-
--- the sender of a sub-stream, if it is in use in a key set
-abbrev pub open_seen : Option StreamFacts → Bool → SubKind → List Fact
-open_seen None set u = []
-open_seen (Some f) set u =
-    if is_live_seen (set_seen set (lane_seen f u).sender.sets) then fact.Operation (of.Open u) ∷ [] else []
 
 abbrev pub opens_seen : Option StreamFacts → Bool → List Fact
 opens_seen f set = open_seen f set Pr ++ open_seen f set Npr ++ open_seen f set Cpl

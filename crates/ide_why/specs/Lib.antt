@@ -1,4 +1,3 @@
-pub mod Streams
 pub mod Faces
 pub mod Reading
 pub mod Facts

@@ -1,50 +1,26 @@
--- Where keys are, and which of these places refuses a KEY_PROG.
-use Rattle.std.specs.Prelude.{ℕ, ◌&&◌, nat_le, nat_lt, not, Bool, true, false, if◌then◌else◌, Option, Some, None}
+-- Which place of keys refuses a KEY_PROG.
+use Rattle.std.specs.Prelude.{ℕ, ◌&&◌, nat_le, Bool, true, false, if◌then◌else◌, Option, Some, None}
 use Rattle.std.specs.Option.{option_map, option_map_or}
 use Rattle.ide_types.specs.{is_hosted}
 use Rattle.ide_types.specs.declared.port.Side.{Side}
 use Rattle.ide_types.specs.declared.port.Side.TheVariants.{Host, Device}
-use Rattle.ide_types.specs.declared.sub.SubKind.{SubKind}
 use Rattle.ide_types.specs.declared.sub.SubKind.TheVariants.{Pr, Npr, Cpl}
 use Rattle.ide_types.specs.declared.plan.Plan.{Plan}
 use Rattle.spec_keys.specs.History.{program_at}
-use Rattle.spec_keys.specs.Places.{KeyPlace, is_host}
 use Rattle.link_verdicts.specs.declared.verdict.Operation.{Operation}
 use Rattle.sub_stream.specs.declared.facts.SetFacts.{SetFacts}
-use Rattle.sub_stream.specs.declared.facts.SlotFacts.{SlotFacts}
-use Rattle.sub_stream.specs.declared.facts.SlotFacts.TheVariants as slot
 use Rattle.sub_stream.specs.declared.facts.StreamFacts.{StreamFacts}
 use Rattle.sub_stream.specs.Facts.{lane_seen}
 use Rattle.world.specs.{WholeLinks}
-use Rattle.ide_why.specs.declared.places.Place.{Place}
+use Rattle.why_appends.specs.declared.places.Place.{Place}
+use Rattle.why_appends.specs.{is_last_seen, key_place, seen_place_at}
 use Rattle.ide_why.specs.Reading.{stream_read}
-
-abbrev pub key_place : Place → KeyPlace
-key_place p = record { side = p.side; line = p.line; stream = p.stream; sends = p.sends; sub = p.sub }
-
-abbrev pub seen_place_at : Side → ℕ → ℕ → Bool → SubKind → Place
-seen_place_at side line stream upward u = record {
-  side = side;
-  line = line;
-  stream = stream;
-  sends = if is_host side then not upward else upward;
-  sub = u;
-}
 
 abbrev pub sets_in : Place → StreamFacts → SetFacts
 sets_in p f = if p.sends then (lane_seen f p.sub).sender.sets else (lane_seen f p.sub).receiver.sets
 
 abbrev pub sets_at : Plan → WholeLinks → Place → Option SetFacts
 sets_at plan s p = option_map (sets_in p) (stream_read plan s (record { side = p.side; line = p.line }) p.stream)
-
--- a slot is Live, and the other is not Live under a newer draw
-abbrev pub is_last_beside : ℕ → SlotFacts → Bool
-is_last_beside draw (slot.Live newer units packets) = not (nat_lt draw newer)
-is_last_beside draw other = true
-
-abbrev pub is_last_seen : SlotFacts → SlotFacts → Bool
-is_last_seen (slot.Live draw units packets) other = is_last_beside draw other
-is_last_seen s other = false
 
 abbrev pub refuses_seen : Bool → SetFacts → Bool
 refuses_seen set sets = if set then is_last_seen sets.one sets.zero else is_last_seen sets.zero sets.one

@@ -19,7 +19,7 @@ use Rattle.interface_host.specs.Views.{HostTdi}
 use Rattle.interface_state.specs.{Tdi, state_code}
 use Rattle.interface_state.specs.declared.bindings.Binding.{Binding}
 use Rattle.world.specs.{WholeLinks, interface_named, links_state, standings_of_ends, interface_of_ends}
-use Rattle.ide_why.specs.declared.faces.FaceSeen.{FaceSeen}
+use Rattle.why_appends.specs.declared.faces.FaceSeen.{FaceSeen}
 
 -- a stream at an end
 abbrev pub stream_read : Plan → WholeLinks → PortName → ℕ → Option StreamFacts

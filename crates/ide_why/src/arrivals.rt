@@ -12,13 +12,12 @@ ghost use Rattle.ide_why.specs.Facts.{sealed_facts};
 ghost use Rattle.ide_why.specs.Reading.{held_read, stream_read};
 
 use crate::reader::Reader;
-use crate::sends::push_port;
-use crate::streams::{is_live, push, push_receiver, push_status};
 use ide_prefix::{Cut, PacketView, cut};
-use ide_types::{OutOfMemory, PortName, SubKind, ValidPlan};
-use line_routes::{goes_through, partner, port_of, reached};
+use ide_types::{OutOfMemory, PortName, SubKind};
+use line_routes::{goes_through, partner, reached};
 use std::alloc::Global;
 use sub_stream::{Delivered, StreamFacts};
+use why_appends::{arrives_fact, is_live, push, push_port, push_receiver, push_status};
 use why_lines::{Fact, StreamFact};
 
 // A copy of the bytes, with the one at `at` combined with `mask`.
@@ -29,19 +28,6 @@ fn altered(alloc: Global, bytes: &[u8], at: usize, mask: u8) -> Result<Vec<u8>, 
     let mut copy = Vec::from_slice(alloc, bytes)?;
     copy[at] ^= mask;
     Ok(copy)
-}
-
-fn arrives_fact(plan: &ValidPlan, end: PortName, packet: &PacketView) -> Fact
-    ensures { result ≡ arrives_fact plan.now end (packet_of_view packet.now) }
-{
-    Fact::Stream {
-        fact: StreamFact::Arrives {
-            port: port_of(plan, end),
-            stream: packet.prefix.stream,
-            sub: packet.prefix.sub,
-            k: packet.prefix.k,
-        },
-    }
 }
 
 impl Reader<'_> {

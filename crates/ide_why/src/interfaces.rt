@@ -4,21 +4,21 @@ ghost use Rattle.std.specs.Prelude.{◌≡◌, ◌∷◌, ◌++◌, [], IfOk, Li
 ghost use Rattle.hop_queues.specs.Directions.{queue_of};
 ghost use Rattle.ide_types.specs.Ports.{host_port};
 ghost use Rattle.spec_interfaces.specs.Views.{number_in};
-ghost use Rattle.why_facts.specs.Forms.{draw_fact, memory_facts};
 ghost use Rattle.world.specs.{IsWorld};
 ghost use Rattle.ide_why.specs.Facts.{answer_read, asked_by_number, besides_read, completion_read};
 ghost use Rattle.ide_why.specs.Facts.{forward_read, host_fact, oldest_read};
 ghost use Rattle.ide_why.specs.Reading.{stream_read};
 
-use crate::faces::{FaceSeen, push_face, push_of_interface, push_reported};
-use crate::memory::push_region;
 use crate::reader::Reader;
-use crate::streams::{push_sender, push_status};
 use hop_queues::HopQueues;
-use ide_types::{Direction, OutOfMemory, PortName, Side, SubKind, ValidPlan};
+use ide_types::{Direction, OutOfMemory, PortName, Side, SubKind};
 use line_routes::{has_hop, leaving_end};
 use link_events::InterfaceEvent;
 use trusted_memory::WaitingRead;
+use why_appends::{
+    FaceSeen, push_draw, push_face, push_memory, push_of_interface, push_reported, push_sender,
+    push_status,
+};
 use why_lines::{Fact, InterfaceFact};
 
 // The number of the interface that an event is on.
@@ -38,29 +38,6 @@ fn number_in(event: &InterfaceEvent) -> Option<u64>
         | InterfaceEvent::Flr { interface }
         | InterfaceEvent::Firmware { interface } => Some(*interface),
         InterfaceEvent::Memory { .. } => None,
-    }
-}
-
-/// Appends a draw.
-pub fn push_draw(facts: &mut Vec<Fact>, draw: u32) -> Result<(), OutOfMemory>
-    ensures { IfOk result (λ _. facts.new.items ≡ facts.old.items ++ draw_fact draw ∷ []) }
-{
-    push_of_interface(facts, InterfaceFact::Draw { draw })
-}
-
-// Appends the region of what an event asks of memory.
-fn push_memory(
-    facts: &mut Vec<Fact>,
-    plan: &ValidPlan,
-    event: &InterfaceEvent,
-) -> Result<(), OutOfMemory>
-    ensures { IfOk result (λ _. facts.new.items ≡ facts.old.items ++ memory_facts plan.now event.now) }
-{
-    match event {
-        InterfaceEvent::Memory { address, length } => {
-            push_region(facts, plan, *address, *length)
-        }
-        _ => Ok(()),
     }
 }
 

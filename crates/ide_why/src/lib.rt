@@ -4,9 +4,7 @@
 
 mod arrivals;
 mod events;
-mod faces;
 mod interfaces;
-mod memory;
 mod operations;
 mod peers;
 mod places;
@@ -14,7 +12,6 @@ mod reader;
 mod requests;
 mod resets;
 mod sends;
-mod streams;
 
 pub use events::facts;
 pub use why_lines::{Fact, why_text};

@@ -6,32 +6,22 @@ ghost use Rattle.spec_interfaces.specs.Peers.{has_peer};
 ghost use Rattle.spec_interfaces.specs.Views.{peer_of};
 ghost use Rattle.machine_operations.specs.{find_op};
 ghost use Rattle.machine_whole.specs.Machine.{op_or_idle};
-ghost use Rattle.why_facts.specs.Forms.{live_facts, manager_state, takes_facts};
+ghost use Rattle.why_facts.specs.Forms.{manager_state, takes_facts};
 ghost use Rattle.world.specs.{IsWorld};
 ghost use Rattle.ide_why.specs.Facts.{bind_read, shown_read, state_of_whole};
 ghost use Rattle.ide_why.specs.Reading.{bindings_read, tdi_read};
 
-use crate::faces::{FaceSeen, push_of_interface};
-use crate::interfaces::push_draw;
-use crate::memory::{push_bar_of, push_takes};
-use crate::operations::{manager_state, push_of_operation};
 use crate::reader::Reader;
 use ide_types::OutOfMemory;
 use interface_state::Interface;
+use why_appends::{
+    FaceSeen, manager_state, push_bar_of, push_draw, push_live, push_of_interface,
+    push_of_operation, push_takes,
+};
 use why_lines::{Fact, InterfaceFact, ManagerState, OperationFact};
 
 /// The line of the first stream between devices.
 const FIRST_PEER_LINE: u64 = 24;
-
-// Appends the draw that is Live where a device receives posted requests on a stream, if one is.
-fn push_live(facts: &mut Vec<Fact>, live: Option<u32>) -> Result<(), OutOfMemory>
-    ensures { IfOk result (λ _. facts.new.items ≡ facts.old.items ++ live_facts live) }
-{
-    match live {
-        None => Ok(()),
-        Some(draw) => push_of_interface(facts, InterfaceFact::Live { draw }),
-    }
-}
 
 impl Reader<'_> {
     // The interface of a number as its device keeps it; `None` if there is none.

@@ -1,74 +1,21 @@
-//! Where keys are: at an end of a line, and there in a sub-stream that it sends or receives.
+//! Which place of keys refuses a KEY_PROG.
 
 ghost use Rattle.std.specs.Prelude.{◌≡◌, ◌++◌, IfOk};
-ghost use Rattle.spec_keys.specs.History.{program_at};
 ghost use Rattle.spec_keys.specs.Operations.{work_of};
 ghost use Rattle.tsm_host.specs.Facts.{op_seen};
 ghost use Rattle.world.specs.{IsWorld};
 ghost use Rattle.ide_why.specs.Facts.{refusing_read};
-ghost use Rattle.ide_why.specs.Places.{first_refusing, is_last_seen, is_refusing, key_place, refusing_on};
-ghost use Rattle.ide_why.specs.Places.{seen_place_at, sets_at};
+ghost use Rattle.ide_why.specs.Places.{first_refusing, is_refusing, refusing_on, sets_at};
 
-use crate::operations::{first_exchange, key_set, push_of_operation};
 use crate::reader::{Reader, StageSeen};
 use ide_types::{OutOfMemory, PortName, Side, SubKind};
 use line_routes::port_of;
 use link_verdicts::Operation;
-use sub_stream::{SetFacts, SlotFacts};
+use sub_stream::SetFacts;
+use why_appends::{
+    Place, first_exchange, is_last, key_set, place_at, program_at, push_of_operation,
+};
 use why_lines::{Fact, OperationFact};
-
-/// A place of a stream's keys (this profile).
-#[derive(Clone, Copy)]
-pub struct Place {
-    pub side: Side,
-    pub line: u8,
-    pub stream: u8,
-    pub sends: bool,
-    pub sub: SubKind,
-}
-
-// The place of a sub-stream in the direction towards the host, or in the other.
-fn place_at(side: Side, line: u8, stream: u8, upward: bool, sub: SubKind) -> Place
-    ensures { result ≡ seen_place_at side line stream upward sub }
-{
-    Place {
-        side,
-        line,
-        stream,
-        sends: match side {
-            Side::Host => !upward,
-            Side::Device => upward,
-        },
-        sub,
-    }
-}
-
-// The number of its KEY_PROG.
-fn program_at(operation: Operation, place: Place) -> u64
-    ensures { result ≡ program_at operation (key_place place) }
-{
-    let lane = u64::from(place.sub.number()) + if place.sends { 3 } else { 0 };
-    match (place.line < 16, place.side) {
-        (true, Side::Host) => 0,
-        (true, Side::Device) => match operation {
-            Operation::Establish => 2 + lane,
-            Operation::Refresh | Operation::Stop => 1 + lane,
-        },
-        (false, Side::Host) => 1 + lane,
-        (false, Side::Device) => 7 + lane,
-    }
-}
-
-// Whether a slot is Live, and the other is not Live under a newer draw.
-fn is_last(slot: SlotFacts, other: SlotFacts) -> bool
-    ensures { result ≡ is_last_seen slot other }
-{
-    match (slot, other) {
-        (SlotFacts::Live { draw, .. }, SlotFacts::Live { draw: newer, .. }) => newer <= draw,
-        (SlotFacts::Live { .. }, _) => true,
-        _ => false,
-    }
-}
 
 impl Reader<'_> {
     // What both key sets hold at a place; `None` if there is no such stream.

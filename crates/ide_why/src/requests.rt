@@ -1,37 +1,30 @@
 //! Facts of what packets ask of memory.
 
-ghost use Rattle.std.specs.Prelude.{◌≡◌, ◌∷◌, ◌++◌, [], IfOk, Ok, length};
+ghost use Rattle.std.specs.Prelude.{◌≡◌, ◌++◌, IfOk, Ok, length};
 ghost use Rattle.ide_prefix.specs.Cut.{packet_of_view, IsView};
 ghost use Rattle.ide_types.specs.declared.port.Side.TheVariants.{Device, Host};
 ghost use Rattle.guarded_memory.specs.{claim_of};
 ghost use Rattle.spec_links.specs.Ports.{port_of as port_of_end};
-ghost use Rattle.why_facts.specs.Forms.{adds_facts, asks_facts, claim_facts, device_facts, host_facts, known_to};
-ghost use Rattle.why_facts.specs.Forms.{packet_fact, requester_at, requests_facts, unit_facts};
+ghost use Rattle.why_facts.specs.Forms.{asks_facts, claim_facts, device_facts, host_facts, known_to, requester_at};
+ghost use Rattle.why_facts.specs.Forms.{requests_facts, unit_facts};
 ghost use Rattle.world.specs.{IsWorld, reads_at};
 ghost use Rattle.ide_why.specs.Facts.{readings_read};
 ghost use Rattle.ide_why.specs.Reading.{standings_read};
 
-use crate::faces::{push_face, push_of_interface};
-use crate::memory::{push_bar, push_bytes, push_span, push_takes};
 use crate::reader::Reader;
-use crate::streams::push;
 use association::owner;
 use guarded_memory::Claim;
 use ide_prefix::PacketView;
-use ide_types::{OutOfMemory, PortName, Side, SubKind, ValidPlan};
+use ide_types::{OutOfMemory, PortName, Side, ValidPlan};
 use line_routes::{at_switch, port_of};
 use sub_stream::{Delivered, PacketMark};
 use tlp_layout::{HeadView, read_head};
 use trusted_memory::{MemReadView, Span};
-use why_lines::{Fact, InterfaceFact, StreamFact};
-
-fn packet_fact(place: u64, t: bool) -> Fact
-    ensures { result ≡ packet_fact place t }
-{
-    Fact::Interface {
-        fact: InterfaceFact::Packet { place, t },
-    }
-}
+use why_appends::{
+    packet_fact, push, push_adds, push_bar, push_bytes, push_face, push_of_interface, push_span,
+    push_takes,
+};
+use why_lines::{Fact, InterfaceFact};
 
 // The requester ID of the interface at a place of a link.
 fn requester_at(plan: &ValidPlan, link: u8, place: usize) -> Option<u16>
@@ -43,21 +36,6 @@ fn requester_at(plan: &ValidPlan, link: u8, place: usize) -> Option<u16>
             None => None,
             Some(interface) => Some(interface.requester),
         },
-    }
-}
-
-// Appends the sum of a unit's posted counts, if its sub-stream has any.
-fn push_adds(facts: &mut Vec<Fact>, sub: SubKind, posted: u64) -> Result<(), OutOfMemory>
-    ensures { IfOk result (λ _. facts.new.items ≡ facts.old.items ++ adds_facts sub posted) }
-{
-    match sub {
-        SubKind::Pr => Ok(()),
-        SubKind::Npr | SubKind::Cpl => push(
-            facts,
-            Fact::Stream {
-                fact: StreamFact::Adds { posted },
-            },
-        ),
     }
 }
 

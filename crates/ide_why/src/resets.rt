@@ -7,10 +7,10 @@ ghost use Rattle.why_facts.specs.Forms.{clears_fact};
 ghost use Rattle.world.specs.{IsWorld};
 ghost use Rattle.ide_why.specs.Facts.{cleared_read, reset_read, state_of_whole, status_read};
 
-use crate::operations::{push_manager, push_of_operation};
 use crate::reader::Reader;
 use ide_types::{OutOfMemory, PortName, StreamPlan};
 use line_routes::port_of;
+use why_appends::push_of_operation;
 use why_lines::{Fact, OperationFact};
 
 impl Reader<'_> {

@@ -1,74 +1,18 @@
 //! Facts of what is sent.
 
-ghost use Rattle.std.specs.Prelude.{◌≡◌, ◌∷◌, ◌++◌, [], IfOk, true};
+ghost use Rattle.std.specs.Prelude.{◌≡◌, ◌++◌, IfOk, true};
 ghost use Rattle.association.specs.Outgoing.{stream_taken};
-ghost use Rattle.spec_interfaces.specs.Cause.{is_peer, owners_link};
 ghost use Rattle.spec_links.specs.Plan.{has_port};
 ghost use Rattle.spec_links.specs.Ports.{outgoing_at};
-ghost use Rattle.why_facts.specs.Due.{sets_own_t};
-ghost use Rattle.why_facts.specs.Forms.{at_port, sends_fact};
 ghost use Rattle.world.specs.{IsWorld};
 ghost use Rattle.ide_why.specs.Facts.{owner_facts, sending_facts, stream_sends};
 ghost use Rattle.ide_why.specs.Reading.{stream_read};
 
-use crate::faces::push_face;
 use crate::reader::Reader;
-use crate::streams::{push, push_senders};
-use ide_types::{OutOfMemory, PortName, Side, SubKind, ValidPlan, port_at};
-use line_routes::{at_switch, port_of};
+use ide_types::{OutOfMemory, PortName};
 use tlp_layout::{HeadView, TlpView, read};
-use why_lines::{Fact, StreamFact};
-
-/// Appends the port of an end.
-pub fn push_port(facts: &mut Vec<Fact>, plan: &ValidPlan, end: PortName) -> Result<(), OutOfMemory>
-    ensures { IfOk result (λ _. facts.new.items ≡ facts.old.items ++ at_port plan.now end ∷ []) }
-{
-    let port = port_of(plan, end);
-    push(
-        facts,
-        Fact::Stream {
-            fact: StreamFact::At { port },
-        },
-    )
-}
-
-// Whether an end is of a stream between devices.
-fn is_peer(plan: &ValidPlan, end: PortName) -> bool
-    ensures { result ≡ is_peer plan.now end }
-{
-    let links = plan.plan().links.as_slice().len();
-    24 <= end.line && !((end.line as usize) < links)
-}
-
-// The link of the device whose interfaces own what is sent at an end.
-fn owners_link(plan: &ValidPlan, end: PortName) -> u8
-    ensures { result ≡ owners_link plan.now end }
-{
-    if is_peer(plan, end) {
-        port_at(plan.plan().peers.as_slice(), end).line
-    } else {
-        end.line
-    }
-}
-
-// Whether T is set by the interfaces of a device.
-fn sets_own_t(plan: &ValidPlan, end: PortName) -> bool
-    ensures { result ≡ sets_own_t plan.now end }
-{
-    !at_switch(plan, end) && (is_peer(plan, end) || end.side == Side::Device)
-}
-
-fn sends_fact(plan: &ValidPlan, end: PortName, stream: u8, sub: SubKind) -> Fact
-    ensures { result ≡ sends_fact plan.now end stream sub }
-{
-    Fact::Stream {
-        fact: StreamFact::Sends {
-            port: port_of(plan, end),
-            stream,
-            sub,
-        },
-    }
-}
+use why_appends::{owners_link, push, push_face, push_port, push_senders, sends_fact, sets_own_t};
+use why_lines::Fact;
 
 impl Reader<'_> {
     // Appends the interface that owns a TLP with this header, where it sets T.

@@ -1,8 +1,8 @@
 //! Facts of a device interface.
 
 ghost use Rattle.std.specs.Prelude.{◌≡◌, ◌∷◌, ◌++◌, [], IfOk};
-ghost use Rattle.ide_why.specs.Faces.{face_seen, grant_seen, reported_seen};
-ghost use Rattle.why_facts.specs.Forms.{bound_facts};
+ghost use Rattle.why_appends.specs.Faces.{face_seen, grant_seen, reported_seen};
+ghost use Rattle.why_facts.specs.Forms.{bound_facts, draw_fact, live_facts};
 
 use crate::streams::push;
 use ide_types::OutOfMemory;
@@ -65,5 +65,22 @@ pub fn push_reported(facts: &mut Vec<Fact>, reported: Option<bool>) -> Result<()
     match reported {
         None => Ok(()),
         Some(reported) => push_of_interface(facts, InterfaceFact::Reported { reported }),
+    }
+}
+
+/// Appends a draw.
+pub fn push_draw(facts: &mut Vec<Fact>, draw: u32) -> Result<(), OutOfMemory>
+    ensures { IfOk result (λ _. facts.new.items ≡ facts.old.items ++ draw_fact draw ∷ []) }
+{
+    push_of_interface(facts, InterfaceFact::Draw { draw })
+}
+
+/// Appends the draw that is Live where a device receives posted requests on a stream, if one is.
+pub fn push_live(facts: &mut Vec<Fact>, live: Option<u32>) -> Result<(), OutOfMemory>
+    ensures { IfOk result (λ _. facts.new.items ≡ facts.old.items ++ live_facts live) }
+{
+    match live {
+        None => Ok(()),
+        Some(draw) => push_of_interface(facts, InterfaceFact::Live { draw }),
     }
 }

@@ -1,5 +1,5 @@
 -- Facts of a stream at a port, by what is seen of it.
-use Rattle.std.specs.Prelude.{Bool, true, false, List, ◌∷◌, ◌++◌, if◌then◌else◌}
+use Rattle.std.specs.Prelude.{Bool, true, false, List, [], ◌∷◌, ◌++◌, if◌then◌else◌, Option, Some, None}
 use Rattle.ide_types.specs.declared.sub.SubKind.{SubKind}
 use Rattle.sub_stream.specs.declared.facts.SlotFacts.{SlotFacts}
 use Rattle.sub_stream.specs.declared.facts.SlotFacts.TheVariants as slot
@@ -7,6 +7,8 @@ use Rattle.sub_stream.specs.declared.facts.SetFacts.{SetFacts}
 use Rattle.sub_stream.specs.declared.facts.StreamFacts.{StreamFacts}
 use Rattle.sub_stream.specs.Facts.{lane_seen}
 use Rattle.why_lines.specs.declared.fact.Fact.{Fact}
+use Rattle.why_lines.specs.declared.fact.Fact.TheVariants as fact
+use Rattle.why_lines.specs.declared.fact.OperationFact.TheVariants as of
 use Rattle.why_lines.specs.declared.fact.SetState.{SetState}
 use Rattle.why_lines.specs.declared.fact.SetState.TheVariants as set
 use Rattle.why_facts.specs.Forms.{counts_facts, each_looked_at, posted_fact, set_facts, state_fact, total_facts}
@@ -40,3 +42,9 @@ is_live_seen s = false
 
 abbrev pub set_seen : Bool → SetFacts → SlotFacts
 set_seen k sets = if k then sets.one else sets.zero
+
+-- the sender of a sub-stream, if it is in use in a key set
+abbrev pub open_seen : Option StreamFacts → Bool → SubKind → List Fact
+open_seen None set u = []
+open_seen (Some f) set u =
+    if is_live_seen (set_seen set (lane_seen f u).sender.sets) then fact.Operation (of.Open u) ∷ [] else []

@@ -3,11 +3,13 @@
 ghost use Rattle.std.specs.Prelude.{◌≡◌, ◌∷◌, ◌++◌, [], find, IfOk, option_map, slice_get};
 ghost use Rattle.trusted_memory.specs.Regions.{holds_all};
 ghost use Rattle.trusted_memory.specs.Spans.{span_byte_count};
-ghost use Rattle.why_facts.specs.Forms.{bar_fact, bar_facts, bytes_fact, region_facts, span_facts, takes_facts};
+ghost use Rattle.why_facts.specs.Forms.{bar_fact, bar_facts, bytes_fact, memory_facts, region_facts, span_facts};
+ghost use Rattle.why_facts.specs.Forms.{takes_facts};
 
 use crate::faces::push_of_interface;
 use ide_types::{BarPlan, OutOfMemory, Region, ValidPlan};
 use interface_state::Binding;
+use link_events::InterfaceEvent;
 use trusted_memory::Span;
 use why_lines::{Fact, InterfaceFact};
 
@@ -129,4 +131,20 @@ pub fn push_takes(facts: &mut Vec<Fact>, bindings: &[Binding]) -> Result<(), Out
         )?;
     }
     Ok(())
+}
+
+/// Appends the region of what an event asks of memory.
+pub fn push_memory(
+    facts: &mut Vec<Fact>,
+    plan: &ValidPlan,
+    event: &InterfaceEvent,
+) -> Result<(), OutOfMemory>
+    ensures { IfOk result (λ _. facts.new.items ≡ facts.old.items ++ memory_facts plan.now event.now) }
+{
+    match event {
+        InterfaceEvent::Memory { address, length } => {
+            push_region(facts, plan, *address, *length)
+        }
+        _ => Ok(()),
+    }
 }

@@ -1,6 +1,6 @@
 use Rattle.std.proofs.Common.{◌≡◌, ◌++◌, drop}
 use Rattle.why_facts.specs.Forms.{takes_facts}
-use Rattle.ide_why.proofs.memory.push_takes.Given as goal
+use Rattle.why_appends.proofs.memory.push_takes.Given as goal
 
 -- the facts so far and those that are left
 abbrev pub invariant-loop-binding : goal.invariant-loop-binding

@@ -2,8 +2,8 @@
 
 ghost use Rattle.std.specs.Prelude.{◌≡◌, ◌∷◌, ◌++◌, [], IfOk};
 ghost use Rattle.why_facts.specs.Forms.{counts_facts, posted_fact, set_facts, state_fact, total_facts};
-ghost use Rattle.ide_why.specs.Streams.{is_live_seen, receiver_seen, sender_seen, senders_seen, set_seen, sets_seen};
-ghost use Rattle.ide_why.specs.Streams.{state_seen};
+ghost use Rattle.why_appends.specs.Streams.{is_live_seen, receiver_seen, sender_seen, senders_seen, set_seen};
+ghost use Rattle.why_appends.specs.Streams.{sets_seen, state_seen};
 
 use ide_types::{OutOfMemory, StreamStatus, SubKind};
 use sub_stream::{SetFacts, SlotFacts, StreamFacts};
