@@ -164,7 +164,8 @@ class Facts:
         facts = [f"sends {end.port} {end.plan.id} {SUB_NAMES[kind.sub]}", f"stream {end.status()}"]
         for sub in [PR, NPR, CPL] if kind.sub == PR else [kind.sub, PR]:
             facts += self.sender(end, sub)
-        owner = self.owner(end.link, header) if end.is_at_device else None
+        # on a hop's stream no interface sets T
+        owner = self.owner(end.link, header) if end.is_at_device and end.line.letter != "h" else None
         return facts + (self.face(owner) if owner else [])
 
     def send(self, port: str, data: bytes) -> List[str]:
