@@ -164,14 +164,14 @@ places2 = 10 ∷ 15 ∷ 0 ∷ 5 ∷ 14 ∷ 3 ∷ 4 ∷ 9 ∷ 2 ∷ 7 ∷ 8 ∷ 1
 abbrev pub places3 : List ℕ
 places3 = 15 ∷ 0 ∷ 5 ∷ 10 ∷ 3 ∷ 4 ∷ 9 ∷ 14 ∷ 7 ∷ 8 ∷ 13 ∷ 2 ∷ 11 ∷ 12 ∷ 1 ∷ 6 ∷ []
 
-abbrev pub shifted : List ℕ → List ℕ → List ℕ
-shifted v places = swz_l w8 16 v 0 places
+abbrev pub bytes_at_places : List ℕ → List ℕ → List ℕ
+bytes_at_places v places = swz_l w8 16 v 0 places
 
 -- what a round computes
 abbrev pub round_of : List ℕ → List ℕ → List ℕ → List ℕ
 round_of once twice k =
-    zip2 bit_xor (zip2 bit_xor (shifted twice places0) (shifted (zip2 bit_xor once twice) places1))
-    (zip2 bit_xor (zip2 bit_xor (shifted once places2) (shifted once places3)) k)
+    zip2 bit_xor (zip2 bit_xor (bytes_at_places twice places0) (bytes_at_places (zip2 bit_xor once twice) places1))
+    (zip2 bit_xor (zip2 bit_xor (bytes_at_places once places2) (bytes_at_places once places3)) k)
 
 pub round-lanes : (w s : List ℕ) → IsVector s
     → round_of (map once_of (map code s)) (map twice_of (map code s)) (map key_code (spread w))
@@ -227,11 +227,12 @@ round-lanes w s fits = of_16
     ∷ e15 i ∷ [])) s fits.0 fits.1
 
 pub last-lanes : (w s : List ℕ) → IsVector s
-    → zip2 bit_xor (shifted (map last_of (map code s)) places0) (map last_key (spread w))
+    → zip2 bit_xor (bytes_at_places (map last_of (map code s)) places0) (map last_key (spread w))
     ≡ add_round_key w (shift_rows (sub_bytes s))
 unfolding add_round_key shift_rows sub_bytes spread
 last-lanes w s fits = of_16
-    (λ s. Each1 (Fits w8) s → zip2 bit_xor (shifted (map last_of (map code s)) places0) (map last_key (spread w))
+    (λ s. Each1 (Fits w8) s → zip2 bit_xor (bytes_at_places (map last_of (map code s)) places0)
+    (map last_key (spread w))
     ≡ add_round_key w (shift_rows (sub_bytes s)))
     (λ a b c d e f g h i j k l m n o p given.
     let e0 = last-lane a (word_byte (slice_index w 0) 0) (given.0.fits) (bytes-lt (slice_index w 0) 0 (lit< tt)) in

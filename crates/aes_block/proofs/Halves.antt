@@ -13,8 +13,8 @@ use Rattle.aes_block.specs.Inside.{after_round, spread}
 use Rattle.aes_block.specs.Nibbles.{IsVector, code, entry_of, is_lookup_place, key_code, last_key, last_of, once_of}
 use Rattle.aes_block.specs.Nibbles.{twice_of}
 use Rattle.aes_block.proofs.Places.{of_16}
-use Rattle.aes_block.proofs.Codes.{places0, places1, places2, places3, shifted, round_of, round-lanes, last-lanes}
-use Rattle.aes_block.proofs.Codes.{first-lanes}
+use Rattle.aes_block.proofs.Codes.{places0, places1, places2, places3, bytes_at_places, round_of, round-lanes}
+use Rattle.aes_block.proofs.Codes.{last-lanes, first-lanes}
 
 -- what holds of any two lists of 16 elements
 pub of_two : (P : List ℕ → List ℕ → Type 0)
@@ -44,13 +44,11 @@ lower_places = 0 ∷ 1 ∷ 2 ∷ 3 ∷ 4 ∷ 5 ∷ 6 ∷ 7 ∷ 8 ∷ 9 ∷ 10 �
 abbrev pub upper_places : List ℕ
 upper_places = 16 ∷ 17 ∷ 18 ∷ 19 ∷ 20 ∷ 21 ∷ 22 ∷ 23 ∷ 24 ∷ 25 ∷ 26 ∷ 27 ∷ 28 ∷ 29 ∷ 30 ∷ 31 ∷ []
 
-pub lower-is : (a b : List ℕ) → length a ≡ 16 → length b ≡ 16
-    → pick_l 0 ((a ++ b) ++ (a ++ b)) lower_places ≡ a
+pub lower-is : (a b : List ℕ) → length a ≡ 16 → length b ≡ 16 → pick_l 0 ((a ++ b) ++ (a ++ b)) lower_places ≡ a
 lower-is = of_two (λ a b. pick_l 0 ((a ++ b) ++ (a ++ b)) lower_places ≡ a)
     (λ a b c d e f g h i j k l m n o p q r s t u v w x y z aa bb cc dd ee ff. refl)
 
-pub upper-is : (a b : List ℕ) → length a ≡ 16 → length b ≡ 16
-    → pick_l 0 ((a ++ b) ++ (a ++ b)) upper_places ≡ b
+pub upper-is : (a b : List ℕ) → length a ≡ 16 → length b ≡ 16 → pick_l 0 ((a ++ b) ++ (a ++ b)) upper_places ≡ b
 upper-is = of_two (λ a b. pick_l 0 ((a ++ b) ++ (a ++ b)) upper_places ≡ b)
     (λ a b c d e f g h i j k l m n o p q r s t u v w x y z aa bb cc dd ee ff. refl)
 
@@ -104,31 +102,37 @@ may_look_twice at long places = SwzOk-from_Each1 w8 16 2 32 0 at refl (omega ari
 -- ---- rounds
 
 by-rows0 : (v w : List ℕ) → length v ≡ 16 → length w ≡ 16
-    → shifted (v ++ w) (places0 ++ places0) ≡ shifted v places0 ++ shifted w places0
-by-rows0 = of_two (λ v w. shifted (v ++ w) (places0 ++ places0) ≡ shifted v places0 ++ shifted w places0)
+    → bytes_at_places (v ++ w) (places0 ++ places0) ≡ bytes_at_places v places0 ++ bytes_at_places w places0
+by-rows0 = of_two (λ v w. bytes_at_places (v ++ w) (places0 ++ places0) ≡ bytes_at_places v places0
+    ++ bytes_at_places w places0)
     (λ a b c d e f g h i j k l m n o p q r s t u v w x y z aa bb cc dd ee ff. refl)
 
 by-rows1 : (v w : List ℕ) → length v ≡ 16 → length w ≡ 16
-    → shifted (v ++ w) (places1 ++ places1) ≡ shifted v places1 ++ shifted w places1
-by-rows1 = of_two (λ v w. shifted (v ++ w) (places1 ++ places1) ≡ shifted v places1 ++ shifted w places1)
+    → bytes_at_places (v ++ w) (places1 ++ places1) ≡ bytes_at_places v places1 ++ bytes_at_places w places1
+by-rows1 = of_two (λ v w. bytes_at_places (v ++ w) (places1 ++ places1) ≡ bytes_at_places v places1
+    ++ bytes_at_places w places1)
     (λ a b c d e f g h i j k l m n o p q r s t u v w x y z aa bb cc dd ee ff. refl)
 
 by-rows2 : (v w : List ℕ) → length v ≡ 16 → length w ≡ 16
-    → shifted (v ++ w) (places2 ++ places2) ≡ shifted v places2 ++ shifted w places2
-by-rows2 = of_two (λ v w. shifted (v ++ w) (places2 ++ places2) ≡ shifted v places2 ++ shifted w places2)
+    → bytes_at_places (v ++ w) (places2 ++ places2) ≡ bytes_at_places v places2 ++ bytes_at_places w places2
+by-rows2 = of_two (λ v w. bytes_at_places (v ++ w) (places2 ++ places2) ≡ bytes_at_places v places2
+    ++ bytes_at_places w places2)
     (λ a b c d e f g h i j k l m n o p q r s t u v w x y z aa bb cc dd ee ff. refl)
 
 by-rows3 : (v w : List ℕ) → length v ≡ 16 → length w ≡ 16
-    → shifted (v ++ w) (places3 ++ places3) ≡ shifted v places3 ++ shifted w places3
-by-rows3 = of_two (λ v w. shifted (v ++ w) (places3 ++ places3) ≡ shifted v places3 ++ shifted w places3)
+    → bytes_at_places (v ++ w) (places3 ++ places3) ≡ bytes_at_places v places3 ++ bytes_at_places w places3
+by-rows3 = of_two (λ v w. bytes_at_places (v ++ w) (places3 ++ places3) ≡ bytes_at_places v places3
+    ++ bytes_at_places w places3)
     (λ a b c d e f g h i j k l m n o p q r s t u v w x y z aa bb cc dd ee ff. refl)
 
 -- what a round computes
 abbrev pub two_of : List ℕ → List ℕ → List ℕ → List ℕ
 two_of once twice k =
     zip2 bit_xor
-    (zip2 bit_xor (shifted twice (places0 ++ places0)) (shifted (zip2 bit_xor once twice) (places1 ++ places1)))
-    (zip2 bit_xor (zip2 bit_xor (shifted once (places2 ++ places2)) (shifted once (places3 ++ places3))) k)
+    (zip2 bit_xor (bytes_at_places twice (places0 ++ places0))
+    (bytes_at_places (zip2 bit_xor once twice) (places1 ++ places1)))
+    (zip2 bit_xor (zip2 bit_xor (bytes_at_places once (places2 ++ places2)) (bytes_at_places once (places3 ++ places3)))
+    k)
 
 halves-of : (a b c d k l : List ℕ) → length a ≡ 16 → length b ≡ 16 → length c ≡ 16 → length d ≡ 16 → length k ≡ 16
     → two_of (a ++ b) (c ++ d) (k ++ l) ≡ round_of a c k ++ round_of b d l
@@ -137,21 +141,22 @@ halves-of a b c d k l la lb lc ld lk =
     let y : List ℕ = zip2 bit_xor b d in
     let lx : length x ≡ 16 = length-zip2 bit_xor a c (la ∙ sym lc) ∙ la in
     let ly : length y ≡ 16 = length-zip2 bit_xor b d (lb ∙ sym ld) ∙ lb in
-    let c0 : List ℕ = shifted c places0 in
-    let d0 : List ℕ = shifted d places0 in
-    let x1 : List ℕ = shifted x places1 in
-    let y1 : List ℕ = shifted y places1 in
-    let a2 : List ℕ = shifted a places2 in
-    let b2 : List ℕ = shifted b places2 in
-    let a3 : List ℕ = shifted a places3 in
-    let b3 : List ℕ = shifted b places3 in
+    let c0 : List ℕ = bytes_at_places c places0 in
+    let d0 : List ℕ = bytes_at_places d places0 in
+    let x1 : List ℕ = bytes_at_places x places1 in
+    let y1 : List ℕ = bytes_at_places y places1 in
+    let a2 : List ℕ = bytes_at_places a places2 in
+    let b2 : List ℕ = bytes_at_places b places2 in
+    let a3 : List ℕ = bytes_at_places a places3 in
+    let b3 : List ℕ = bytes_at_places b places3 in
     let p : List ℕ = zip2 bit_xor c0 x1 in
     let q : List ℕ = zip2 bit_xor d0 y1 in
     let u : List ℕ = zip2 bit_xor a2 a3 in
     let v : List ℕ = zip2 bit_xor b2 b3 in
     let lu : 16 ≡ length (zip2 bit_xor u k) = sym (length-zip2 bit_xor u k (sym lk)) in
     (λ i. zip2 bit_xor
-    (zip2 bit_xor (by-rows0 c d lc ld i) (shifted (zip2-append bit_xor a b c d (la ∙ sym lc) i) (places1 ++ places1)))
+    (zip2 bit_xor (by-rows0 c d lc ld i) (bytes_at_places (zip2-append bit_xor a b c d (la ∙ sym lc) i)
+    (places1 ++ places1)))
     (zip2 bit_xor (zip2 bit_xor (by-rows2 a b la lb i) (by-rows3 a b la lb i)) (k ++ l)))
     ∙ (λ i. zip2 bit_xor (zip2 bit_xor (c0 ++ d0) (by-rows1 x y lx ly i))
     (zip2 bit_xor (zip2-append bit_xor a2 b2 a3 b3 refl i) (k ++ l)))
@@ -188,7 +193,7 @@ round-two w s t fs ft =
     ∙ (λ i. round-lanes w s fs i ++ round-lanes w t ft i)
 
 pub last-two : (w s t : List ℕ) → IsVector s → IsVector t
-    → zip2 bit_xor (shifted (map last_of (map code s) ++ map last_of (map code t)) (places0 ++ places0))
+    → zip2 bit_xor (bytes_at_places (map last_of (map code s) ++ map last_of (map code t)) (places0 ++ places0))
     (map last_key (spread w) ++ map last_key (spread w))
     ≡ add_round_key w (shift_rows (sub_bytes s)) ++ add_round_key w (shift_rows (sub_bytes t))
 last-two w s t fs ft =
@@ -197,7 +202,7 @@ last-two w s t fs ft =
     let y : List ℕ = map last_of (map code t) in
     ap (λ (l : List ℕ). zip2 bit_xor l (k ++ k))
     (by-rows0 x y (mapped last_of code s fs.0) (mapped last_of code t ft.0))
-    ∙ zip2-append bit_xor (shifted x places0) (shifted y places0) k k
+    ∙ zip2-append bit_xor (bytes_at_places x places0) (bytes_at_places y places0) k k
     (sym (length-map (spread w) last_key ∙ length-spread w))
     ∙ (λ i. last-lanes w s fs i ++ last-lanes w t ft i)
 

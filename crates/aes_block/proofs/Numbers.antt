@@ -8,8 +8,8 @@ use Rattle.aes_block.proofs.Entries.{sbox-lt}
 use Rattle.aes_block.specs.Inside.{spread, word_of, words_of}
 
 -- 16 elements, the last first
-abbrev reversed : List ℕ → List ℕ
-reversed l =
+abbrev bytes_in_reverse : List ℕ → List ℕ
+bytes_in_reverse l =
     slice_index l 15 ∷ slice_index l 14 ∷ slice_index l 13 ∷ slice_index l 12 ∷ slice_index l 11 ∷ slice_index l 10 ∷
     slice_index l 9 ∷ slice_index l 8 ∷ slice_index l 7 ∷ slice_index l 6 ∷ slice_index l 5 ∷ slice_index l 4 ∷
     slice_index l 3 ∷ slice_index l 2 ∷ slice_index l 1 ∷ slice_index l 0 ∷ []
@@ -29,7 +29,7 @@ four-digits n m k e =
 
 -- the bytes of two numbers of 64 bits, the last first
 pub bytes-number : (n lo hi : ℕ) → lo + 2 ^ 64 * (hi + 2 ^ 64 * 0) ≡ n
-    → reversed (digits_l 256 16 (lo + 2 ^ 64 * (hi + 2 ^ 64 * 0))) ≡ to_be_bytes w128 n
+    → bytes_in_reverse (digits_l 256 16 (lo + 2 ^ 64 * (hi + 2 ^ 64 * 0))) ≡ to_be_bytes w128 n
 bytes-number n lo hi e =
     let a : ℕ = n / 2 ^ 32 in
     let b : ℕ = a / 2 ^ 32 in
@@ -55,7 +55,8 @@ bytes-number n lo hi e =
     let d13 : n / 2 ^ 16 % 2 ^ 8 ≡ n / 2 ^ 16 % 2 ^ 8 = omega arith in
     let d14 : n / 2 ^ 8 % 2 ^ 8 ≡ n / 2 ^ 8 % 2 ^ 8 = omega arith in
     let d15 : n % 2 ^ 8 ≡ n % 2 ^ 8 = omega arith in
-    ap reversed whole ∙ (λ i. d0 i ∷ d1 i ∷ d2 i ∷ d3 i ∷ d4 i ∷ d5 i ∷ d6 i ∷ d7 i ∷ d8 i ∷ d9 i ∷ d10 i ∷ d11 i
+    ap bytes_in_reverse whole ∙ (λ i. d0 i ∷ d1 i ∷ d2 i ∷ d3 i ∷ d4 i ∷ d5 i ∷ d6 i ∷ d7 i ∷ d8 i ∷ d9 i ∷ d10 i
+    ∷ d11 i
     ∷ d12 i ∷ d13 i ∷ d14 i ∷ d15 i ∷ [])
 
 -- the words of a number spell its bytes

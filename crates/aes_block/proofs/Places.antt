@@ -7,8 +7,7 @@ use Rattle.std.proofs.lemmas.Simd.{zip2_splat, swz_l, SwzOk, SwzOk-from_Each1, l
 use lib.Lanes.{zip2, Each1}
 use Rattle.aes_block.specs.Aes.{sbox, sub_bytes}
 use Rattle.aes_block.specs.Nibbles.{IsVector, entry_of, is_lookup_place, low, high, nibble_sum, code, first_place}
-use Rattle.aes_block.specs.Nibbles.{second_place}
-use Rattle.aes_block.specs.Nibbles.{first_part, second_part, last_of}
+use Rattle.aes_block.specs.Nibbles.{second_place, first_part, second_part, last_of}
 use Rattle.aes_block.proofs.Entries.{SBOX, all_below, all_below_at, SBOX-sbox}
 
 pub lane_fits : (v : List ℕ) (i : ℕ) → Each1 (Fits w8) v → get_or v i 0 < 256

@@ -32,8 +32,7 @@ step ws keys b s t n are pos lt made held =
     this made) held)
 
 pub finish : (key : List ℕ) (keys : List RoundKey) (b s r : List ℕ) (n : ℕ) → AreRoundKeys (round_words key) keys
-    → n - 1 ≡ 13
-    → IsCoded (rounds (round_words key) b (n - 1)) s
+    → n - 1 ≡ 13 → IsCoded (rounds (round_words key) b (n - 1)) s
     → ((w a : List ℕ) → IsCoded a s → bytes_at keys 14 ≡ map last_key (spread w) → r
     ≡ add_round_key w (shift_rows (sub_bytes a)))
     → r ≡ aes key b
@@ -46,8 +45,7 @@ finish key keys b s r n are all held made =
 
 pub start_two : (ws : List ℕ) (keys : List RoundKey) (a b s : List ℕ) → AreRoundKeys ws keys → IsVector a → IsVector b
     → ((w : List ℕ) → IsVector a → IsVector b → bytes_at keys 0 ≡ map code (spread w)
-    → AreCoded (add_round_key w a) (add_round_key w b) s)
-    → AreCoded (rounds ws a 0) (rounds ws b 0) s
+    → AreCoded (add_round_key w a) (add_round_key w b) s) → AreCoded (rounds ws a 0) (rounds ws b 0) s
 unfolding rounds
 start_two ws keys a b s are fa fb made = made (round_key ws 0) fa fb are.0
 
@@ -61,8 +59,7 @@ one_more_two ws keys a b s t m are lt made held = made (round_key ws (suc m)) (r
 
 pub step_two : (ws : List ℕ) (keys : List RoundKey) (a b s t : List ℕ) (n : ℕ) → AreRoundKeys ws keys → 0 < n → n < 14
     → ((w p q : List ℕ) → AreCoded p q s → bytes_at keys n ≡ map key_code (spread w)
-    → AreCoded (after_round w p) (after_round w q) t)
-    → AreCoded (rounds ws a (n - 1)) (rounds ws b (n - 1)) s
+    → AreCoded (after_round w p) (after_round w q) t) → AreCoded (rounds ws a (n - 1)) (rounds ws b (n - 1)) s
     → AreCoded (rounds ws a (n + 1 - 1)) (rounds ws b (n + 1 - 1)) t
 step_two ws keys a b s t n are pos lt made held =
     let m : ℕ = n - 1 in

@@ -14,8 +14,8 @@ use Rattle.aes_block.specs.Inside.{spread}
 abbrev pub inverses : List ℕ
 inverses = 128 ∷ 1 ∷ 8 ∷ 13 ∷ 15 ∷ 6 ∷ 5 ∷ 14 ∷ 2 ∷ 12 ∷ 11 ∷ 10 ∷ 9 ∷ 3 ∷ 7 ∷ 4 ∷ []
 
-abbrev pub scaled : List ℕ
-scaled = 128 ∷ 7 ∷ 11 ∷ 15 ∷ 6 ∷ 10 ∷ 4 ∷ 1 ∷ 9 ∷ 8 ∷ 5 ∷ 2 ∷ 12 ∷ 14 ∷ 13 ∷ 3 ∷ []
+abbrev pub scaled_values : List ℕ
+scaled_values = 128 ∷ 7 ∷ 11 ∷ 15 ∷ 6 ∷ 10 ∷ 4 ∷ 1 ∷ 9 ∷ 8 ∷ 5 ∷ 2 ∷ 12 ∷ 14 ∷ 13 ∷ 3 ∷ []
 
 abbrev pub code_low : List ℕ
 code_low = 0 ∷ 112 ∷ 42 ∷ 90 ∷ 152 ∷ 232 ∷ 178 ∷ 194 ∷ 8 ∷ 120 ∷ 34 ∷ 82 ∷ 144 ∷ 224 ∷ 186 ∷ 202 ∷ []
@@ -63,10 +63,10 @@ abbrev pub nibble_sum : ℕ → ℕ
 nibble_sum x = bit_xor (low x) (high x)
 
 abbrev pub first_place : ℕ → ℕ
-first_place x = bit_xor (entry_of inverses (high x)) (entry_of scaled (low x))
+first_place x = bit_xor (entry_of inverses (high x)) (entry_of scaled_values (low x))
 
 abbrev pub second_place : ℕ → ℕ
-second_place x = bit_xor (entry_of inverses (nibble_sum x)) (entry_of scaled (low x))
+second_place x = bit_xor (entry_of inverses (nibble_sum x)) (entry_of scaled_values (low x))
 
 -- the two places at which the S-box of a code is looked up
 unfoldable pub first_part : ℕ → ℕ

@@ -6,20 +6,19 @@ use Rattle.ide_port.specs.declared.answer.Arrival.{Arrival}
 use Rattle.arrival_verdicts.specs.{Grants, reads_by}
 use Rattle.trusted_memory.specs.{MemoryContents}
 use Rattle.guarded_memory.specs.{Happened, MmioLeads}
-use Rattle.link_stores.specs.{device_standings}
+use Rattle.link_stores.specs.{device_statuses}
 use Rattle.link_stores.specs.declared.link.LinkAccesses.{LinkAccesses}
-use Rattle.interface_device.specs.Replies.{DeviceTdis}
+use Rattle.interface_ends.specs.Replies.{DeviceTdis}
 use Rattle.arrival_verdicts.specs.Verdicts.{arrival_verdict, effects_from, packet_stored, of_unit}
-use Rattle.all_ends.specs.AllEnds.{Comes, link_standings}
+use Rattle.all_ends.specs.AllEnds.{Comes, link_statuses}
 
 pub comes_as : (regions : List Region) (grants : Grants) (end port : PortName) (answer : Arrival) (verdict : Verdict)
     (m n : MemoryContents) (a a' : LinkAccesses) (e : PortEnd) (l l' : LinkEnds)
-    → l.device.interfaces ≡ l'.device.interfaces
-    → Comes regions grants end port answer verdict m n a a' e l
+    → l.device.interfaces ≡ l'.device.interfaces → Comes regions grants end port answer verdict m n a a' e l
     → Comes regions grants end port answer verdict m n a a' e l'
 comes_as regions grants end port answer verdict m n a a' e l l' same came =
-    let stand : link_standings l a ≡ link_standings l' a =
-    ap (λ (d : DeviceTdis). device_standings a.floors d) same in
+    let stand : link_statuses l a ≡ link_statuses l' a =
+    ap (λ (d : DeviceTdis). device_statuses a.floors d) same in
     record {
       verdict_is = came.verdict_is ∙ (λ j. arrival_verdict end port answer
           (λ unit. effects_from regions grants (stand j) (length a.reads) port unit e.delivered));

@@ -5,14 +5,12 @@ use Rattle.all_ends.proofs.Terms.{sym, ◌∙◌, subst, arith, Option, Some, No
 use Rattle.all_ends.proofs.Terms.{slice_index_or, option_map_or, same_Some, none-some, slice_get_within, set-get_or}
 use Rattle.all_ends.proofs.Terms.{length-append, replicate, Side, Host, Device, PortName, Plan, StreamPlan}
 use Rattle.all_ends.proofs.Terms.{sent_direction, StreamState, streams_of, stream_plan, with_id, aggregation_of}
-use Rattle.all_ends.proofs.Terms.{is_closed, LinkPacket, port_at, port_place, find, put, PortEnd, Found, found_stream}
-use Rattle.all_ends.proofs.Terms.{changed_states}
-use Rattle.all_ends.proofs.Terms.{LinkEnds, PairEnds, EndsView, port_in, with_port, pair_port, with_pair_port}
-use Rattle.all_ends.proofs.Terms.{KeeperView, ports_in, pair_ports, in_sixteen, rows_of, state_of, IsPort, IsLink}
-use Rattle.all_ends.proofs.Terms.{IsPair}
-use Rattle.all_ends.proofs.Terms.{AreLinks, machine_found, machine_changed, found_plan, LinePlace, Link, Near, Pair}
-use Rattle.all_ends.proofs.Terms.{port_at_place, port_on, with_port_at, with_port_on, changed_at}
-use Rattle.all_ends.proofs.Terms.{false}
+use Rattle.all_ends.proofs.Terms.{is_closed, LinkPacket, port_at, port_place, find, with_stream_state, PortEnd, Found}
+use Rattle.all_ends.proofs.Terms.{found_stream, changed_states, LinkEnds, PairEnds, EndsView, port_in, with_port}
+use Rattle.all_ends.proofs.Terms.{pair_port, with_pair_port, KeeperView, ports_in, pair_ports, in_sixteen, rows_of}
+use Rattle.all_ends.proofs.Terms.{state_of, IsPort, IsLink, IsPair, AreLinks, machine_found, machine_changed}
+use Rattle.all_ends.proofs.Terms.{found_plan, LinePlace, Link, Near, Pair, port_at_place, port_on, with_port_at}
+use Rattle.all_ends.proofs.Terms.{with_port_on, changed_at, false}
 use Rattle.machine_ports.specs.Machine.{changed_by_id as id_changed, found_by_id as id_found}
 use Rattle.std.proofs.lemmas.List.{get_or_append_left, get_or-append_right, set-append_left, set-append_right}
 use Rattle.all_ends.proofs.ByPlace.{by_place, filled_get, filled_set, filled_length}
@@ -287,8 +285,8 @@ module _ (plan : Plan) (v : EndsView) (k : KeeperView) (packets : List LinkPacke
 
   pub put_at : (id : ℕ) (x : StreamState) (e' : PortEnd) → IsPort plan end e → e'.states
       ≡ changed_states e.plans e.states id x
-      → put plan (state_of plan v k packets) end id x ≡ state_of plan (with_port_on v end e') k packets
-  unfolding put
+      → with_stream_state plan (state_of plan v k packets) end id x ≡ state_of plan (with_port_on v end e') k packets
+  unfolding with_stream_state
   put_at id x e' at_port states =
       let here : id_changed (streams_of plan end.line) (slice_index_or (rows_of v) (port_place end) []) id x
       ≡ e'.states =

@@ -1,31 +1,31 @@
 -- What always holds of the ends of all lines, kept by a change of one of them: each end keeps its name, plans and
--- limit, with one call more at the most.
-use Rattle.all_ends.proofs.Terms.{◌≡◌, ℕ, suc, zero, ◌+◌, ◌≤◌, List, [], ◌∷◌, ◌++◌, length, refl, ap, sym, ◌∙◌}
-use Rattle.all_ends.proofs.Terms.{subst, arith, Option, Some, None, option_map, map, slice_get, same_Some}
-use Rattle.all_ends.proofs.Terms.{none-some, Side, Host, Device, PortName, Plan, StreamState, LinkPacket, port_at}
-use Rattle.all_ends.proofs.Terms.{PortEnd, LinkEnds, PairEnds, EndsView, port_in, with_port, pair_port, with_pair_port}
-use Rattle.all_ends.proofs.Terms.{KeeperView, ports_in, in_sixteen, pair_ports, rows_of, name_of, IsPort}
-use Rattle.all_ends.proofs.Terms.{IsLink, IsPair, IsBounded, AreLinks, StreamKept, StreamView, LinePlace, Link, Near}
-use Rattle.all_ends.proofs.Terms.{Pair}
-use Rattle.all_ends.proofs.Terms.{line_place, port_at_place, port_on, with_port_at, with_port_on, changed_at}
-use Rattle.all_ends.proofs.Terms.{settled_link, settled_ends, peer_live, settled_first_links}
+-- limit, and has one unit more in a sub-stream at the most.
+use Rattle.all_ends.proofs.Terms.{◌≡◌, ℕ, suc, zero, ◌+◌, ◌≤◌, List, [], ◌∷◌, ◌++◌, length, refl, ap, sym, ◌∙◌, subst}
+use Rattle.all_ends.proofs.Terms.{arith, Option, Some, None, option_map, map, slice_get, same_Some, none-some, Side}
+use Rattle.all_ends.proofs.Terms.{Host, Device, PortName, Plan, StreamState, LinkPacket, port_at, PortEnd, LinkEnds}
+use Rattle.all_ends.proofs.Terms.{PairEnds, EndsView, port_in, with_port, pair_port, with_pair_port, KeeperView}
+use Rattle.all_ends.proofs.Terms.{ports_in, in_sixteen, pair_ports, rows_of, name_of, IsPort, IsLink, IsPair, IsBounded}
+use Rattle.all_ends.proofs.Terms.{AreLinks, StreamKept, StreamView, LinePlace, Link, Near, Pair, line_place}
+use Rattle.all_ends.proofs.Terms.{port_at_place, port_on, with_port_at, with_port_on, changed_at, settled_link}
+use Rattle.all_ends.proofs.Terms.{settled_ends, peer_live, settled_first_links}
 use Rattle.std.specs.Prelude.{IsSome, Bool, true, false, if◌then◌else◌, nat_lt, ◌-◌}
 use Rattle.ide_types.specs.declared.plan.PeerPlan.{PeerPlan}
 use Rattle.all_ends.specs.Ends.{settled_peer, settled_place}
 use Rattle.all_ends.proofs.ByPlace.{changed_length, each_changed}
 use Rattle.all_ends.proofs.Finds.{mapped}
+use Rattle.ide_port.specs.{UnitsGrow}
+use Rattle.ide_port.proofs.Units.{stays, grow-on}
 
 -- ---- one end
 
--- the same streams, and at the most one more call
+-- the same streams
 pub record Keeps (e e' : PortEnd) : Type 0 where
   pub name : e'.name ≡ e.name
   pub plans : e'.plans ≡ e.plans
   pub limit : e'.limit ≡ e.limit
-  pub calls : e'.calls ≤ e.calls + 1
 
 pub as_before : (e : PortEnd) → Keeps e e
-as_before e = record { name = refl; plans = refl; limit = refl; calls = omega arith }
+as_before e = record { name = refl; plans = refl; limit = refl }
 
 port_kept : (plan : Plan) (end : PortName) (e e' : PortEnd) → IsPort plan end e → Keeps e e' → IsPort plan end e'
 port_kept plan end e e' is keeps = record {
@@ -197,8 +197,7 @@ place_kept plan i v k links = by_test (nat_lt i 8)
 -- the ports are seen, and not the interfaces
 pub ports_seen : (ls : List LinkEnds) (i : ℕ) (f : LinkEnds → LinkEnds)
     → ((l : LinkEnds) → (f l).host.states ≡ l.host.states)
-    → ((l : LinkEnds) → (f l).device.port.states ≡ l.device.port.states)
-    → ports_in (changed_at ls i f) ≡ ports_in ls
+    → ((l : LinkEnds) → (f l).device.port.states ≡ l.device.port.states) → ports_in (changed_at ls i f) ≡ ports_in ls
 ports_seen [] i f host device = refl
 ports_seen (l ∷ ls) zero f host device = (λ j. host l j ∷ device l j ∷ ports_in ls)
 ports_seen (l ∷ ls) (suc i) f host device =
@@ -224,21 +223,21 @@ place_rows i v = by_test (nat_lt i 8)
     by_test true = refl
     by_test false = of_peer (slice_get v.peers (i - 8))
 
--- ---- how often ends were called
+-- ---- how many units there were
 
--- the same ends are there, with so many more calls at the most
+-- the same ends are there, with so many more units at the most
 pub record Grows (n : ℕ) (v v' : EndsView) : Type 0 where
   pub many : length v'.links ≡ length v.links
   pub there : (end : PortName) → IsSome (port_on v end) → IsSome (port_on v' end)
-  pub calls : (end : PortName) (y : PortEnd) → port_on v' end ≡ Some y
-      → (x : PortEnd) × (port_on v end ≡ Some x) × (y.calls ≤ x.calls + n)
+  pub units : (end : PortName) (y : PortEnd) → port_on v' end ≡ Some y
+      → (x : PortEnd) × (port_on v end ≡ Some x) × UnitsGrow n x y
 
 pub grows_then : (m n : ℕ) (u v w : EndsView) → Grows m u v → Grows n v w → Grows (m + n) u w
 grows_then m n u v w first second = record {
   many = second.many ∙ first.many;
   there = λ end is. second.there end (first.there end is);
-  calls = λ end y is. (let a = second.calls end y is in let b = first.calls end a.0 a.1 in
-      (b.0, b.1, omega (arith, a.2, b.2)));
+  units = λ end y is. (let a = second.units end y is in let b = first.units end a.0 a.1 in
+      (b.0, b.1, grow-on m n b.0 a.0 y b.2 a.2));
 }
 
 -- of a list of which one item changes
@@ -251,25 +250,25 @@ module _ {A : Type 0} (n : ℕ) (g : A → PortEnd) (f : A → A) where
   there_after (x ∷ xs) (suc i) zero is = is
   there_after (x ∷ xs) (suc i) (suc j) is = there_after xs i j is
 
-  calls_after : (xs : List A) (i j : ℕ) → ((x : A) → slice_get xs i ≡ Some x → (g (f x)).calls ≤ (g x).calls + n)
+  units_after : (xs : List A) (i j : ℕ) → ((x : A) → slice_get xs i ≡ Some x → UnitsGrow n (g x) (g (f x)))
       → (y : PortEnd) → option_map g (slice_get (changed_at xs i f) j) ≡ Some y
-      → (x : PortEnd) × (option_map g (slice_get xs j) ≡ Some x) × (y.calls ≤ x.calls + n)
-  calls_after [] i j grow y is = absurd (none-some y is)
-  calls_after (x ∷ xs) zero zero grow y is =
+      → (x : PortEnd) × (option_map g (slice_get xs j) ≡ Some x) × UnitsGrow n x y
+  units_after [] i j grow y is = absurd (none-some y is)
+  units_after (x ∷ xs) zero zero grow y is =
       let more = grow x refl in
-      (g x, refl, subst (λ (p : PortEnd). p.calls ≤ (g x).calls + n) (same_Some (g (f x)) y is) more)
-  calls_after (x ∷ xs) zero (suc j) grow y is = (y, is, omega arith)
-  calls_after (x ∷ xs) (suc i) zero grow y is = (y, is, omega arith)
-  calls_after (x ∷ xs) (suc i) (suc j) grow y is = calls_after xs i j grow y is
+      (g x, refl, subst (λ (p : PortEnd). UnitsGrow n (g x) p) (same_Some (g (f x)) y is) more)
+  units_after (x ∷ xs) zero (suc j) grow y is = (y, is, stays n y)
+  units_after (x ∷ xs) (suc i) zero grow y is = (y, is, stays n y)
+  units_after (x ∷ xs) (suc i) (suc j) grow y is = units_after xs i j grow y is
 
 module _ (n : ℕ) (v : EndsView) (i : ℕ) where
   pub links_grow : (f : LinkEnds → LinkEnds)
-      → ((s : Side) (l : LinkEnds) → slice_get v.links i ≡ Some l → (port_in s (f l)).calls ≤ (port_in s l).calls + n)
+      → ((s : Side) (l : LinkEnds) → slice_get v.links i ≡ Some l → UnitsGrow n (port_in s l) (port_in s (f l)))
       → Grows n v (record v { links = changed_at v.links i f })
   links_grow f grow = record {
     many = changed_length v.links i f;
     there = λ end is. there_at end.side (line_place end.line) is;
-    calls = λ end y is. calls_at end.side (line_place end.line) y is;
+    units = λ end y is. units_at end.side (line_place end.line) y is;
   }
     where
       v' : EndsView
@@ -280,19 +279,19 @@ module _ (n : ℕ) (v : EndsView) (i : ℕ) where
       there_at s (Near j) is = is
       there_at s (Pair j) is = is
 
-      calls_at : (s : Side) (place : LinePlace) (y : PortEnd) → port_at_place v' s place ≡ Some y
-          → (x : PortEnd) × (port_at_place v s place ≡ Some x) × (y.calls ≤ x.calls + n)
-      calls_at s (Link j) y is = calls_after n (λ (l : LinkEnds). port_in s l) f v.links i j (grow s) y is
-      calls_at s (Near j) y is = (y, is, omega arith)
-      calls_at s (Pair j) y is = (y, is, omega arith)
+      units_at : (s : Side) (place : LinePlace) (y : PortEnd) → port_at_place v' s place ≡ Some y
+          → (x : PortEnd) × (port_at_place v s place ≡ Some x) × UnitsGrow n x y
+      units_at s (Link j) y is = units_after n (λ (l : LinkEnds). port_in s l) f v.links i j (grow s) y is
+      units_at s (Near j) y is = (y, is, stays n y)
+      units_at s (Pair j) y is = (y, is, stays n y)
 
   pub near_grow : (f : LinkEnds → LinkEnds)
-      → ((s : Side) (l : LinkEnds) → slice_get v.near i ≡ Some l → (port_in s (f l)).calls ≤ (port_in s l).calls + n)
+      → ((s : Side) (l : LinkEnds) → slice_get v.near i ≡ Some l → UnitsGrow n (port_in s l) (port_in s (f l)))
       → Grows n v (record v { near = changed_at v.near i f })
   near_grow f grow = record {
     many = refl;
     there = λ end is. there_at end.side (line_place end.line) is;
-    calls = λ end y is. calls_at end.side (line_place end.line) y is;
+    units = λ end y is. units_at end.side (line_place end.line) y is;
   }
     where
       v' : EndsView
@@ -303,20 +302,20 @@ module _ (n : ℕ) (v : EndsView) (i : ℕ) where
       there_at s (Near j) is = there_after n (λ (l : LinkEnds). port_in s l) f v.near i j is
       there_at s (Pair j) is = is
 
-      calls_at : (s : Side) (place : LinePlace) (y : PortEnd) → port_at_place v' s place ≡ Some y
-          → (x : PortEnd) × (port_at_place v s place ≡ Some x) × (y.calls ≤ x.calls + n)
-      calls_at s (Link j) y is = (y, is, omega arith)
-      calls_at s (Near j) y is = calls_after n (λ (l : LinkEnds). port_in s l) f v.near i j (grow s) y is
-      calls_at s (Pair j) y is = (y, is, omega arith)
+      units_at : (s : Side) (place : LinePlace) (y : PortEnd) → port_at_place v' s place ≡ Some y
+          → (x : PortEnd) × (port_at_place v s place ≡ Some x) × UnitsGrow n x y
+      units_at s (Link j) y is = (y, is, stays n y)
+      units_at s (Near j) y is = units_after n (λ (l : LinkEnds). port_in s l) f v.near i j (grow s) y is
+      units_at s (Pair j) y is = (y, is, stays n y)
 
   pub pairs_grow : (f : PairEnds → PairEnds)
       → ((s : Side) (l : PairEnds) → slice_get v.pairs i ≡ Some l
-      → (pair_port s (f l)).calls ≤ (pair_port s l).calls + n)
+      → UnitsGrow n (pair_port s l) (pair_port s (f l)))
       → Grows n v (record v { pairs = changed_at v.pairs i f })
   pairs_grow f grow = record {
     many = refl;
     there = λ end is. there_at end.side (line_place end.line) is;
-    calls = λ end y is. calls_at end.side (line_place end.line) y is;
+    units = λ end y is. units_at end.side (line_place end.line) y is;
   }
     where
       v' : EndsView
@@ -327,55 +326,55 @@ module _ (n : ℕ) (v : EndsView) (i : ℕ) where
       there_at s (Near j) is = is
       there_at s (Pair j) is = there_after n (λ (l : PairEnds). pair_port s l) f v.pairs i j is
 
-      calls_at : (s : Side) (place : LinePlace) (y : PortEnd) → port_at_place v' s place ≡ Some y
-          → (x : PortEnd) × (port_at_place v s place ≡ Some x) × (y.calls ≤ x.calls + n)
-      calls_at s (Link j) y is = (y, is, omega arith)
-      calls_at s (Near j) y is = (y, is, omega arith)
-      calls_at s (Pair j) y is = calls_after n (λ (l : PairEnds). pair_port s l) f v.pairs i j (grow s) y is
+      units_at : (s : Side) (place : LinePlace) (y : PortEnd) → port_at_place v' s place ≡ Some y
+          → (x : PortEnd) × (port_at_place v s place ≡ Some x) × UnitsGrow n x y
+      units_at s (Link j) y is = (y, is, stays n y)
+      units_at s (Near j) y is = (y, is, stays n y)
+      units_at s (Pair j) y is = units_after n (λ (l : PairEnds). pair_port s l) f v.pairs i j (grow s) y is
 
-put_calls : (s t : Side) (l : LinkEnds) (e e' : PortEnd) → port_in s l ≡ e → e'.calls ≤ e.calls + 1
-    → (port_in t (with_port s e' l)).calls ≤ (port_in t l).calls + 1
-put_calls Host Host l e e' is calls = omega (arith, ap (λ (p : PortEnd). p.calls) is, calls)
-put_calls Host Device l e e' is calls = omega arith
-put_calls Device Host l e e' is calls = omega arith
-put_calls Device Device l e e' is calls = omega (arith, ap (λ (p : PortEnd). p.calls) is, calls)
+put_units : (s t : Side) (l : LinkEnds) (e e' : PortEnd) → port_in s l ≡ e → UnitsGrow 1 e e'
+    → UnitsGrow 1 (port_in t l) (port_in t (with_port s e' l))
+put_units Host Host l e e' is more = subst (λ (p : PortEnd). UnitsGrow 1 p e') (sym is) more
+put_units Host Device l e e' is more = stays 1 l.device.port
+put_units Device Host l e e' is more = stays 1 l.host
+put_units Device Device l e e' is more = subst (λ (p : PortEnd). UnitsGrow 1 p e') (sym is) more
 
-pair_put_calls : (s t : Side) (l : PairEnds) (e e' : PortEnd) → pair_port s l ≡ e → e'.calls ≤ e.calls + 1
-    → (pair_port t (with_pair_port s e' l)).calls ≤ (pair_port t l).calls + 1
-pair_put_calls Host Host l e e' is calls = omega (arith, ap (λ (p : PortEnd). p.calls) is, calls)
-pair_put_calls Host Device l e e' is calls = omega arith
-pair_put_calls Device Host l e e' is calls = omega arith
-pair_put_calls Device Device l e e' is calls = omega (arith, ap (λ (p : PortEnd). p.calls) is, calls)
+pair_put_units : (s t : Side) (l : PairEnds) (e e' : PortEnd) → pair_port s l ≡ e → UnitsGrow 1 e e'
+    → UnitsGrow 1 (pair_port t l) (pair_port t (with_pair_port s e' l))
+pair_put_units Host Host l e e' is more = subst (λ (p : PortEnd). UnitsGrow 1 p e') (sym is) more
+pair_put_units Host Device l e e' is more = stays 1 l.far.port
+pair_put_units Device Host l e e' is more = stays 1 l.near.port
+pair_put_units Device Device l e e' is more = subst (λ (p : PortEnd). UnitsGrow 1 p e') (sym is) more
 
 end_grows_at : (v : EndsView) (s : Side) (place : LinePlace) (e e' : PortEnd) → port_at_place v s place ≡ Some e
-    → e'.calls ≤ e.calls + 1 → Grows 1 v (with_port_at v s place e')
-end_grows_at v s (Link i) e e' is calls =
+    → UnitsGrow 1 e e' → Grows 1 v (with_port_at v s place e')
+end_grows_at v s (Link i) e e' is more =
     let x = mapped (λ (l : LinkEnds). port_in s l) (slice_get v.links i) e is in
-    links_grow 1 v i (with_port s e') (λ t l at. put_calls s t l e e'
-    (ap (λ (y : LinkEnds). port_in s y) (same_Some l x.0 (sym at ∙ x.1)) ∙ x.2) calls)
-end_grows_at v s (Near i) e e' is calls =
+    links_grow 1 v i (with_port s e') (λ t l at. put_units s t l e e'
+    (ap (λ (y : LinkEnds). port_in s y) (same_Some l x.0 (sym at ∙ x.1)) ∙ x.2) more)
+end_grows_at v s (Near i) e e' is more =
     let x = mapped (λ (l : LinkEnds). port_in s l) (slice_get v.near i) e is in
-    near_grow 1 v i (with_port s e') (λ t l at. put_calls s t l e e'
-    (ap (λ (y : LinkEnds). port_in s y) (same_Some l x.0 (sym at ∙ x.1)) ∙ x.2) calls)
-end_grows_at v s (Pair i) e e' is calls =
+    near_grow 1 v i (with_port s e') (λ t l at. put_units s t l e e'
+    (ap (λ (y : LinkEnds). port_in s y) (same_Some l x.0 (sym at ∙ x.1)) ∙ x.2) more)
+end_grows_at v s (Pair i) e e' is more =
     let x = mapped (λ (l : PairEnds). pair_port s l) (slice_get v.pairs i) e is in
-    pairs_grow 1 v i (with_pair_port s e') (λ t l at. pair_put_calls s t l e e'
-    (ap (λ (y : PairEnds). pair_port s y) (same_Some l x.0 (sym at ∙ x.1)) ∙ x.2) calls)
+    pairs_grow 1 v i (with_pair_port s e') (λ t l at. pair_put_units s t l e e'
+    (ap (λ (y : PairEnds). pair_port s y) (same_Some l x.0 (sym at ∙ x.1)) ∙ x.2) more)
 
-pub end_grows : (v : EndsView) (end : PortName) (e e' : PortEnd) → port_on v end ≡ Some e → e'.calls ≤ e.calls + 1
+pub end_grows : (v : EndsView) (end : PortName) (e e' : PortEnd) → port_on v end ≡ Some e → UnitsGrow 1 e e'
     → Grows 1 v (with_port_on v end e')
-end_grows v end e e' is calls = end_grows_at v end.side (line_place end.line) e e' is calls
+end_grows v end e e' is more = end_grows_at v end.side (line_place end.line) e e' is more
 
-settled_calls : (live : ℕ → Option ℕ) (s : Side) (l : LinkEnds)
-    → (port_in s (settled_ends live l)).calls ≤ (port_in s l).calls + 0
-settled_calls live Host l = omega arith
-settled_calls live Device l = omega arith
+settled_units : (live : ℕ → Option ℕ) (s : Side) (l : LinkEnds)
+    → UnitsGrow 0 (port_in s l) (port_in s (settled_ends live l))
+settled_units live Host l = stays 0 l.host
+settled_units live Device l = stays 0 l.device.port
 
 pub settled_grows : (v : EndsView) (i : ℕ) → Grows 0 v (settled_link v i)
-settled_grows v i = links_grow 0 v i (settled_ends (peer_live v i)) (λ s l at. settled_calls (peer_live v i) s l)
+settled_grows v i = links_grow 0 v i (settled_ends (peer_live v i)) (λ s l at. settled_units (peer_live v i) s l)
 
 pub stays_all : (v : EndsView) → Grows 0 v v
-stays_all v = record { many = refl; there = λ end is. is; calls = λ end y is. (y, is, omega arith) }
+stays_all v = record { many = refl; there = λ end is. is; units = λ end y is. (y, is, stays 0 y) }
 
 pub below_grows : (n : ℕ) (v : EndsView) → Grows 0 v (settled_first_links n v)
 below_grows zero v = stays_all v
@@ -397,11 +396,10 @@ place_grows i v = by_test (nat_lt i 8)
 -- one more event
 pub bounded_then : (n : ℕ) (v v' : EndsView) (packets more : List LinkPacket) (steps : ℕ) → n ≤ 1
     → IsBounded v packets steps → Grows n v v'
-    → ((i : ℕ) (p : LinkPacket) → slice_get more i ≡ Some p → IsSome (port_on v p.port))
-    → IsBounded v' more (steps + 1)
+    → ((i : ℕ) (p : LinkPacket) → slice_get more i ≡ Some p → IsSome (port_on v p.port)) → IsBounded v' more (steps + 1)
 bounded_then n v v' packets more steps le bounded grows sealed = record {
   few = (let few = bounded.few in let many = grows.many in omega (arith, few, many));
-  calls = λ end y is. (let x = grows.calls end y is in let most = bounded.calls end x.0 x.1 in
-      let rest = x.2 in omega (arith, le, most, rest));
+  units = λ end y is. (let x = grows.units end y is in
+      x.2.bounded steps (steps + 1) (omega (arith, le)) (bounded.units end x.0 x.1));
   sealed_here = λ i p at. grows.there p.port (sealed i p at);
 }

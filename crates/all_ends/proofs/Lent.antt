@@ -1,15 +1,15 @@
 -- An item that is lent to be changed: what each call of one end, or of the ends of one line, makes of all ends.
-use Rattle.all_ends.proofs.Terms.{◌≡◌, ℕ, ◌<◌, ◌≤◌, Bool, List, length, refl, ap}
-use Rattle.all_ends.proofs.Terms.{sym, ◌∙◌, subst, Option, Some, None, option_map, slice_get, slice_set}
-use Rattle.all_ends.proofs.Terms.{slice_index_or, none-some, slice_get_within, slice_get_read, Side, Host, Device}
-use Rattle.all_ends.proofs.Terms.{PortName, PortEnd, take_step, EndsView, LinkEnds, PairEnds, port_in, with_port}
-use Rattle.all_ends.proofs.Terms.{pair_port, with_pair_port, line_place, LinePlace, Link, Near, Pair, port_at_place}
-use Rattle.all_ends.proofs.Terms.{port_on, with_port_at, with_port_on, changed_at, peer_live, KeeperView, HasCalls}
-use Rattle.all_ends.proofs.Terms.{Operates}
+use Rattle.all_ends.proofs.Terms.{◌≡◌, ℕ, ◌<◌, ◌≤◌, Bool, List, length, refl, ap, sym, ◌∙◌, subst, Option, Some, None}
+use Rattle.all_ends.proofs.Terms.{option_map, slice_get, slice_set, slice_index_or, none-some, slice_get_within}
+use Rattle.all_ends.proofs.Terms.{slice_get_read, Side, Host, Device, PortName, PortEnd, take_step, EndsView, LinkEnds}
+use Rattle.all_ends.proofs.Terms.{PairEnds, port_in, with_port, pair_port, with_pair_port, line_place, LinePlace, Link}
+use Rattle.all_ends.proofs.Terms.{Near, Pair, port_at_place, port_on, with_port_at, with_port_on, changed_at, peer_live}
+use Rattle.all_ends.proofs.Terms.{KeeperView, NoMoreUnits, Operates}
 use Rattle.all_ends.specs.Ends.{trust_at_place, link_trust, asked_trust, pair_trust, settled_place}
 use Rattle.all_ends.specs.AllEnds.{TakesAt, SendsAt, OperatesIn, OperatesAt, Settles, Calls, CallsAt}
 use Rattle.all_ends.specs.AllEnds.{Asks, AsksAt, IsEnded}
 use Rattle.all_ends.specs.Places.{code_behind}
+use Rattle.all_ends.specs.States.{EndsUnitsAtMost}
 use Rattle.link_ends.specs.declared.host.HostKeeper.{HostKeeper}
 use Rattle.link_ends.specs.Hosts.{operated_on}
 use Rattle.interface_ends.specs.Keepers.{Ended}
@@ -17,17 +17,17 @@ use Rattle.interface_host.specs.declared.operation.InterfaceOperation.{Interface
 use Rattle.interface_host.specs.declared.operation.InterfaceOutcome.{InterfaceOutcome}
 use Rattle.interface_host.specs.Views.{HostTdi}
 use Rattle.ide_prefix.specs.Reading.{cut_of}
-use Rattle.ide_port.specs.{IsSentAtPort, Trusting}
+use Rattle.ide_port.specs.{IsSentAtPort, PortUnitsAtMost, Trusting}
 use Rattle.ide_port.specs.declared.answer.Arrival.{Arrival}
 use Rattle.ide_port.specs.declared.answer.Sent.{Sent}
 use Rattle.link_ends.specs.Ends.{trusting_at}
-use Rattle.link_ends.specs.Keepers.{SameCalls}
-use Rattle.link_ends.specs.PairKeepers.{PairOperates, HasPairCalls}
+use Rattle.link_ends.specs.Keepers.{KeysAlone}
+use Rattle.link_ends.specs.PairKeepers.{PairOperates, NoMorePairUnits}
 use Rattle.link_events.specs.declared.event.Loss.{Loss}
 use Rattle.tsm_host.specs.declared.operation.NamedOperation.{NamedOperation}
 use Rattle.tsm_host.specs.declared.operation.StreamOutcome.{StreamOutcome}
 use Rattle.link_ends.specs.declared.device.Device.{Device as DeviceEnd}
-use Rattle.interface_device.specs.Replies.{called_at}
+use Rattle.interface_ends.specs.Replies.{called_at}
 use Rattle.interface_state.specs.Machine.{Tdi, Call, state_code, tdi_after}
 use Rattle.std.specs.Prelude.{IfSome, IsSome}
 use Rattle.std.proofs.lemmas.Option.{get_or_from_slice_get, slice_get_past}
@@ -91,14 +91,12 @@ pub port_put : (v : EndsView) (end : PortName) (e e' : PortEnd) → port_on v en
 port_put v end e e' is = put_at_place v end.side (line_place end.line) e e' is
 
 -- the links are there with their interfaces
-kept_interfaces : (s : Side) (e : PortEnd) (l : LinkEnds)
-    → (with_port s e l).device.interfaces ≡ l.device.interfaces
+kept_interfaces : (s : Side) (e : PortEnd) (l : LinkEnds) → (with_port s e l).device.interfaces ≡ l.device.interfaces
 kept_interfaces Host e l = refl
 kept_interfaces Device e l = refl
 
 after_at : (v : EndsView) (s : Side) (place : LinePlace) (e : PortEnd) (j : ℕ) (l : LinkEnds)
-    → slice_get v.links j ≡ Some l
-    → (l' : LinkEnds) × (slice_get (with_port_at v s place e).links j ≡ Some l')
+    → slice_get v.links j ≡ Some l → (l' : LinkEnds) × (slice_get (with_port_at v s place e).links j ≡ Some l')
     × (l'.device.interfaces ≡ l.device.interfaces)
 after_at v s (Link i) e j l is =
     mapped (λ (x : LinkEnds). x.device.interfaces) (slice_get (changed_at v.links i (with_port s e)) j)
@@ -161,6 +159,48 @@ module _ (v : EndsView) (s : Side) (i : ℕ) (x y : PairEnds) (e e' : PortEnd) w
       let l = mapped (λ (l : PairEnds). pair_port s l) (slice_get v.pairs i) e is in
       ap (λ (ls : List PairEnds). record v { pairs = ls })
       (put_changed v.pairs i (with_pair_port s e') x y (slice_get_within v.pairs i l.0 l.1) read made)
+
+-- ---- an end that is lent is there, and has no more units than each end has
+
+module _ {v old : EndsView} (end : PortName) (n i : ℕ) (is : old ≡ v) (here : IsSome (port_on v end)) where
+  there_is : (e : PortEnd) × (port_on old end ≡ Some e)
+  there_is = some_port (port_on old end) (subst (λ (u : EndsView). IsSome (port_on u end)) (sym is) here)
+
+  few_there : EndsUnitsAtMost n v → PortUnitsAtMost n there_is.0
+  few_there few = few end there_is.0 (ap (λ (u : EndsView). port_on u end) (sym is) ∙ there_is.1)
+
+  pub near_within : Near i ≡ line_place end.line → i < length old.near
+  near_within at =
+      let l = mapped (λ (l : LinkEnds). port_in end.side l) (slice_get old.near i) there_is.0
+      (seen old end (Near i) at there_is.0 there_is.1) in
+      slice_get_within old.near i l.0 l.1
+
+  pub pair_within : Pair i ≡ line_place end.line → i < length old.pairs
+  pair_within at =
+      let l = mapped (λ (l : PairEnds). pair_port end.side l) (slice_get old.pairs i) there_is.0
+      (seen old end (Pair i) at there_is.0 there_is.1) in
+      slice_get_within old.pairs i l.0 l.1
+
+  pub link_few : (x : LinkEnds) → EndsUnitsAtMost n v → Link i ≡ line_place end.line → x ≡ slice_index_or old.links i x
+      → PortUnitsAtMost n (port_in end.side x)
+  link_few x few at read =
+      let e : PortEnd = there_is.0 in
+      subst (λ (p : PortEnd). PortUnitsAtMost n p)
+      (sym (link_port old end.side i x x e e read (seen old end (Link i) at e there_is.1))) (few_there few)
+
+  pub near_few : (x : LinkEnds) → EndsUnitsAtMost n v → Near i ≡ line_place end.line → x ≡ slice_index_or old.near i x
+      → PortUnitsAtMost n (port_in end.side x)
+  near_few x few at read =
+      let e : PortEnd = there_is.0 in
+      subst (λ (p : PortEnd). PortUnitsAtMost n p)
+      (sym (near_port old end.side i x x e e read (seen old end (Near i) at e there_is.1))) (few_there few)
+
+  pub pair_few : (x : PairEnds) → EndsUnitsAtMost n v → Pair i ≡ line_place end.line → x ≡ slice_index_or old.pairs i x
+      → PortUnitsAtMost n (pair_port end.side x)
+  pair_few x few at read =
+      let e : PortEnd = there_is.0 in
+      subst (λ (p : PortEnd). PortUnitsAtMost n p)
+      (sym (pair_read old end.side i x x e e read (seen old end (Pair i) at e there_is.1))) (few_there few)
 
 module _ (v : EndsView) (end : PortName) (bytes : List ℕ) (i : ℕ) (answer : Arrival) where
   abbrev by : PortEnd → PortEnd
@@ -276,48 +316,47 @@ module _ (v : EndsView) (end : PortName) (tlp : List ℕ) (more trusted : Bool) 
 module _ (v : EndsView) (line i : ℕ) (k k' : KeeperView) (op : NamedOperation) (loss : Option Loss)
     (outcome : StreamOutcome) where
   pub operate_link : (x y : LinkEnds) → Link i ≡ line_place line → x ≡ slice_index_or v.links i x
-      → Operates k x op loss outcome k' y → HasCalls x y → Settles (peer_live v i) x y
+      → Operates k x op loss outcome k' y → NoMoreUnits x y → Settles (peer_live v i) x y
       → OperatesAt v line k op loss outcome (record v { links = slice_set v.links i y }) k'
-  operate_link x y at read operates calls settles =
+  operate_link x y at read operates units settles =
       subst (λ (p : LinePlace). OperatesIn v p k op loss outcome (record v { links = slice_set v.links i y }) k') at
       (λ l is. (let same : x ≡ l = read_there v.links i x l read is in record {
         ends = y;
         new_is = refl;
         operates = subst (λ (z : LinkEnds). Operates k z op loss outcome k' y) same operates;
-        calls = subst (λ (z : LinkEnds). HasCalls z y) same calls;
+        units = subst (λ (z : LinkEnds). NoMoreUnits z y) same units;
         settles = subst (λ (z : LinkEnds). Settles (peer_live v i) z y) same settles;
       }))
 
   pub operate_near : (x y : LinkEnds) → Near i ≡ line_place line → x ≡ slice_index_or v.near i x
-      → Operates k x op loss outcome k' y → SameCalls x y
+      → Operates k x op loss outcome k' y → KeysAlone x y
       → OperatesAt v line k op loss outcome (record v { near = slice_set v.near i y }) k'
-  operate_near x y at read operates calls =
+  operate_near x y at read operates units =
       subst (λ (p : LinePlace). OperatesIn v p k op loss outcome (record v { near = slice_set v.near i y }) k') at
       (λ l is. (let same : x ≡ l = read_there v.near i x l read is in record {
         ends = y;
         new_is = refl;
         operates = subst (λ (z : LinkEnds). Operates k z op loss outcome k' y) same operates;
-        calls = subst (λ (z : LinkEnds). SameCalls z y) same calls;
+        units = subst (λ (z : LinkEnds). KeysAlone z y) same units;
       }))
 
   pub operate_pair : (x y : PairEnds) (new : EndsView) → Pair i ≡ line_place line → x ≡ slice_index_or v.pairs i x
-      → PairOperates k x op loss outcome k' y → HasPairCalls x y
+      → PairOperates k x op loss outcome k' y → NoMorePairUnits x y
       → new ≡ settled_place (Pair i) (record v { pairs = slice_set v.pairs i y })
       → OperatesAt v line k op loss outcome new k'
-  operate_pair x y new at read operates calls new_is =
+  operate_pair x y new at read operates units new_is =
       subst (λ (p : LinePlace). OperatesIn v p k op loss outcome new k') at
       (λ l is. (let same : x ≡ l = read_there v.pairs i x l read is in record {
         ends = y;
         new_is = new_is;
         operates = subst (λ (z : PairEnds). PairOperates k z op loss outcome k' y) same operates;
-        calls = subst (λ (z : PairEnds). HasPairCalls z y) same calls;
+        units = subst (λ (z : PairEnds). NoMorePairUnits z y) same units;
       }))
 
 -- ---- calls of interfaces
 
 pub call_there : (v : EndsView) (link place : ℕ) (call : Call) (code : ℕ) (x : LinkEnds) (d : DeviceEnd)
-    → x ≡ slice_index_or v.links link x
-    → IfSome (slice_get x.device.interfaces.interfaces place)
+    → x ≡ slice_index_or v.links link x → IfSome (slice_get x.device.interfaces.interfaces place)
     (λ tdi. d ≡ record x.device { interfaces = called_at x.device.interfaces place tdi call })
     → IfSome (slice_get d.interfaces.interfaces place) (λ tdi. code ≡ state_code tdi.state)
     → CallsAt v link place call code

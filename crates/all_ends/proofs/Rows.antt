@@ -1,9 +1,7 @@
 -- The streams of lines that are no links, row by row: each fits, and there are as many rows as lines.
 use Rattle.all_ends.proofs.Terms.{◌≡◌, ℕ, suc, zero, ◌+◌, ◌≤◌, List, [], ◌∷◌, ◌++◌, length, refl, ap, sym, ◌∙◌, arith}
 use Rattle.all_ends.proofs.Terms.{Option, Some, None, map, take, replicate, All, All-append, All-cons, All-head}
-use Rattle.all_ends.proofs.Terms.{All-nil}
-use Rattle.all_ends.proofs.Terms.{All-tail, FitsLink, FitsStream, LinkPlan, Plan, StreamPlan}
-use Rattle.all_ends.proofs.Terms.{take-append_seam}
+use Rattle.all_ends.proofs.Terms.{All-nil, All-tail, FitsLink, FitsStream, LinkPlan, Plan, StreamPlan, take-append_seam}
 use Rattle.std.specs.Prelude.{true}
 use Rattle.ide_types.specs.declared.plan.HopPlan.{HopPlan}
 use Rattle.ide_types.specs.declared.plan.PeerPlan.{PeerPlan}

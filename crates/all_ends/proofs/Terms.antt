@@ -6,7 +6,7 @@ pub use Rattle.ide_types.specs.declared.stream.StreamPlan.{StreamPlan}
 pub use Rattle.ide_port.specs.{Found, PortEnd, SendStep, changed_states, found_stream, reset_port, port_stream_status}
 pub use Rattle.ide_port.specs.{take_step}
 pub use Rattle.ide_prefix.specs.Packet.{Packet, packet_bytes}
-pub use Rattle.arrival_verdicts.specs.{joined_packets, numbered_from, opened_if_accepted, packet_lengths, sending}
+pub use Rattle.arrival_verdicts.specs.{joined_packets, numbered_from, opened_if_accepted, packet_lengths, new_sending}
 pub use Rattle.ide_types.specs.declared.port.PortName.{PortName}
 pub use Rattle.ide_types.specs.declared.port.Side.{Side}
 pub use Rattle.ide_types.specs.declared.port.Side.TheVariants.{Device, Host}
@@ -19,13 +19,14 @@ pub use Rattle.all_ends.specs.Cuts.{cut_packets}
 pub use Rattle.link_ends.proofs.Names.{first_named, op_named_first}
 pub use Rattle.link_ends.proofs.Streams.{changed_same, found_id, found_plan, machine_changed, machine_found}
 pub use Rattle.link_verdicts.specs.declared.verdict.UnitName.{UnitName}
-unfoldable pub use Rattle.arrival_verdicts.specs.{stream_plan}
+unfoldable pub use Rattle.arrival_verdicts.specs.{stream_plan, streams_by_line}
 pub use Rattle.machine_ports.specs.Machine.{BesidePorts, LinkPacket, LinkState, Stepped, stepped_answer, kept_packet}
-pub use Rattle.machine_ports.specs.Machine.{port_at}
-pub use Rattle.machine_ports.specs.Machine.{port_place, reset_state, machine_status}
-pub use Rattle.spec_stream.specs.Stream.{unit_name}
-unfoldable pub use Rattle.machine_ports.specs.Machine.{find, find_op, put}
-pub use Rattle.machine_ports.specs.Stands.{PortsStandFor, op_at, standing}
+pub use Rattle.machine_ports.specs.Machine.{port_at, port_place, reset_state, machine_status}
+pub use Rattle.spec_stream.specs.Stream.{unit_name, Failed, Held, Insecure, LiveKey, StreamState, Taken, Three, TxSub}
+pub use Rattle.spec_stream.specs.Stream.{at_sub, outcome_of_checks, holds_any, is_allowed, is_tagged, lanes_of, live_in}
+pub use Rattle.spec_stream.specs.Stream.{sealed_all, slot_in_set, stream_outcome, stream_outcome_by_keys}
+unfoldable pub use Rattle.machine_ports.specs.Machine.{find, find_op, with_stream_state}
+pub use Rattle.machine_ports.specs.Stands.{PortsStandFor, op_at, stream_state_due}
 pub use Rattle.link_verdicts.specs.declared.verdict.Effect.{Effect}
 pub use Rattle.link_verdicts.specs.declared.verdict.Verdict.{Verdict}
 pub use Rattle.std.proofs.Common.{Bool, List, [], add-one, ap, arith, drop, false, length, length-append, length-drop}
@@ -39,16 +40,12 @@ pub use Rattle.std.proofs.lemmas.List.Elements.{All-append, All-cons, All-head, 
 pub use Rattle.std.proofs.lemmas.List.Sums.{sum_by-cons}
 pub use Rattle.std.proofs.lemmas.Option.{none-some, same_Some, slice_get_read, slice_get_within, some_pair_parts}
 pub use Rattle.std.specs.List.{slice_index_or}
-pub use Rattle.std.specs.Option.{option_map_or}
+pub use Rattle.std.specs.Option.{option_map_or, option_and_then}
 pub use Rattle.std.specs.Prelude.{All, Err, None, Ok, Option, Result, Some, if◌then◌else◌, is_some, map, nat_le, not}
 pub use Rattle.std.specs.Prelude.{option_map, slice_get, slice_range, slice_set, sum_by, vec_capacity, vec_len, ◌&&◌}
-pub use Rattle.std.specs.Prelude.{◌||◌}
-pub use Rattle.spec_stream.specs.Stream.{Failed, Held, Insecure, LiveKey, StreamState, Taken, Three, TxSub, at_sub}
-pub use Rattle.spec_stream.specs.Stream.{outcome_of_checks, holds_any, is_allowed, is_tagged, lanes_of, live_in}
-pub use Rattle.spec_stream.specs.Stream.{sealed_all}
-pub use Rattle.spec_stream.specs.Stream.{slot_in_set, stream_outcome, stream_outcome_by_keys}
+pub use Rattle.std.specs.Prelude.{◌||◌, nat_lt, replicate}
 pub use Rattle.sub_stream.specs.declared.answer.MeasuredPacket.{MeasuredPacket}
-pub use Rattle.tsm_host.specs.Managers.{ManagerView, Named, named, op_named, reset_manager}
+pub use Rattle.tsm_host.specs.Managers.{ManagerView, Named, named_stream, op_named, reset_manager}
 pub use Rattle.tsm_host.specs.Streams.{StreamView, reset_stream}
 pub use Rattle.all_ends.specs.Places.{stream_named}
 pub use Rattle.all_ends.specs.Ends.{EndsView, changed_at, cleared_on, cleared_ends, cleared_pair, line_place, peer_live}
@@ -63,11 +60,8 @@ pub use Rattle.all_ends.specs.States.{state_of, views_after}
 pub use Rattle.link_ends.specs.declared.pair.PairEnds.{PairEnds}
 pub use Rattle.link_ends.specs.LineEnds.{end_in, with_end, reset_pair}
 pub use Rattle.link_ends.specs.Ends.{port_in, with_port}
-pub use Rattle.link_ends.specs.Keepers.{KeeperView, HasCalls, Operates}
+pub use Rattle.link_ends.specs.Keepers.{KeeperView, NoMoreUnits, Operates}
 pub use Rattle.link_ends.specs.declared.ends.LinkEnds.{LinkEnds}
 pub use Rattle.arrival_verdicts.specs.{has_stream, is_closed, aggregation_of, streams_of, with_id}
-unfoldable pub use Rattle.arrival_verdicts.specs.{streams_by_line}
 pub use Rattle.link_ends.specs.{KeysKept}
 pub use Rattle.std.proofs.lemmas.Bool.{cases_lt}
-pub use Rattle.std.specs.Prelude.{nat_lt, replicate}
-pub use Rattle.std.specs.Option.{option_and_then}

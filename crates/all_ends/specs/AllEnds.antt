@@ -1,6 +1,5 @@
 -- What each call makes of the ends of all lines.
-use Rattle.std.specs.Prelude.{ℕ, ◌≡◌, ◌++◌, ◌<◌, Bool, Option, Some, None, List, length, map, slice_get}
-use Rattle.std.specs.Prelude.{slice_set}
+use Rattle.std.specs.Prelude.{ℕ, ◌≡◌, ◌++◌, ◌<◌, Bool, Option, Some, None, List, length, map, slice_get, slice_set}
 use Rattle.ide_types.specs.declared.port.Side.TheVariants.{Host, Device}
 use Rattle.ide_types.specs.declared.port.Side.{Side}
 use Rattle.ide_types.specs.declared.port.PortName.{PortName}
@@ -12,7 +11,7 @@ use Rattle.link_verdicts.specs.declared.verdict.Verdict.TheVariants.{Nothing}
 use Rattle.ide_types.specs.declared.plan.Region.{Region}
 use Rattle.arrival_verdicts.specs.{Grants, reads_by}
 use Rattle.trusted_memory.specs.{MemoryContents, Leads}
-use Rattle.link_ends.specs.Hosts.{InterfacesView}
+use Rattle.link_ends.specs.Hosts.{InterfacesView, operated_on, manager_told, pair_told, peer_drawn}
 use Rattle.tsm_host.specs.declared.operation.NamedOperation.{NamedOperation}
 use Rattle.tsm_host.specs.declared.operation.StreamOutcome.{StreamOutcome}
 use Rattle.ide_port.specs.declared.answer.Arrival.{Arrival}
@@ -24,31 +23,27 @@ use Rattle.link_ends.specs.declared.pair.PairEnds.{PairEnds}
 use Rattle.guarded_memory.specs.declared.standing.InterfaceStatus.{InterfaceStatus}
 use Rattle.guarded_memory.specs.{MmioLeads}
 use Rattle.link_stores.specs.declared.link.LinkAccesses.{LinkAccesses}
-use Rattle.link_stores.specs.{device_standings}
+use Rattle.link_stores.specs.{device_statuses}
 use Rattle.arrival_verdicts.specs.Verdicts.{effects_from, packet_write, packet_stored, unit_writes, of_unit}
 use Rattle.arrival_verdicts.specs.Verdicts.{arrival_verdict}
 use Rattle.arrival_verdicts.specs.Switches.{switched_each, unit_waits, all_offered}
 use Rattle.hop_queues.specs.declared.queues.HopQueues.{HopQueues}
 use Rattle.ide_types.specs.declared.direction.Direction.{Direction}
-use Rattle.link_ends.specs.Keepers.{KeeperView, Operates, HasCalls, SameCalls}
-use Rattle.link_ends.specs.PairKeepers.{PairOperates, HasPairCalls}
+use Rattle.link_ends.specs.Keepers.{KeeperView, Operates, NoMoreUnits, KeysAlone}
+use Rattle.link_ends.specs.PairKeepers.{PairOperates, NoMorePairUnits}
 use Rattle.all_ends.specs.Ends.{EndsView, port_on, port_at_place, with_port_on, with_port_at, trust_at_place}
 use Rattle.all_ends.specs.Ends.{end_stream_status, peer_live, line_place, settled_link, settled_place, reset_all}
 use Rattle.all_ends.specs.declared.places.LinePlace.{LinePlace}
 use Rattle.all_ends.specs.declared.places.LinePlace.TheVariants.{Link, Near, Pair}
 use Rattle.all_ends.specs.Places.{code_behind}
 use Rattle.link_ends.specs.declared.host.HostKeeper.{HostKeeper}
-use Rattle.link_ends.specs.Hosts.{operated_on, told, pair_told, peer_drawn}
 use Rattle.interface_state.specs.Machine.{Tdi, Call}
-use Rattle.interface_device.specs.Replies.{DeviceTdis, called_at, settled_interfaces}
+use Rattle.interface_ends.specs.Replies.{DeviceTdis, called_at, settled_interfaces}
 use Rattle.link_ends.specs.DeviceEnds.{secure_with}
 use Rattle.interface_host.specs.declared.operation.InterfaceOperation.{InterfaceOperation}
 use Rattle.interface_host.specs.declared.operation.InterfaceOutcome.{InterfaceOutcome as Outcome'}
 use Rattle.interface_host.specs.Views.{HostTdi}
 use Rattle.interface_ends.specs.Keepers.{Ended}
-
-abbrev pub CallsBelow : ℕ → EndsView → Type 0
-CallsBelow most v = (end : PortName) (e : PortEnd) → port_on v end ≡ Some e → e.calls < most
 
 -- the ends of this link change, and nothing else
 abbrev pub Changes : EndsView → ℕ → EndsView → (LinkEnds → LinkEnds → Type 0) → Type 0
@@ -85,8 +80,8 @@ abbrev pub TakesAt : EndsView → PortName → List ℕ → Arrival → EndsView
 TakesAt old end bytes answer new = (e : PortEnd) → port_on old end ≡ Some e → EndTakes old end bytes answer new e
 
 -- how the interfaces of a link's device stand
-abbrev pub link_standings : LinkEnds → LinkAccesses → List InterfaceStatus
-link_standings l a = device_standings a.floors l.device.interfaces
+abbrev pub link_statuses : LinkEnds → LinkAccesses → List InterfaceStatus
+link_statuses l a = device_statuses a.floors l.device.interfaces
 
 -- at a device's port its interfaces settle
 abbrev pub settled_by_side : PortName → EndsView → EndsView
@@ -101,12 +96,12 @@ settled_by_side port v = by_side port.side
 pub record Comes (regions : List Region) (grants : Grants) (end port : PortName) (answer : Arrival)
     (verdict : Verdict) (m n : MemoryContents) (a a' : LinkAccesses) (e : PortEnd) (l : LinkEnds) : Type 0 where
   pub verdict_is : verdict ≡ arrival_verdict end port answer
-      (λ unit. effects_from regions grants (link_standings l a) (length a.reads) port unit e.delivered)
+      (λ unit. effects_from regions grants (link_statuses l a) (length a.reads) port unit e.delivered)
   pub written : Leads m (unit_writes answer (λ unit. map (packet_write regions grants port unit) e.delivered)) n
   pub reads_are : a'.reads ≡ a.reads ++ of_unit answer (λ unit. reads_by unit.draw
-      (effects_from regions grants (link_standings l a) (length a.reads) port unit e.delivered) e.delivered)
+      (effects_from regions grants (link_statuses l a) (length a.reads) port unit e.delivered) e.delivered)
   pub stored : MmioLeads a.guarded
-      (of_unit answer (λ unit. map (packet_stored (link_standings l a) port unit) e.delivered)) a'.guarded
+      (of_unit answer (λ unit. map (packet_stored (link_statuses l a) port unit) e.delivered)) a'.guarded
   pub floors_stay : a'.floors ≡ a.floors
   pub sizes_stay : a'.guarded.sizes ≡ a.guarded.sizes
   pub carried_stay : a'.carried ≡ a.carried
@@ -169,7 +164,7 @@ pub record OperatesOnLink (old : EndsView) (i : ℕ) (k : KeeperView) (op : Name
   pub ends : LinkEnds
   pub new_is : new ≡ record old { links = slice_set old.links i ends }
   pub operates : Operates k l op loss outcome k' ends
-  pub calls : HasCalls l ends
+  pub units : NoMoreUnits l ends
   pub settles : Settles (peer_live old i) l ends
 
 -- of the segment of a hop towards the host
@@ -179,7 +174,7 @@ pub record OperatesOnNear (old : EndsView) (i : ℕ) (k : KeeperView) (op : Name
   pub ends : LinkEnds
   pub new_is : new ≡ record old { near = slice_set old.near i ends }
   pub operates : Operates k l op loss outcome k' ends
-  pub calls : SameCalls l ends
+  pub units : KeysAlone l ends
 
 -- of a line that is keyed by messages at both ends: the interfaces of both devices settle, if it joins two
 pub record OperatesOnPair (old : EndsView) (i : ℕ) (k : KeeperView) (op : NamedOperation) (loss : Option Loss)
@@ -188,7 +183,7 @@ pub record OperatesOnPair (old : EndsView) (i : ℕ) (k : KeeperView) (op : Name
   pub ends : PairEnds
   pub new_is : new ≡ settled_place (Pair i) (record old { pairs = slice_set old.pairs i ends })
   pub operates : PairOperates k l op loss outcome k' ends
-  pub calls : HasPairCalls l ends
+  pub units : NoMorePairUnits l ends
 
 abbrev pub OperatesIn : EndsView → LinePlace → KeeperView → NamedOperation → Option Loss → StreamOutcome → EndsView
     → KeeperView → Type 0
@@ -206,7 +201,7 @@ OperatesAt old line k op loss outcome new k' = OperatesIn old (line_place line) 
 -- what it tells the manager of interfaces, by the line
 abbrev pub told_by_place : LinePlace → NamedOperation → Bool → Bool → ℕ → StreamOutcome → InterfacesView
     → InterfacesView
-told_by_place (Link i) op begins drew draw outcome m = told op begins drew draw outcome m
+told_by_place (Link i) op begins drew draw outcome m = manager_told op begins drew draw outcome m
 told_by_place (Near i) op begins drew draw outcome m = m
 told_by_place (Pair i) op begins drew draw outcome m = pair_told op m
 

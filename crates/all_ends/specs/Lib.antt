@@ -10,13 +10,13 @@ pub use Rattle.link_ends.specs.{IsJoined, KeysKept, OperationsJoin, host_of, poo
 pub use Rattle.link_ends.specs.{WalkedEnds, begun_ends, event_walk, walk_on, draws_by, touched_by}
 pub use Rattle.link_ends.specs.Ends.{port_in, with_port, new_ends, reset_link_ends}
 pub use Rattle.link_ends.specs.Hosts.{InterfacesView, operated_on, keyed_if, live_for, status_for}
-pub use Rattle.link_ends.specs.Hosts.{stopped_if, told}
+pub use Rattle.link_ends.specs.Hosts.{stopped_if, manager_told}
 pub use Rattle.link_ends.specs.Keepers.{IsAtBothEnds, IsOperated, IsWalked, KeeperView, Operates, ends_found, HasStream}
 pub use Rattle.link_ends.specs.declared.ends.LinkEnds.{LinkEnds}
 pub use Rattle.link_ends.specs.declared.pair.PairEnds.{PairEnds}
 pub use Rattle.all_ends.specs.Ends.{EndsView, port_on, with_port_on, peer_live, trusting_on, new_all_ends}
 pub use Rattle.arrival_verdicts.specs.{waiting_reads_after, unit_in, arrival_verdict, grants_in, of_unit, switched_each}
-pub use Rattle.arrival_verdicts.specs.{unit_waits, writes_by, unit_tlps, live_in, arrival_of}
+pub use Rattle.arrival_verdicts.specs.{unit_waits, writes_by, unit_tlps, live_draw_at_end, arrival_of}
 pub use Rattle.arrival_verdicts.specs.Verdicts.{effects_from, end_sent_verdict, packet_write, unit_writes}
 pub use Rattle.arrival_verdicts.specs.Verdicts.{packet_effect}
 pub use Rattle.link_ends.specs.DeviceEnds.{says_secure, secure_with}
@@ -26,5 +26,5 @@ pub use Rattle.all_ends.specs.Cuts.{cut_packets}
 pub use Rattle.machine_ports.specs.Machine.{BesidePorts, LinkPacket, LinkState, Stepped, changed_by_id}
 pub use Rattle.machine_ports.specs.Machine.{found_by_id, kept_packet, port_at, port_place, reset_state, machine_status}
 pub use Rattle.machine_ports.specs.Machine.{stepped_answer}
-pub use Rattle.machine_ports.specs.Stands.{PortsStandFor, op_at, standing}
-unfoldable pub use Rattle.machine_ports.specs.Machine.{find, find_op, put}
+pub use Rattle.machine_ports.specs.Stands.{PortsStandFor, op_at, stream_state_due}
+unfoldable pub use Rattle.machine_ports.specs.Machine.{find, find_op, with_stream_state}

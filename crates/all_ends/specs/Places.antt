@@ -2,7 +2,7 @@
 use Rattle.std.specs.Prelude.{ℕ, ◌+◌, ◌-◌, nat_lt, nat_le, if◌then◌else◌, List, [], ◌∷◌, length, Option, Some, None}
 use Rattle.std.specs.Prelude.{is_some, ◌&&◌}
 use Rattle.ide_types.specs.Ports.{host_port}
-use Rattle.tsm_host.specs.Managers.{ManagerView, named}
+use Rattle.tsm_host.specs.Managers.{ManagerView, named_stream}
 use Rattle.interface_state.specs.Machine.{Tdi, Call, tdi_after, state_code}
 use Rattle.link_ends.specs.declared.ends.LinkEnds.{LinkEnds}
 use Rattle.all_ends.specs.Ends.{EndsView, port_on}
@@ -10,7 +10,8 @@ use Rattle.all_ends.specs.Ends.{EndsView, port_on}
 -- the line and the stream, if the line is there and has the stream
 abbrev pub stream_named : ManagerView → EndsView → ℕ → ℕ → Option (ℕ × ℕ)
 stream_named m v line stream =
-    if nat_lt line 32 && nat_le stream 255 && is_some (port_on v (host_port line)) && is_some (named m line stream)
+    if nat_lt line 32 && nat_le stream 255 && is_some (port_on v (host_port line))
+    && is_some (named_stream m line stream)
     then Some (line, stream) else None
 
 -- the link and the place on it, of the links from this number on

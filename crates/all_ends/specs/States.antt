@@ -13,7 +13,7 @@ use Rattle.arrival_verdicts.specs.{streams_by_line, streams_of}
 use Rattle.machine_ports.specs.Machine.{LinkState, LinkPacket, port_at}
 use Rattle.tsm_host.specs.Streams.{StreamView}
 use Rattle.link_ends.specs.{KeysKept, PairKeysKeptIn}
-use Rattle.ide_port.specs.{PortEnd}
+use Rattle.ide_port.specs.{PortEnd, PortUnitsAtMost}
 use Rattle.link_ends.specs.declared.pair.PairEnds.{PairEnds}
 use Rattle.link_ends.specs.declared.ends.LinkEnds.{LinkEnds}
 use Rattle.link_ends.specs.Keepers.{KeeperView}
@@ -65,10 +65,15 @@ state_of plan v k packets = record {
 
 -- ---- what always holds
 
--- so many events came; an end was called at each of them at the most, and each packet was sealed at one of the ends
+-- so many units were finished and accepted at each end at the most
+abbrev pub EndsUnitsAtMost : ℕ → EndsView → Type 0
+EndsUnitsAtMost most v = (end : PortName) (e : PortEnd) → port_on v end ≡ Some e → PortUnitsAtMost most e
+
+-- so many events came, each of which finished and accepted one unit of a sub-stream at the most; each packet was sealed
+-- at one of the ends
 pub record IsBounded (v : EndsView) (packets : List LinkPacket) (steps : ℕ) : Type 0 where
   pub few : length v.links ≤ 8
-  pub calls : (end : PortName) (e : PortEnd) → port_on v end ≡ Some e → e.calls ≤ steps
+  pub units : EndsUnitsAtMost steps v
   pub sealed_here : (i : ℕ) (p : LinkPacket) → slice_get packets i ≡ Some p → IsSome (port_on v p.port)
 
 -- what stands at an end of the plan

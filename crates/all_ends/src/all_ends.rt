@@ -4,10 +4,10 @@ ghost use Rattle.std.specs.Prelude.{◌≡◌, ◌==◌, ◌<◌, ◌≤◌, ◌
 ghost use Rattle.std.specs.Prelude.{IsSome, is_some, length, option_map, slice_get, slice_set};
 ghost use Rattle.ide_types.specs.Ports.{host_port};
 ghost use Rattle.ide_prefix.specs.Reading.{cut_of};
-ghost use Rattle.ide_port.specs.{PortEnd, take_step};
+ghost use Rattle.ide_port.specs.{PortEnd, PortUnitsAtMost, take_step};
 ghost use Rattle.arrival_verdicts.specs.Verdicts.{grants_in};
 ghost use Rattle.tsm_host.specs.Operations.{op_name};
-ghost use Rattle.tsm_host.specs.Managers.{named};
+ghost use Rattle.tsm_host.specs.Managers.{named_stream};
 ghost use Rattle.spec_keys.specs.Operations.{work_of};
 ghost use Rattle.spec_interfaces.specs.Peers.{has_peer};
 ghost use Rattle.all_ends.specs.Places.{place_on_links};
@@ -69,9 +69,10 @@ impl Model for AllEnds {
 impl AllEnds {
     ghost use Rattle.all_ends.specs.Ends.{new_all_ends, port_on, settled_link, settled_first_links, cleared_on};
     ghost use Rattle.all_ends.specs.Ends.{all_cleared, unlocked_link, settled_place};
-    ghost use Rattle.all_ends.specs.AllEnds.{CallsBelow, SendsAt, TakesAt, ComesAt, ArrivesAt, Leaves, WaitsAt};
+    ghost use Rattle.all_ends.specs.AllEnds.{SendsAt, TakesAt, ComesAt, ArrivesAt, Leaves, WaitsAt};
     ghost use Rattle.all_ends.specs.AllEnds.{OperatesAt, told_by_line, drawn_at, AsksAt, CallsAt, IsThere, ResetsAt};
     ghost use Rattle.all_ends.specs.AllEnds.{settled_by_side, statuses_of};
+    ghost use Rattle.all_ends.specs.States.{EndsUnitsAtMost};
 
     /// The ends of the plan's lines, without keys. Returns `OutOfMemory` for want of memory.
     pub fn make(alloc: Global, plan: &ValidPlan) -> Result<AllEnds, OutOfMemory>
@@ -152,7 +153,7 @@ impl AllEnds {
     fn send_pair(&mut self, end: PortName, i: usize, tlp: &[u8], more: bool, trusted: bool) -> Sent
         requires place { Pair i ≡ line_place end.line }
         requires here { IsSome (port_on self.old end) }
-        requires few { CallsBelow (2 ^ 40) self.old }
+        requires few { EndsUnitsAtMost (2 ^ 40) self.old }
         ensures { SendsAt self.old end tlp.now more trusted result self.new }
     {
         if i < HOPS {
@@ -168,7 +169,7 @@ impl AllEnds {
     /// names, on a stream between devices if the interface is bound to it; it sets none on a hop's segment.
     pub fn send(&mut self, end: PortName, tlp: &[u8], more: bool, trusted: bool) -> Sent
         requires here { IsSome (port_on self.old end) }
-        requires few { CallsBelow (2 ^ 40) self.old }
+        requires few { EndsUnitsAtMost (2 ^ 40) self.old }
         ensures { SendsAt self.old end tlp.now more trusted result self.new }
     {
         match line_place(end.line) {
@@ -192,7 +193,7 @@ impl AllEnds {
     // Takes bytes that arrive at an end.
     fn take(&mut self, end: PortName, bytes: &[u8]) -> Arrival
         requires here { IsSome (port_on self.old end) }
-        requires few { CallsBelow (2 ^ 40) self.old }
+        requires few { EndsUnitsAtMost (2 ^ 40) self.old }
         ensures { TakesAt self.old end bytes.now result self.new }
     {
         match line_place(end.line) {
@@ -291,7 +292,7 @@ impl AllEnds {
         accesses: &mut Accesses,
     ) -> Verdict
         requires link { port.line < length self.old.links }
-        requires few { CallsBelow (2 ^ 40) self.old }
+        requires few { EndsUnitsAtMost (2 ^ 40) self.old }
         requires spare { 8 ≤ memory.old.spare }
         requires access { port.line < length accesses.old }
         requires pages { IfSome (slice_get accesses.old port.line) (λ a. 16 ≤ a.guarded.spare) }
@@ -321,7 +322,7 @@ impl AllEnds {
         direction: Direction,
     ) -> Verdict
         requires here { IsSome (port_on self.old end) }
-        requires few { CallsBelow (2 ^ 40) self.old }
+        requires few { EndsUnitsAtMost (2 ^ 40) self.old }
         ensures { WaitsAt self.old end bytes.now direction result queues.old self.new queues.new }
     {
         let arrival = self.take(end, bytes);
@@ -379,9 +380,9 @@ impl AllEnds {
         loss: Option<Loss>,
     ) -> StreamOutcome
         requires here { IsSome (port_on self.old (host_port line)) }
-        requires stream { IsSome (named keeper.old.keys.manager (op_name op).line (op_name op).stream) }
+        requires stream { IsSome (named_stream keeper.old.keys.manager (op_name op).line (op_name op).stream) }
         ensures operates { OperatesAt self.old line keeper.old.keys op loss result self.new keeper.new.keys }
-        ensures interfaces { IfSome (named keeper.old.keys.manager (op_name op).line (op_name op).stream) (λ n.
+        ensures interfaces { IfSome (named_stream keeper.old.keys.manager (op_name op).line (op_name op).stream) (λ n.
             let begins = (work_of (op_name op).operation n.stream.op 0).begins in
             let draw = keeper.old.keys.pool.draws in
             let drew = not (keeper.new.keys.pool.draws == draw) in
@@ -540,7 +541,7 @@ impl AllEnds {
 
 // Takes bytes that arrive at the end of a side of a line that is keyed by messages at both.
 fn take_pair(ends: &mut PairEnds, side: Side, bytes: &[u8]) -> Arrival
-    requires { (pair_port side ends.old).calls < 2 ^ 40 }
+    requires { PortUnitsAtMost (2 ^ 40) (pair_port side ends.old) }
     ensures answer { result ≡ (take_step (pair_port side ends.old) (cut_of bytes.now)).answer }
     ensures ends { ends.new ≡ with_pair_port side (take_step (pair_port side ends.old) (cut_of bytes.now)).port
         ends.old }

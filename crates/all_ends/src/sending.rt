@@ -1,19 +1,19 @@
 //! Sends at the ends of lines that are no links.
 
-ghost use Rattle.std.specs.Prelude.{◌≡◌, ◌<◌, ◌^◌, ℕ, option_map};
-ghost use Rattle.ide_port.specs.{IsSentAtPort};
+ghost use Rattle.std.specs.Prelude.{◌≡◌, ◌^◌, ℕ, option_map};
+ghost use Rattle.ide_port.specs.{IsSentAtPort, PortUnitsAtMost};
 ghost use Rattle.link_ends.specs.Ends.{port_in, with_port};
-ghost use Rattle.interface_device.specs.Replies.{DeviceTdis};
+ghost use Rattle.interface_ends.specs.Replies.{DeviceTdis};
 ghost use Rattle.all_ends.specs.Ends.{pair_port, with_pair_port, bound_on, far_hop_trust, bound_trust};
 
 use ide_port::{FixedTrust, Sent, Trusting};
 use ide_types::{PeerPlan, Side};
-use interface_device::DeviceInterfaces;
+use interface_ends::DeviceInterfaces;
 use link_ends::{BoundOwners, LinkEnds, PairEnds};
 
 /// Sends a TLP's bytes at the end of a side of a hop's segment towards the host, with T as it is asked.
 pub fn send_near(ends: &mut LinkEnds, side: Side, tlp: &[u8], more: bool, trusted: bool) -> Sent
-    requires { (port_in side ends.old).calls < 2 ^ 40 }
+    requires { PortUnitsAtMost (2 ^ 40) (port_in side ends.old) }
     ensures sent { (number : ℕ) → IsSentAtPort (port_in side ends.old) tlp.now more
         (λ head stream. trusted) number result (port_in side ends.new) }
     ensures ends { ends.new ≡ with_port side (port_in side ends.new) ends.old }
@@ -32,7 +32,7 @@ fn send_pair<T: Trusting>(
     more: bool,
     trusting: &T,
 ) -> Sent
-    requires { (pair_port side ends.old).calls < 2 ^ 40 }
+    requires { PortUnitsAtMost (2 ^ 40) (pair_port side ends.old) }
     ensures sent { (number : ℕ) → IsSentAtPort (pair_port side ends.old) tlp.now more
         (T.trusting trusting.now) number result (pair_port side ends.new) }
     ensures ends { ends.new ≡ with_pair_port side (pair_port side ends.new) ends.old }
@@ -46,7 +46,7 @@ fn send_pair<T: Trusting>(
 /// Sends them at the end of a side of a hop's segment towards the device: the switch sets T as it is asked, and the
 /// device does not.
 pub fn send_far(ends: &mut PairEnds, side: Side, tlp: &[u8], more: bool, trusted: bool) -> Sent
-    requires { (pair_port side ends.old).calls < 2 ^ 40 }
+    requires { PortUnitsAtMost (2 ^ 40) (pair_port side ends.old) }
     ensures sent { (number : ℕ) → IsSentAtPort (pair_port side ends.old) tlp.now more
         (far_hop_trust side trusted) number result (pair_port side ends.new) }
     ensures ends { ends.new ≡ with_pair_port side (pair_port side ends.new) ends.old }
@@ -65,7 +65,7 @@ pub fn send_between(
     more: bool,
     interfaces: Option<&DeviceInterfaces>,
 ) -> Sent
-    requires { (pair_port side ends.old).calls < 2 ^ 40 }
+    requires { PortUnitsAtMost (2 ^ 40) (pair_port side ends.old) }
     ensures sent { (number : ℕ) → IsSentAtPort (pair_port side ends.old) tlp.now more
         (bound_trust (option_map (λ d. d.now) interfaces.entry)) number result (pair_port side ends.new) }
     ensures ends { ends.new ≡ with_pair_port side (pair_port side ends.new) ends.old }

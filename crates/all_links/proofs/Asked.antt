@@ -1,30 +1,28 @@
 -- Events on interfaces. One is found by its number among the devices of all links; after an event on it the ports and
 -- the manager's streams are as before, since only the interfaces of its device change, and what the manager knows of
 -- it.
-use Rattle.all_links.proofs.Terms.{length-set}
-use Rattle.all_links.proofs.Terms.{◌≡◌, ℕ, suc, zero, ◌+◌, ◌<◌, List, [], ◌∷◌, length, refl, ap, sym, ◌∙◌, subst, arith}
-use Rattle.all_links.proofs.Terms.{nat_tests, Option, Some, None, IsSome, slice_get, slice_set, option_map}
-use Rattle.all_links.proofs.Terms.{option_and_then, none-some, same_Some, slice_get_within, Verdict, StreamState}
-use Rattle.all_links.proofs.Terms.{LinkEnds, Links, InterfacesView, KeeperView, ports_in, IsBounded, links_state}
-use Rattle.all_links.proofs.Terms.{EndsWith, Stepped, Interface, answer_of_links, EndsView, port_on, peer_live, Plan}
-use Rattle.all_links.proofs.Terms.{AreLinks, PortEnd, Side, Host, Device, port_in, state_of, nat_lt, true, ◌++◌, ◌≤◌}
-use Rattle.all_links.proofs.Terms.{if◌then◌else◌}
+use Rattle.all_links.proofs.Terms.{length-set, ◌≡◌, ℕ, suc, zero, ◌+◌, ◌<◌, List, [], ◌∷◌, length, refl, ap, sym, ◌∙◌}
+use Rattle.all_links.proofs.Terms.{subst, arith, nat_tests, Option, Some, None, IsSome, slice_get, slice_set, PortEnd}
+use Rattle.all_links.proofs.Terms.{◌-◌, option_and_then, none-some, same_Some, slice_get_within, Verdict}
+use Rattle.all_links.proofs.Terms.{StreamState, LinkEnds, Links, InterfacesView, KeeperView, ports_in, IsBounded}
+use Rattle.all_links.proofs.Terms.{links_state, EndsWith, Stepped, Interface, answer_of_links, EndsView}
+use Rattle.all_links.proofs.Terms.{peer_live, Plan, AreLinks, Side, Host, Device, port_in, state_of, nat_lt}
+use Rattle.all_links.proofs.Terms.{true, ◌++◌, ◌≤◌, if◌then◌else◌, ◌==◌, Bool, false, true-lt, nat_le}
 use Rattle.line_arrivals.specs.{changed_at, in_sixteen, pair_ports, operated_on, HostKeeper, IsThere}
 use Rattle.line_arrivals.specs.{CallsAt, AsksAt, place_on_links, code_behind, outcome_verdict, report_of}
 use Rattle.all_links.specs.Sides.{with_device}
 use Rattle.interface_host.specs.declared.operation.PeerStream.{PeerStream}
 use Rattle.std.specs.Prelude.{IfSome}
 use Rattle.std.specs.Option.{option_map_or}
-use Rattle.all_links.proofs.Terms.{◌==◌, Bool, false}
 use Rattle.ide_types.specs.declared.sub.SubKind.TheVariants.{Pr}
-use Rattle.ide_port.specs.{receiving_draw_in}
+use Rattle.ide_port.specs.{receiving_draw_in, UnitsGrow}
 use Rattle.spec_interfaces.specs.Devices.{is_run}
 use Rattle.interface_state.specs.declared.states.TdiState.{TdiState}
 use Rattle.interface_state.specs.declared.states.TdiState.TheVariants.{ConfigUnlocked, ConfigLocked, Run, Error}
-use Rattle.all_links.specs.Accesses.{planned_stream, device_draw, runs_in}
+use Rattle.all_links.specs.Accesses.{planned_stream, device_draw, runs_at}
 use Rattle.link_verdicts.specs.declared.verdict.Verdict.TheVariants as v
 use Rattle.interface_state.specs.Machine.{Tdi, Call, state_code}
-use Rattle.interface_device.specs.Replies.{DeviceTdis, called_at}
+use Rattle.interface_ends.specs.Replies.{DeviceTdis, called_at}
 use Rattle.interface_host.specs.declared.operation.InterfaceOperation.{InterfaceOperation}
 use Rattle.interface_host.specs.declared.operation.InterfaceOutcome.{InterfaceOutcome}
 use Rattle.interface_host.specs.declared.operation.InterfaceOutcome.TheVariants.{Next, Done, Refused}
@@ -33,19 +31,17 @@ use Rattle.interface_ends.specs.Keepers.{Ended}
 use Rattle.link_events.specs.declared.event.InterfaceEvent.{InterfaceEvent}
 use Rattle.link_events.specs.declared.event.Loss.{Loss}
 use Rattle.all_links.specs.Interfaces.{interface_named, tdi_named, interface_of_ends, ended_in, ended_at, ended_on}
+use Rattle.all_links.specs.Interfaces.{verdict_in, has_peer_in, managed_peer_stream, peer_verdict_in}
+use Rattle.all_links.specs.Interfaces.{has_peer_at}
 use Rattle.all_links.specs.Besides.{op_verdict}
-use Rattle.all_links.specs.Interfaces.{verdict_in, link_named, has_peer_in, managed_peer_stream}
-use Rattle.all_links.specs.Interfaces.{peer_verdict_in}
 use Rattle.all_links.proofs.Finds.{answers, nothing_changes, only_says}
-use Rattle.all_links.proofs.Terms.{true-lt}
 use Rattle.std.proofs.Common.{◌&&◌}
 use Rattle.std.proofs.lemmas.Bool.{and_parts}
-use Rattle.line_arrivals.proofs.{peer_line_is, is_located}
+use Rattle.line_arrivals.proofs.{peer_line_is, is_located, changed_is, there, Grows, KeepsEnds, as_before, bounded_then}
+use Rattle.line_arrivals.proofs.{links_grow, links_kept}
 use Rattle.ide_types.specs.declared.plan.PeerPlan.{PeerPlan}
 use Rattle.spec_interfaces.specs.Peers.{has_peer}
-use Rattle.all_links.specs.Interfaces.{has_peer_at}
-use Rattle.line_arrivals.proofs.{changed_is, there, Grows, KeepsEnds, as_before, bounded_then, links_grow}
-use Rattle.line_arrivals.proofs.{links_kept}
+use Rattle.ide_port.proofs.Units.{stays}
 
 pub if_some : {A : Type 0} (P : A → Type 0) (o : Option A) (x : A) → o ≡ Some x → IfSome o P → P x
 if_some P o x is p = subst (λ y. IfSome y P) is p
@@ -55,6 +51,10 @@ if_some P o x is p = subst (λ y. IfSome y P) is p
 named_parts : (m : InterfacesView) (ends : List LinkEnds) (n : ℕ) (at : ℕ × ℕ) → interface_named m ends n ≡ Some at
     → (place_on_links 0 n ends ≡ Some at) × (n < length m.interfaces)
 named_parts m ends n at is = grind (arith, nat_tests)
+
+tdi_at : (ends : List LinkEnds) (at : ℕ × ℕ) {l : LinkEnds} {tdi : Tdi} → slice_get ends at.0 ≡ Some l
+    → slice_get l.device.interfaces.interfaces at.1 ≡ Some tdi → interface_of_ends ends at ≡ Some tdi
+tdi_at ends at link_there tdi_there = rw link_there tdi_there
 
 -- the interface of this number, at its device and at the manager
 pub record IsFound (m : InterfacesView) (v : EndsView) (n : ℕ) (at : ℕ × ℕ) : Type 0 where
@@ -84,24 +84,49 @@ is_found m v n at named =
       tdi_there = t.1;
       kept_there = k.1;
       named_is = ap (λ (o : Option (ℕ × ℕ)). option_and_then (interface_of_ends v.links) o) (sym named)
-          ∙ tdi_is at x.ends_at t.0 link_there t.1;
+          ∙ tdi_at v.links at link_there t.1;
     }
-  where
-    tdi_is : (at : ℕ × ℕ) (l : LinkEnds) (tdi : Tdi) → slice_get v.links at.0 ≡ Some l
-        → slice_get l.device.interfaces.interfaces at.1 ≡ Some tdi → interface_of_ends v.links at ≡ Some tdi
-    tdi_is at l tdi link_there tdi_there = rw link_there tdi_there
 
-pub is_there : (m : InterfacesView) (v : EndsView) (n : ℕ) (at : ℕ × ℕ) → Some at ≡ interface_named m v.links n
-    → IsThere v at.0 at.1
-is_there m v n at named =
-    let x = is_found m v n at named in
+pub is_placed : (v : EndsView) (n : ℕ) (o : Option (ℕ × ℕ)) → o ≡ place_on_links 0 n v.links
+    → IfSome o (λ (at : ℕ × ℕ). IsThere v at.0 at.1)
+is_placed v n None is = tt
+is_placed v n (Some at) is =
+    let x = is_located 0 n v.links at (sym is) in
+    let place : at.0 ≡ x.place = omega (arith, x.link_is) in
+    let link_there = ap (slice_get v.links) place ∙ x.there_is in
     record {
-      link_there = slice_get_within v.links at.0 x.ends_at x.link_there;
-      place_there = λ l is.
+      link_there = slice_get_within v.links at.0 x.ends_at link_there;
+      place_there = λ l there.
           subst (λ (y : LinkEnds). at.1 < length y.device.interfaces.interfaces)
-          (same_Some x.ends_at l (sym x.link_there ∙ is))
-          (slice_get_within x.ends_at.device.interfaces.interfaces at.1 x.tdi x.tdi_there);
+          (same_Some x.ends_at l (sym link_there ∙ there)) x.within;
     }
+
+pub is_there : (m : InterfacesView) (v : EndsView) (n : ℕ) (o : Option (ℕ × ℕ)) → o ≡ interface_named m v.links n
+    → IfSome o (λ (at : ℕ × ℕ). IsThere v at.0 at.1)
+is_there m v n None named = tt
+is_there m v n (Some at) named = is_placed v n (Some at) (sym (named_parts m v.links n at (sym named)).0)
+
+-- ends that have as many interfaces at a link locate alike
+pub located_set : (link n : ℕ) (ends : List LinkEnds) (i : ℕ) (l l' : LinkEnds) → slice_get ends i ≡ Some l
+    → length l'.device.interfaces.interfaces ≡ length l.device.interfaces.interfaces
+    → place_on_links link n (slice_set ends i l') ≡ place_on_links link n ends
+located_set link n [] i l l' is many = refl
+located_set link n (x ∷ ls) zero l l' is many =
+    let same = many ∙ ap (λ (y : LinkEnds). length y.device.interfaces.interfaces) (sym (same_Some x l is)) in
+    (λ j. if nat_lt n (same j) then Some (link, n) else place_on_links (link + 1) (n - same j) ls)
+located_set link n (x ∷ ls) (suc i) l l' is many =
+    let held = length x.device.interfaces.interfaces in
+    ap (λ (o : Option (ℕ × ℕ)). if nat_lt n held then Some (link, n) else o)
+    (located_set (link + 1) (n - held) ls i l l' is many)
+
+pub place_kept : (m : InterfacesView) (v v' : EndsView) (n link : ℕ) (l l' : LinkEnds) → slice_get v.links link ≡ Some l
+    → v' ≡ record v { links = slice_set v.links link l' }
+    → length l'.device.interfaces.interfaces ≡ length l.device.interfaces.interfaces
+    → interface_named m v'.links n ≡ interface_named m v.links n
+place_kept m v v' n link l l' is after many =
+    ap (λ (w : EndsView). interface_named m w.links n) after
+    ∙ ap (λ (o : Option (ℕ × ℕ)). if nat_lt n (length m.interfaces) then (if nat_le n 255 then o else None) else None)
+    (located_set 0 n v.links link l l' is many)
 
 -- ---- only interfaces change
 
@@ -116,10 +141,9 @@ set_back (y ∷ xs) (suc i) x is = ap (λ (zs : List _). y ∷ zs) (set_back xs 
 keeps_interfaces : (d : DeviceTdis) (l : LinkEnds) → KeepsEnds l (with_interfaces d l)
 keeps_interfaces d l = record { host = as_before l.host; device = as_before l.device.port; requester = refl }
 
-calls_same : (d : DeviceTdis) (s : Side) (l : LinkEnds)
-    → (port_in s (with_interfaces d l)).calls ≤ (port_in s l).calls + 0
-calls_same d Host l = omega arith
-calls_same d Device l = omega arith
+units_same : (d : DeviceTdis) (s : Side) (l : LinkEnds) → UnitsGrow 0 (port_in s l) (port_in s (with_interfaces d l))
+units_same d Host l = stays 0 l.host
+units_same d Device l = stays 0 l.device.port
 
 -- the ports are seen, and not the interfaces
 ports_same : (ls : List LinkEnds) (i : ℕ) (l : LinkEnds) (d : DeviceTdis) → slice_get ls i ≡ Some l
@@ -146,7 +170,7 @@ interfaces_change plan old new link l d ends k verdict e due is ends_is keys new
       regions = refl;
       bounded = bounded_then 0 old.ends after old.packets.packets old.packets.packets old.steps (omega arith) bounded
           (subst (λ (ls : List LinkEnds). Grows 0 old.ends (record old.ends { links = ls })) same
-          (links_grow 0 old.ends link (with_interfaces d) (λ s y at. calls_same d s y)))
+          (links_grow 0 old.ends link (with_interfaces d) (λ s y at. units_same d s y)))
           bounded.sealed_here;
       ends = λ b by h links stands.
           let step = sym (answers old due b plan by (links_state plan old)) in
@@ -269,19 +293,13 @@ any_report n loss report other Next some = some
 any_report n loss report other (Done shown) some = refl
 any_report n loss report other (Refused r) some = some
 
-pub link_of : (o : Option (ℕ × ℕ)) (link : ℕ) → option_map (λ (at : ℕ × ℕ). at.0) o ≡ Some link
-    → (at : ℕ × ℕ) × (Some at ≡ o) × (at.0 ≡ link)
-link_of None link is = absurd (none-some link is)
-link_of (Some at) link is = (at, refl, same_Some at.0 link is)
-
-pub answered : (old : Links) (n link : ℕ) (o : InterfaceOperation) (loss : Option Loss) (outcome : InterfaceOutcome)
-    (ends : EndsView) (k : HostKeeper) → link_named old.keeper.interfaces old.ends.links n ≡ Some link
-    → AsksAt old.ends link old.keeper n o loss outcome ends k → IsSome (op_verdict old n o loss)
+pub answered : (old : Links) (n : ℕ) (at : ℕ × ℕ) (o : InterfaceOperation) (loss : Option Loss)
+    (outcome : InterfaceOutcome) (ends : EndsView) (k : HostKeeper)
+    → Some at ≡ interface_named old.keeper.interfaces old.ends.links n
+    → AsksAt old.ends at.0 old.keeper n o loss outcome ends k → IsSome (op_verdict old n o loss)
     → (report : List ℕ) → IsSome (outcome_verdict n loss report outcome)
-answered old n link o loss outcome ends k here asks some report =
-    let at = link_of (interface_named old.keeper.interfaces old.ends.links n) link here in
-    let x = came_to old n at.0 o loss outcome ends k at.1
-    (subst (λ (i : ℕ). AsksAt old.ends i old.keeper n o loss outcome ends k) (sym at.2) asks) in
+answered old n at o loss outcome ends k named asks some report =
+    let x = came_to old n at o loss outcome ends k named asks in
     any_report n loss (report_of o x.ended) report outcome
     (subst (λ (y : Option Verdict). IsSome y) (sym x.due_is) some)
 
@@ -289,8 +307,7 @@ pub operated_as : (plan : Plan) (old : Links) (n : ℕ) (at : ℕ × ℕ) (o : I
     (outcome : InterfaceOutcome) (ends : EndsView) (k : HostKeeper) (new : Links) (verdict : Verdict) (report : List ℕ)
     (event : InterfaceEvent) → answer_of_links old event ≡ op_verdict old n o loss
     → Some at ≡ interface_named old.keeper.interfaces old.ends.links n
-    → AsksAt old.ends at.0 old.keeper n o loss outcome ends k
-    → outcome_verdict n loss report outcome ≡ Some verdict →
+    → AsksAt old.ends at.0 old.keeper n o loss outcome ends k → outcome_verdict n loss report outcome ≡ Some verdict →
     ((e : Ended) → k.interfaces ≡ e.manager → report ≡ report_of o e)
     → new ≡ record old { ends = ends; keeper = k; steps = old.steps + 1 }
     → IsBounded old.ends old.packets.packets old.steps → EndsWith plan verdict old new (Interface event)
@@ -313,23 +330,18 @@ run_code (ConfigLocked lock nonce) = refl
 run_code (Run lock) = refl
 run_code Error = refl
 
-pub runs_not : (s : Links) (n : ℕ) → None ≡ interface_named s.keeper.interfaces s.ends.links n → false ≡ runs_in s n
-runs_not s n nowhere =
-    ap (λ (o : Option (ℕ × ℕ)). option_map_or (λ (t : Tdi). is_run t.state)
-    (option_and_then (interface_of_ends s.ends.links) o)
-    false) nowhere
-
-pub runs_at : (s : Links) (n : ℕ) (at : ℕ × ℕ) (b : Bool) → Some at ≡ interface_named s.keeper.interfaces s.ends.links n
+pub runs_is : (s : Links) (at : ℕ × ℕ) (b : Bool) → IsThere s.ends at.0 at.1
     → IfSome (slice_get s.ends.links at.0) (λ (l : LinkEnds). IfSome (slice_get l.device.interfaces.interfaces at.1)
-    (λ (t : Tdi). b ≡ (state_code t.state == 2))) → b ≡ runs_in s n
-runs_at s n at b named says =
-    let x = is_found s.keeper.interfaces s.ends n at named in
-    if_some (λ (t : Tdi). b ≡ (state_code t.state == 2)) (slice_get x.ends_at.device.interfaces.interfaces at.1) x.tdi
-    x.tdi_there
+    (λ (t : Tdi). b ≡ (state_code t.state == 2))) → b ≡ runs_at s (Some at)
+runs_is s at b here says =
+    let l = there s.ends.links at.0 here.link_there in
+    let t = there l.0.device.interfaces.interfaces at.1 (here.place_there l.0 l.1) in
+    if_some (λ (t : Tdi). b ≡ (state_code t.state == 2)) (slice_get l.0.device.interfaces.interfaces at.1) t.0 t.1
     (if_some (λ (l : LinkEnds). IfSome (slice_get l.device.interfaces.interfaces at.1)
-    (λ (t : Tdi). b ≡ (state_code t.state == 2))) (slice_get s.ends.links at.0) x.ends_at x.link_there says)
-    ∙ run_code x.tdi.state
-    ∙ sym (ap (λ (o : Option Tdi). option_map_or (λ (t : Tdi). is_run t.state) o false) x.named_is)
+    (λ (t : Tdi). b ≡ (state_code t.state == 2))) (slice_get s.ends.links at.0) l.0 l.1 says)
+    ∙ run_code t.0.state
+    ∙ sym (ap (λ (o : Option Tdi). option_map_or (λ (t : Tdi). is_run t.state) o false)
+    (tdi_at s.ends.links at l.1 t.1))
 
 pub draw_is : (s : Links) (i link stream : ℕ) (l : LinkEnds) (x : HostTdi) (o : Option ℕ)
     → slice_get s.ends.links link ≡ Some l → slice_get s.keeper.interfaces.interfaces i ≡ Some x → stream ≡ x.stream
@@ -344,7 +356,7 @@ draw_is s i link stream l x o l_is x_is stream_is says =
 
 -- ---- streams between devices
 
-pub none_if : {A : Type 0} (b : Bool) (x : A) → None ≡ (if b then Some x else None) → b ≡ false
+none_if : {A : Type 0} (b : Bool) (x : A) → None ≡ (if b then Some x else None) → b ≡ false
 none_if true x is = absurd (none-some x is)
 none_if false x is = refl
 
@@ -352,24 +364,34 @@ pub some_if : {A : Type 0} (b : Bool) (x y : A) → Some y ≡ (if b then Some x
 some_if true x y is = (refl, same_Some y x is)
 some_if false x y is = absurd (none-some y (sym is))
 
+pub none_peer : (k : HostKeeper) (v : EndsView) (n line stream : ℕ) (o : Option (ℕ × ℕ))
+    → o ≡ interface_named k.interfaces v.links n
+    → None ≡ (if nat_lt stream 256 && has_peer_at v line stream o then Some (managed_peer_stream k line stream) else
+    None)
+    → (nat_lt stream 256 && has_peer_in k v n line stream) ≡ false
+none_peer k v n line stream o named none =
+    ap (λ (p : Option (ℕ × ℕ)). nat_lt stream 256 && has_peer_at v line stream p) (sym named)
+    ∙ none_if (nat_lt stream 256 && has_peer_at v line stream o) (managed_peer_stream k line stream) none
+
 -- the stream between devices of a line and an ID, where the interface's device has it
 pub record IsPeer (k : HostKeeper) (v : EndsView) (n line stream : ℕ) (peer : PeerStream) : Type 0 where
   pub small : stream < 256
   pub has : has_peer_in k v n line stream ≡ true
   pub peer_is : peer ≡ managed_peer_stream k line stream
 
-pub is_peer : (k : HostKeeper) (v : EndsView) (n line stream : ℕ) (peer : PeerStream)
-    → Some peer ≡ (if nat_lt stream 256 && has_peer_in k v n line stream then Some (managed_peer_stream k line stream)
+pub is_peer : (k : HostKeeper) (v : EndsView) (n line stream : ℕ) (peer : PeerStream) (o : Option (ℕ × ℕ))
+    → o ≡ interface_named k.interfaces v.links n
+    → Some peer ≡ (if nat_lt stream 256 && has_peer_at v line stream o then Some (managed_peer_stream k line stream)
     else
     None)
     → IsPeer k v n line stream peer
-is_peer k v n line stream peer is =
-    let parts = some_if (nat_lt stream 256 && has_peer_in k v n line stream) (managed_peer_stream k line stream) peer is
+is_peer k v n line stream peer o named is =
+    let parts = some_if (nat_lt stream 256 && has_peer_at v line stream o) (managed_peer_stream k line stream) peer is
     in
-    let both = and_parts (nat_lt stream 256) (has_peer_in k v n line stream) parts.0 in
+    let both = and_parts (nat_lt stream 256) (has_peer_at v line stream o) parts.0 in
     record {
       small = true-lt stream 256 both.0;
-      has = both.1;
+      has = ap (has_peer_at v line stream) (sym named) ∙ both.1;
       peer_is = parts.1;
     }
 

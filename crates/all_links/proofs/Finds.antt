@@ -3,14 +3,25 @@
 use Rattle.all_links.proofs.Terms.{◌≡◌, ◌+◌, List, refl, ap, sym, ◌∙◌, subst, arith, Plan, LinkState, LinkPacket, Some}
 use Rattle.all_links.proofs.Terms.{Stepped, Verdict, History, PortsStandFor, Links, state_of, IsBounded, AreLinks}
 use Rattle.all_links.proofs.Terms.{links_state, StepEndsBy, EndsIf, EndsWith, beside_in, Ends, BesidePorts, Interface}
-use Rattle.all_links.proofs.Terms.{true}
-use Rattle.all_links.proofs.Terms.{false, Option, None, IfSome, IsSome, is_some, EndsAs, HasNoVerdict, same_Some}
+use Rattle.all_links.proofs.Terms.{true, false, Option, None, IfSome, IsSome, is_some, EndsAs, HasNoVerdict, same_Some}
 use Rattle.all_links.proofs.Terms.{step_of, IsAnsweredBy, answer_of_links}
+use Rattle.all_links.proofs.Terms.{ℕ, ◌<◌, EndsView, port_on}
+use Rattle.std.proofs.Common.{◌^◌}
+use Rattle.ide_types.specs.declared.port.PortName.{PortName}
+use Rattle.ide_port.specs.{PortEnd, PortUnitsAtMost}
+use Rattle.ide_port.proofs.Units.{port-more}
 use Rattle.link_events.specs.declared.event.Event.{Event}
 use Rattle.link_events.specs.declared.event.InterfaceEvent.{InterfaceEvent}
 
--- ---- events that change nothing
+-- ---- how many units
 
+-- no event finished or accepted more than one at an end
+pub few_units : (v : EndsView) (packets : List LinkPacket) (steps : ℕ) → steps < 2 ^ 28 → IsBounded v packets steps
+    → (end : PortName) (e : PortEnd) → port_on v end ≡ Some e → PortUnitsAtMost (2 ^ 40) e
+few_units v packets steps less bounded end e at = port-more steps (2 ^ 40) e (omega (arith, less))
+    (bounded.units end e at)
+
+-- ---- events that change nothing
 pub nothing_steps : {IsSo : BesidePorts → Type 0} {step : BesidePorts → LinkState → Stepped} {verdict w : Verdict}
     {old new : Links} (plan : Plan)
     → verdict ≡ w → new ≡ record old { steps = old.steps + 1 } → IsBounded old.ends old.packets.packets old.steps
@@ -25,7 +36,7 @@ nothing_steps {IsSo} {step} {verdict} {w} {old} {new} plan says is bounded same 
       regions = refl;
       bounded = record {
         few = bounded.few;
-        calls = λ end e at. (let most = bounded.calls end e at in omega (arith, most));
+        units = λ end e at. port-more old.steps (old.steps + 1) e (omega arith) (bounded.units end e at);
         sealed_here = bounded.sealed_here;
       };
       ends = λ b so h links stands.

@@ -3,9 +3,9 @@ use Rattle.line_arrivals.proofs.{WorksOn, Operated, operated, operates_grow, nam
 use Rattle.line_arrivals.proofs.{bounded_then}
 use Rattle.all_links.proofs.Terms.{◌≡◌, ◌∙◌, ℕ, ◌+◌, true, refl, sym, subst, arith, IsSome, Option, Some, Plan}
 use Rattle.all_links.proofs.Terms.{EndsView, port_on, Links, links_state, EndsWith, StandsForSome, beside_in}
-use Rattle.all_links.proofs.Terms.{OperatesAt, stream_named}
-use Rattle.all_links.proofs.Terms.{IsBounded, KeeperView, ManagerView, Verdict, OperationsJoin, named, Named}
-use Rattle.all_links.proofs.Terms.{operation_event, PortsStandFor, AreLinks, History}
+use Rattle.all_links.proofs.Terms.{OperatesAt, stream_named, IsBounded, KeeperView, ManagerView, Verdict}
+use Rattle.all_links.proofs.Terms.{OperationsJoin, named_stream, Named, operation_event, PortsStandFor, AreLinks}
+use Rattle.all_links.proofs.Terms.{History, BesidePorts, LinkState, step_of, false}
 use Rattle.ide_types.specs.Ports.{host_port}
 use Rattle.join_keys.specs.Paired.{PairOperationsJoin}
 use Rattle.line_arrivals.specs.{HostKeeper}
@@ -17,7 +17,6 @@ use Rattle.tsm_host.specs.declared.operation.StreamOutcome.{StreamOutcome}
 use Rattle.tsm_host.specs.Operations.{OpName, op_name}
 use Rattle.tsm_host.specs.Walk.{verdict_of}
 use Rattle.all_links.specs.Sides.{works_on}
-use Rattle.all_links.proofs.Terms.{BesidePorts, LinkState, step_of, false}
 use Rattle.link_verdicts.specs.declared.verdict.Verdict.TheVariants as v
 
 works : (operation : Operation) (line : ℕ) → works_on operation line ≡ true → WorksOn operation line
@@ -29,7 +28,7 @@ works op.Stop line is same = absurd cc
 pub record IsFound (m : ManagerView) (v : EndsView) (line stream a b : ℕ) : Type 0 where
   pub same : ◌≡◌ {A = ℕ × ℕ} (a, b) (line, stream)
   pub here : IsSome (port_on v (host_port a))
-  pub there : IsSome (named m a b)
+  pub there : IsSome (named_stream m a b)
   pub named_is : Some (a, b) ≡ stream_named m v a b
 
 pub found_is : (m : ManagerView) (v : EndsView) (line stream a b : ℕ) → Some (a, b) ≡ stream_named m v line stream
@@ -39,7 +38,8 @@ found_is m v line stream a b is =
     record {
       same = λ i. (n.line_is i, n.stream_is i);
       here = subst (λ (l : ℕ). IsSome (port_on v (host_port l))) (sym n.line_is) n.end_there;
-      there = subst (λ (p : ℕ × ℕ). IsSome (named m p.0 p.1)) (λ i. (sym n.line_is i, sym n.stream_is i)) n.there;
+      there = subst (λ (p : ℕ × ℕ). IsSome (named_stream m p.0 p.1)) (λ i. (sym n.line_is i, sym n.stream_is i))
+          n.there;
       named_is = is ∙ (λ i. stream_named m v (sym n.line_is i) (sym n.stream_is i));
     }
 
@@ -47,7 +47,7 @@ found_is m v line stream a b is =
 module _ (plan : Plan) (old : Links) (h : History) (ends : EndsView) (k' : KeeperView) (call : OpCall)
     (operation : Operation) (line id : ℕ) (loss : Option Loss) (result : StreamOutcome)
     (links : AreLinks plan old.ends old.keeper.keys) (stands : PortsStandFor plan (links_state plan old) h)
-    (n : Named) (named_is : named old.keeper.keys.manager line id ≡ Some n)
+    (n : Named) (named_is : named_stream old.keeper.keys.manager line id ≡ Some n)
     (name : op_name call ≡ record { operation = operation; line = line; stream = id })
     (works_is : works_on operation line ≡ true) (here : IsSome (port_on old.ends (host_port line)))
     (operates : OperatesAt old.ends line old.keeper.keys call loss result ends k') where
@@ -63,13 +63,12 @@ pub operates_due : OperationsJoin → PairOperationsJoin → (plan : Plan) (old 
     (k' : KeeperView) (call : OpCall) (loss : Option Loss) (result : StreamOutcome) → StandsForSome plan old
     → works_on (op_name call).operation (op_name call).line ≡ true
     → IsSome (port_on old.ends (host_port (op_name call).line))
-    → IsSome (named old.keeper.keys.manager (op_name call).line (op_name call).stream)
-    → OperatesAt old.ends (op_name call).line old.keeper.keys call loss result ends k'
-    → (verdict : Verdict)
+    → IsSome (named_stream old.keeper.keys.manager (op_name call).line (op_name call).stream)
+    → OperatesAt old.ends (op_name call).line old.keeper.keys call loss result ends k' → (verdict : Verdict)
     × (verdict_of (op_name call).operation (op_name call).line (op_name call).stream loss result ≡ Some verdict)
 operates_due joins pairs plan old ends k' call loss result standing works_is here there_is operates =
     let a : OpName = op_name call in
-    let n = some_named (named old.keeper.keys.manager a.line a.stream) there_is in
+    let n = some_named (named_stream old.keeper.keys.manager a.line a.stream) there_is in
     let c = comes_to plan old standing.history ends k' call a.operation a.line a.stream loss result standing.links
     standing.stands n.0 n.1 refl works_is here operates joins pairs in
     (_, c.verdict_is)
@@ -78,7 +77,7 @@ pub operates_on : OperationsJoin → PairOperationsJoin → (plan : Plan) (old :
     (call : OpCall) (operation : Operation) (line id : ℕ) (loss : Option Loss) (result : StreamOutcome)
     (verdict : Verdict)
     → IsBounded old.ends old.packets.packets old.steps → works_on operation line ≡ true
-    → IsSome (port_on old.ends (host_port line)) → IsSome (named old.keeper.keys.manager line id)
+    → IsSome (port_on old.ends (host_port line)) → IsSome (named_stream old.keeper.keys.manager line id)
     → op_name call ≡ record { operation = operation; line = line; stream = id }
     → OperatesAt old.ends line old.keeper.keys call loss result ends k.keys
     → verdict_of operation line id loss result ≡ Some verdict
@@ -87,7 +86,7 @@ pub operates_on : OperationsJoin → PairOperationsJoin → (plan : Plan) (old :
 operates_on joins pairs plan old ends k call operation line id loss result verdict bounded works_is here there_is name
     operates says =
     let grows = operates_grow old.ends ends line old.keeper.keys k.keys call loss result here operates in
-    let n = some_named (named old.keeper.keys.manager line id) there_is in
+    let n = some_named (named_stream old.keeper.keys.manager line id) there_is in
     record {
       counted = refl;
       many = grows.many;

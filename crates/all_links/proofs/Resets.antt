@@ -1,21 +1,18 @@
 -- The states of streams that are read, and resets, as the machine has them.
 use Rattle.all_links.proofs.Terms.{◌≡◌, ℕ, ◌+◌, Bool, true, List, length, refl, ap, sym, ◌∙◌, subst, arith, Option}
 use Rattle.all_links.proofs.Terms.{Some, None, is_some, nat_lt, if◌then◌else◌, StreamStage, History, Host, Device}
-use Rattle.all_links.proofs.Terms.{StreamStatus}
-use Rattle.all_links.proofs.Terms.{Plan, Reset, Status, Stepped, machine_status, status_found, step_of, reset_state}
-use Rattle.all_links.proofs.Terms.{PortsStandFor, named, EndsView, port_on, Links, stream_named, KeeperView, ResetsAt}
-use Rattle.all_links.proofs.Terms.{statuses_of, both_of, IsBounded, AreLinks, links_state, EndsWith, BesidePorts}
-use Rattle.all_links.proofs.Terms.{beside_in}
-use Rattle.all_links.proofs.Terms.{option_and_then, PortEnd, PortName, LinkEnds, none-some, option_map, port_in}
-use Rattle.all_links.proofs.Terms.{slice_get}
+use Rattle.all_links.proofs.Terms.{StreamStatus, Plan, Reset, Status, Stepped, machine_status, status_found, step_of}
+use Rattle.all_links.proofs.Terms.{reset_state, PortsStandFor, named_stream, EndsView, port_on, Links, stream_named}
+use Rattle.all_links.proofs.Terms.{KeeperView, ResetsAt, statuses_of, both_of, IsBounded, AreLinks, links_state}
+use Rattle.all_links.proofs.Terms.{EndsWith, BesidePorts, beside_in, option_and_then, PortEnd, PortName, LinkEnds}
+use Rattle.all_links.proofs.Terms.{none-some, option_map, port_in, slice_get}
 use Rattle.link_verdicts.specs.declared.verdict.Verdict.TheVariants as v
 use Rattle.ide_types.specs.Ports.{host_port, device_port}
 use Rattle.ide_port.specs.{port_stream_status}
 use Rattle.line_arrivals.specs.{HostKeeper, reset_all, port_at_place, pair_port, line_place, LinePlace, Link, Near}
 use Rattle.line_arrivals.specs.{Pair, PairEnds, state_of}
-use Rattle.line_arrivals.proofs.{bounded_then}
-use Rattle.line_arrivals.proofs.{reset_grows, links_reset, state_reset, keeper_reset, IsName, at_side, op_is, planned}
-use Rattle.line_arrivals.proofs.{some_op, unnamed}
+use Rattle.line_arrivals.proofs.{bounded_then, reset_grows, links_reset, state_reset, keeper_reset, IsName, at_side}
+use Rattle.line_arrivals.proofs.{op_is, planned, some_op, unnamed}
 
 some_end : (o : Option PortEnd) → is_some o ≡ true → (e : PortEnd) × (o ≡ Some e)
 some_end (Some e) is = (e, refl)
@@ -46,13 +43,12 @@ far_there v line e is = by (line_place line) is
 pub status_read : (old : Links) (plan : Plan) (h : History) (line stream a b : ℕ)
     (read : Option (StreamStatus × StreamStatus))
     → AreLinks plan old.ends old.keeper.keys → PortsStandFor plan (links_state plan old) h
-    → IsName old.keeper.keys.manager old.ends line stream a b → read ≡ statuses_of old.ends a b
-    → read ≡ Some (
+    → IsName old.keeper.keys.manager old.ends line stream a b → read ≡ statuses_of old.ends a b → read ≡ Some (
       machine_status plan (links_state plan old) Host line stream,
       machine_status plan (links_state plan old) Device line stream,
     )
 status_read old plan h line stream a b read links stands n reads =
-    let q = some_op (named old.keeper.keys.manager line stream) n.there in
+    let q = some_op (named_stream old.keeper.keys.manager line stream) n.there in
     let known = planned plan h line stream q.0
     (sym (stands.ops_is line stream) ∙ op_is plan old.ends old.keeper.keys old.packets.packets line stream links ∙
     q.1) in
@@ -66,8 +62,7 @@ status_read old plan h line stream a b read links stands n reads =
     (at_side plan old.ends old.keeper.keys old.packets.packets h line stream Device far.0 links stands known far.1 i))
 
 pub status_nowhere : (b : BesidePorts) (old : Links) (plan : Plan) (line stream : ℕ)
-    → AreLinks plan old.ends old.keeper.keys
-    → None ≡ stream_named old.keeper.keys.manager old.ends line stream
+    → AreLinks plan old.ends old.keeper.keys → None ≡ stream_named old.keeper.keys.manager old.ends line stream
     → step_of plan b (links_state plan old) (Status line stream) ≡ (v.Nothing, links_state plan old)
 unfolding step_of
 status_nowhere b old plan line stream links is = ap
@@ -75,8 +70,7 @@ status_nowhere b old plan line stream links is = ap
     (unnamed plan old.ends old.keeper.keys old.packets.packets line stream links is)
 
 pub status_here : (b : BesidePorts) (old : Links) (plan : Plan) (line stream : ℕ)
-    → AreLinks plan old.ends old.keeper.keys
-    → is_some (named old.keeper.keys.manager line stream) ≡ true
+    → AreLinks plan old.ends old.keeper.keys → is_some (named_stream old.keeper.keys.manager line stream) ≡ true
     → step_of plan b (links_state plan old) (Status line stream)
     ≡ (
       v.Status line stream (machine_status plan (links_state plan old) Host line stream)
@@ -85,7 +79,7 @@ pub status_here : (b : BesidePorts) (old : Links) (plan : Plan) (line stream : �
     )
 unfolding step_of
 status_here b old plan line stream links there_is =
-    let q = some_op (named old.keeper.keys.manager line stream) there_is in
+    let q = some_op (named_stream old.keeper.keys.manager line stream) there_is in
     ap (λ (o : Option StreamStage). status_found plan (links_state plan old) line stream o)
     (op_is plan old.ends old.keeper.keys old.packets.packets line stream links ∙ q.1)
 

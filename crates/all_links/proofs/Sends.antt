@@ -7,13 +7,12 @@ use Rattle.all_links.proofs.Terms.{LinkPacket, Stepped, kept_packet, step_of, jo
 use Rattle.all_links.proofs.Terms.{send_step, sent_verdict, lengths_sent, IsSentAtPort, LinkEnds, Links, SendsAt}
 use Rattle.all_links.proofs.Terms.{state_of, IsBounded, AreLinks, links_state, EndsWith, EndsSending, Send, EndsView}
 use Rattle.all_links.proofs.Terms.{port_on, trusting_on, with_port_on, beside_in, BesidePorts, port_in, with_port}
-use Rattle.all_links.proofs.Terms.{LinkState}
-use Rattle.all_links.proofs.Terms.{has_port, stepped_bytes, KeeperView}
+use Rattle.all_links.proofs.Terms.{LinkState, has_port, stepped_bytes, KeeperView}
 use Rattle.line_arrivals.specs.{cut_packets, PairEnds, end_sent_verdict, changed_at, line_place, pair_port}
 use Rattle.line_arrivals.specs.{port_at_place, with_pair_port, with_port_at, LinePlace, Link, Near, Pair}
 use Rattle.std.proofs.lemmas.Option.{none-some}
 use Rattle.std.proofs.lemmas.Bool.{and_parts}
-use Rattle.association.specs.Outgoing.{Outgoing, outgoing_of}
+use Rattle.tlp_layout.specs.Outgoing.{Outgoing, outgoing_of}
 use Rattle.spec_links.specs.Ports.{at_switch, may_send, port_of, sealing_end}
 use Rattle.link_verdicts.specs.declared.verdict.Verdict.TheVariants as v
 use Rattle.ide_port.specs.declared.answer.Sent.TheVariants.{Sealed}
@@ -22,9 +21,10 @@ use Rattle.all_links.specs.Links.{Ends, EndsOr, EndsSendingOr}
 use Rattle.ide_types.specs.declared.memory.OutOfMemory.{OutOfMemory}
 use Rattle.all_links.specs.Sides.{SidesKeep}
 use Rattle.ide_port.specs.{Trusting}
+use Rattle.ide_port.proofs.Units.{sent-units}
 use Rattle.trusted_memory.specs.{TrustedMemory}
 use Rattle.line_arrivals.proofs.{sealing_there, at_port, cut_joined, lengths_join, sealed_on, send_joins, send_keeps}
-use Rattle.line_arrivals.proofs.{sends_as, sent_at_port, sent as sent_at}
+use Rattle.line_arrivals.proofs.{sends_as, sent_at_port, state_after_send as sent_at}
 use Rattle.line_arrivals.proofs.{port_is, wired, Grows, bounded_then, end_grows, end_kept}
 use Rattle.line_arrivals.proofs.Follows.{interfaces_put, put_seen}
 use Rattle.line_arrivals.proofs.Landing.{ends_there}
@@ -93,8 +93,7 @@ pub seals : (plan : Plan) (old new : Links) (end : PortName) (bytes : List ℕ) 
     (verdict : Verdict) → IsBounded old.ends old.packets.packets old.steps → IsSome (port_on old.ends end)
     → SendsAt old.ends end bytes more trusted answer new.ends
     → verdict ≡ end_sent_verdict end (port_of plan end) (length old.packets.packets + 1) answer
-    → new.keeper.keys ≡ old.keeper.keys → new.steps ≡ old.steps + 1
-    → ((e : PortEnd) → port_on new.ends end ≡ Some e
+    → new.keeper.keys ≡ old.keeper.keys → new.steps ≡ old.steps + 1 → ((e : PortEnd) → port_on new.ends end ≡ Some e
     → new.packets.packets ≡ old.packets.packets ++ cut_packets end (lengths_sent answer) e.sealed)
     → new.trusted ≡ old.trusted → EndsSending plan verdict old new end bytes more trusted
 seals plan old new end bytes more trusted answer verdict bounded here sends says keeper steps kept memory =
@@ -114,7 +113,7 @@ seals plan old new end bytes more trusted answer verdict bounded here sends says
     kept step.port stepped.2 ∙ (λ i. old.packets.packets ++ cut_packets end (sent_is.lengths i) (joined i))
     ∙ ap (λ (ps : List LinkPacket). old.packets.packets ++ ps) (cut_joined end step.packets) in
     let keeps = send_keeps e out more sets n in
-    let grows : Grows 1 old.ends now = end_grows old.ends end e step.port put.at keeps.calls in
+    let grows : Grows 1 old.ends now = end_grows old.ends end e step.port put.at (sent-units e out more sets n) in
     let after : IsBounded now all (old.steps + 1) =
     bounded_then 1 old.ends now old.packets.packets all old.steps (omega arith) bounded grows
     (sealed_on (λ (x : PortName). IsSome (port_on old.ends x)) end old.packets.packets step.packets here

@@ -11,21 +11,19 @@ use Rattle.ide_types.specs.Ends.{peer_link}
 use Rattle.ide_types.specs.declared.plan.PeerPlan.{PeerPlan}
 use Rattle.ide_types.specs.Ports.{host_port}
 unfoldable use Rattle.spec_interfaces.specs.Peers.{peer_end}
-use Rattle.line_arrivals.proofs.{peer_end_is}
+use Rattle.line_arrivals.proofs.{peer_end_is, each_set, seen_same}
 use Rattle.link_events.specs.declared.event.Loss.{Loss}
 use Rattle.line_arrivals.specs.{PairEnds, secure_with, OperatesIn, OperatesOnLink, OperatesOnPair, line_place}
-use Rattle.line_arrivals.specs.{changed_at, port_at_place, live_of, live_at_port, pair_port, settled_ends}
-use Rattle.line_arrivals.specs.{settled_link, settled_first_links, settled_peer, cleared_place, cleared_ends}
-use Rattle.line_arrivals.specs.{cleared_on}
-use Rattle.line_arrivals.specs.{all_cleared, unlocked_ends, unlocked_link, reset_all, LinePlace, Link, Near, Pair}
+use Rattle.line_arrivals.specs.{changed_at, port_at_place, live_of, live_at_port, pair_port, settled_ends, settled_link}
+use Rattle.line_arrivals.specs.{settled_first_links, settled_peer, cleared_place, cleared_ends, cleared_on, all_cleared}
+use Rattle.line_arrivals.specs.{unlocked_ends, unlocked_link, reset_all, LinePlace, Link, Near, Pair}
 use Rattle.interface_state.specs.Machine.{Tdi, StreamLeft, tdi_after, bound_link_stream, after_failure, bindings_left}
-use Rattle.interface_state.specs.declared.bindings.Binding.{Binding}
+use Rattle.ide_types.specs.declared.binding.Binding.{Binding}
 use Rattle.interface_state.specs.declared.states.TdiState.{TdiState}
 use Rattle.interface_state.specs.declared.states.TdiState.TheVariants.{ConfigUnlocked, ConfigLocked, Run, Error}
-use Rattle.interface_device.specs.Replies.{DeviceTdis, settled_interface, settled_interfaces, is_left, any_left}
+use Rattle.interface_ends.specs.Replies.{DeviceTdis, settled_interface, settled_interfaces, is_left, any_left}
 use Rattle.tsm_host.specs.declared.operation.NamedOperation.{NamedOperation as OpCall}
 use Rattle.tsm_host.specs.declared.operation.StreamOutcome.{StreamOutcome}
-use Rattle.line_arrivals.proofs.{each_set, seen_same}
 use Rattle.line_arrivals.specs.Follows.{IsSettledOrSame, AllFollow}
 use Rattle.line_arrivals.proofs.Follows.{changed_other}
 use Rattle.all_links.specs.Sides.{reset_if}

@@ -1,11 +1,11 @@
 -- What an event makes of what stands beside the ports. Most events keep all of it. A call of one link changes that link
 -- alone; what an operation on a stream tells the manager of interfaces goes by the cases of its outcome (`told_here`).
-use Rattle.all_links.proofs.Terms.{◌≡◌, ℕ, ◌+◌, ◌==◌, ◌<◌, not, Bool, true, false, List, length, refl, ap, sym}
-use Rattle.all_links.proofs.Terms.{◌∙◌, subst, arith, nat_tests, Option, Some, None, slice_get, slice_set, EndsView}
+use Rattle.all_links.proofs.Terms.{◌≡◌, ℕ, ◌+◌, ◌==◌, ◌<◌, not, Bool, true, false, List, length, refl, ap, sym, ◌∙◌}
+use Rattle.all_links.proofs.Terms.{subst, arith, nat_tests, Option, Some, None, slice_get, slice_set, EndsView}
 use Rattle.all_links.proofs.Terms.{none-some, same_Some, true-lt, nat_lt, IsSome, if◌then◌else◌, Verdict, StreamStage}
-use Rattle.all_links.proofs.Terms.{LinkEnds, Links, InterfacesView, ManagerView, Named, named, stream_named, OperatesAt}
-use Rattle.all_links.proofs.Terms.{ResetsAt, PortName, peer_live, port_on, work_of}
-use Rattle.all_links.proofs.Terms.{told_by_line, drawn_at, nat_le}
+use Rattle.all_links.proofs.Terms.{LinkEnds, Links, InterfacesView, ManagerView, Named, named_stream, stream_named}
+use Rattle.all_links.proofs.Terms.{OperatesAt, ResetsAt, PortName, peer_live, port_on, work_of, told_by_line, drawn_at}
+use Rattle.all_links.proofs.Terms.{nat_le, ◌-◌}
 use Rattle.std.proofs.Common.{◌&&◌}
 use Rattle.std.specs.Prelude.{IfSome}
 use Rattle.link_events.specs.declared.event.Loss.{Loss}
@@ -22,18 +22,15 @@ use Rattle.interface_host.specs.declared.operation.InterfaceOutcome.{InterfaceOu
 use Rattle.interface_host.specs.Managers.{reset_interface_manager}
 use Rattle.interface_ends.specs.Keepers.{Ended}
 use Rattle.line_arrivals.specs.{operated_on, HostKeeper, AsksAt, CallsAt, told_by_place, drawn_in, line_place}
-use Rattle.line_arrivals.specs.{LinePlace}
-use Rattle.line_arrivals.specs.{Link, Near, Pair, secure_with, told}
+use Rattle.line_arrivals.specs.{LinePlace, Link, Near, Pair, secure_with, manager_told}
 use Rattle.all_links.specs.Interfaces.{interface_named, has_peer_in}
 use Rattle.all_links.specs.Sides.{SidesKeep, told_on_line, peers_drawn, SidesOperate, SidesReset, SidesAsk, SidesPeer}
-use Rattle.all_links.specs.Sides.{called_if, SidesCall}
+use Rattle.all_links.specs.Sides.{called_if, SidesCall, told_by_link, told_by_peer, works_on, reset_if}
 use Rattle.all_links.proofs.Asked.{if_some, is_found, set_back, with_interfaces}
 use Rattle.all_links.proofs.Settled.{all_same, reset_device, operated_follow}
-use Rattle.all_links.specs.Sides.{told_by_link, told_by_peer, works_on, reset_if}
 use Rattle.ide_types.specs.Ports.{host_port}
 use Rattle.spec_interfaces.specs.Views.{peer_of}
-use Rattle.interface_device.specs.Replies.{settled_interfaces}
-use Rattle.all_links.proofs.Terms.{◌-◌}
+use Rattle.interface_ends.specs.Replies.{settled_interfaces}
 
 -- ---- nothing
 
@@ -210,11 +207,11 @@ module _ (q : StreamStage) (before after : ℕ) (m : InterfacesView) where
 
   told_link : (c : OpCall) (loss : Option Loss) (result : StreamOutcome) (verdict : Verdict)
       → verdict_of (op_name c).operation (op_name c).line (op_name c).stream loss result ≡ Some verdict
-      → told c (work_of (op_name c).operation q 0).begins drew before result m
+      → manager_told c (work_of (op_name c).operation q 0).begins drew before result m
       ≡ told_by_link (op_name c).operation (op_name c).line (op_name c).stream q before after verdict m
-  told_link (call.Establish link id) loss result verdict says = refl
-  told_link (call.Stop link id) loss result verdict says = refl
-  told_link (call.Refresh link id) loss result verdict says = grind arith
+  told_link (call.Establish line id) loss result verdict says = refl
+  told_link (call.Stop line id) loss result verdict says = refl
+  told_link (call.Refresh line id) loss result verdict says = grind arith
 
   -- of another line
   told_other : (c : OpCall) (begins : Bool) (result : StreamOutcome) (near : Bool)
@@ -223,9 +220,9 @@ module _ (q : StreamStage) (before after : ℕ) (m : InterfacesView) where
       result
       m
       ≡ (if nat_le 24 (op_name c).line then told_by_peer (op_name c).operation (op_name c).line m else m)
-  told_other (call.Establish link id) begins result near is = both near (nat_le 24 link)
+  told_other (call.Establish line id) begins result near is = both near (nat_le 24 line)
     where
-      both : (a b : Bool) → told_by_place (if a then Near (link - 8) else Pair (link - 16)) (call.Establish link id)
+      both : (a b : Bool) → told_by_place (if a then Near (line - 8) else Pair (line - 16)) (call.Establish line id)
           begins
           drew
           before result m ≡ (if b then m else m)
@@ -233,18 +230,18 @@ module _ (q : StreamStage) (before after : ℕ) (m : InterfacesView) where
       both true false = refl
       both false true = refl
       both false false = refl
-  told_other (call.Refresh link id) begins result near is = both near (nat_le 24 link)
+  told_other (call.Refresh line id) begins result near is = both near (nat_le 24 line)
     where
-      both : (a b : Bool) → told_by_place (if a then Near (link - 8) else Pair (link - 16)) (call.Refresh link id)
+      both : (a b : Bool) → told_by_place (if a then Near (line - 8) else Pair (line - 16)) (call.Refresh line id)
           begins drew
           before result m ≡ (if b then m else m)
       both true true = refl
       both true false = refl
       both false true = refl
       both false false = refl
-  told_other (call.Stop link id) begins result true is =
-      sym (ap (λ (b : Bool). if b then told_by_peer operation.Stop link m else m) (not_peers link is))
-  told_other (call.Stop link id) begins result false is = refl
+  told_other (call.Stop line id) begins result true is =
+      sym (ap (λ (b : Bool). if b then told_by_peer operation.Stop line m else m) (not_peers line is))
+  told_other (call.Stop line id) begins result false is = refl
 
   told_here : (c : OpCall) (loss : Option Loss) (result : StreamOutcome) (verdict : Verdict)
       → verdict_of (op_name c).operation (op_name c).line (op_name c).stream loss result ≡ Some verdict
@@ -264,31 +261,31 @@ module _ (q : StreamStage) (before after : ℕ) (m : InterfacesView) where
 drawn_here : (c : OpCall) (before after : ℕ) (draws : List ℕ)
     → drawn_at (op_name c).line c (not (after == before)) before draws
     ≡ peers_drawn (op_name c).operation (op_name c).line before after draws
-drawn_here (call.Establish link id) before after draws = by (nat_lt link 8) refl
+drawn_here (call.Establish line id) before after draws = by (nat_lt line 8) refl
   where
     drawn : Bool → List ℕ
-    drawn b = if b && not (after == before) then slice_set draws (peer_of link) before else draws
+    drawn b = if b && not (after == before) then slice_set draws (peer_of line) before else draws
 
-    behind : (b : Bool) → nat_lt link 16 ≡ b
-        → drawn_in (if b then Near (link - 8) else Pair (link - 16)) (call.Establish link id) (not (after == before))
-        before draws ≡ drawn (nat_le 24 link)
-    behind true is = sym (ap drawn (not_peers link is))
+    behind : (b : Bool) → nat_lt line 16 ≡ b
+        → drawn_in (if b then Near (line - 8) else Pair (line - 16)) (call.Establish line id) (not (after == before))
+        before draws ≡ drawn (nat_le 24 line)
+    behind true is = sym (ap drawn (not_peers line is))
     behind false is = refl
 
-    by : (b : Bool) → nat_lt link 8 ≡ b
-        → drawn_in (if b then Link link else if nat_lt link 16 then Near (link - 8) else Pair (link - 16))
-        (call.Establish link id) (not (after == before)) before draws ≡ drawn (nat_le 24 link)
-    by true is = sym (ap drawn (not_peers link (grind (arith, nat_tests, is))))
-    by false is = behind (nat_lt link 16) refl
-drawn_here (call.Refresh link id) before after draws = by (line_place link)
+    by : (b : Bool) → nat_lt line 8 ≡ b
+        → drawn_in (if b then Link line else if nat_lt line 16 then Near (line - 8) else Pair (line - 16))
+        (call.Establish line id) (not (after == before)) before draws ≡ drawn (nat_le 24 line)
+    by true is = sym (ap drawn (not_peers line (grind (arith, nat_tests, is))))
+    by false is = behind (nat_lt line 16) refl
+drawn_here (call.Refresh line id) before after draws = by (line_place line)
   where
-    by : (place : LinePlace) → drawn_in place (call.Refresh link id) (not (after == before)) before draws ≡ draws
+    by : (place : LinePlace) → drawn_in place (call.Refresh line id) (not (after == before)) before draws ≡ draws
     by (Link i) = refl
     by (Near i) = refl
     by (Pair i) = refl
-drawn_here (call.Stop link id) before after draws = by (line_place link)
+drawn_here (call.Stop line id) before after draws = by (line_place line)
   where
-    by : (place : LinePlace) → drawn_in place (call.Stop link id) (not (after == before)) before draws ≡ draws
+    by : (place : LinePlace) → drawn_in place (call.Stop line id) (not (after == before)) before draws ≡ draws
     by (Link i) = refl
     by (Near i) = refl
     by (Pair i) = refl
@@ -335,7 +332,7 @@ pub operated_beside : (old : Links) (ends : EndsView) (k : HostKeeper) (c : OpCa
     → IsSome (port_on old.ends (host_port line))
     → op_name c ≡ record { operation = operation; line = line; stream = id }
     → OperatesAt old.ends line old.keeper.keys c loss result ends k.keys
-    → IfSome (named old.keeper.keys.manager (op_name c).line (op_name c).stream) (λ (n : Named).
+    → IfSome (named_stream old.keeper.keys.manager (op_name c).line (op_name c).stream) (λ (n : Named).
     k.interfaces ≡ told_by_line (op_name c).line c (work_of (op_name c).operation n.stream.op 0).begins
     (not (k.keys.pool.draws == old.keeper.keys.pool.draws)) old.keeper.keys.pool.draws result old.keeper.interfaces)
     → k.peer_draws ≡ drawn_at (op_name c).line c (not (k.keys.pool.draws == old.keeper.keys.pool.draws))
@@ -351,11 +348,11 @@ operated_beside old ends k c operation line id loss result verdict found here na
       contents = refl;
       unnamed = λ none. absurd (none-some (line, id) (sym none ∙ sym found));
       told = λ n at named_is.
-          let same : named m (op_name c).line (op_name c).stream ≡ Some n =
-          ap (λ (x : OpName). named m x.line x.stream) name ∙ named_is in
+          let same : named_stream m (op_name c).line (op_name c).stream ≡ Some n =
+          ap (λ (x : OpName). named_stream m x.line x.stream) name ∙ named_is in
           if_some (λ (y : Named). k.interfaces ≡ told_by_line (op_name c).line c
           (work_of (op_name c).operation y.stream.op 0).begins (not (after == before)) before result
-          old.keeper.interfaces) (named m (op_name c).line (op_name c).stream) n same tells
+          old.keeper.interfaces) (named_stream m (op_name c).line (op_name c).stream) n same tells
           ∙ told_here n.stream.op before after old.keeper.interfaces c loss result verdict
           (subst (λ (x : OpName). verdict_of x.operation x.line x.stream loss result ≡ Some verdict) (sym name) says)
           ∙ ap (λ (x : OpName). told_on_line x.operation x.line x.stream n.stream.op before after verdict

@@ -1,8 +1,7 @@
 -- What the proofs of this crate name from other modules.
 pub use Rattle.ide_types.specs.declared.plan.Plan.{Plan}
-pub use Rattle.ide_port.specs.{IsSentAtPort, PortEnd, SendStep, lengths_sent, send_step, sent_verdict}
+pub use Rattle.ide_port.specs.{IsSentAtPort, PortEnd, SendStep, lengths_sent, send_step, sent_verdict, joined_packets}
 pub use Rattle.ide_port.specs.declared.answer.Sent.{Sent}
-pub use Rattle.ide_stream.specs.{joined_packets}
 pub use Rattle.ide_types.specs.declared.port.PortName.{PortName}
 pub use Rattle.ide_types.specs.declared.port.Side.{Side}
 pub use Rattle.ide_types.specs.declared.port.Side.TheVariants.{Device, Host}
@@ -25,8 +24,7 @@ pub use Rattle.trusted_memory.specs.{MemoryContents}
 pub use Rattle.ide_types.specs.declared.plan.Region.{Region}
 pub use Rattle.spec_links.specs.Plan.{has_port}
 pub use Rattle.machine_ports.specs.Machine.{BesidePorts, LinkPacket, LinkState, Stepped, stepped_bytes, kept_packet}
-pub use Rattle.machine_ports.specs.Machine.{reset_state}
-pub use Rattle.machine_ports.specs.Machine.{machine_status, status_found}
+pub use Rattle.machine_ports.specs.Machine.{reset_state, machine_status, status_found}
 pub use Rattle.spec_stream.specs.Stream.{StreamState}
 unfoldable pub use Rattle.machine_ports.specs.Machine.{step_of}
 pub use Rattle.machine_ports.specs.Stands.{PortsStandFor}
@@ -42,4 +40,4 @@ pub use Rattle.std.specs.Option.{option_and_then}
 pub use Rattle.std.specs.Prelude.{IfSome, IsSome, None, Option, Result, Some, if◌then◌else◌, is_some, map, nat_le}
 pub use Rattle.std.specs.Prelude.{nat_lt, not, option_map, slice_get, slice_set, sum_by, vec_len}
 pub use Rattle.sub_stream.specs.declared.answer.MeasuredPacket.{MeasuredPacket}
-pub use Rattle.tsm_host.specs.Managers.{ManagerView, Named, named}
+pub use Rattle.tsm_host.specs.Managers.{ManagerView, Named, named_stream}

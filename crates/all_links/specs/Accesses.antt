@@ -1,5 +1,5 @@
 -- What stands at each link beside its ports and interfaces, by an interface's number.
-use Rattle.std.specs.Prelude.{ℕ, slice_get, Bool, true, false}
+use Rattle.std.specs.Prelude.{ℕ, Option, slice_get, Bool, true, false}
 use Rattle.std.specs.Option.{option_map_or, option_and_then}
 use Rattle.ide_types.specs.declared.sub.SubKind.TheVariants.{Pr}
 use Rattle.link_verdicts.specs.declared.verdict.Verdict.{Verdict}
@@ -8,12 +8,11 @@ use Rattle.interface_state.specs.Machine.{Tdi}
 use Rattle.spec_interfaces.specs.Devices.{is_run}
 use Rattle.ide_port.specs.{receiving_draw_in}
 use Rattle.line_arrivals.specs.{LinkEnds}
-pub use Rattle.line_arrivals.specs.{reads_at, floors_at, sizes_at, mmio_at, standings_of_ends, policy_in, AreLeftBy}
+pub use Rattle.line_arrivals.specs.{reads_at, floors_at, sizes_at, mmio_at, statuses_of_ends, policy_in, AreLeftBy}
 pub use Rattle.line_arrivals.specs.{AccessesTurn, AccessesStay, same_reads, same_floors, nothing_happens}
-pub use Rattle.line_arrivals.specs.{carried_on_link}
-pub use Rattle.line_arrivals.specs.{same_carried, Brings}
+pub use Rattle.line_arrivals.specs.{carried_on_link, same_carried, Brings}
 use Rattle.all_links.specs.declared.links.Links.{Links}
-use Rattle.all_links.specs.Interfaces.{tdi_named}
+use Rattle.all_links.specs.Interfaces.{interface_named, interface_of_ends}
 
 -- ---- an interface of a number
 
@@ -28,9 +27,12 @@ device_draw s i link =
     (option_and_then (λ (l : LinkEnds). receiving_draw_in l.device.port (planned_stream s i) Pr)
     (slice_get s.ends.links link)) 0
 
--- the interface is in RUN
+-- the interface at a place is in RUN
+abbrev pub runs_at : Links → Option (ℕ × ℕ) → Bool
+runs_at s at = option_map_or (λ (t : Tdi). is_run t.state) (option_and_then (interface_of_ends s.ends.links) at) false
+
 abbrev pub runs_in : Links → ℕ → Bool
-runs_in s i = option_map_or (λ (t : Tdi). is_run t.state) (tdi_named s.keeper.interfaces s.ends.links i) false
+runs_in s i = runs_at s (interface_named s.keeper.interfaces s.ends.links i)
 
 -- ---- sends
 

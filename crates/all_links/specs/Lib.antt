@@ -11,6 +11,5 @@ pub use Rattle.line_arrivals.specs.{place_on_links, stream_named, AreLinks, IsBo
 pub use Rattle.line_arrivals.specs.{names_of, ops_in, ops_of, state_of, views_after, grants_in, writes_by, new_ends}
 pub use Rattle.line_arrivals.specs.{port_in, reset_link_ends, PairEnds, InterfacesView, keyed_if, live_for, operated_on}
 pub use Rattle.line_arrivals.specs.{status_for, stopped_if, KeeperView, LinkEnds, HostKeeper, unit_tlps, arrival_of}
-pub use Rattle.line_arrivals.specs.{unit_in, waiting_reads_after}
-pub use Rattle.line_arrivals.specs.{carried_next}
+pub use Rattle.line_arrivals.specs.{unit_in, waiting_reads_after, carried_next, IsThere}
 pub use Rattle.line_arrivals.specs.Landing.{IsQuiet, Lands, arrival_on}

@@ -20,9 +20,9 @@ use Rattle.spec_keys.specs.Operations.{StreamStage, work_of}
 use Rattle.spec_links.specs.History.{Arrival}
 use Rattle.machine_ports.specs.Machine.{LinkState}
 use Rattle.machine_ports.specs.Stands.{PortsStandFor}
-use Rattle.tsm_host.specs.Managers.{Named, named}
+use Rattle.tsm_host.specs.Managers.{Named, named_stream}
 use Rattle.interface_state.specs.Machine.{Tdi, Call, WriteRegister, LevelReset, FirmwareUpdate}
-use Rattle.interface_device.specs.Replies.{DeviceTdis, settled_interfaces, reset_tdis, called_at}
+use Rattle.interface_ends.specs.Replies.{DeviceTdis, settled_interfaces, reset_tdis, called_at}
 use Rattle.interface_host.specs.declared.operation.InterfaceOperation.{InterfaceOperation}
 use Rattle.interface_host.specs.declared.operation.InterfaceOperation.TheVariants as op
 use Rattle.interface_host.specs.Views.{HostTdi}
@@ -99,11 +99,11 @@ pub record SidesOperate (o : Operation) (line stream : ℕ) (verdict : Verdict) 
   pub unnamed : stream_named old.keeper.keys.manager old.ends line stream ≡ None
       → (new.keeper.interfaces ≡ old.keeper.interfaces) × (new.keeper.peer_draws ≡ old.keeper.peer_draws)
   pub told : (n : Named) → stream_named old.keeper.keys.manager old.ends line stream ≡ Some (line, stream)
-      → named old.keeper.keys.manager line stream ≡ Some n
+      → named_stream old.keeper.keys.manager line stream ≡ Some n
       → new.keeper.interfaces ≡ told_on_line o line stream n.stream.op old.keeper.keys.pool.draws
       new.keeper.keys.pool.draws verdict old.keeper.interfaces
   pub drawn : (n : Named) → stream_named old.keeper.keys.manager old.ends line stream ≡ Some (line, stream)
-      → named old.keeper.keys.manager line stream ≡ Some n
+      → named_stream old.keeper.keys.manager line stream ≡ Some n
       → new.keeper.peer_draws ≡ peers_drawn o line old.keeper.keys.pool.draws new.keeper.keys.pool.draws
       old.keeper.peer_draws
 
@@ -185,11 +185,11 @@ SidesInterface (ie.Memory at len) old new = SidesKeep old new
 
 -- ---- all events
 
-abbrev pub arrival_at : Plan → Event → LinkState → Option Arrival
-arrival_at plan e st = arrival_of plan st e
+abbrev pub arrival_in_state : Plan → Event → LinkState → Option Arrival
+arrival_in_state plan e st = arrival_of plan st e
 
 abbrev pub SidesArriveAt : Plan → Event → Verdict → Links → Links → Type 0
-SidesArriveAt plan e verdict old new = SidesArrive plan (arrival_at plan e) verdict old new
+SidesArriveAt plan e verdict old new = SidesArrive plan (arrival_in_state plan e) verdict old new
 
 abbrev pub Sides : Plan → Event → Verdict → Links → Links → Type 0
 Sides plan (event.Send port bytes more trusted) verdict old new = SidesKeep old new

@@ -22,12 +22,12 @@ const FIRST_PEER_LINE: u64 = 24;
 
 impl Links {
     ghost use Rattle.ide_types.specs.declared.plan.Plan.{Plan as PlanView};
-    ghost use Rattle.line_arrivals.specs.{IsBounded, AsksAt, report_of, outcome_verdict, NoBadInterfaceReply};
+    ghost use Rattle.line_arrivals.specs.{IsBounded, IsThere, AsksAt, report_of, outcome_verdict, NoBadInterfaceReply};
     ghost use Rattle.all_links.specs.Links.{EndsWith, EndsOr, EndsAs, EndsAsOr};
-    ghost use Rattle.all_links.specs.Accesses.{runs_in, device_draw};
+    ghost use Rattle.all_links.specs.Accesses.{runs_at, device_draw};
     ghost use Rattle.all_links.specs.Sides.{SidesKeep, SidesAsk, SidesInterface};
     ghost use Rattle.all_links.specs.Besides.{answer_of_links, op_verdict};
-    ghost use Rattle.all_links.specs.Interfaces.{interface_named, link_named, has_peer_in, managed_peer_stream};
+    ghost use Rattle.all_links.specs.Interfaces.{interface_named, has_peer_at, managed_peer_stream};
 
     fn shows(&mut self, verdict: InterfaceVerdict) -> Verdict
         requires { self.old.steps < 2 ^ 28 }
@@ -40,7 +40,8 @@ impl Links {
     /// The link and the place on it of the interface of a number, if there is one.
     pub fn interface(&self, number: u64) -> Option<(u8, usize)>
         requires { length self.now.ends.links ≤ 8 }
-        ensures { result ≡ interface_named self.now.keeper.interfaces self.now.ends.links number }
+        ensures place { result ≡ interface_named self.now.keeper.interfaces self.now.ends.links number }
+        ensures there { IfSome result (λ p. IsThere self.now.ends p.0 p.1) }
     {
         if number >= self.keeper.interfaces.manager().count() as u64 {
             return None;
@@ -51,12 +52,12 @@ impl Links {
         self.ends.interface(number)
     }
 
-    /// Whether the interface of a number is in RUN; false if there is none.
-    pub fn runs(&self, number: u64) -> bool
-        requires { length self.now.ends.links ≤ 8 }
-        ensures { result ≡ runs_in self.now number }
+    /// Whether the interface at a place is in RUN; false if there is none.
+    pub fn runs(&self, at: Option<(u8, usize)>) -> bool
+        requires { IfSome at (λ p. IsThere self.now.ends p.0 p.1) }
+        ensures { result ≡ runs_at self.now at }
     {
-        match self.interface(number) {
+        match at {
             None => false,
             Some((link, place)) => self.ends.runs(link, place),
         }
@@ -77,47 +78,49 @@ impl Links {
         }
     }
 
-    // Carries an operation on the interface of this number, which is on this link. If it has a verdict no reply is bad.
+    // Carries an operation on the interface of this number at this place. If it has a verdict no reply is bad.
     fn carry_interface(
         &mut self,
-        link: u8,
         number: u64,
+        at: (u8, usize),
         op: InterfaceOperation,
         loss: Option<Loss>,
     ) -> interface_host::InterfaceOutcome
-        requires here { link_named self.old.keeper.interfaces self.old.ends.links number ≡ Some link }
+        requires here { Some at ≡ interface_named self.old.keeper.interfaces self.old.ends.links number }
         ensures links { self.new ≡ record self.old { ends = self.new.ends; keeper = self.new.keeper } }
-        ensures asks { AsksAt self.old.ends link self.old.keeper number op loss result self.new.ends self.new.keeper }
+        ensures asks { AsksAt self.old.ends at.0 self.old.keeper number op loss result self.new.ends self.new.keeper }
         ensures answered { IsSome (op_verdict self.old number op loss)
             → (report : List ℕ) → IsSome (outcome_verdict number loss report result) }
         ensures no_bad_reply { IsSome (op_verdict self.old number op loss) → NoBadInterfaceReply loss result }
     {
         let interface = number as usize;
         self.ends
-            .operate_on(link, &mut self.keeper, interface, op, loss)
+            .operate_on(at.0, &mut self.keeper, interface, op, loss)
     }
 
-    /// An operation on an interface that reads no report, of any event that has its verdict. It has none if a reply is
-    /// bad, or if an exchange is lost none of whose messages is lost.
+    /// An operation on an interface, which is found at this place, that reads no report, of any event that has its
+    /// verdict. It has none if a reply is bad, or if an exchange is lost none of whose messages is lost.
     pub fn operate_interface(
         &mut self,
         alloc: Global,
         op: InterfaceOperation,
         number: u64,
+        at: Option<(u8, usize)>,
         loss: Option<Loss>,
     ) -> Option<Verdict>
         requires steps { self.old.steps < 2 ^ 28 }
         requires bounded { IsBounded self.old.ends self.old.packets.packets self.old.steps }
+        requires here { at ≡ interface_named self.old.keeper.interfaces self.old.ends.links number }
         requires short { report_of op ≡ (λ e. []) }
         ensures ends { (plan : PlanView) (event : InterfaceEvent)
             → answer_of_links self.old event ≡ op_verdict self.old number op loss
             → EndsAs plan result self.old self.new (Event.Interface event) }
         ensures sides { IfSome result (λ v. SidesAsk number op loss self.old self.new) }
     {
-        match self.interface(number) {
+        match at {
             None => Some(self.only(Verdict::Nothing)),
-            Some((link, _)) => {
-                let outcome = self.carry_interface(link, number, op, loss);
+            Some(at) => {
+                let outcome = self.carry_interface(number, at, op, loss);
                 let none = Bytes::new(Vec::new(alloc));
                 self.steps += 1;
                 asked_verdict(number as u8, loss, outcome, none)
@@ -125,17 +128,17 @@ impl Links {
         }
     }
 
-    // The stream between devices as the manager has it, by its line and its ID, if the device of the interface has it.
-    fn peer(&self, number: u64, line: u64, stream: u64) -> Option<PeerStream>
-        requires few { length self.now.ends.links ≤ 8 }
-        requires peer { is_peer_line line ≡ true }
-        ensures { result ≡ (if nat_lt stream 256 && has_peer_in self.now.keeper self.now.ends number line stream
+    // The stream between devices as the manager has it, by its line and its ID, if the device of the interface at this
+    // place has it.
+    fn peer(&self, at: Option<(u8, usize)>, line: u64, stream: u64) -> Option<PeerStream>
+        requires { is_peer_line line ≡ true }
+        ensures { result ≡ (if nat_lt stream 256 && has_peer_at self.now.ends line stream at
             then Some (managed_peer_stream self.now.keeper line stream) else None) }
     {
         if stream > 255 {
             return None;
         }
-        match self.interface(number) {
+        match at {
             None => None,
             Some((link, _)) => {
                 if self.ends.has_peer(link, line, stream) {
@@ -168,12 +171,14 @@ impl Links {
         ensures sides { IfSome result (λ v. SidesInterface (InterfaceEvent.Bind number line stream loss) self.old
             self.new) }
     {
-        match self.peer(number, line, stream) {
+        let at = self.interface(number);
+        match self.peer(at, line, stream) {
             None => Some(self.only(Verdict::Nothing)),
             Some(peer) => self.operate_interface(
                 alloc,
                 InterfaceOperation::Bind(peer),
                 number,
+                at,
                 loss,
             ),
         }
@@ -196,12 +201,14 @@ impl Links {
         ensures sides { IfSome result (λ v. SidesInterface (InterfaceEvent.Unbind number line stream loss) self.old
             self.new) }
     {
-        match self.peer(number, line, stream) {
+        let at = self.interface(number);
+        match self.peer(at, line, stream) {
             None => Some(self.only(Verdict::Nothing)),
             Some(peer) => self.operate_interface(
                 alloc,
                 InterfaceOperation::Unbind(peer),
                 number,
+                at,
                 loss,
             ),
         }
@@ -223,9 +230,9 @@ impl Links {
     {
         match self.interface(number) {
             None => Ok(Some(self.only(Verdict::Nothing))),
-            Some((link, _)) => {
+            Some(at) => {
                 let mut report = Vec::with_capacity(alloc, MOST_REPORT)?;
-                let outcome = self.carry_interface(link, number, InterfaceOperation::Report, loss);
+                let outcome = self.carry_interface(number, at, InterfaceOperation::Report, loss);
                 report
                     .extend_from_slice(self.keeper.interfaces.manager().report())
                     .unwrap();
@@ -275,15 +282,17 @@ impl Links {
         }
     }
 
-    /// A function level reset of an interface.
-    pub fn flr(&mut self, number: u64) -> Verdict
+    /// A function level reset of an interface, which is found at this place, and stays there.
+    pub fn flr(&mut self, number: u64, at: Option<(u8, usize)>) -> Verdict
         requires steps { self.old.steps < 2 ^ 28 }
         requires bounded { IsBounded self.old.ends self.old.packets.packets self.old.steps }
+        requires here { at ≡ interface_named self.old.keeper.interfaces self.old.ends.links number }
         ensures ends { (plan : PlanView) → EndsWith plan result self.old self.new
             (Event.Interface (InterfaceEvent.Flr number)) }
         ensures sides { SidesInterface (InterfaceEvent.Flr number) self.old self.new }
+        ensures place { interface_named self.new.keeper.interfaces self.new.ends.links number ≡ at }
     {
-        match self.interface(number) {
+        match at {
             None => self.only(Verdict::Nothing),
             Some((link, place)) => {
                 let interface = number as u8;
@@ -341,17 +350,21 @@ impl Links {
     {
         match event {
             InterfaceEvent::Lock { interface, lose } => {
-                Ok(self.operate_interface(alloc, InterfaceOperation::Lock, *interface, *lose))
+                let at = self.interface(*interface);
+                Ok(self.operate_interface(alloc, InterfaceOperation::Lock, *interface, at, *lose))
             }
             InterfaceEvent::Report { interface, lose } => self.report(alloc, *interface, *lose),
             InterfaceEvent::Start { interface, lose } => {
-                Ok(self.operate_interface(alloc, InterfaceOperation::Start, *interface, *lose))
+                let at = self.interface(*interface);
+                Ok(self.operate_interface(alloc, InterfaceOperation::Start, *interface, at, *lose))
             }
             InterfaceEvent::Halt { interface, lose } => {
-                Ok(self.operate_interface(alloc, InterfaceOperation::Halt, *interface, *lose))
+                let at = self.interface(*interface);
+                Ok(self.operate_interface(alloc, InterfaceOperation::Halt, *interface, at, *lose))
             }
             InterfaceEvent::State { interface, lose } => {
-                Ok(self.operate_interface(alloc, InterfaceOperation::State, *interface, *lose))
+                let at = self.interface(*interface);
+                Ok(self.operate_interface(alloc, InterfaceOperation::State, *interface, at, *lose))
             }
             InterfaceEvent::Bind {
                 interface,
@@ -371,7 +384,10 @@ impl Links {
                 register,
                 value,
             } => Ok(Some(self.write(*interface, *register, *value))),
-            InterfaceEvent::Flr { interface } => Ok(Some(self.flr(*interface))),
+            InterfaceEvent::Flr { interface } => {
+                let at = self.interface(*interface);
+                Ok(Some(self.flr(*interface, at)))
+            }
             InterfaceEvent::Firmware { interface } => Ok(Some(self.firmware(*interface))),
             InterfaceEvent::Memory { address, length } => {
                 Ok(Some(self.memory(alloc, *address, *length)?))

@@ -2,7 +2,7 @@
 
 ghost use Rattle.std.specs.Prelude.{◌≡◌, ◌==◌, ◌<◌, ◌^◌, true, not, IsSome, IfSome};
 ghost use Rattle.spec_keys.specs.Operations.{work_of};
-ghost use Rattle.tsm_host.specs.Managers.{named};
+ghost use Rattle.tsm_host.specs.Managers.{named_stream};
 ghost use Rattle.tsm_host.specs.Operations.{op_name};
 ghost use Rattle.tsm_host.specs.Walk.{NoBadReply as NoBadStreamReply, verdict_of};
 ghost use Rattle.line_arrivals.specs.{port_on, stream_named};
@@ -41,14 +41,14 @@ impl Links {
             return None;
         }
         let side = Side::Host;
-        let (link, stream) = (line as u8, stream as u8);
-        if !self.ends.has_end(PortName { side, line: link }) {
+        let (line, stream) = (line as u8, stream as u8);
+        if !self.ends.has_end(PortName { side, line }) {
             return None;
         }
-        if !self.keeper.keys.has_stream(link, stream) {
+        if !self.keeper.keys.has_stream(line, stream) {
             return None;
         }
-        Some((link, stream))
+        Some((line, stream))
     }
 
     /// An operation on a stream of a line. It has no verdict if a reply is bad, or if an exchange is lost none of whose
@@ -86,11 +86,12 @@ impl Links {
     // history, no reply is bad.
     fn carry_stream(&mut self, op: NamedOperation, loss: Option<Loss>) -> StreamOutcome
         requires here { IsSome (port_on self.old.ends (host_port (op_name op).line)) }
-        requires stream { IsSome (named self.old.keeper.keys.manager (op_name op).line (op_name op).stream) }
+        requires stream { IsSome (named_stream self.old.keeper.keys.manager (op_name op).line (op_name op).stream) }
         ensures links { self.new ≡ record self.old { ends = self.new.ends; keeper = self.new.keeper } }
         ensures operates { OperatesAt self.old.ends (op_name op).line self.old.keeper.keys op loss result
             self.new.ends self.new.keeper.keys }
-        ensures interfaces { IfSome (named self.old.keeper.keys.manager (op_name op).line (op_name op).stream) (λ n.
+        ensures interfaces { IfSome (named_stream self.old.keeper.keys.manager (op_name op).line (op_name op).stream)
+            (λ n.
             let begins = (work_of (op_name op).operation n.stream.op 0).begins in
             let draw = self.old.keeper.keys.pool.draws in
             let drew = not (self.new.keeper.keys.pool.draws == draw) in
@@ -106,7 +107,7 @@ impl Links {
     {
         join_keys::operations_join();
         join_keys::pair_operations_join();
-        self.ends.operate(op.link(), &mut self.keeper, op, loss)
+        self.ends.operate(op.line(), &mut self.keeper, op, loss)
     }
 
     /// The states of a stream at both ends of a line.
@@ -118,10 +119,10 @@ impl Links {
     {
         match self.named(line, stream) {
             None => self.only(Verdict::Nothing),
-            Some((link, stream)) => match self.ends.status(link, stream) {
+            Some((line, stream)) => match self.ends.status(line, stream) {
                 None => self.only(Verdict::Nothing),
                 Some((host, device)) => self.only(Verdict::Status {
-                    link,
+                    line,
                     stream,
                     host,
                     device,

@@ -1,7 +1,7 @@
 -- Effects of an accepted unit, one packet after another: what one packet makes, and then those behind it.
 use Rattle.std.proofs.Common.{◌≡◌, ℕ, suc, zero, ◌+◌, ◌==◌, Bool, true, false, List, [], ◌∷◌, ◌++◌, drop, length}
 use Rattle.std.proofs.Common.{length-append, arith, refl, ap, sym, ◌∙◌, subst}
-use Rattle.std.proofs.lemmas.List.{append-nil}
+use Rattle.std.proofs.lemmas.List.{append-nil, append_assoc}
 use Rattle.std.specs.Prelude.{map, slice_get, if◌then◌else◌, Some, None, Option, Result, Ok, Err}
 use Rattle.std.proofs.lemmas.Option.{none-some, same_Some, some_pair_parts}
 use Rattle.link_verdicts.specs.declared.verdict.UnitName.{UnitName}
@@ -13,9 +13,8 @@ use Rattle.ide_types.specs.declared.port.PortName.{PortName}
 use Rattle.ide_prefix.specs.Packet.{Packet}
 use Rattle.sub_stream.specs.{lent_parts, mark_of}
 use Rattle.link_verdicts.specs.declared.verdict.Effect.{Effect}
-use Rattle.trusted_memory.specs.{Write, Leads}
+use Rattle.trusted_memory.specs.{Write, Leads, MemoryContents, write_effect, write_span, memory_read, waiting_after}
 use Rattle.spec_keys.specs.Places.{sent_direction}
-use Rattle.std.proofs.lemmas.List.{append_assoc}
 use Rattle.std.specs.List.{cons_option}
 use Rattle.tlp_layout.specs.declared.head.HeadView.{HeadView}
 use Rattle.tlp_layout.specs.declared.fault.TlpFault.{TlpFault}
@@ -24,11 +23,9 @@ use Rattle.link_verdicts.specs.declared.verdict.BlockCause.{BlockCause}
 use Rattle.link_verdicts.specs.declared.verdict.Effect.TheVariants as effect
 use Rattle.trusted_memory.specs.declared.grant.Grant.{Grant}
 use Rattle.trusted_memory.specs.declared.span.Span.{Span}
-use Rattle.trusted_memory.specs.{MemoryContents, write_effect, write_span}
 use Rattle.trusted_memory.specs.Causes.{block_cause, block_effect}
 use Rattle.trusted_memory.specs.declared.queue.WaitingRead.{WaitingRead}
 use Rattle.trusted_memory.specs.declared.read.MemReadView.{MemReadView}
-use Rattle.trusted_memory.specs.{memory_read, waiting_after}
 use Rattle.trusted_memory.specs.Waiting.{request_effect, effect_by_read, read_cause, read_effect}
 use Rattle.guarded_memory.specs.declared.standing.InterfaceStatus.{InterfaceStatus}
 use Rattle.guarded_memory.specs.declared.claims.Claim.{Claim}
@@ -39,9 +36,8 @@ use Rattle.spec_links.specs.Sent.{drawn_read, reads_by}
 use Rattle.spec_links.specs.Guarded.{tlp_happened}
 use Rattle.link_stores.specs.Accesses.{waiting_with, reads_after}
 use Rattle.arrival_verdicts.specs.Verdicts.{head_effect, head_grant, head_write, claimed_effect, marked_effect}
-use Rattle.arrival_verdicts.specs.Verdicts.{queued_by}
-use Rattle.arrival_verdicts.specs.Verdicts.{effects_from, packet_effect, packet_write, packet_stored, PacketCame}
-use Rattle.arrival_verdicts.specs.Verdicts.{UnitCame}
+use Rattle.arrival_verdicts.specs.Verdicts.{queued_by, effects_from, packet_effect, packet_write, packet_stored}
+use Rattle.arrival_verdicts.specs.Verdicts.{PacketCame, UnitCame}
 use Rattle.sub_stream.specs.declared.answer.PacketMark.{PacketMark}
 
 -- ---- reads that wait

@@ -16,19 +16,16 @@ use Rattle.link_verdicts.specs.declared.verdict.UnitName.{UnitName}
 use Rattle.spec_keys.specs.Places.{sent_direction}
 use Rattle.spec_stream.specs.Stream.{StreamState, LiveKey, Taken, Insecure, Failed, Held, holds_any, is_tagged}
 use Rattle.spec_stream.specs.Stream.{is_allowed, outcome_of_checks, stream_outcome_by_keys, stream_outcome, live_in}
-use Rattle.spec_stream.specs.Stream.{slot_in_set, at_sub}
-use Rattle.spec_stream.specs.Stream.{unit_name}
+use Rattle.spec_stream.specs.Stream.{slot_in_set, at_sub, unit_name, Accepted}
 use Rattle.sub_stream.specs.{opened_from_byte, opened_unit}
-use Rattle.ide_stream.specs.{opened_if_accepted}
-use Rattle.machine_whole.specs.{LinkState, PortsStandFor}
-use Rattle.ide_port.specs.{PortEnd, Found, found_stream, take_step}
+use Rattle.ide_port.specs.{opened_if_accepted, PortEnd, Found, found_stream, take_step}
+use Rattle.machine_whole.specs.{LinkState, PortsStandFor, rx_slot, rx_slots, receiving_key}
 use Rattle.spec_links.specs.Memory.{Grants}
 use Rattle.trusted_memory.specs.{Write}
-use Rattle.arrival_verdicts.specs.Verdicts.{packet_write, unit_writes, arrival_verdict}
+use Rattle.arrival_verdicts.specs.Verdicts.{packet_write, unit_writes, arrival_verdict, head_write, of_unit}
 use Rattle.spec_keys.specs.History.{History}
-unfoldable use Rattle.machine_whole.specs.{find}
-use Rattle.spec_links.specs.Plan.{aggregation_of, is_closed}
-use Rattle.spec_stream.specs.Stream.{Accepted}
+unfoldable use Rattle.machine_whole.specs.{find, stream_state_due}
+use Rattle.spec_links.specs.Plan.{aggregation_of, is_closed, SubStream, lane_in, key_of, has_stream}
 use Rattle.ide_types.specs.declared.sub.SubKind.{SubKind}
 use Rattle.ide_types.specs.declared.sub.SubKind.TheVariants.{Pr, Npr, Cpl}
 use Rattle.ide_types.specs.declared.sub.FailCause.TheVariants as fail
@@ -42,19 +39,15 @@ use Rattle.ide_prefix.specs.{encrypted_bytes, iv_of, is_sync_packet}
 use Rattle.ide_prefix.specs.declared.fault.PacketFault.{PacketFault}
 use Rattle.ide_prefix.specs.Reading.{CutValue, PlainTlp, IdePacket, cut_of}
 use Rattle.spec_keys.specs.Keys.{Keyed, Off, Loaded, On, Keys}
-use Rattle.spec_links.specs.Plan.{SubStream, lane_in, key_of, has_stream}
 use Rattle.spec_links.specs.History.{Arrival as Arrives, port_keys}
-use Rattle.spec_links.specs.Admission.{payload_write, admitted, admitted_each, admitted_writes, plain_of}
+use Rattle.spec_links.specs.Admission.{payload_write, write_if_admitted, admitted_each, admitted_writes, plain_of}
 use Rattle.spec_links.specs.Ports.{port_of, at_switch}
 use Rattle.spec_links.specs.Packets.{received_in}
-use Rattle.machine_whole.specs.{rx_slot, rx_slots, receiving_key}
-unfoldable use Rattle.machine_whole.specs.{standing}
 use Rattle.machine_whole.specs.Machine.{unit_taken, unit_found, unit_cut, unit_in}
 use Rattle.ide_port.specs.Arrivals.{TakeStep, port_arrival, packet_step}
 use Rattle.ide_port.specs.declared.answer.Arrival.{Arrival}
 use Rattle.ide_port.specs.declared.answer.Arrival.TheVariants as came
 use Rattle.arrival_verdicts.specs.Writes.{writes_by}
-use Rattle.arrival_verdicts.specs.Verdicts.{head_write, of_unit}
 
 -- ---- one packet
 
@@ -66,7 +59,7 @@ module _ (plan : Plan) (grants : Grants) (port : PortName) (unit : UnitName) (ap
     head_same t payload (Ok head) = refl
 
     -- with this plaintext
-    write_same : (p : Packet) (plain : List ℕ) → admitted plan grants port unit p plain
+    write_same : (p : Packet) (plain : List ℕ) → write_if_admitted plan grants port unit p plain
         ≡ packet_write plan.memory grants port unit
         (record { prefix = p.prefix; head = p.head; body = plain; tag = [] })
     write_same p plain =
@@ -91,7 +84,7 @@ module _ (plan : Plan) (grants : Grants) (port : PortName) (unit : UnitName) (ap
         (λ i. take (long i) (joined i)) ∙ take-append_seam first rest in
         let back : drop (length p.body) plain ≡ rest =
         (λ i. drop (long i) (joined i)) ∙ drop-append_seam first rest in
-        (λ i. admitted plan grants port unit p (front i) ∷ admitted_each plan grants port unit (back i) ps)
+        (λ i. write_if_admitted plan grants port unit p (front i) ∷ admitted_each plan grants port unit (back i) ps)
         ∙ (λ i. write_same p first i ∷ each_opened key iv (n + length p.body) ps i)
 
 -- ---- the key of a port's slot
@@ -110,9 +103,9 @@ module _ (plan : Plan) (h : History) (port : PortName) where
   slots_key s keys false y is = slot_key s keys.first y is
 
   standing_key : (stream : ℕ) (u : SubKind) (k : Bool) (y : LiveKey)
-      → live_in (slot_in_set (at_sub (standing plan h port stream).rx u).slots k) ≡ Some y
+      → live_in (slot_in_set (at_sub (stream_state_due plan h port stream).rx u).slots k) ≡ Some y
       → y.key ≡ key_of plan y.draw (lane_in port stream u)
-  unfolding standing
+  unfolding stream_state_due
   standing_key stream Pr k y is =
       slots_key (lane_in port stream Pr) (port_keys h port (lane_in port stream Pr)) k y is
   standing_key stream Npr k y is =
@@ -175,8 +168,7 @@ OpensAs plan port f g = (unit : UnitName) (ps : List Packet) → f unit ps
 
 -- of the writes that are admitted at an end that is at this port of a host or a device
 pub writes_open : (plan : Plan) (grants : Grants) (end port : PortName) → port_of plan end ≡ port
-    → at_switch plan port ≡ false
-    → OpensAs plan end (λ unit ps. admitted_writes plan grants end unit ps)
+    → at_switch plan port ≡ false → OpensAs plan end (λ unit ps. admitted_writes plan grants end unit ps)
     (λ unit ps. map (packet_write plan.memory grants port unit) ps)
 unfolding open_of
 writes_open plan grants end port at apart unit ps =
@@ -235,8 +227,8 @@ module _ {A : Type 0} (plan : Plan) (now : LinkState) (h : History) (end : PortN
       let id : ℕ = p.prefix.stream in
       let seen : find plan now end id ≡ Some x.state =
       is.finds id ∙ ap (λ (o : Option Found). option_map (λ (y : Found). y.state) o) at in
-      let state : standing plan h end id ≡ x.state =
-      where_it_stands (has_stream plan end id) x.state (standing plan h end id)
+      let state : stream_state_due plan h end id ≡ x.state =
+      where_it_stands (has_stream plan end id) x.state (stream_state_due plan h end id)
       (sym (stands.ports_stand.streams end id) ∙ seen) in
       let t : Taken = stream_outcome x.plan.aggregation x.plan.closed x.state p in
       let aggregation : aggregation_of plan end.line id ≡ x.plan.aggregation = is.aggregations id x at in
@@ -303,7 +295,7 @@ module _ (plan : Plan) (grants : Grants) (unit : UnitName) where
       → admitted_each plan grants port unit plain ps ≡ map (λ p. None) ps
   none_each port plain [] at = refl
   none_each port plain (p ∷ ps) at =
-      let none : admitted plan grants port unit p (take (length p.body) plain) ≡ None =
+      let none : write_if_admitted plan grants port unit p (take (length p.body) plain) ≡ None =
       ap (λ (b : Bool). if not (is_sync_packet p) && (not b && (sent_direction port.side == 0))
       then payload_write plan grants port unit p.prefix.t (take (length p.body) plain) (read_head_of p.head) else None)
       at

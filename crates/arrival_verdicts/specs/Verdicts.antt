@@ -15,9 +15,9 @@ use Rattle.tlp_layout.specs.declared.fault.TlpFault.{TlpFault}
 use Rattle.tlp_layout.specs.Reading.{read_head_of}
 use Rattle.ide_prefix.specs.Faults.{packet_place}
 use Rattle.ide_prefix.specs.Packet.{Packet}
-use Rattle.ide_prefix.specs.FaultWords.{packet_word}
+use Rattle.ide_prefix.specs.FaultWords.{packet_word, tlp_word}
 use Rattle.spec_keys.specs.Places.{sent_direction}
-use Rattle.spec_links.specs.{owner_of}
+use Rattle.spec_links.specs.{owner_id}
 use Rattle.spec_links.specs.Admission.{Grants, waiting_then}
 use Rattle.spec_links.specs.Sent.{read_in, reads_by}
 use Rattle.spec_links.specs.Guarded.{tlp_happened}
@@ -30,9 +30,8 @@ use Rattle.trusted_memory.specs.{Write, MemoryContents, Leads, write_span, memor
 use Rattle.sub_stream.specs.{mark_of}
 use Rattle.sub_stream.specs.declared.answer.PacketMark.{PacketMark}
 use Rattle.tlp_layout.specs.Faults.{place_in}
-use Rattle.ide_prefix.specs.FaultWords.{tlp_word}
-use Rattle.interface_host.specs.Managers.{InterfaceManagerView, granted}
-use Rattle.ide_stream.specs.{refusal_verdict, numbered_from}
+use Rattle.interface_host.specs.Managers.{InterfaceManagerView, running_grant}
+use Rattle.ide_port.specs.{refusal_verdict, numbered_from}
 use Rattle.ide_port.specs.declared.answer.Sent.{Sent}
 use Rattle.ide_port.specs.declared.answer.Sent.TheVariants as sent
 use Rattle.ide_port.specs.declared.answer.Arrival.{Arrival}
@@ -52,12 +51,12 @@ end_sent_verdict end port number (sent.Sealed packets) = v.Sealed (numbered_from
 
 -- what the manager says of requesters
 abbrev pub grants_in : InterfaceManagerView → Grants
-grants_in m link requester = granted m link requester
+grants_in m link requester = running_grant m link requester
 
 -- of a TLP at a host's port of this link, in this unit
 abbrev pub head_grant : Grants → ℕ → UnitName → HeadView → Grant
 head_grant grants link unit head =
-    record { bound = option_and_then (grants link) (owner_of head); stream = unit.stream; draw = unit.draw }
+    record { bound = option_and_then (grants link) (owner_id head); stream = unit.stream; draw = unit.draw }
 
 -- while so many reads of the link wait
 abbrev pub head_effect : List Region → Grants → ℕ → ℕ → UnitName → Bool → Result HeadView TlpFault → Effect

@@ -3,31 +3,28 @@
 ghost use Rattle.std.specs.Option.{option_and_then};
 ghost use Rattle.std.specs.Prelude.{◌≡◌, ◌∷◌, [], ◌+◌, ◌++◌, ◌<◌, ◌≤◌, ◌^◌, length, map, if◌then◌else◌};
 ghost use Rattle.tlp_layout.specs.Reading.{read_head_of};
-ghost use Rattle.spec_links.specs.{owner_of};
-ghost use Rattle.interface_host.specs.Managers.{granted};
+ghost use Rattle.spec_links.specs.{owner_id};
+ghost use Rattle.interface_host.specs.Managers.{running_grant};
 ghost use Rattle.trusted_memory.specs.{Leads};
 ghost use Rattle.guarded_memory.specs.{MmioLeads};
-ghost use Rattle.link_stores.specs.{device_standings};
+ghost use Rattle.link_stores.specs.{device_statuses};
 ghost use Rattle.spec_links.specs.Guarded.{tlp_happened};
 ghost use Rattle.spec_links.specs.Sent.{reads_by};
 ghost use Rattle.sub_stream.specs.{numbered_packet};
-ghost use Rattle.ide_stream.specs.{refusal_verdict as verdict_refused, numbered_from};
+ghost use Rattle.ide_port.specs.{refusal_verdict as verdict_refused, numbered_from};
 ghost use Rattle.arrival_verdicts.specs.Verdicts.{grants_in, end_sent_verdict};
 ghost use Rattle.arrival_verdicts.specs.Verdicts.{head_effect, head_write, claimed_effect, queued_by, effects_from};
 ghost use Rattle.arrival_verdicts.specs.Verdicts.{packet_write, packet_stored, unit_writes, of_unit, arrival_verdict};
 ghost use Rattle.arrival_verdicts.specs.Verdicts.{PacketCame, UnitCame};
 
-use association::owner;
-use ide_port::{Arrival, Sent};
+use ide_port::{Arrival, SendRefusal, Sent};
 use ide_prefix::{packet_word, tlp_word};
-use ide_stream::SendRefusal;
-use ide_types::{PortName, Side};
-use interface_device::DeviceInterfaces;
-use interface_ends::InterfaceKeeper;
+use ide_types::{Binding, PortName, Side};
+use interface_ends::{DeviceInterfaces, InterfaceKeeper};
 use link_stores::LinkAccesses;
 use link_verdicts::{Effect, Effects, SealedPacket, SealedPackets, UnitName, Verdict};
 use sub_stream::{Delivered, PacketMark};
-use tlp_layout::{HeadView, TlpView, read_head};
+use tlp_layout::{HeadView, TlpView, owner, read_head};
 use trusted_memory::{Grant, Trusted};
 
 // ---- sends
@@ -110,8 +107,8 @@ pub struct ReceivingPort<'a> {
 }
 
 // What the manager says of the requester of a TLP with this header.
-fn bound(link: u8, keeper: &InterfaceKeeper, head: &HeadView) -> Option<(u8, u32)>
-    ensures { result ≡ option_and_then (λ requester. granted keeper.now link requester) (owner_of head.now) }
+fn bound(link: u8, keeper: &InterfaceKeeper, head: &HeadView) -> Option<Binding>
+    ensures { result ≡ option_and_then (λ requester. running_grant keeper.now link requester) (owner_id head.now) }
 {
     match owner(head) {
         None => None,
@@ -163,10 +160,10 @@ fn claimed(
     access: &mut LinkAccesses,
 ) -> Effect
     requires { 2 ≤ access.old.guarded.spare }
-    ensures effect { let xs = device_standings access.old.floors at.now.interfaces.now in
+    ensures effect { let xs = device_statuses access.old.floors at.now.interfaces.now in
         result ≡ claimed_effect xs unit trusted (read_head_of header.now) }
     ensures none_waits { queued_by unit.draw result (read_head_of header.now) ≡ [] }
-    ensures stored { let xs = device_standings access.old.floors at.now.interfaces.now in
+    ensures stored { let xs = device_statuses access.old.floors at.now.interfaces.now in
         MmioLeads access.old.guarded (tlp_happened xs unit trusted payload.now (read_head_of header.now) ∷ [])
         access.new.guarded }
     ensures kept { access.new ≡ record access.old { guarded = access.new.guarded } }
@@ -193,7 +190,7 @@ fn effect(
     requires spare { 1 ≤ memory.old.spare }
     requires pages { 2 ≤ access.old.guarded.spare }
     ensures came { PacketCame memory.old.contents.regions (grants_in at.now.keeper.now)
-        (device_standings access.old.floors at.now.interfaces.now) at.now.port unit mark header.now payload.now
+        (device_statuses access.old.floors at.now.interfaces.now) at.now.port unit mark header.now payload.now
         access.old.reads memory.old.contents access.old.guarded
         result access.new.reads memory.new.contents access.new.guarded }
     ensures regions { memory.new.contents.regions ≡ memory.old.contents.regions }
@@ -223,7 +220,7 @@ fn effects(
     requires spare { 8 ≤ memory.old.spare }
     requires pages { 16 ≤ access.old.guarded.spare }
     ensures came { UnitCame memory.old.contents.regions (grants_in at.now.keeper.now)
-        (device_standings access.old.floors at.now.interfaces.now) at.now.port unit packets.now
+        (device_statuses access.old.floors at.now.interfaces.now) at.now.port unit packets.now
         access.old.reads memory.old.contents access.old.guarded
         result access.new.reads memory.new.contents access.new.guarded }
     ensures regions { memory.new.contents.regions ≡ memory.old.contents.regions }
@@ -250,17 +247,17 @@ fn unit_effects(
 ) -> Effects
     requires spare { 8 ≤ memory.old.spare }
     requires pages { 16 ≤ access.old.guarded.spare }
-    ensures effects { let xs = device_standings access.old.floors at.now.interfaces.now in
+    ensures effects { let xs = device_statuses access.old.floors at.now.interfaces.now in
         result ≡ of_unit arrival (λ unit. effects_from memory.old.contents.regions (grants_in at.now.keeper.now) xs
         (length access.old.reads) at.now.port unit packets.now) }
-    ensures reads { let xs = device_standings access.old.floors at.now.interfaces.now in
+    ensures reads { let xs = device_statuses access.old.floors at.now.interfaces.now in
         access.new.reads ≡ access.old.reads ++ of_unit arrival (λ unit. reads_by unit.draw
         (effects_from memory.old.contents.regions (grants_in at.now.keeper.now) xs (length access.old.reads)
         at.now.port unit packets.now) packets.now) }
     ensures leads { let regions = memory.old.contents.regions in
         Leads memory.old.contents (unit_writes arrival (λ unit. map (packet_write regions (grants_in at.now.keeper.now)
         at.now.port unit) packets.now)) memory.new.contents }
-    ensures stored { let xs = device_standings access.old.floors at.now.interfaces.now in
+    ensures stored { let xs = device_statuses access.old.floors at.now.interfaces.now in
         MmioLeads access.old.guarded (of_unit arrival (λ unit. map (packet_stored xs at.now.port unit) packets.now))
         access.new.guarded }
     ensures regions { memory.new.contents.regions ≡ memory.old.contents.regions }
@@ -324,17 +321,17 @@ pub fn taken_verdict(
 ) -> Verdict
     requires spare { 8 ≤ memory.old.spare }
     requires pages { 16 ≤ access.old.guarded.spare }
-    ensures verdict { let xs = device_standings access.old.floors at.now.interfaces.now in
+    ensures verdict { let xs = device_statuses access.old.floors at.now.interfaces.now in
         result ≡ arrival_verdict at.now.end at.now.port arrival (λ unit. effects_from memory.old.contents.regions
         (grants_in at.now.keeper.now) xs (length access.old.reads) at.now.port unit packets.now) }
-    ensures reads { let xs = device_standings access.old.floors at.now.interfaces.now in
+    ensures reads { let xs = device_statuses access.old.floors at.now.interfaces.now in
         access.new.reads ≡ access.old.reads ++ of_unit arrival (λ unit. reads_by unit.draw
         (effects_from memory.old.contents.regions (grants_in at.now.keeper.now) xs (length access.old.reads)
         at.now.port unit packets.now) packets.now) }
     ensures leads { let regions = memory.old.contents.regions in
         Leads memory.old.contents (unit_writes arrival (λ unit. map (packet_write regions (grants_in at.now.keeper.now)
         at.now.port unit) packets.now)) memory.new.contents }
-    ensures stored { let xs = device_standings access.old.floors at.now.interfaces.now in
+    ensures stored { let xs = device_statuses access.old.floors at.now.interfaces.now in
         MmioLeads access.old.guarded (of_unit arrival (λ unit. map (packet_stored xs at.now.port unit) packets.now))
         access.new.guarded }
     ensures regions { memory.new.contents.regions ≡ memory.old.contents.regions }

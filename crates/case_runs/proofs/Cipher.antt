@@ -8,8 +8,7 @@ use Rattle.aes_block.proofs.Entries.{SBOX, SBOX-sbox}
 use Rattle.aes_block.specs.Aes.{Key, Block, Word, block_state, cell, round_key, round_words, sbox, sub_bytes}
 use Rattle.aes_block.specs.Aes.{shift_rows, mix_columns, add_round_key, rounds, cipher, aes}
 use Rattle.gcm_seal.specs.Gcm.{Bytes, Iv, Tag, BlockNumber, first_counter, counter, key_stream, combined_bytes}
-use Rattle.gcm_seal.specs.Gcm.{masked_bytes}
-use Rattle.gcm_seal.specs.Gcm.{hash_key, hash_input, blocks, ghash, tag_of}
+use Rattle.gcm_seal.specs.Gcm.{masked_bytes, hash_key, hash_input, blocks, ghash, tag_of}
 
 -- ---- the cipher
 

@@ -12,7 +12,8 @@ use Rattle.link_verdicts.specs.declared.verdict.UnitName.{UnitName}
 use Rattle.link_verdicts.specs.declared.verdict.Verdict.{Verdict}
 use Rattle.link_verdicts.specs.declared.verdict.Verdict.TheVariants as v
 use Rattle.spec_links.specs.History.{Arrival, meets_counts, received_in}
-use Rattle.spec_links.specs.Due.{Ending, before_tag, is_verified, ended, ending_due, arrival_due, effects_of}
+use Rattle.spec_links.specs.Due.{Ending, before_tag, is_verified, unit_packets_ended, ending_due, arrival_due}
+use Rattle.spec_links.specs.Due.{effects_of}
 
 -- a packet at a port, and the unit that it ends there
 abbrev pub comes_at : PortName → Packet → Option Arrival
@@ -24,9 +25,10 @@ ending_at p unit = record { packet = p; unit = unit }
 abbrev pub ends_as : Plan → History → PortName → Ending → Bool → Verdict
 ends_as plan h port x verified =
     if not verified then v.Fail port x.unit.stream x.unit.sub fail.Tag
-    else if not (meets_counts plan h (received_in port x.unit) (ended plan h port x)) then v.Fail port x.unit.stream
+    else if not (meets_counts plan h (received_in port x.unit) (unit_packets_ended plan h port x))
+    then v.Fail port x.unit.stream
     x.unit.sub fail.Order
-    else v.Accepted port x.unit (effects_of plan h port x.unit (ended plan h port x))
+    else v.Accepted port x.unit (effects_of plan h port x.unit (unit_packets_ended plan h port x))
 
 -- the packet ends a unit
 pub ends_at : (plan : Plan) (h : History) (o : Option Arrival) (port : PortName) (p : Packet) (unit : UnitName)
@@ -43,14 +45,14 @@ ends_at plan h o port p unit verified brings passes is =
 abbrev pub comes : Packet → Option Arrival
 comes p = comes_at (host_port 0) p
 
-abbrev pub ending : Packet → SubKind → ℕ → ℕ → Ending
-ending p sub draw unit = ending_at p (record { stream = 5; sub = sub; draw = draw; unit = unit })
+abbrev pub case_ending : Packet → SubKind → ℕ → ℕ → Ending
+case_ending p sub draw unit = ending_at p (record { stream = 5; sub = sub; draw = draw; unit = unit })
 
 pub ends : (plan : Plan) (h : History) (o : Option Arrival) (p : Packet) (sub : SubKind) (draw unit : ℕ)
     (verified : Bool) → o ≡ comes p
-    → before_tag plan h (record { port = host_port 0; bytes = packet_bytes p }) ≡ Ok (ending p sub draw unit)
-    → is_verified plan h (host_port 0) (ending p sub draw unit) ≡ verified
-    → arrival_due plan h o ≡ ends_as plan h (host_port 0) (ending p sub draw unit) verified
+    → before_tag plan h (record { port = host_port 0; bytes = packet_bytes p }) ≡ Ok (case_ending p sub draw unit)
+    → is_verified plan h (host_port 0) (case_ending p sub draw unit) ≡ verified
+    → arrival_due plan h o ≡ ends_as plan h (host_port 0) (case_ending p sub draw unit) verified
 ends plan h o p sub draw unit verified brings passes is =
     ends_at plan h o (host_port 0) p (record { stream = 5; sub = sub; draw = draw; unit = unit }) verified brings passes
     is

@@ -2,8 +2,7 @@
 use Rattle.std.proofs.Common.{◌≡◌, [], ◌∷◌, refl}
 use Rattle.case_runs.specs.HopCases.{IsHopDue, HopCases, near_keyed, far_keyed, sent_read, forwarded_under, none_waits}
 use Rattle.case_runs.specs.HopCases.{none_waits_down, no_hop, near_stopped, no_key_step, goes_through_u, short_at_u}
-use Rattle.case_runs.specs.HopCases.{link_reset}
-use Rattle.case_runs.specs.HopCases.{keyed_hop_history, waiting_hop_history, stopped_hop_history}
+use Rattle.case_runs.specs.HopCases.{link_reset, keyed_hop_history, waiting_hop_history, stopped_hop_history}
 use Rattle.case_runs.proofs.HopLiterals.{due_on_literals}
 
 -- each is a declaration of its own, since the checker counts its steps by declarations

@@ -1,7 +1,7 @@
 -- What a case unfolds to compute the verdict that is due after a history whose events are literals. The cipher stays
 -- folded.
 use Rattle.std.specs.Prelude.{⊤}
-use Rattle.ide_types.specs.Walks.{reading, walk_length, walked_from}
+use Rattle.ide_types.specs.Walks.{whole_reading, walk_length, walked_from}
 use Rattle.gcm_seal.specs.Gcm.{open_of, masked_bytes}
 use Rattle.tlp_layout.specs.Reading.{read_head_of, read_of}
 use Rattle.ide_prefix.specs.Reading.{cut_of}
@@ -10,28 +10,28 @@ use Rattle.spec_keys.specs.History.{base, failed_there, manager, moments}
 use Rattle.spec_keys.specs.Keys.{is_open, keys}
 use Rattle.spec_interfaces.specs.Devices.{devices}
 use Rattle.spec_interfaces.specs.Sites.{sites}
-use Rattle.spec_interfaces.specs.Views.{managed, stream_draw}
-use Rattle.association.specs.Choice.{choice_of}
-use Rattle.association.specs.Outgoing.{outgoing_of}
+use Rattle.spec_interfaces.specs.Views.{managed_view, stream_draw}
+use Rattle.tlp_layout.specs.Choice.{choice_of}
+use Rattle.tlp_layout.specs.Outgoing.{outgoing_of}
 use Rattle.ide_types.specs.Ends.{peer_end, peer_ends}
 use Rattle.spec_links.specs.Due.{before_tag, due, t_sealed}
 use Rattle.spec_links.specs.History.{ahead_of_unit, arrival_of_event, got_since, has_live_in, has_live_out}
-use Rattle.spec_links.specs.History.{packets_in_hold, port_keys}
-use Rattle.spec_links.specs.History.{meets_counts, packet_of, posted_in, sealed_packets, sub_stream_packets, total_in}
-use Rattle.spec_links.specs.History.{units_got, units_since}
+use Rattle.spec_links.specs.History.{packets_in_hold, port_keys, meets_counts, packet_of, posted_since_last}
+use Rattle.spec_links.specs.History.{sealed_packets, sub_stream_packets, total_in, units_got, units_since}
 use Rattle.spec_links.specs.Hops.{accepted_tlps_in, forwarded_count}
 use Rattle.spec_links.specs.Plan.{key_of, stream_plan, streams_by_line}
-use Rattle.spec_links.specs.Ports.{goes_through, id_in, port_of, reached, sealing_end}
+use Rattle.spec_links.specs.Ports.{goes_through, id_in, port_of, end_reached, sealing_end}
 use Rattle.spec_links.specs.Sent.{bytes_by, packets_held}
 use Rattle.spec_links.specs.Units.{open_unit, units}
 
 unfoldable pub due_on_literals : ⊤
-unfolding reading walk_length walked_from open_of masked_bytes read_head_of read_of cut_of key_due base failed_there
+unfolding whole_reading walk_length walked_from open_of masked_bytes read_head_of read_of cut_of key_due base
+    failed_there
     manager
-    moments is_open keys devices sites managed stream_draw choice_of outgoing_of peer_end peer_ends before_tag due
+    moments is_open keys devices sites managed_view stream_draw choice_of outgoing_of peer_end peer_ends before_tag due
     t_sealed ahead_of_unit arrival_of_event got_since has_live_in has_live_out packets_in_hold port_keys meets_counts
-    packet_of posted_in
+    packet_of posted_since_last
     sealed_packets sub_stream_packets total_in units_got units_since accepted_tlps_in forwarded_count key_of stream_plan
     streams_by_line
-    goes_through id_in port_of reached sealing_end bytes_by packets_held open_unit units
+    goes_through id_in port_of end_reached sealing_end bytes_by packets_held open_unit units
 due_on_literals = tt

@@ -1,11 +1,9 @@
 -- The worked cases by computation.
 use Rattle.std.proofs.Common.{◌≡◌, [], refl}
 use Rattle.case_runs.specs.InterfaceCases.{verdicts_on, InterfaceCases, in_doubt, in_doubt_verdicts, again}
-use Rattle.case_runs.specs.InterfaceCases.{again_verdicts}
-use Rattle.case_runs.specs.InterfaceCases.{written_in_run, written_verdicts, half_keyed, half_keyed_verdicts}
-use Rattle.case_runs.specs.InterfaceCases.{stopped_events}
-use Rattle.case_runs.specs.InterfaceCases.{stopped_verdicts, reset_events, reset_verdicts, lost_between}
-use Rattle.case_runs.specs.InterfaceCases.{lost_between_verdicts}
+use Rattle.case_runs.specs.InterfaceCases.{again_verdicts, written_in_run, written_verdicts, half_keyed}
+use Rattle.case_runs.specs.InterfaceCases.{half_keyed_verdicts, stopped_events, stopped_verdicts, reset_events}
+use Rattle.case_runs.specs.InterfaceCases.{reset_verdicts, lost_between, lost_between_verdicts}
 use Rattle.case_runs.proofs.Literals.{due_on_literals}
 
 in_doubt_due : verdicts_on [] in_doubt ≡ in_doubt_verdicts

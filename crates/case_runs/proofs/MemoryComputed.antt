@@ -7,23 +7,21 @@ use Rattle.link_events.specs.declared.event.InterfaceEvent.TheVariants as ie
 use Rattle.link_verdicts.specs.declared.verdict.UnitName.{UnitName}
 use Rattle.trusted_memory.specs.Regions.{in_one_region}
 use Rattle.trusted_memory.specs.Memory.{bytes_from}
-use Rattle.case_runs.specs.InterfaceCases.{interface_plan, write}
+use Rattle.case_runs.specs.InterfaceCases.{interface_plan, write_tlp}
 use Rattle.case_runs.specs.ReadCases.{applied_write}
 use Rattle.case_runs.proofs.Ends.{comes_at, ends_at}
-use Rattle.case_runs.proofs.MemoryPackets.{described, device_write, device_write_is, device_tag, device_tag_is}
+use Rattle.case_runs.proofs.MemoryPackets.{packet_description, device_write, device_write_is, device_tag, device_tag_is}
 use Rattle.case_runs.proofs.MemoryPackets.{device_opened}
 use Rattle.spec_interfaces.specs.Views.{grant_at}
 use Rattle.spec_interfaces.specs.Due.{interface_verdict_due as interface_due}
 use Rattle.trusted_memory.specs.Writes.{Write, byte_after, newest_first}
 use Rattle.spec_links.specs.History.{packet_of}
 use Rattle.spec_links.specs.Memory.{admitted_writes, admitted_each, shown_if}
-use Rattle.spec_links.specs.Packets.{Arrival, packet_in}
+use Rattle.spec_links.specs.Packets.{Arrival, arrival_packet}
 use Rattle.link_verdicts.specs.declared.verdict.Effect.TheVariants.{Applied, Blocked}
 use Rattle.link_verdicts.specs.declared.verdict.BlockCause.TheVariants.{NotRunning, Stale}
 use Rattle.case_runs.specs.MemoryCases.{IsInterfaceDue, MemoryCases, reported_history, started_event, unheard_start}
-use Rattle.case_runs.specs.MemoryCases.{sealed_write}
-use Rattle.case_runs.specs.MemoryCases.{accepted_write, memory_read_back, halted_history}
-use Rattle.case_runs.specs.MemoryCases.{run_again}
+use Rattle.case_runs.specs.MemoryCases.{sealed_write, accepted_write, memory_read_back, halted_history, run_again}
 use Rattle.case_runs.proofs.Literals.{due_on_literals}
 
 abbrev pub write_unit : UnitName
@@ -33,14 +31,15 @@ write_unit = record { stream = 5; sub = Pr; draw = 0; unit = 1 }
 pub write_admitted : newest_first
     (admitted_writes interface_plan (grant_at interface_plan (sealed_write ∷ started_event ∷ reported_history))
     (host_port 0) write_unit
-    (packet_in (comes_at (host_port 0) (packet_of interface_plan [] write (described 1 (device_port 0) Pr 1 true 0) []))
+    (arrival_packet (comes_at (host_port 0) (packet_of interface_plan [] write_tlp
+    (packet_description 1 (device_port 0) Pr 1 true 0) []))
     ∷ [])) []
     ≡ applied_write ∷ []
 unfolding due_on_literals
 write_admitted =
     ap (λ (o : Option Arrival). newest_first
     (admitted_writes interface_plan (grant_at interface_plan (sealed_write ∷ started_event ∷ reported_history))
-    (host_port 0) write_unit (packet_in o ∷ [])) [])
+    (host_port 0) write_unit (arrival_packet o ∷ [])) [])
     (ap (comes_at (host_port 0)) device_write_is)
     ∙ ap (λ (plain : List ℕ). newest_first
     (admitted_each interface_plan (grant_at interface_plan (sealed_write ∷ started_event ∷ reported_history))

@@ -13,7 +13,7 @@ use Rattle.ide_types.specs.declared.sub.SubKind.{SubKind}
 use Rattle.ide_types.specs.declared.sub.SubKind.TheVariants.{Pr, Npr}
 use Rattle.link_verdicts.specs.declared.verdict.SealedPacket.{SealedPacket}
 use Rattle.spec_links.specs.History.{packet_of}
-use Rattle.case_runs.specs.InterfaceCases.{interface_plan, small_key, write}
+use Rattle.case_runs.specs.InterfaceCases.{interface_plan, small_key, write_tlp}
 use Rattle.case_runs.specs.MmioCases.{bar_write}
 use Rattle.case_runs.specs.ReadCases.{read_request}
 use Rattle.case_runs.proofs.Cipher.{masked_is, tag_is}
@@ -29,14 +29,14 @@ abbrev clear : Bool → SubKind → ℕ → List ℕ → List ℕ
 clear t sub posted head = prefix_bytes (prefix t sub posted) ++ head
 
 -- a write that is the unit of this number, and the packet that a verdict describes
-abbrev written : Bool → List ℕ → List ℕ → List ℕ → Packet
-written t head body tag = record { prefix = prefix t Pr 0; head = head; body = body; tag = tag }
+abbrev write_of_unit : Bool → List ℕ → List ℕ → List ℕ → Packet
+write_of_unit t head body tag = record { prefix = prefix t Pr 0; head = head; body = body; tag = tag }
 
-abbrev asked : ℕ → List ℕ → Packet
-asked posted tag = record { prefix = prefix true Npr posted; head = read_request; body = []; tag = tag }
+abbrev read_of_unit : ℕ → List ℕ → Packet
+read_of_unit posted tag = record { prefix = prefix true Npr posted; head = read_request; body = []; tag = tag }
 
-abbrev pub described : ℕ → PortName → SubKind → ℕ → Bool → ℕ → SealedPacket
-described number port sub unit t posted = record {
+abbrev pub packet_description : ℕ → PortName → SubKind → ℕ → Bool → ℕ → SealedPacket
+packet_description number port sub unit t posted = record {
   number = number;
   port = port;
   stream = 5;
@@ -62,20 +62,21 @@ device_body_is = masked_is _ _ _ _ words_0_are
 abbrev pub device_tag : List ℕ
 device_tag = 0x79 ∷ 0xe6 ∷ 0x2a ∷ 0xc1 ∷ 0xfc ∷ 0x91 ∷ 0x0e ∷ 0x97 ∷ 0x41 ∷ 0x67 ∷ 0x14 ∷ 0xa5 ∷ []
 
-pub device_tag_is : tag_of (small_key 0) (iv_of Pr 1) (clear true Pr 0 (take 12 write)) device_body ≡ device_tag
+pub device_tag_is : tag_of (small_key 0) (iv_of Pr 1) (clear true Pr 0 (take 12 write_tlp)) device_body ≡ device_tag
 unfolding ghash blocks bits add_round_key shift_rows mix_columns mixed_byte
 device_tag_is = tag_is _ _ _ _ words_0_are hash_0_is
 
 abbrev pub device_write : Packet
-device_write = written true (take 12 write) device_body device_tag
+device_write = write_of_unit true (take 12 write_tlp) device_body device_tag
 
-pub device_write_is : packet_of interface_plan [] write (described 1 (device_port 0) Pr 1 true 0) [] ≡ device_write
+pub device_write_is : packet_of interface_plan [] write_tlp (packet_description 1 (device_port 0) Pr 1 true 0) []
+    ≡ device_write
 unfolding due_on_literals
 device_write_is =
-    ap (λ (b : List ℕ). written true (take 12 write) b
-    (tag_of (small_key 0) (iv_of Pr 1) (clear true Pr 0 (take 12 write)) (b ++ [])))
+    ap (λ (b : List ℕ). write_of_unit true (take 12 write_tlp) b
+    (tag_of (small_key 0) (iv_of Pr 1) (clear true Pr 0 (take 12 write_tlp)) (b ++ [])))
     device_body_is
-    ∙ ap (written true (take 12 write) device_body) device_tag_is
+    ∙ ap (write_of_unit true (take 12 write_tlp) device_body) device_tag_is
 
 -- its plaintext again
 pub device_opened : open_of (small_key 0) (iv_of Pr 1) device_body ≡ 0x11 ∷ 0x22 ∷ 0x33 ∷ 0x44 ∷ []
@@ -99,15 +100,16 @@ unfolding ghash blocks bits add_round_key shift_rows mix_columns mixed_byte
 host_1_tag_is = tag_is _ _ _ _ words_0_are hash_0_is
 
 abbrev pub host_1_write : Packet
-host_1_write = written true (take 12 bar_write) host_1_body host_1_tag
+host_1_write = write_of_unit true (take 12 bar_write) host_1_body host_1_tag
 
-pub host_1_write_is : packet_of interface_plan [] bar_write (described 1 (host_port 0) Pr 1 true 0) [] ≡ host_1_write
+pub host_1_write_is : packet_of interface_plan [] bar_write (packet_description 1 (host_port 0) Pr 1 true 0) []
+    ≡ host_1_write
 unfolding due_on_literals
 host_1_write_is =
-    ap (λ (b : List ℕ). written true (take 12 bar_write) b
+    ap (λ (b : List ℕ). write_of_unit true (take 12 bar_write) b
     (tag_of (small_key 0) (iv_of Pr 1) (clear true Pr 0 (take 12 bar_write)) (b ++ [])))
     host_1_body_is
-    ∙ ap (written true (take 12 bar_write) host_1_body) host_1_tag_is
+    ∙ ap (write_of_unit true (take 12 bar_write) host_1_body) host_1_tag_is
 
 -- ---- the host's second write, without T
 
@@ -126,15 +128,16 @@ unfolding ghash blocks bits add_round_key shift_rows mix_columns mixed_byte
 host_2_tag_is = tag_is _ _ _ _ words_0_are hash_0_is
 
 abbrev pub host_2_write : Packet
-host_2_write = written false (take 12 bar_write) host_2_body host_2_tag
+host_2_write = write_of_unit false (take 12 bar_write) host_2_body host_2_tag
 
-pub host_2_write_is : packet_of interface_plan [] bar_write (described 2 (host_port 0) Pr 2 false 0) [] ≡ host_2_write
+pub host_2_write_is : packet_of interface_plan [] bar_write (packet_description 2 (host_port 0) Pr 2 false 0) []
+    ≡ host_2_write
 unfolding due_on_literals
 host_2_write_is =
-    ap (λ (b : List ℕ). written false (take 12 bar_write) b
+    ap (λ (b : List ℕ). write_of_unit false (take 12 bar_write) b
     (tag_of (small_key 0) (iv_of Pr 2) (clear false Pr 0 (take 12 bar_write)) (b ++ [])))
     host_2_body_is
-    ∙ ap (written false (take 12 bar_write) host_2_body) host_2_tag_is
+    ∙ ap (write_of_unit false (take 12 bar_write) host_2_body) host_2_tag_is
 
 -- ---- the device's read after the write
 
@@ -146,11 +149,12 @@ unfolding ghash blocks bits add_round_key shift_rows mix_columns mixed_byte
 later_read_tag_is = tag_is _ _ _ _ words_0_are hash_0_is
 
 abbrev pub later_read : Packet
-later_read = asked 1 later_read_tag
+later_read = read_of_unit 1 later_read_tag
 
-pub later_read_is : packet_of interface_plan [] read_request (described 2 (device_port 0) Npr 1 true 1) [] ≡ later_read
+pub later_read_is : packet_of interface_plan [] read_request (packet_description 2 (device_port 0) Npr 1 true 1) []
+    ≡ later_read
 unfolding due_on_literals masked_bytes
-later_read_is = ap (asked 1) later_read_tag_is
+later_read_is = ap (read_of_unit 1) later_read_tag_is
 
 -- ---- the device's read alone
 
@@ -162,8 +166,9 @@ unfolding ghash blocks bits add_round_key shift_rows mix_columns mixed_byte
 first_read_tag_is = tag_is _ _ _ _ words_0_are hash_0_is
 
 abbrev pub first_read : Packet
-first_read = asked 0 first_read_tag
+first_read = read_of_unit 0 first_read_tag
 
-pub first_read_is : packet_of interface_plan [] read_request (described 1 (device_port 0) Npr 1 true 0) [] ≡ first_read
+pub first_read_is : packet_of interface_plan [] read_request (packet_description 1 (device_port 0) Npr 1 true 0) []
+    ≡ first_read
 unfolding due_on_literals masked_bytes
-first_read_is = ap (asked 0) first_read_tag_is
+first_read_is = ap (read_of_unit 0) first_read_tag_is

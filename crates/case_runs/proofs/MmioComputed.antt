@@ -13,7 +13,7 @@ use Rattle.case_runs.specs.InterfaceCases.{interface_plan}
 use Rattle.case_runs.proofs.Ends.{comes_at, ends_at}
 use Rattle.case_runs.proofs.MemoryPackets.{host_1_write, host_1_write_is, host_1_tag, host_1_tag_is}
 use Rattle.case_runs.proofs.MemoryPackets.{host_2_write, host_2_write_is, host_2_tag, host_2_tag_is}
-use Rattle.spec_links.specs.Guarded.{happened, mmio_by}
+use Rattle.spec_links.specs.Guarded.{link_happenings, mmio_by}
 use Rattle.link_events.specs.declared.event.Event.TheVariants.{Arrive, Interface}
 use Rattle.link_events.specs.declared.event.InterfaceEvent.TheVariants as ie
 use Rattle.ide_types.specs.declared.verdict.InterfaceVerdict.TheVariants as iv
@@ -49,7 +49,7 @@ unfolding due_on_literals open_of masked_bytes counter key_stream aes cipher rou
     mixed_byte
     add_round_key expansion key_words temp sub_word sbox
 first_shown =
-    ap (λ (bytes : List ℕ). mmio_by interface_plan (happened interface_plan (stored_from bytes)) 0 0 0 4)
+    ap (λ (bytes : List ℕ). mmio_by interface_plan (link_happenings interface_plan (stored_from bytes)) 0 0 0 4)
     (ap packet_bytes host_1_write_is)
 
 second_sent : IsInterfaceDue stored_history (sent_write 2 false)

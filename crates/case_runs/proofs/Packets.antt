@@ -1,7 +1,7 @@
 -- The packets of the cases as the cipher makes them. Each body and each tag is computed once, here.
 use Rattle.std.proofs.Common.{◌≡◌, ℕ, [], ◌∷◌, ◌++◌, List, Bool, true, false, refl, ap, ◌∙◌}
 use Rattle.std.specs.Prelude.{take}
-use Rattle.case_runs.specs.InterfaceCases.{write, small_key}
+use Rattle.case_runs.specs.InterfaceCases.{write_tlp, small_key}
 use Rattle.aes_block.specs.Aes.{mixed_byte, shift_rows, mix_columns, add_round_key}
 use Rattle.gcm_seal.specs.Polynomials.{bits}
 use Rattle.gcm_seal.specs.Gcm.{counter, masked_bytes, blocks, ghash, tag_of}
@@ -13,7 +13,7 @@ use Rattle.ide_types.specs.declared.sub.SubKind.TheVariants.{Pr, Npr}
 use Rattle.spec_links.specs.History.{packet_of}
 use Rattle.case_runs.proofs.Cipher.{masked_is, tag_is}
 use Rattle.case_runs.proofs.Keys.{words_3_are, words_4_are, words_9_are, hash_3_is, hash_4_is, hash_9_is}
-use Rattle.case_runs.specs.ScriptCases.{plan, read, packet}
+use Rattle.case_runs.specs.ScriptCases.{plan, read_tlp, packet}
 use Rattle.case_runs.proofs.Literals.{due_on_literals}
 
 -- the prefix of a packet of stream 5
@@ -25,16 +25,16 @@ payload = 0x11 ∷ 0x22 ∷ 0x33 ∷ 0x44 ∷ []
 
 -- what is in clear of a write, and of a read
 abbrev pub write_clear : Bool → Bool → List ℕ
-write_clear k t = prefix_bytes (prefix true k t Pr 0) ++ take 12 write
+write_clear k t = prefix_bytes (prefix true k t Pr 0) ++ take 12 write_tlp
 
 abbrev pub read_clear : Bool → ℕ → List ℕ
-read_clear m posted = prefix_bytes (prefix m false false Npr posted) ++ read
+read_clear m posted = prefix_bytes (prefix m false false Npr posted) ++ read_tlp
 
-abbrev pub written : Bool → Bool → List ℕ → List ℕ → Packet
-written k t body tag = record { prefix = prefix true k t Pr 0; head = take 12 write; body = body; tag = tag }
+abbrev pub write_packet : Bool → Bool → List ℕ → List ℕ → Packet
+write_packet k t body tag = record { prefix = prefix true k t Pr 0; head = take 12 write_tlp; body = body; tag = tag }
 
-abbrev pub asked : Bool → ℕ → List ℕ → Packet
-asked m posted tag = record { prefix = prefix m false false Npr posted; head = read; body = []; tag = tag }
+abbrev pub asking_packet : Bool → ℕ → List ℕ → Packet
+asking_packet m posted tag = record { prefix = prefix m false false Npr posted; head = read_tlp; body = []; tag = tag }
 
 -- ---- bodies and tags
 
@@ -154,90 +154,95 @@ empty_tag_is = tag_is _ _ _ _ words_9_are hash_9_is
 
 -- the writes under draw 0, and the first under draw 1
 abbrev pub write_1 : Packet
-write_1 = written false false body_1 tag_1
+write_1 = write_packet false false body_1 tag_1
 
 abbrev pub write_2 : Packet
-write_2 = written false false body_2 tag_2
+write_2 = write_packet false false body_2 tag_2
 
 abbrev pub write_3 : Packet
-write_3 = written false false body_3 tag_3
+write_3 = write_packet false false body_3 tag_3
 
 abbrev pub newer_write : Packet
-newer_write = written true false newer_body newer_tag
+newer_write = write_packet true false newer_body newer_tag
 
 abbrev pub closed_write : Packet
-closed_write = written true false newer_body closed_tag
+closed_write = write_packet true false newer_body closed_tag
 
 -- the first write with T set on the way, and with K set
 abbrev pub trusted_write : Packet
-trusted_write = written false true body_1 tag_1
+trusted_write = write_packet false true body_1 tag_1
 
 abbrev pub rekeyed_write : Packet
-rekeyed_write = written true false body_1 tag_1
+rekeyed_write = write_packet true false body_1 tag_1
 
 -- a read after one write, and two reads of one unit
 abbrev pub read_behind : Packet
-read_behind = asked true 1 read_tag
+read_behind = asking_packet true 1 read_tag
 
 abbrev pub first_read : Packet
-first_read = asked false 0 []
+first_read = asking_packet false 0 []
 
 abbrev pub second_read : Packet
-second_read = asked true 0 reads_tag
+second_read = asking_packet true 0 reads_tag
 
 -- what is sealed is each of them
-pub write_1_is : packet_of (plan 1 false) [] write (packet 1 Pr 0 1 true 0) [] ≡ write_1
+pub write_1_is : packet_of (plan 1 false) [] write_tlp (packet 1 Pr 0 1 true 0) [] ≡ write_1
 unfolding due_on_literals
 write_1_is =
-    ap (λ (b : List ℕ). written false false b (tag_of (small_key 3) (iv_of Pr 1) (write_clear false false) (b ++ [])))
+    ap (λ (b : List ℕ). write_packet false false b
+    (tag_of (small_key 3) (iv_of Pr 1) (write_clear false false) (b ++ [])))
     body_1_is
-    ∙ ap (written false false body_1) tag_1_is
+    ∙ ap (write_packet false false body_1) tag_1_is
 
-pub write_2_is : packet_of (plan 1 false) [] write (packet 2 Pr 0 2 true 0) [] ≡ write_2
+pub write_2_is : packet_of (plan 1 false) [] write_tlp (packet 2 Pr 0 2 true 0) [] ≡ write_2
 unfolding due_on_literals
 write_2_is =
-    ap (λ (b : List ℕ). written false false b (tag_of (small_key 3) (iv_of Pr 2) (write_clear false false) (b ++ [])))
+    ap (λ (b : List ℕ). write_packet false false b
+    (tag_of (small_key 3) (iv_of Pr 2) (write_clear false false) (b ++ [])))
     body_2_is
-    ∙ ap (written false false body_2) tag_2_is
+    ∙ ap (write_packet false false body_2) tag_2_is
 
-pub write_3_is : packet_of (plan 1 false) [] write (packet 3 Pr 0 3 true 0) [] ≡ write_3
+pub write_3_is : packet_of (plan 1 false) [] write_tlp (packet 3 Pr 0 3 true 0) [] ≡ write_3
 unfolding due_on_literals
 write_3_is =
-    ap (λ (b : List ℕ). written false false b (tag_of (small_key 3) (iv_of Pr 3) (write_clear false false) (b ++ [])))
+    ap (λ (b : List ℕ). write_packet false false b
+    (tag_of (small_key 3) (iv_of Pr 3) (write_clear false false) (b ++ [])))
     body_3_is
-    ∙ ap (written false false body_3) tag_3_is
+    ∙ ap (write_packet false false body_3) tag_3_is
 
-pub newer_2_is : packet_of (plan 1 false) [] write (packet 2 Pr 1 1 true 0) [] ≡ newer_write
+pub newer_2_is : packet_of (plan 1 false) [] write_tlp (packet 2 Pr 1 1 true 0) [] ≡ newer_write
 unfolding due_on_literals
 newer_2_is =
-    ap (λ (b : List ℕ). written true false b (tag_of (small_key 9) (iv_of Pr 1) (write_clear true false) (b ++ [])))
+    ap (λ (b : List ℕ). write_packet true false b
+    (tag_of (small_key 9) (iv_of Pr 1) (write_clear true false) (b ++ [])))
     newer_body_is
-    ∙ ap (written true false newer_body) newer_tag_is
+    ∙ ap (write_packet true false newer_body) newer_tag_is
 
-pub newer_3_is : packet_of (plan 1 false) [] write (packet 3 Pr 1 1 true 0) [] ≡ newer_write
+pub newer_3_is : packet_of (plan 1 false) [] write_tlp (packet 3 Pr 1 1 true 0) [] ≡ newer_write
 unfolding due_on_literals
 newer_3_is =
-    ap (λ (b : List ℕ). written true false b (tag_of (small_key 9) (iv_of Pr 1) (write_clear true false) (b ++ [])))
+    ap (λ (b : List ℕ). write_packet true false b
+    (tag_of (small_key 9) (iv_of Pr 1) (write_clear true false) (b ++ [])))
     newer_body_is
-    ∙ ap (written true false newer_body) newer_tag_is
+    ∙ ap (write_packet true false newer_body) newer_tag_is
 
-pub closed_2_is : packet_of (plan 1 true) (0 ∷ 0 ∷ 0 ∷ 0 ∷ 0 ∷ 0 ∷ 0 ∷ 1 ∷ []) write (packet 2 Pr 1 1 true 0) []
+pub closed_2_is : packet_of (plan 1 true) (0 ∷ 0 ∷ 0 ∷ 0 ∷ 0 ∷ 0 ∷ 0 ∷ 1 ∷ []) write_tlp (packet 2 Pr 1 1 true 0) []
     ≡ closed_write
 unfolding due_on_literals
 closed_2_is =
-    ap (λ (b : List ℕ). written true false b
+    ap (λ (b : List ℕ). write_packet true false b
     (tag_of (small_key 9) (iv_of Pr 1) (0 ∷ 0 ∷ 0 ∷ 0 ∷ 0 ∷ 0 ∷ 0 ∷ 1 ∷ write_clear true false) (b ++ [])))
     newer_body_is
-    ∙ ap (written true false newer_body) closed_tag_is
+    ∙ ap (write_packet true false newer_body) closed_tag_is
 
-pub read_behind_is : packet_of (plan 1 false) [] read (packet 2 Npr 0 1 true 1) [] ≡ read_behind
+pub read_behind_is : packet_of (plan 1 false) [] read_tlp (packet 2 Npr 0 1 true 1) [] ≡ read_behind
 unfolding due_on_literals masked_bytes
-read_behind_is = ap (asked true 1) read_tag_is
+read_behind_is = ap (asking_packet true 1) read_tag_is
 
-pub first_read_is : packet_of (plan 2 false) [] read (packet 1 Npr 0 1 false 0) [] ≡ first_read
+pub first_read_is : packet_of (plan 2 false) [] read_tlp (packet 1 Npr 0 1 false 0) [] ≡ first_read
 unfolding due_on_literals masked_bytes
 first_read_is = refl
 
-pub second_read_is : packet_of (plan 2 false) [] read (packet 2 Npr 0 1 true 0) (first_read ∷ []) ≡ second_read
+pub second_read_is : packet_of (plan 2 false) [] read_tlp (packet 2 Npr 0 1 true 0) (first_read ∷ []) ≡ second_read
 unfolding due_on_literals masked_bytes
-second_read_is = ap (asked true 0) reads_tag_is
+second_read_is = ap (asking_packet true 0) reads_tag_is

@@ -3,19 +3,18 @@ use Rattle.std.specs.Prelude.{◌≡◌, List, [], ◌∷◌, Option, true, drop
 use Rattle.std.specs.Option.{option_map_or}
 use Rattle.std.proofs.Common.{refl, ap, ◌∙◌}
 use Rattle.ide_types.specs.Ports.{host_port}
-use Rattle.ide_types.specs.Walks.{walked_from, walk_length, reading}
+use Rattle.ide_types.specs.Walks.{walked_from, walk_length, whole_reading}
 use Rattle.tlp_layout.specs.Reading.{read_head_of}
 use Rattle.ide_types.specs.declared.port.Side.TheVariants.{Host}
 use Rattle.ide_types.specs.declared.sub.SubKind.TheVariants.{Cpl}
-use Rattle.association.specs.Outgoing.{outgoing_of}
+use Rattle.tlp_layout.specs.Outgoing.{outgoing_of}
 use Rattle.spec_interfaces.specs.Views.{grant_at}
 use Rattle.trusted_memory.specs.Writes.{Write, byte_after, newest_first}
 use Rattle.trusted_memory.specs.declared.queue.WaitingRead.{WaitingRead}
 use Rattle.trusted_memory.specs.Completions.{completion_bytes}
 use Rattle.spec_links.specs.Plan.{streams_of}
-use Rattle.spec_links.specs.History.{sealed_packets}
-use Rattle.spec_links.specs.History.{sent_bytes}
-use Rattle.spec_links.specs.Packets.{Arrival, packet_in}
+use Rattle.spec_links.specs.History.{sealed_packets, sent_bytes}
+use Rattle.spec_links.specs.Packets.{Arrival, arrival_packet}
 use Rattle.spec_links.specs.Memory.{admitted_writes}
 use Rattle.spec_links.specs.Sent.{queued_in, reads_taken, reads_by, writes_in, bytes_by, unit_accepted}
 use Rattle.spec_links.specs.Due.{due, answer_first, outgoing_completion}
@@ -26,8 +25,7 @@ use Rattle.link_verdicts.specs.declared.verdict.BlockCause.TheVariants.{NotRunni
 use Rattle.link_verdicts.specs.declared.verdict.Verdict.TheVariants as v
 use Rattle.case_runs.specs.InterfaceCases.{interface_plan}
 use Rattle.case_runs.specs.MemoryCases.{IsInterfaceDue}
-use Rattle.case_runs.specs.ReadCases.{ReadCases, OneMore, sealed_request, queued_read, answer, answered_read}
-use Rattle.case_runs.specs.ReadCases.{read_unit}
+use Rattle.case_runs.specs.ReadCases.{ReadCases, OneMore, sealed_request, queued_read, answer, answered_read, read_unit}
 use Rattle.case_runs.specs.ReadCases.{written_history, waiting_history, halted_waiting, applied_write, waiting_read}
 use Rattle.case_runs.specs.ReadCases.{read_completion, trusted_packet}
 use Rattle.case_runs.proofs.Ends.{comes_at, ends_at}
@@ -59,7 +57,7 @@ unfolding due_on_literals of_read
 none_of_read =
     ap (λ (o : Option Arrival). newest_first
     (admitted_writes interface_plan (grant_at interface_plan (sealed_request 2 1 ∷ written_history)) (host_port 0)
-    read_unit (packet_in o ∷ [])) (applied_write ∷ []))
+    read_unit (arrival_packet o ∷ [])) (applied_write ∷ []))
     (ap (comes_at (host_port 0)) later_read_is)
 
 before_read : writes_in interface_plan (sealed_packets interface_plan waiting_history) written_history
@@ -81,7 +79,8 @@ queued_are : queued_in interface_plan (sealed_packets interface_plan waiting_his
     ≡ waiting_read ∷ []
 unfolding due_on_literals
 queued_are =
-    ap (λ (o : Option Arrival). reads_by 0 (Queued ∷ []) (packet_in o ∷ [])) (ap (comes_at (host_port 0)) later_read_is)
+    ap (λ (o : Option Arrival). reads_by 0 (Queued ∷ []) (arrival_packet o ∷ []))
+    (ap (comes_at (host_port 0)) later_read_is)
 
 -- ---- the answer
 
@@ -122,7 +121,8 @@ queued_still : queued_in interface_plan (sealed_packets interface_plan (answered
     (answered_read ∷ waiting_history) 0 ≡ waiting_read ∷ []
 unfolding due_on_literals
 queued_still =
-    ap (λ (o : Option Arrival). reads_by 0 (Queued ∷ []) (packet_in o ∷ [])) (ap (comes_at (host_port 0)) later_read_is)
+    ap (λ (o : Option Arrival). reads_by 0 (Queued ∷ []) (arrival_packet o ∷ []))
+    (ap (comes_at (host_port 0)) later_read_is)
 
 empty_due : IsInterfaceDue (answered_read ∷ waiting_history) (answer, v.Access (av.Empty 0))
 unfolding due_on_literals
@@ -138,7 +138,8 @@ queued_halted : queued_in interface_plan (sealed_packets interface_plan halted_w
     ≡ waiting_read ∷ []
 unfolding due_on_literals
 queued_halted =
-    ap (λ (o : Option Arrival). reads_by 0 (Queued ∷ []) (packet_in o ∷ [])) (ap (comes_at (host_port 0)) first_read_is)
+    ap (λ (o : Option Arrival). reads_by 0 (Queued ∷ []) (arrival_packet o ∷ []))
+    (ap (comes_at (host_port 0)) first_read_is)
 
 dropped_due : IsInterfaceDue halted_waiting (answer, v.Access (av.Dropped 0 NotRunning))
 unfolding due_on_literals
@@ -148,7 +149,7 @@ dropped_due =
     queued_halted
 
 one_more : OneMore
-unfolding read_head_of reading walk_length walked_from
+unfolding read_head_of whole_reading walk_length walked_from
 one_more = refl
 
 pub reads_computed : ReadCases

@@ -12,9 +12,8 @@ use Rattle.case_runs.proofs.Packets.{newer_tag, newer_tag_is, newer_write, tag_1
 use Rattle.case_runs.proofs.Packets.{write_2, write_2_is}
 use Rattle.case_runs.specs.Due.{AreDue}
 use Rattle.case_runs.specs.ScriptCases.{plan, establish_step, seal_step, accepted_unit, fails, fails_key, refresh_step}
-use Rattle.case_runs.specs.ScriptCases.{late_packet}
+use Rattle.case_runs.specs.ScriptCases.{late_packet, reply_lost, tail_missing, older_goes, receiver, sender}
 use Rattle.case_runs.specs.Gone.{AreGone}
-use Rattle.case_runs.specs.ScriptCases.{reply_lost, tail_missing, older_goes, receiver, sender}
 use Rattle.case_runs.proofs.Literals.{due_on_literals}
 
 late_6 : due (plan 1 false) (seal_step 3 1 1 ∷ refresh_step ∷ seal_step 2 0 2 ∷ seal_step 1 0 1 ∷ establish_step ∷ [])

@@ -1,6 +1,6 @@
 -- In the shortest good history no tag verified on a unit that its partner had not sealed.
 use Rattle.std.proofs.Common.{◌≡◌, [], ◌∷◌, true, false, Option, Some, None, Result, Ok, refl, subst, ap}
-use Rattle.case_runs.specs.InterfaceCases.{write}
+use Rattle.case_runs.specs.InterfaceCases.{write_tlp}
 use Rattle.ide_types.specs.Ports.{host_port}
 use Rattle.ide_prefix.specs.Packet.{Packet, packet_bytes}
 use Rattle.ide_prefix.specs.Units.{authenticated_bytes, encrypted_bytes}
@@ -8,11 +8,10 @@ use Rattle.ide_types.specs.declared.sub.SubKind.TheVariants.{Pr}
 use Rattle.spec_keys.specs.History.{History}
 use Rattle.link_events.specs.declared.event.Event.TheVariants.{Pass}
 use Rattle.link_verdicts.specs.declared.verdict.Verdict.{Verdict}
-use Rattle.spec_links.specs.History.{Arrival, packet_of, ahead_sent}
-use Rattle.spec_links.specs.History.{arrival_of_event}
+use Rattle.spec_links.specs.History.{Arrival, packet_of, ahead_sent, arrival_of_event}
 use Rattle.spec_links.specs.Due.{Ending, before_tag}
 use Rattle.spec_links.specs.Laws.{WasSealed, NotForged, NoForgery, last_tag}
-use Rattle.case_runs.proofs.Ends.{comes, ending as ending_of}
+use Rattle.case_runs.proofs.Ends.{comes, case_ending as ending_of}
 use Rattle.case_runs.proofs.Packets.{write_1, write_1_is}
 use Rattle.case_runs.specs.ScriptCases.{plan, packet, establish_step, seal_step, accepted_unit}
 use Rattle.case_runs.proofs.Literals.{due_on_literals}
@@ -22,7 +21,7 @@ past = seal_step 1 0 1 ∷ establish_step ∷ []
 
 -- the packet that was sealed, as it is described and as it arrives, and the unit that it ends
 abbrev sealed_packet : Packet
-sealed_packet = packet_of (plan 1 false) [] write (packet 1 Pr 0 1 true 0) []
+sealed_packet = packet_of (plan 1 false) [] write_tlp (packet 1 Pr 0 1 true 0) []
 
 abbrev first_packet : Packet
 first_packet = write_1
@@ -30,18 +29,18 @@ first_packet = write_1
 abbrev arrival : Arrival
 arrival = record { port = host_port 0; bytes = packet_bytes first_packet }
 
-abbrev ending : Ending
-ending = ending_of first_packet Pr 0 1
+abbrev first_ending : Ending
+first_ending = ending_of first_packet Pr 0 1
 
 arrives : arrival_of_event (plan 1 false) past (Pass 1) ≡ Some arrival
 unfolding due_on_literals
 arrives = ap comes write_1_is
 
-passes : before_tag (plan 1 false) past arrival ≡ Ok ending
+passes : before_tag (plan 1 false) past arrival ≡ Ok first_ending
 unfolding due_on_literals
 passes = refl
 
-was : WasSealed (plan 1 false) past (host_port 0) ending
+was : WasSealed (plan 1 false) past (host_port 0) first_ending
 unfolding due_on_literals ahead_sent
 was = record {
   unit = sealed_packet ∷ [];
@@ -68,7 +67,7 @@ arrival_not_forged a x is before verified =
     let same = one_arrival (arrival_of_event (plan 1 false) past (Pass 1)) arrival a arrives is in
     let before_here = subst (λ (b : Arrival). before_tag (plan 1 false) past b ≡ Ok x)
     (one_arrival (arrival_of_event (plan 1 false) past (Pass 1)) a arrival is arrives) before in
-    let same_ending = one_ending (before_tag (plan 1 false) past arrival) ending x passes before_here in
+    let same_ending = one_ending (before_tag (plan 1 false) past arrival) first_ending x passes before_here in
     subst (λ (b : Arrival). WasSealed (plan 1 false) past b.port x) same
     (subst (WasSealed (plan 1 false) past (host_port 0)) same_ending was)
 

@@ -8,9 +8,7 @@ use Rattle.case_runs.proofs.Ends.{comes, ends, stops}
 use Rattle.case_runs.proofs.Packets.{first_read, first_read_is, reads_tag, reads_tag_is, second_read, second_read_is}
 use Rattle.case_runs.specs.Due.{AreDue}
 use Rattle.case_runs.specs.ScriptCases.{plan, establish_step, seal_read_step, held_packet, both_accepted}
-use Rattle.case_runs.specs.ScriptCases.{unfinished_write}
-use Rattle.case_runs.specs.ScriptCases.{unfinished_send}
-use Rattle.case_runs.specs.ScriptCases.{two_in_a_unit}
+use Rattle.case_runs.specs.ScriptCases.{unfinished_write, unfinished_send, two_in_a_unit}
 use Rattle.case_runs.proofs.Literals.{due_on_literals}
 
 two_2 : due (plan 2 false) (establish_step ∷ []) (seal_read_step 1 false).0 ≡ (seal_read_step 1 false).1

@@ -13,11 +13,8 @@ use Rattle.case_runs.proofs.Packets.{rekeyed_write, repeated_tag_is, tag_1, tag_
 use Rattle.case_runs.proofs.Packets.{trusted_write, write_1, write_1_is, write_3, write_3_is}
 use Rattle.case_runs.specs.Due.{AreDue}
 use Rattle.case_runs.specs.ScriptCases.{packet, plan, establish_step, seal_step, accepted_unit, fails, fails_key}
-use Rattle.case_runs.specs.ScriptCases.{insecure}
-use Rattle.case_runs.specs.ScriptCases.{sealed_read}
-use Rattle.case_runs.specs.ScriptCases.{fails_order, accepted_once, trusted_on_the_way, other_set_on_the_way}
-use Rattle.case_runs.specs.ScriptCases.{one_missing}
-use Rattle.case_runs.specs.ScriptCases.{read_ahead}
+use Rattle.case_runs.specs.ScriptCases.{insecure, sealed_read, fails_order, accepted_once, trusted_on_the_way}
+use Rattle.case_runs.specs.ScriptCases.{other_set_on_the_way, one_missing, read_ahead}
 use Rattle.case_runs.proofs.Literals.{due_on_literals}
 
 accepted_once_3 : due (plan 1 false) (seal_step 1 0 1 ∷ establish_step ∷ []) (accepted_unit 1 0 1).0

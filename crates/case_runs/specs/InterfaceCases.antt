@@ -71,8 +71,8 @@ device_report =
     ∷ 64 ∷ 0 ∷ 0 ∷ 0 ∷ replicate 64 0
 
 -- a write of 11 22 33 44 at 10000000h by the requester 0100h
-abbrev pub write : List ℕ
-write =
+abbrev pub write_tlp : List ℕ
+write_tlp =
     0x40 ∷ 0x00 ∷ 0x00 ∷ 0x01 ∷ 0x01 ∷ 0x00 ∷ 0x00 ∷ 0x0f ∷ 0x10 ∷ 0x00 ∷ 0x00 ∷ 0x00 ∷ 0x11 ∷ 0x22 ∷ 0x33 ∷ 0x44 ∷ []
 
 -- the first packet of the device
@@ -115,7 +115,7 @@ abbrev pub in_doubt : List Event
 in_doubt =
     Establish 0 5 None ∷ Interface (ie.Lock 0 None) ∷ Interface (ie.Report 0 None)
     ∷ Interface (ie.Start 0 (Some (record { exchange = 1; lost = Reply }))) ∷ Interface (ie.View 0)
-    ∷ Send (device_port 0) write false false ∷ Interface (ie.Start 0 None) ∷ Interface (ie.Halt 0 None) ∷ []
+    ∷ Send (device_port 0) write_tlp false false ∷ Interface (ie.Start 0 None) ∷ Interface (ie.Halt 0 None) ∷ []
 
 abbrev pub in_doubt_verdicts : List Verdict
 in_doubt_verdicts =
@@ -126,7 +126,7 @@ in_doubt_verdicts =
 -- an interface runs again, once under a key of its own
 abbrev pub again : List Event
 again =
-    run ++ Send (device_port 0) write false false ∷ Interface (ie.Halt 0 None) ∷ Interface (ie.Lock 0 None)
+    run ++ Send (device_port 0) write_tlp false false ∷ Interface (ie.Halt 0 None) ∷ Interface (ie.Lock 0 None)
     ∷ Interface (ie.Report 0 None) ∷ Interface (ie.Start 0 None) ∷ Refresh 0 5 None ∷ Interface (ie.Start 0 None)
     ∷ []
 
@@ -140,7 +140,7 @@ again_verdicts =
 abbrev pub written_in_run : List Event
 written_in_run =
     run ++ Interface (ie.Write 0 (Bar 0) 0x40000000) ∷ Interface (ie.Write 0 (Bar 0) 0x40100000)
-    ∷ Interface (ie.State 0 None) ∷ Interface (ie.View 0) ∷ Send (device_port 0) write false false
+    ∷ Interface (ie.State 0 None) ∷ Interface (ie.View 0) ∷ Send (device_port 0) write_tlp false false
     ∷ Interface (ie.Write 0 (Bar 1) 0) ∷ Interface (ie.Memory 0x10000000 4) ∷ Interface (ie.Memory 0x1000ffff 2) ∷ []
 
 abbrev pub written_verdicts : List Verdict

@@ -14,7 +14,7 @@ use Rattle.link_verdicts.specs.declared.verdict.Verdict.{Verdict}
 use Rattle.link_verdicts.specs.declared.verdict.Verdict.TheVariants as v
 use Rattle.spec_keys.specs.History.{History}
 use Rattle.spec_links.specs.Due.{due}
-use Rattle.case_runs.specs.InterfaceCases.{interface_plan, device_report, write, device_packet}
+use Rattle.case_runs.specs.InterfaceCases.{interface_plan, device_report, write_tlp, device_packet}
 
 -- the stream is keyed, the interface locked and reported; the newest first
 abbrev pub reported_history : History
@@ -32,7 +32,7 @@ unheard_start = (Interface (ie.Start 0 (Some (record { exchange = 1; lost = Repl
 
 -- the device sends the write
 abbrev pub sealed_write : Event × Verdict
-sealed_write = (Send (device_port 0) write false false, v.Sealed (device_packet true))
+sealed_write = (Send (device_port 0) write_tlp false false, v.Sealed (device_packet true))
 
 -- it is accepted, with this effect
 abbrev pub accepted_write : Effect → Event × Verdict

@@ -116,7 +116,11 @@ read_packet =
 abbrev pub OneMore : Type 0
 OneMore =
     effects_each interface_plan
-    (record { grants = λ link requester. Some (5, 0); waiting = λ link. 63; standings = λ link. [] })
+    (record {
+      grants = λ link requester. Some (record { stream = 5; floor = 0 });
+      waiting = λ link. 63;
+      standings = λ link. [];
+    })
     63 (host_port 0) read_unit (read_packet ∷ read_packet ∷ [])
     ≡ Queued ∷ Blocked Full ∷ []
 

@@ -1,6 +1,6 @@
 -- Worked cases: the events of each, in order, with the verdicts that were worked out by hand.
 use Rattle.std.specs.Prelude.{ℕ, zero, suc, ◌==◌, Bool, false, true, Some, None, List, [], ◌∷◌}
-use Rattle.case_runs.specs.InterfaceCases.{write, small_key}
+use Rattle.case_runs.specs.InterfaceCases.{write_tlp, small_key}
 use Rattle.ide_types.specs.Ports.{device_port, host_port}
 use Rattle.ide_types.specs.declared.sub.SubKind.{SubKind}
 use Rattle.ide_types.specs.declared.sub.SubKind.TheVariants.{Pr, Npr, Cpl}
@@ -45,8 +45,8 @@ plan aggregation closed = record {
 }
 
 -- a read at 10000000h by the requester 0100h
-abbrev pub read : List ℕ
-read = 0x00 ∷ 0x00 ∷ 0x00 ∷ 0x01 ∷ 0x01 ∷ 0x00 ∷ 0x01 ∷ 0x0f ∷ 0x10 ∷ 0x00 ∷ 0x00 ∷ 0x00 ∷ []
+abbrev pub read_tlp : List ℕ
+read_tlp = 0x00 ∷ 0x00 ∷ 0x00 ∷ 0x01 ∷ 0x01 ∷ 0x00 ∷ 0x01 ∷ 0x0f ∷ 0x10 ∷ 0x00 ∷ 0x00 ∷ 0x00 ∷ []
 
 -- where the device's port seals posted TLPs, and where the host's receives them
 abbrev pub sender : KeyPlace
@@ -90,11 +90,15 @@ pool_is_empty = (Establish 0 5 None, v.RefusedPoolEmpty 2)
 
 -- a write that is a unit of its own
 abbrev pub seal_step : ℕ → ℕ → ℕ → Event × Verdict
-seal_step number draw unit = (Send (device_port 0) write false false, v.Sealed (packet number Pr draw unit true 0 ∷ []))
+seal_step number draw unit = (
+  Send (device_port 0) write_tlp false false,
+  v.Sealed
+      (packet number Pr draw unit true 0 ∷ []),
+)
 
 -- a read whose unit goes on if it has room
 abbrev pub seal_read_step : ℕ → Bool → Event × Verdict
-seal_read_step number m = (Send (device_port 0) read true false, v.Sealed (packet number Npr 0 1 m 0 ∷ []))
+seal_read_step number m = (Send (device_port 0) read_tlp true false, v.Sealed (packet number Npr 0 1 m 0 ∷ []))
 
 -- the write of this number, which is blocked since it has no T
 abbrev pub accepted_unit : ℕ → ℕ → ℕ → Event × Verdict
@@ -120,7 +124,7 @@ both_accepted = (Pass 2, v.Accepted (host_port 0) reads (Delivered ∷ Delivered
 
 -- a write whose unit goes on, and a read after it
 abbrev pub unfinished_write : Event × Verdict
-unfinished_write = (Send (device_port 0) write true false, v.Sealed (packet 3 Pr 0 1 false 0 ∷ []))
+unfinished_write = (Send (device_port 0) write_tlp true false, v.Sealed (packet 3 Pr 0 1 false 0 ∷ []))
 
 abbrev pub fails : Event → Event × Verdict
 fails e = (e, v.Fail (host_port 0) 5 Pr fail.Tag)
@@ -133,13 +137,13 @@ insecure = (Pass 1, v.Insecure (host_port 0) 5)
 
 -- the read, after one write, and that it arrives before it
 abbrev pub sealed_read : Event × Verdict
-sealed_read = (Send (device_port 0) read false false, v.Sealed (packet 2 Npr 0 1 true 1 ∷ []))
+sealed_read = (Send (device_port 0) read_tlp false false, v.Sealed (packet 2 Npr 0 1 true 1 ∷ []))
 
 abbrev pub fails_order : Event × Verdict
 fails_order = (Pass 2, v.Fail (host_port 0) 5 Npr fail.Order)
 
 abbrev pub unfinished_send : Event × Verdict
-unfinished_send = (Send (device_port 0) read false false, v.RefusedUnfinished)
+unfinished_send = (Send (device_port 0) read_tlp false false, v.RefusedUnfinished)
 
 abbrev pub reply_9_lost : Event × Verdict
 reply_9_lost = (Refresh 0 5 (Some (record { exchange = 9; lost = Reply })), v.LostReply 9)
@@ -150,7 +154,7 @@ busy = (Establish 0 5 None, v.RefusedBusy kind.Link op.Refresh)
 -- NPR and CPL go first with the count of 255 posted packets, then the 256th
 abbrev pub count_reached : Event × Verdict
 count_reached = (
-  Send (device_port 0) write false false,
+  Send (device_port 0) write_tlp false false,
   v.Sealed (sync_packet 256 Npr 255 ∷ sync_packet 257 Cpl 255 ∷ packet 258 Pr 0 256 true 0 ∷ []),
 )
 

@@ -2,7 +2,7 @@
 use Rattle.std.specs.Prelude.{ℕ, ◌≡◌, List, Bool, option_map, string_bytes, find, nat_eq, if◌then◌else◌}
 use Rattle.std.specs.List.{list_any}
 use Rattle.std.specs.Str.{bytes_eq}
-use Rattle.cli_files.specs.Outside.{Contents, counted}
+use Rattle.cli_files.specs.Outside.{Contents, capped_count}
 use Rattle.cli_files.specs.declared.calls.Calls.{Calls}
 use Rattle.cli_files.specs.declared.mem_shelf.NamedFile.{NamedFile}
 use Rattle.cli_files.specs.declared.mem_shelf.MemShelf.{MemShelf}
@@ -20,7 +20,11 @@ fails_now c = list_any (λ n. nat_eq n c.made) c.failing.items
 
 -- after one more call, which is counted as a fault if it fails
 abbrev pub calls_after : Calls → Calls
-calls_after c = record c { made = counted c.made 1; faults = if fails_now c then counted c.faults 1 else c.faults }
+calls_after c = record c {
+  made = capped_count c.made 1;
+  faults = if fails_now c then capped_count c.faults 1
+      else c.faults;
+}
 
 -- no call was made yet, and the listed ones will fail
 pub record IsNew (calls : Calls) (listed : List ℕ) : Type 0 where

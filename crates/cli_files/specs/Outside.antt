@@ -30,12 +30,12 @@ pub record SinkSeen : Type 0 where
 -- ---- counts of 64 bits
 
 -- the count after n more, which stands still at its last value
-abbrev pub counted : ℕ → ℕ → ℕ
-counted before n = min (before + n) (2 ^ 64 - 1)
+abbrev pub capped_count : ℕ → ℕ → ℕ
+capped_count before n = min (before + n) (2 ^ 64 - 1)
 
 -- the count rose, or stands at its last value
 abbrev pub Rose : ℕ → ℕ → Type 0
-Rose before now = counted before 1 ≤ now
+Rose before now = capped_count before 1 ≤ now
 
 -- ---- what a read gives
 
@@ -58,7 +58,7 @@ ReadFrom (Some contents) name at result buf = ReadOf (contents name) at result b
 
 -- what is given is counted, and a fault gives nothing
 abbrev pub Given : ℕ → ℕ → Result ℕ ShelfFault → Type 0
-Given before now (Ok n) = now ≡ counted before n
+Given before now (Ok n) = now ≡ capped_count before n
 Given before now (Err e) = now ≡ before
 
 -- how many bytes a read gave

@@ -5,13 +5,13 @@ use Rattle.std.proofs.lemmas.Bool.Decides.{nat_tests}
 use Rattle.clap.specs.Kinds.{HasKind, Kinds}
 use Rattle.clap.specs.Values.{kind_of}
 use Rattle.clap.specs.Walk.{is_empty}
-use Rattle.clap.specs.Words.{App, HasMatchesOf, Row, Text, fault_of, is_simple, is_simple_and_free, rows_of}
+use Rattle.clap.specs.Words.{App, HasMatchesOf, Row, Text, fault_of, is_simple, is_simple_and_free}
 use Rattle.clap.specs.Words.{subcommand_of, subcommand_rows_of}
 use Rattle.clap.specs.declared.error.Error.{Error}
 use Rattle.clap.specs.declared.error.kind.ErrorKind.TheVariants as kind
 use Rattle.clap.specs.declared.parser.matches.ArgMatches.{ArgMatches}
 use Rattle.cli_words.specs.Ide.{ide_app}
-use Rattle.cli_words.specs.Words.{CommandRequest, asked, subcommand_asked, asks_both}
+use Rattle.cli_words.specs.Words.{CommandRequest, command_asked, subcommand_asked, asks_both}
 use Rattle.cli_words.proofs.App.{ide_is_simple}
 use Rattle.cli_words.proofs.Forms.{refused_anyway, taken}
 
@@ -45,7 +45,7 @@ some_found a words e is fails other =
 -- ---- what is asked for then
 
 pub asks_met : (words : List Text) (met : Option (Text × List Row)) → fault_of ide_app words ≡ []
-    → met ≡ subcommand_of ide_app words → asks_both met ≡ false → asked words ≡ Some (subcommand_asked met)
+    → met ≡ subcommand_of ide_app words → asks_both met ≡ false → command_asked words ≡ Some (subcommand_asked met)
 asks_met words met passes is one =
     taken words (subcommand_asked met) passes
     (subst (λ (m : Option (Text × List Row)). ◌≡◌ {A = CommandRequest × Bool} (subcommand_asked m, asks_both m)
@@ -53,10 +53,10 @@ asks_met words met passes is one =
     (ap (λ (b : Bool). (subcommand_asked met, b)) one))
 
 pub asks_two : (words : List Text) (met : Option (Text × List Row)) → met ≡ subcommand_of ide_app words
-    → asks_both met ≡ true → asked words ≡ None
+    → asks_both met ≡ true → command_asked words ≡ None
 asks_two words met is two =
     refused_anyway words (is_empty (fault_of ide_app words)) (asks_both (subcommand_of ide_app words))
     (subst (λ (m : Option (Text × List Row)). asks_both m ≡ true) is two)
 
-pub asks_nothing : (words : List Text) → is_empty (fault_of ide_app words) ≡ false → asked words ≡ None
+pub asks_nothing : (words : List Text) → is_empty (fault_of ide_app words) ≡ false → command_asked words ≡ None
 asks_nothing words faulty = rw faulty refl

@@ -4,15 +4,15 @@ use Rattle.std.proofs.Common.{if◌then◌else◌}
 use Rattle.clap.specs.Words.{Text, fault_of, subcommand_of}
 use Rattle.clap.proofs.OnLiterals.{clap_on_literals}
 use Rattle.cli_words.specs.Ide.{ide_app}
-use Rattle.cli_words.specs.Words.{CommandRequest, IsName, asked, subcommand_asked, asks_both, run, judge, check}
+use Rattle.cli_words.specs.Words.{CommandRequest, IsName, command_asked, subcommand_asked, asks_both, run, judge, check}
 use Rattle.cli_words.specs.Words.{migrate, show}
 
 -- what the words ask for if `clap` takes them, and whether they ask for two texts
-abbrev pub reading : List Text → CommandRequest × Bool
-reading words = (subcommand_asked (subcommand_of ide_app words), asks_both (subcommand_of ide_app words))
+abbrev pub words_reading : List Text → CommandRequest × Bool
+words_reading words = (subcommand_asked (subcommand_of ide_app words), asks_both (subcommand_of ide_app words))
 
-pub taken : (words : List Text) (a : CommandRequest) → fault_of ide_app words ≡ [] → reading words ≡ (a, false)
-    → asked words ≡ Some a
+pub taken : (words : List Text) (a : CommandRequest) → fault_of ide_app words ≡ [] → words_reading words ≡ (a, false)
+    → command_asked words ≡ Some a
 taken words a passes reads =
     let one : asks_both (subcommand_of ide_app words) ≡ false = ap (λ r. r.1) reads in
     let asks : subcommand_asked (subcommand_of ide_app words) ≡ a = ap (λ r. r.0) reads in
@@ -30,11 +30,11 @@ unfolding clap_on_literals
 run_passes p x y xs ys e f = simp (e, f)
 
 run_reads : (p : Text) (x y : ℕ) (xs ys : Text) → (x == 45) ≡ false → (y == 45) ≡ false
-    → reading (p ∷ codes "run" ∷ (x ∷ xs) ∷ (y ∷ ys) ∷ []) ≡ (run (x ∷ xs) (y ∷ ys), false)
+    → words_reading (p ∷ codes "run" ∷ (x ∷ xs) ∷ (y ∷ ys) ∷ []) ≡ (run (x ∷ xs) (y ∷ ys), false)
 unfolding clap_on_literals
 run_reads p x y xs ys e f = simp (e, f)
 
-pub run_form : (p a b : Text) → IsName a → IsName b → asked (p ∷ codes "run" ∷ a ∷ b ∷ []) ≡ Some (run a b)
+pub run_form : (p a b : Text) → IsName a → IsName b → command_asked (p ∷ codes "run" ∷ a ∷ b ∷ []) ≡ Some (run a b)
 run_form p [] b h i = absurd h
 run_form p (x ∷ xs) [] h i = absurd i
 run_form p (x ∷ xs) (y ∷ ys) e f = taken (p ∷ codes "run" ∷ (x ∷ xs) ∷ (y ∷ ys) ∷ []) _ (run_passes p x y xs ys e f)
@@ -46,13 +46,13 @@ unfolding clap_on_literals
 judge_passes p x y z xs ys zs e f g = simp (e, f, g)
 
 judge_reads : (p : Text) (x y z : ℕ) (xs ys zs : Text) → (x == 45) ≡ false → (y == 45) ≡ false → (z == 45) ≡ false
-    → reading (p ∷ codes "judge" ∷ (x ∷ xs) ∷ (y ∷ ys) ∷ (z ∷ zs) ∷ [])
+    → words_reading (p ∷ codes "judge" ∷ (x ∷ xs) ∷ (y ∷ ys) ∷ (z ∷ zs) ∷ [])
     ≡ (judge (x ∷ xs) (y ∷ ys) (z ∷ zs), false)
 unfolding clap_on_literals
 judge_reads p x y z xs ys zs e f g = simp (e, f, g)
 
 pub judge_form : (p a b c : Text) → IsName a → IsName b → IsName c
-    → asked (p ∷ codes "judge" ∷ a ∷ b ∷ c ∷ []) ≡ Some (judge a b c)
+    → command_asked (p ∷ codes "judge" ∷ a ∷ b ∷ c ∷ []) ≡ Some (judge a b c)
 judge_form p [] b c h i j = absurd h
 judge_form p (x ∷ xs) [] c h i j = absurd i
 judge_form p (x ∷ xs) (y ∷ ys) [] h i j = absurd j
@@ -66,11 +66,11 @@ unfolding clap_on_literals
 check_passes p x xs e = simp e
 
 check_reads : (p : Text) (x : ℕ) (xs : Text) → (x == 45) ≡ false
-    → reading (p ∷ codes "check" ∷ (x ∷ xs) ∷ []) ≡ (check (x ∷ xs), false)
+    → words_reading (p ∷ codes "check" ∷ (x ∷ xs) ∷ []) ≡ (check (x ∷ xs), false)
 unfolding clap_on_literals
 check_reads p x xs e = simp e
 
-pub check_form : (p a : Text) → IsName a → asked (p ∷ codes "check" ∷ a ∷ []) ≡ Some (check a)
+pub check_form : (p a : Text) → IsName a → command_asked (p ∷ codes "check" ∷ a ∷ []) ≡ Some (check a)
 check_form p [] h = absurd h
 check_form p (x ∷ xs) e = taken (p ∷ codes "check" ∷ (x ∷ xs) ∷ []) _ (check_passes p x xs e) (check_reads p x xs e)
 
@@ -80,11 +80,12 @@ unfolding clap_on_literals
 migrate_passes p x xs e = simp e
 
 migrate_reads : (p : Text) (x : ℕ) (xs : Text) → (x == 45) ≡ false
-    → reading (p ∷ codes "check" ∷ (x ∷ xs) ∷ codes "--migrate" ∷ []) ≡ (migrate (x ∷ xs), false)
+    → words_reading (p ∷ codes "check" ∷ (x ∷ xs) ∷ codes "--migrate" ∷ []) ≡ (migrate (x ∷ xs), false)
 unfolding clap_on_literals
 migrate_reads p x xs e = simp e
 
-pub migrate_form : (p a : Text) → IsName a → asked (p ∷ codes "check" ∷ a ∷ codes "--migrate" ∷ []) ≡ Some (migrate a)
+pub migrate_form : (p a : Text) → IsName a → command_asked (p ∷ codes "check" ∷ a ∷ codes "--migrate" ∷ [])
+    ≡ Some (migrate a)
 migrate_form p [] h = absurd h
 migrate_form p (x ∷ xs) e = taken (p ∷ codes "check" ∷ (x ∷ xs) ∷ codes "--migrate" ∷ []) _ (migrate_passes p x xs e)
     (migrate_reads p x xs e)
@@ -95,14 +96,14 @@ unfolding clap_on_literals
 show_passes p x xs e = simp e
 
 show_reads : (p : Text) (x : ℕ) (xs : Text) → (x == 45) ≡ false
-    → reading (p ∷ codes "show" ∷ (x ∷ xs) ∷ []) ≡ (show (x ∷ xs), false)
+    → words_reading (p ∷ codes "show" ∷ (x ∷ xs) ∷ []) ≡ (show (x ∷ xs), false)
 unfolding clap_on_literals
 show_reads p x xs e = simp e
 
-pub show_form : (p a : Text) → IsName a → asked (p ∷ codes "show" ∷ a ∷ []) ≡ Some (show a)
+pub show_form : (p a : Text) → IsName a → command_asked (p ∷ codes "show" ∷ a ∷ []) ≡ Some (show a)
 show_form p [] h = absurd h
 show_form p (x ∷ xs) e = taken (p ∷ codes "show" ∷ (x ∷ xs) ∷ []) _ (show_passes p x xs e) (show_reads p x xs e)
 
-pub no_words : asked [] ≡ None
+pub no_words : command_asked [] ≡ None
 unfolding clap_on_literals
 no_words = refl

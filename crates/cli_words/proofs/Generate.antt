@@ -11,11 +11,10 @@ use Rattle.clap.specs.Walk.{walk_from, walked}
 use Rattle.clap.proofs.OnLiterals.{clap_on_literals}
 use Rattle.cli_words.specs.Ide.{generate_app, ide_app}
 use Rattle.clap.specs.ValueTests.{is_unsigned_in}
-use Rattle.cli_words.specs.Words.{CommandRequest, IsName, asked, subcommand_asked, asks_both, number_of, generate}
-use Rattle.cli_words.specs.Words.{generate_script}
-use Rattle.cli_words.specs.Words.{generate_topology}
+use Rattle.cli_words.specs.Words.{CommandRequest, IsName, command_asked, subcommand_asked, asks_both, number_of}
+use Rattle.cli_words.specs.Words.{generate, generate_script, generate_topology}
 use Rattle.cli_words.proofs.Numbers.{decimal_is_name, decimal_passes, decimal_is_read}
-use Rattle.cli_words.proofs.Forms.{reading, refused_anyway, taken}
+use Rattle.cli_words.proofs.Forms.{words_reading, refused_anyway, taken}
 use Rattle.clap.specs.declared.builder.value_parser.Reading.TheVariants as how
 use Rattle.clap.specs.declared.parser.matches.ValueSource.TheVariants.{CommandLine}
 
@@ -226,11 +225,12 @@ three_pass p a b c h i seed passes =
 
 -- the words are read by the rows of the level
 read_at_level : (words : List Text) (rows known : List Row) (a : CommandRequest × Bool)
-    → subcommand_of ide_app words ≡ Some (codes "generate", rows) → rows ≡ known → read_of known ≡ a → reading words ≡ a
+    → subcommand_of ide_app words ≡ Some (codes "generate", rows) → rows ≡ known → read_of known ≡ a
+    → words_reading words ≡ a
 read_at_level words rows known a meets same reads = rw (meets, same) reads
 
 three_read : (p a b c : Text) (r : CommandRequest × Bool) → IsName a → IsName b → read_of (rows_read a b (c ∷ [])) ≡ r
-    → reading (p ∷ codes "generate" ∷ a ∷ b ∷ c ∷ []) ≡ r
+    → words_reading (p ∷ codes "generate" ∷ a ∷ b ∷ c ∷ []) ≡ r
 three_read p a b c r h i reads =
     read_at_level (p ∷ codes "generate" ∷ a ∷ b ∷ c ∷ []) (rows_after generate_level.rules [] (a ∷ b ∷ c ∷ []))
     (rows_read a b (c ∷ [])) r (meets_three p a b c) (level_reads a b (c ∷ []) h i) reads
@@ -240,7 +240,7 @@ abbrev generate_words : Text → (a b : Text) → List Text → List Text
 generate_words p a b rest = p ∷ codes "generate" ∷ a ∷ b ∷ rest
 
 totals_text : (p a b : Text) → IsName a → IsName b → ArePassed a b
-    → asked (generate_words p a b []) ≡ Some (numbers_read generate a b)
+    → command_asked (generate_words p a b []) ≡ Some (numbers_read generate a b)
 totals_text p a b h i passed =
     taken (generate_words p a b []) (numbers_read generate a b)
     (enters_two p a b ∙ no_more _ ∙ level_passes a b [] h i passed.0 (totals_pass a b passed.1))
@@ -248,14 +248,14 @@ totals_text p a b h i passed =
     (numbers_read generate a b, false) (meets_two p a b) (level_reads a b [] h i) (totals_read a b))
 
 script_text : (p a b : Text) → IsName a → IsName b → ArePassed a b
-    → asked (generate_words p a b (codes "--script" ∷ [])) ≡ Some (numbers_read generate_script a b)
+    → command_asked (generate_words p a b (codes "--script" ∷ [])) ≡ Some (numbers_read generate_script a b)
 script_text p a b h i passed =
     taken (generate_words p a b (codes "--script" ∷ [])) (numbers_read generate_script a b)
     (three_pass p a b (codes "--script") h i passed.0 (script_passes a b passed.1))
     (three_read p a b (codes "--script") (numbers_read generate_script a b, false) h i (script_reads a b))
 
 topology_text : (p a b : Text) → IsName a → IsName b → ArePassed a b
-    → asked (generate_words p a b (codes "--topology" ∷ [])) ≡ Some (numbers_read generate_topology a b)
+    → command_asked (generate_words p a b (codes "--topology" ∷ [])) ≡ Some (numbers_read generate_topology a b)
 topology_text p a b h i passed =
     taken (generate_words p a b (codes "--topology" ∷ [])) (numbers_read generate_topology a b)
     (three_pass p a b (codes "--topology") h i passed.0 (topology_passes a b passed.1))
@@ -292,32 +292,32 @@ same_numbers f a b c d e g = rw (e, g) refl
 -- a form that reads its texts as numbers
 read_as : (f : ℕ → ℕ → CommandRequest) (p : Text) (rest : List Text)
     → ((a b : Text) → IsName a → IsName b → ArePassed a b
-    → asked (generate_words p a b rest) ≡ Some (numbers_read f a b))
+    → command_asked (generate_words p a b rest) ≡ Some (numbers_read f a b))
     → (seed count : ℕ) → seed < 2 ^ 32 → 1 ≤ count → count ≤ 100000
-    → asked (generate_words p (decimal seed) (decimal count) rest) ≡ Some (f seed count)
+    → command_asked (generate_words p (decimal seed) (decimal count) rest) ≡ Some (f seed count)
 read_as f p rest texts seed count narrow least most =
     let d = are_decimal seed count narrow least most in
     texts (decimal seed) (decimal count) d.seed_name d.count_name d.passed
     ∙ same_numbers f _ _ _ _ d.seed_read d.count_read
 
 pub generate_form : (p : Text) (seed count : ℕ) → seed < 2 ^ 32 → 1 ≤ count → count ≤ 100000
-    → asked (p ∷ codes "generate" ∷ decimal seed ∷ decimal count ∷ []) ≡ Some (generate seed count)
+    → command_asked (p ∷ codes "generate" ∷ decimal seed ∷ decimal count ∷ []) ≡ Some (generate seed count)
 generate_form p = read_as generate p [] (totals_text p)
 
 pub script_form : (p : Text) (seed count : ℕ) → seed < 2 ^ 32 → 1 ≤ count → count ≤ 100000
-    → asked (p ∷ codes "generate" ∷ decimal seed ∷ decimal count ∷ codes "--script" ∷ [])
+    → command_asked (p ∷ codes "generate" ∷ decimal seed ∷ decimal count ∷ codes "--script" ∷ [])
     ≡ Some (generate_script seed count)
 script_form p = read_as generate_script p (codes "--script" ∷ []) (script_text p)
 
 pub topology_form : (p : Text) (seed count : ℕ) → seed < 2 ^ 32 → 1 ≤ count → count ≤ 100000
-    → asked (p ∷ codes "generate" ∷ decimal seed ∷ decimal count ∷ codes "--topology" ∷ [])
+    → command_asked (p ∷ codes "generate" ∷ decimal seed ∷ decimal count ∷ codes "--topology" ∷ [])
     ≡ Some (generate_topology seed count)
 topology_form p = read_as generate_topology p (codes "--topology" ∷ []) (topology_text p)
 
 -- ---- both flags
 
 pub both_flags : (p a b : Text) → IsName a → IsName b
-    → asked (p ∷ codes "generate" ∷ a ∷ b ∷ codes "--script" ∷ codes "--topology" ∷ []) ≡ None
+    → command_asked (p ∷ codes "generate" ∷ a ∷ b ∷ codes "--script" ∷ codes "--topology" ∷ []) ≡ None
 both_flags p a b h i =
     let words : List Text = generate_words p a b (codes "--script" ∷ codes "--topology" ∷ []) in
     let both : asks_both (subcommand_of ide_app words) ≡ true =

@@ -9,11 +9,9 @@ use Rattle.clap.specs.ValueTests.{is_unsigned_in}
 use Rattle.clap.specs.declared.builder.value_parser.ValueParser.TheVariants as vp
 use Rattle.clap.proofs.ValueTestLemmas.{accepts-Accepts}
 use Rattle.cli_words.specs.Ide.{ide_app}
-use Rattle.cli_words.specs.Words.{CommandRequest, asked, asked_by_name, subcommand_asked, check, generate}
-use Rattle.cli_words.specs.Words.{generate_script}
-use Rattle.cli_words.specs.Words.{generate_topology, generation_asked, is_refused, is_flag_given, migrate, number_of}
-use Rattle.cli_words.specs.Words.{why}
-use Rattle.cli_words.specs.Words.{text_of}
+use Rattle.cli_words.specs.Words.{CommandRequest, command_asked, asked_by_name, subcommand_asked, check, generate}
+use Rattle.cli_words.specs.Words.{generate_script, generate_topology, generation_asked, is_refused, is_flag_given}
+use Rattle.cli_words.specs.Words.{migrate, number_of, why, text_of}
 
 Within : (most n : ℕ) → Type 0
 Within most n = (1 ≤ n) × (n ≤ most)
@@ -77,22 +75,24 @@ few_asked false words request asks =
     let same : subcommand_asked (subcommand_of ide_app words) ≡ request = cc in
     subst FewIn same (few_of (subcommand_of ide_app words))
 
-pub few_rounds : (words : List Text) (seed count : ℕ) → asked words ≡ Some (generate seed count)
+pub few_rounds : (words : List Text) (seed count : ℕ) → command_asked words ≡ Some (generate seed count)
     → (1 ≤ count) × (count ≤ 100000)
 unfolding Within Few FewIn
 few_rounds words seed count asks = few_asked (is_refused words) words (generate seed count) asks
 
-pub few_script_rounds : (words : List Text) (seed count : ℕ) → asked words ≡ Some (generate_script seed count)
+pub few_script_rounds : (words : List Text) (seed count : ℕ) → command_asked words ≡ Some (generate_script seed count)
     → (1 ≤ count) × (count ≤ 100000)
 unfolding Within Few FewIn
 few_script_rounds words seed count asks = few_asked (is_refused words) words (generate_script seed count) asks
 
-pub few_topology_rounds : (words : List Text) (seed count : ℕ) → asked words ≡ Some (generate_topology seed count)
+pub few_topology_rounds : (words : List Text) (seed count : ℕ) → command_asked words
+    ≡ Some (generate_topology seed count)
     → (1 ≤ count) × (count ≤ 100000)
 unfolding Within Few FewIn
 few_topology_rounds words seed count asks = few_asked (is_refused words) words (generate_topology seed count) asks
 
-pub named_event : (words : List Text) (topology script : Text) (n : ℕ) → asked words ≡ Some (why topology script n)
+pub named_event : (words : List Text) (topology script : Text) (n : ℕ) → command_asked words
+    ≡ Some (why topology script n)
     → (1 ≤ n) × (n ≤ 67108864)
 unfolding Within FewIn
 named_event words topology script n asks = few_asked (is_refused words) words (why topology script n) asks

@@ -10,8 +10,8 @@ use Rattle.clap.specs.Walk.{Row, Walk, finished, idle, nothing_held, rows_after,
 use Rattle.clap.specs.ValueTests.{is_unsigned_in}
 use Rattle.clap.proofs.OnLiterals.{clap_on_literals}
 use Rattle.cli_words.specs.Ide.{ide_app, why_app}
-use Rattle.cli_words.specs.Words.{CommandRequest, IsName, asked, subcommand_asked, asks_both, number_of, why}
-use Rattle.cli_words.proofs.Forms.{reading, taken}
+use Rattle.cli_words.specs.Words.{CommandRequest, IsName, command_asked, subcommand_asked, asks_both, number_of, why}
+use Rattle.cli_words.proofs.Forms.{words_reading, taken}
 use Rattle.cli_words.proofs.Generate.{given_row, level_rests, no_more, one_step, one_word, rest_fault, walk_on}
 use Rattle.cli_words.proofs.Numbers.{decimal_is_name, decimal_passes, decimal_is_read}
 
@@ -139,11 +139,12 @@ meets p a b c = refl
 
 -- the words are read by the rows of the level
 read_at_level : (words : List Text) (rows known : List Row) (a : CommandRequest × Bool)
-    → subcommand_of ide_app words ≡ Some (codes "why", rows) → rows ≡ known → read_of known ≡ a → reading words ≡ a
+    → subcommand_of ide_app words ≡ Some (codes "why", rows) → rows ≡ known → read_of known ≡ a → words_reading words
+    ≡ a
 read_at_level words rows known a met same reads = rw (met, same) reads
 
 why_text : (p a b c : Text) → IsName a → IsName b → IsName c → is_unsigned_in 1 67108864 c ≡ true
-    → asked (p ∷ codes "why" ∷ a ∷ b ∷ c ∷ []) ≡ Some (why a b (number_of 1 67108864 c))
+    → command_asked (p ∷ codes "why" ∷ a ∷ b ∷ c ∷ []) ≡ Some (why a b (number_of 1 67108864 c))
 why_text p [] b c h i j number = absurd h
 why_text p (x ∷ xs) [] c h i j number = absurd i
 why_text p (x ∷ xs) (y ∷ ys) [] h i j number = absurd j
@@ -160,7 +161,7 @@ why_text p (x ∷ xs) (y ∷ ys) (z ∷ zs) e f g number =
     (ap (λ w. finished why_level.rules w.held) (words_moved x y z xs ys zs e f g)) (why_read a b c))
 
 pub why_form : (p a b : Text) (n : ℕ) → IsName a → IsName b → 1 ≤ n → n ≤ 67108864
-    → asked (p ∷ codes "why" ∷ a ∷ b ∷ decimal n ∷ []) ≡ Some (why a b n)
+    → command_asked (p ∷ codes "why" ∷ a ∷ b ∷ decimal n ∷ []) ≡ Some (why a b n)
 why_form p a b n h i least most =
     let wide : n < 2 ^ 64 = omega arith in
     why_text p a b (decimal n) h i (decimal_is_name n wide) (decimal_passes 1 67108864 n wide least most)

@@ -1,7 +1,6 @@
 -- What the words of a command line ask for.
 use Rattle.std.specs.Prelude.{◌≡◌, ◌==◌, ◌≤◌, ◌&&◌, ℕ, List, [], ◌∷◌, Bool, true, false, Option, Some, None, codes}
-use Rattle.std.specs.Prelude.{unwrap_or}
-use Rattle.std.specs.Prelude.{if◌then◌else◌}
+use Rattle.std.specs.Prelude.{unwrap_or, if◌then◌else◌}
 use Rattle.std.specs.Str.{bytes_eq}
 use Rattle.std.specs.Str.Parse.{digits_value, without_leading_plus}
 use Rattle.clap.specs.Words.{Row, Text, fault_of, first_of, subcommand_of}
@@ -89,8 +88,8 @@ abbrev pub is_refused : List Text → Bool
 is_refused words = if is_empty (fault_of ide_app words) then asks_both (subcommand_of ide_app words) else true
 
 -- what the words ask for, the first being the program's name; nothing if they are refused
-abbrev pub asked : List Text → Option CommandRequest
-asked words = if is_refused words then None else Some (subcommand_asked (subcommand_of ide_app words))
+abbrev pub command_asked : List Text → Option CommandRequest
+command_asked words = if is_refused words then None else Some (subcommand_asked (subcommand_of ide_app words))
 
 abbrev pub view : Request → CommandRequest
 view (Run topology script) = run topology.now script.now

@@ -9,7 +9,7 @@ ghost use Rattle.clap.specs.Words.{with_subcommand};
 ghost use Rattle.clap.specs.declared.builder.command.Command.TheViews.{out-Command};
 ghost use Rattle.cli_words.specs.Ide.{check_app, flag_rule, generate_app, ide_app, judge_app, name_rule, number_rule};
 ghost use Rattle.cli_words.specs.Ide.{numbers_app, run_app, scripts_app, show_app, top_app, topologies_app, why_app};
-ghost use Rattle.cli_words.specs.Words.{HasFewRounds, IsName, NamesEvent, Refuses, asked, asked_by_name};
+ghost use Rattle.cli_words.specs.Words.{HasFewRounds, IsName, NamesEvent, Refuses, command_asked, asked_by_name};
 ghost use Rattle.cli_words.specs.Words.{subcommand_asked};
 ghost use Rattle.cli_words.specs.Words.{asks_both, check, check_asked, generate, generate_script, generate_topology};
 ghost use Rattle.cli_words.specs.Words.{generation_asked, is_flag_given, judge, migrate, number_of, run, show, text_of};
@@ -336,10 +336,10 @@ fn asks_both(matches: &ArgMatches) -> bool
 #[tactic(auto, using(crate::proofs::App::ide_is_simple))]
 #[inline(never)]
 pub fn read_words<'a>(alloc: Global, words: &'a [String]) -> Result<Request<'a>, WordsError>
-    ensures ok { IfOk result (λ r. asked (map string_bytes words.now) ≡ Some (view r)) }
+    ensures ok { IfOk result (λ r. command_asked (map string_bytes words.now) ≡ Some (view r)) }
     ensures rounds { IfOk result HasFewRounds }
     ensures number { IfOk result NamesEvent }
-    ensures err { IfErr result (Refuses (asked (map string_bytes words.now))) }
+    ensures err { IfErr result (Refuses (command_asked (map string_bytes words.now))) }
 {
     let command = match ide(alloc) {
         Ok(command) => command,
@@ -374,7 +374,7 @@ fn shown(alloc: Global, error: &Error) -> Result<String, AllocError> {
 #[tactic(auto, using(crate::proofs::App::ide_is_simple))]
 #[inline(never)]
 pub fn refusal(alloc: Global, words: &[String]) -> Result<Option<String>, AllocError>
-    ensures { IfOk result (λ text. is_some text ≡ is_none (asked (map string_bytes words.now))) }
+    ensures { IfOk result (λ text. is_some text ≡ is_none (command_asked (map string_bytes words.now))) }
 {
     let command = ide(alloc)?;
     match command.try_get_matches_from(words) {
@@ -398,48 +398,51 @@ pub fn refusal(alloc: Global, words: &[String]) -> Result<Option<String>, AllocE
 /// with `-`, and with numbers in range as decimal digits without a leading zero.
 pub fn forms_are_taken()
     ensures run { (program a b : List ℕ) → IsName a → IsName b
-        → asked (program ∷ codes "run" ∷ a ∷ b ∷ []) ≡ Some (run a b) }
+        → command_asked (program ∷ codes "run" ∷ a ∷ b ∷ []) ≡ Some (run a b) }
     ensures judge { (program a b c : List ℕ) → IsName a → IsName b → IsName c
-        → asked (program ∷ codes "judge" ∷ a ∷ b ∷ c ∷ []) ≡ Some (judge a b c) }
+        → command_asked (program ∷ codes "judge" ∷ a ∷ b ∷ c ∷ []) ≡ Some (judge a b c) }
     ensures why { (program a b : List ℕ) (n : ℕ) → IsName a → IsName b → 1 ≤ n → n ≤ 67108864
-        → asked (program ∷ codes "why" ∷ a ∷ b ∷ decimal n ∷ []) ≡ Some (why a b n) }
-    ensures check { (program a : List ℕ) → IsName a → asked (program ∷ codes "check" ∷ a ∷ []) ≡ Some (check a) }
+        → command_asked (program ∷ codes "why" ∷ a ∷ b ∷ decimal n ∷ []) ≡ Some (why a b n) }
+    ensures check { (program a : List ℕ) → IsName a → command_asked (program ∷ codes "check" ∷ a ∷ [])
+        ≡ Some (check a) }
     ensures migrate { (program a : List ℕ) → IsName a
-        → asked (program ∷ codes "check" ∷ a ∷ codes "--migrate" ∷ []) ≡ Some (migrate a) }
-    ensures show { (program a : List ℕ) → IsName a → asked (program ∷ codes "show" ∷ a ∷ []) ≡ Some (show a) }
+        → command_asked (program ∷ codes "check" ∷ a ∷ codes "--migrate" ∷ []) ≡ Some (migrate a) }
+    ensures show { (program a : List ℕ) → IsName a → command_asked (program ∷ codes "show" ∷ a ∷ []) ≡ Some (show a) }
     ensures generate { (program : List ℕ) (seed count : ℕ) → seed < 2 ^ 32 → 1 ≤ count → count ≤ 100000
-        → asked (program ∷ codes "generate" ∷ decimal seed ∷ decimal count ∷ []) ≡ Some (generate seed count) }
+        → command_asked (program ∷ codes "generate" ∷ decimal seed ∷ decimal count ∷ []) ≡ Some (generate seed count) }
     ensures script { (program : List ℕ) (seed count : ℕ) → seed < 2 ^ 32 → 1 ≤ count → count ≤ 100000
-        → asked (program ∷ codes "generate" ∷ decimal seed ∷ decimal count ∷ codes "--script" ∷ [])
+        → command_asked (program ∷ codes "generate" ∷ decimal seed ∷ decimal count ∷ codes "--script" ∷ [])
         ≡ Some (generate_script seed count) }
     ensures topology { (program : List ℕ) (seed count : ℕ) → seed < 2 ^ 32 → 1 ≤ count → count ≤ 100000
-        → asked (program ∷ codes "generate" ∷ decimal seed ∷ decimal count ∷ codes "--topology" ∷ [])
+        → command_asked (program ∷ codes "generate" ∷ decimal seed ∷ decimal count ∷ codes "--topology" ∷ [])
         ≡ Some (generate_topology seed count) }
 {}
 
 /// Words that ask for generated events, for their script or for their topology name 1 to 100,000 rounds.
 pub fn few_rounds()
-    ensures totals { (words : List (List ℕ)) (seed count : ℕ) → asked words ≡ Some (generate seed count)
+    ensures totals { (words : List (List ℕ)) (seed count : ℕ) → command_asked words ≡ Some (generate seed count)
         → (1 ≤ count) × (count ≤ 100000) }
-    ensures script { (words : List (List ℕ)) (seed count : ℕ) → asked words ≡ Some (generate_script seed count)
+    ensures script { (words : List (List ℕ)) (seed count : ℕ) → command_asked words ≡ Some (generate_script seed count)
         → (1 ≤ count) × (count ≤ 100000) }
-    ensures topology { (words : List (List ℕ)) (seed count : ℕ) → asked words ≡ Some (generate_topology seed count)
+    ensures topology { (words : List (List ℕ)) (seed count : ℕ) → command_asked words
+        ≡ Some (generate_topology seed count)
         → (1 ≤ count) × (count ≤ 100000) }
 {}
 
 /// Words that ask why an event got its verdict name an event from 1 to 67,108,864.
 pub fn events_are_named()
-    ensures { (words : List (List ℕ)) (topology script : List ℕ) (n : ℕ) → asked words ≡ Some (why topology script n)
+    ensures { (words : List (List ℕ)) (topology script : List ℕ) (n : ℕ) → command_asked words
+        ≡ Some (why topology script n)
         → (1 ≤ n) × (n ≤ 67108864) }
 {}
 
 /// The script and the topology of generated events are not asked for at once.
 pub fn both_flags_are_refused()
     ensures { (program a b : List ℕ) → IsName a → IsName b
-        → asked (program ∷ codes "generate" ∷ a ∷ b ∷ codes "--script" ∷ codes "--topology" ∷ []) ≡ None }
+        → command_asked (program ∷ codes "generate" ∷ a ∷ b ∷ codes "--script" ∷ codes "--topology" ∷ []) ≡ None }
 {}
 
 /// No words at all, not even the program's name, ask for nothing.
 pub fn no_words_are_refused()
-    ensures { asked [] ≡ None }
+    ensures { command_asked [] ≡ None }
 {}

@@ -1,12 +1,8 @@
 -- Look-ups of 4 bits: a byte of a product with a byte is the sum of two entries, and a table of 16 entries has the sums
 -- of one byte of a block, of x, of x² and of x³ times it.
 use Rattle.std.proofs.Common.{◌≡◌, ℕ, zero, suc, ◌+◌, ◌*◌, ◌/◌, ◌%◌, ◌^◌, ◌<◌, ◌≤◌, ◌==◌, Bool, true, false, List, []}
-use Rattle.std.proofs.Common.{◌∷◌}
-use Rattle.std.proofs.Common.{◌++◌, Fits, subst}
-use Rattle.std.proofs.Common.{length, T}
-use Rattle.std.proofs.Common.{map, replicate, cond, leb, bit_and, bit_xor, slice_index, get_or, refl, sym, ap, ◌∙◌}
-use Rattle.std.proofs.Common.{arith}
-use Rattle.std.proofs.Common.{eqb-true, w8, ◌⊎◌, inl, inr}
+use Rattle.std.proofs.Common.{◌∷◌, ◌++◌, Fits, subst, length, T, map, replicate, cond, leb, bit_and, bit_xor}
+use Rattle.std.proofs.Common.{slice_index, get_or, refl, sym, ap, ◌∙◌, arith, eqb-true, w8, ◌⊎◌, inl, inr}
 use Rattle.std.specs.Prelude.{◌||◌}
 use Rattle.std.specs.Int.{w128, byte_at, bytes_high_first, to_be_bytes}
 use Rattle.std.proofs.lemmas.Bool.{lt-leb, le-leb, lt-ltb, or_left, or_right}
@@ -100,8 +96,7 @@ products h j row v fits is =
 -- ---- the same of two blocks
 
 -- what look-ups in both halves of a vector give
-swz-halves : (a b x y : List ℕ) → length a ≡ 16 → length x ≡ 16 → length y ≡ 16
-    → Each1 (λ j. T (is_lookup_place j)) x
+swz-halves : (a b x y : List ℕ) → length a ≡ 16 → length x ≡ 16 → length y ≡ 16 → Each1 (λ j. T (is_lookup_place j)) x
     → swz_l w8 16 (a ++ b) 0 (x ++ y) ≡ map (entry_of a) x ++ map (entry_of b) y
 swz-halves a b x y la lx ly places = lower 0 x (omega (arith, lx)) places where
   upper : (i : ℕ) (y : List ℕ) → 16 ≤ i → i + length y ≡ 32 → swz_l w8 16 (a ++ b) i y ≡ map (entry_of b) y
@@ -133,8 +128,7 @@ high_may_two v long fits =
     may_look_twice _ (length-zip2 (λ a b. a / 2 ^ b) v (replicate 32 4) long ∙ long)
     (placed high v _ fits (high_map v long) high_place)
 
-pub low_may_two : (v : List ℕ) → length v ≡ 32 → Each1 (Fits w8) v
-    → SwzOk w8 16 32 0 (zip2 bit_and v (replicate 32 15))
+pub low_may_two : (v : List ℕ) → length v ≡ 32 → Each1 (Fits w8) v → SwzOk w8 16 32 0 (zip2 bit_and v (replicate 32 15))
 low_may_two v long fits =
     may_look_twice _ (length-zip2 bit_and v (replicate 32 15) long ∙ long)
     (placed low v _ fits (low_map v long) low_place)
@@ -193,13 +187,13 @@ halves-sum v a b la lb e =
 -- ---- tables
 
 -- entry j if `unset` is 0, and 0 if it is 128
-abbrev pub picked : List ℕ → ℕ → ℕ → ℕ
-picked v j s = entry_of v (bit_xor s j)
+abbrev pub entry_picked : List ℕ → ℕ → ℕ → ℕ
+entry_picked v j s = entry_of v (bit_xor s j)
 
-picked-set : (v : List ℕ) (j : ℕ) → j < 16 → picked v j 0 ≡ slice_index v j
+picked-set : (v : List ℕ) (j : ℕ) → j < 16 → entry_picked v j 0 ≡ slice_index v j
 picked-set v j lt = ap (entry_of v) (xor_zero_l j) ∙ entry_below v j lt
 
-picked-unset : (v : List ℕ) (j : ℕ) → j < 16 → picked v j 128 ≡ 0
+picked-unset : (v : List ℕ) (j : ℕ) → j < 16 → entry_picked v j 128 ≡ 0
 picked-unset v j lt =
     ap (entry_of v) (xor_shifted 1 7 j (omega arith))
     ∙ ap (λ (b : Bool). cond b 0 (get_or v (128 + j) 0)) (le-leb 128 (128 + j) (omega arith))
@@ -257,7 +251,7 @@ may_pick_two u unset j eu long lt each =
 -- the entries of v and of w that are chosen
 pub picked_two : (v w t u unset : List ℕ) (j : ℕ) → length v ≡ 16 → t ≡ v ++ w → u ≡ unset ++ unset → length unset ≡ 16
     → j < 16 → Each1 (λ s. T (s == 0 || s == 128)) unset
-    → swz_l w8 16 t 0 (zip2 bit_xor u (replicate 32 j)) ≡ map (picked v j) unset ++ map (picked w j) unset
+    → swz_l w8 16 t 0 (zip2 bit_xor u (replicate 32 j)) ≡ map (entry_picked v j) unset ++ map (entry_picked w j) unset
 picked_two v w t u unset j lv et eu long lt each =
     let at : List ℕ = map (λ s. bit_xor s j) unset in
     let la : length at ≡ 16 = length-map unset (λ s. bit_xor s j) ∙ long in
@@ -276,8 +270,7 @@ lanes-sum p q r t n lp lq lr lt ln =
     (get_or-zip2 bit_xor r t n 0 0 0 (omega arith) (omega arith) i))
 
 -- byte j of the multiple of b by a polynomial of four terms
-sum-of-bytes : (p q r t : Bool) (b j : ℕ)
-    → bit_xor (bit_xor (term p (byte_of j b)) (term q (byte_of j (step_x b))))
+sum-of-bytes : (p q r t : Bool) (b j : ℕ) → bit_xor (bit_xor (term p (byte_of j b)) (term q (byte_of j (step_x b))))
     (bit_xor (term r (byte_of j (step_x (step_x b)))) (term t (byte_of j (step_x (step_x (step_x b))))))
     ≡ byte_of j (act (p ∷ q ∷ r ∷ t ∷ []) b)
 sum-of-bytes p q r t b j =
@@ -314,20 +307,22 @@ abbrev tells : List ℕ → ℕ → ℕ → Bool
 tells unset k n = slice_index unset n == cond (has k n) 0 128
 
 lane_of : (v unset : List ℕ) (j k n : ℕ) → j < 16 → n < 16 → length unset ≡ 16
-    → all_below (tells unset k) 16 ≡ true → slice_index (map (picked v j) unset) n ≡ term (has k n) (slice_index v j)
+    → all_below (tells unset k) 16 ≡ true → slice_index (map (entry_picked v j) unset) n
+    ≡ term (has k n) (slice_index v j)
 lane_of v unset j k n lj ln long test =
-    get_or-map (picked v j) unset n 0 0 (omega (arith, long))
-    ∙ ap (picked v j) (eqb-true (slice_index unset n) (cond (has k n) 0 128)
+    get_or-map (entry_picked v j) unset n 0 0 (omega (arith, long))
+    ∙ ap (entry_picked v j) (eqb-true (slice_index unset n) (cond (has k n) 0 128)
     (all_below_at (tells unset k) 16 n test ln))
     ∙ go (has k n)
   where
-    go : (b : Bool) → picked v j (cond b 0 128) ≡ term b (slice_index v j)
+    go : (b : Bool) → entry_picked v j (cond b 0 128) ≡ term b (slice_index v j)
     go true = picked-set v j lj
     go false = picked-unset v j lj
 
 table-is : (b : ℕ) (s : Steps) (j : ℕ) → AreSteps b s → j < 16 → (p q r t : List ℕ)
-    → p ≡ map (picked s.once j) eight → q ≡ map (picked s.by_x j) four → r ≡ map (picked s.by_x2 j) two
-    → t ≡ map (picked s.by_x3 j) one → IsTable b j (zip2 bit_xor (zip2 bit_xor p q) (zip2 bit_xor r t))
+    → p ≡ map (entry_picked s.once j) eight → q ≡ map (entry_picked s.by_x j) four → r
+    ≡ map (entry_picked s.by_x2 j) two
+    → t ≡ map (entry_picked s.by_x3 j) one → IsTable b j (zip2 bit_xor (zip2 bit_xor p q) (zip2 bit_xor r t))
 unfolding bits
 table-is b s j are lj p q r t ep eq er et n ln =
     let x1 : ℕ = step_x b in
@@ -335,7 +330,7 @@ table-is b s j are lj p q r t ep eq er et n ln =
     let x3 : ℕ = step_x x2 in
     let at : (k x : ℕ) → ℕ = λ k x. term (has k n) (byte_of j x) in
     let lane : (v unset l : List ℕ) (k x : ℕ) → length unset ≡ 16 → all_below (tells unset k) 16 ≡ true
-    → v ≡ to_be_bytes w128 x → l ≡ map (picked v j) unset → slice_index l n ≡ at k x =
+    → v ≡ to_be_bytes w128 x → l ≡ map (entry_picked v j) unset → slice_index l n ≡ at k x =
     λ v unset l k x long test ev el.
     ap (λ (l : List ℕ). slice_index l n) el
     ∙ lane_of v unset j k n lj ln long test
@@ -352,21 +347,21 @@ table-is b s j are lj p q r t ep eq er et n ln =
 
 -- the tables of two blocks, made side by side
 pub row-is : (b c : ℕ) (s t : Steps) (j : ℕ) (k l m n : List ℕ) → AreSteps b s → AreSteps c t → j < 16
-    → k ≡ map (picked s.once j) eight ++ map (picked t.once j) eight
-    → l ≡ map (picked s.by_x j) four ++ map (picked t.by_x j) four
-    → m ≡ map (picked s.by_x2 j) two ++ map (picked t.by_x2 j) two
-    → n ≡ map (picked s.by_x3 j) one ++ map (picked t.by_x3 j) one
+    → k ≡ map (entry_picked s.once j) eight ++ map (entry_picked t.once j) eight
+    → l ≡ map (entry_picked s.by_x j) four ++ map (entry_picked t.by_x j) four
+    → m ≡ map (entry_picked s.by_x2 j) two ++ map (entry_picked t.by_x2 j) two
+    → n ≡ map (entry_picked s.by_x3 j) one ++ map (entry_picked t.by_x3 j) one
     → (v : List ℕ) → v ≡ zip2 bit_xor (zip2 bit_xor k l) (zip2 bit_xor m n)
     → IsTable b j (pick_l 0 (v ++ v) lower_places) × IsTable c j (pick_l 0 (v ++ v) upper_places)
 row-is b c s t j k l m n bs ct lt ek el em en v ev =
-    let ks : List ℕ = map (picked s.once j) eight in
-    let kt : List ℕ = map (picked t.once j) eight in
-    let ls : List ℕ = map (picked s.by_x j) four in
-    let l2 : List ℕ = map (picked t.by_x j) four in
-    let ms : List ℕ = map (picked s.by_x2 j) two in
-    let mt : List ℕ = map (picked t.by_x2 j) two in
-    let ns : List ℕ = map (picked s.by_x3 j) one in
-    let nt : List ℕ = map (picked t.by_x3 j) one in
+    let ks : List ℕ = map (entry_picked s.once j) eight in
+    let kt : List ℕ = map (entry_picked t.once j) eight in
+    let ls : List ℕ = map (entry_picked s.by_x j) four in
+    let l2 : List ℕ = map (entry_picked t.by_x j) four in
+    let ms : List ℕ = map (entry_picked s.by_x2 j) two in
+    let mt : List ℕ = map (entry_picked t.by_x2 j) two in
+    let ns : List ℕ = map (entry_picked s.by_x3 j) one in
+    let nt : List ℕ = map (entry_picked t.by_x3 j) one in
     let up : List ℕ = zip2 bit_xor (zip2 bit_xor ks ls) (zip2 bit_xor ms ns) in
     let down : List ℕ = zip2 bit_xor (zip2 bit_xor kt l2) (zip2 bit_xor mt nt) in
     let both : v ≡ up ++ down =

@@ -2,9 +2,8 @@
 -- to the byte's place. The code adds byte j of all of these at once, from the last byte to the first, and moves the sum
 -- up by one byte before each.
 use Rattle.std.proofs.Common.{◌≡◌, ℕ, zero, suc, ◌+◌, ◌-◌, ◌*◌, ◌/◌, ◌%◌, ◌^◌, ◌<◌, ◌≤◌, ◌==◌, Bool, List, [], ◌∷◌}
-use Rattle.std.proofs.Common.{◌++◌}
-use Rattle.std.proofs.Common.{length, map, take, replicate, bit_xor, slice_index, refl, sym, ap, ◌∙◌, arith, lit<, inl}
-use Rattle.std.proofs.Common.{inr, w8, Fits}
+use Rattle.std.proofs.Common.{◌++◌, length, map, take, replicate, bit_xor, slice_index, refl, sym, ap, ◌∙◌, arith, lit<}
+use Rattle.std.proofs.Common.{inl, inr, w8, Fits}
 use Rattle.std.specs.Int.{w128, byte_at, bytes_high_first, from_be_bytes, to_be_bytes}
 use Rattle.std.proofs.lemmas.Bool.{cases_lt}
 use Rattle.std.proofs.lemmas.Nat.{pow_pos, pow-add, shl_below, shr_high, mod-pow-add}
@@ -74,24 +73,24 @@ joined-ended xs =
 -- ---- bytes as a number
 
 -- the number that bytes spell, the highest first
-abbrev spelled : List ℕ → ℕ
-spelled [] = 0
-spelled (x ∷ xs) = x * 2 ^ (8 * length xs) + spelled xs
+abbrev number_spelled : List ℕ → ℕ
+number_spelled [] = 0
+number_spelled (x ∷ xs) = x * 2 ^ (8 * length xs) + number_spelled xs
 
-spelled-lt : (xs : List ℕ) → Each1 (Fits w8) xs → spelled xs < 2 ^ (8 * length xs)
+spelled-lt : (xs : List ℕ) → Each1 (Fits w8) xs → number_spelled xs < 2 ^ (8 * length xs)
 spelled-lt [] fits = lit< tt
 spelled-lt (x ∷ xs) fits =
     let n : ℕ = 8 * length xs in
     let whole : 2 ^ 8 * 2 ^ n ≡ 2 ^ (8 * suc (length xs)) =
     sym (pow-add 2 8 n) ∙ ap (λ (k : ℕ). 2 ^ k) (omega arith) in
-    rw whole at (digits_lt {q = x} {m = 2 ^ 8} {r = spelled xs} {c = 2 ^ n} (fits.0.fits) (spelled-lt xs fits.1))
+    rw whole at (digits_lt {q = x} {m = 2 ^ 8} {r = number_spelled xs} {c = 2 ^ n} (fits.0.fits) (spelled-lt xs fits.1))
 
 joined-spelled : (xs : List ℕ) → Each1 (Fits w8) xs → (r : ℕ) → 8 * length xs + r ≡ 128
-    → joined_bytes xs ≡ spelled xs * 2 ^ r
+    → joined_bytes xs ≡ number_spelled xs * 2 ^ r
 joined-spelled [] fits r e = omega arith
 joined-spelled (x ∷ xs) fits r e =
     let n : ℕ = 8 * length xs in
-    let s : ℕ = spelled xs in
+    let s : ℕ = number_spelled xs in
     let up : s * 2 ^ (r + 8) ≡ s * 2 ^ r * 2 ^ 8 = rw (pow-add 2 r 8) (omega arith) in
     let sum : n + r ≡ 120 = omega arith in
     let whole : 2 ^ n * 2 ^ r ≡ 2 ^ 120 = sym (pow-add 2 n r) ∙ ap (λ (k : ℕ). 2 ^ k) sum in
@@ -101,9 +100,9 @@ joined-spelled (x ∷ xs) fits r e =
     ∙ xor_shifted x 120 (s * 2 ^ r) fit
     ∙ omega (arith, ap (λ (y : ℕ). x * y) whole)
 
-from_be_bytes-spelled : (v : List ℕ) → length v ≡ 16 → from_be_bytes w128 v ≡ spelled v
+from_be_bytes-spelled : (v : List ℕ) → length v ≡ 16 → from_be_bytes w128 v ≡ number_spelled v
 from_be_bytes-spelled =
-    of_16 (λ v. from_be_bytes w128 v ≡ spelled v) (λ a b c d e f g h i j k l m n o p. omega arith)
+    of_16 (λ v. from_be_bytes w128 v ≡ number_spelled v) (λ a b c d e f g h i j k l m n o p. omega arith)
 
 pub joined-number : (v : List ℕ) → IsVector v → joined_bytes v ≡ from_be_bytes w128 v
 joined-number v fits =
@@ -232,7 +231,7 @@ length-bytes : (k n : ℕ) → length (bytes_high_first k n) ≡ k
 length-bytes zero n = refl
 length-bytes (suc k) n = ap suc (length-bytes k n)
 
-spelled-bytes : (k n : ℕ) → spelled (bytes_high_first k n) ≡ n % 2 ^ (8 * k)
+spelled-bytes : (k n : ℕ) → number_spelled (bytes_high_first k n) ≡ n % 2 ^ (8 * k)
 spelled-bytes zero n = omega arith
 spelled-bytes (suc k) n =
     let next : 8 + 8 * k ≡ 8 * suc k = omega arith in
@@ -269,12 +268,13 @@ bits-cat zero k x s le = refl
 bits-cat (suc n) k x s le =
     λ i. (bit_at_cat_low x k s n (omega arith) i == 1) ∷ bits-cat n k x s (omega arith) i
 
-by_bytes-product : (h : ℕ) (v : List ℕ) → Each1 (Fits w8) v → act (bits (8 * length v) (spelled v)) h ≡ by_bytes h v
+by_bytes-product : (h : ℕ) (v : List ℕ) → Each1 (Fits w8) v → act (bits (8 * length v) (number_spelled v)) h
+    ≡ by_bytes h v
 unfolding bits
 by_bytes-product h [] fits = refl
 by_bytes-product h (x ∷ v) fits =
     let k : ℕ = 8 * length v in
-    let s : ℕ = spelled v in
+    let s : ℕ = number_spelled v in
     let whole : 8 * suc (length v) ≡ 8 + k = omega arith in
     let top : (x * 2 ^ k + s) / 2 ^ k ≡ x = shr_high x k s (spelled-lt v fits.1) in
     ap (λ (n : ℕ). act (bits n (x * 2 ^ k + s)) h) whole
@@ -317,8 +317,7 @@ joined-two xs ys e =
 
 -- the sum of two such sums: p and q are the next bytes, s the sum so far
 sums-next : (f g : ℕ → ℕ → ℕ) (a b p q : List ℕ) (s t : ℕ) → length a ≡ 16 → length b ≡ 16
-    → p ≡ map (f (15 - t)) a → q ≡ map (g (15 - t)) b
-    → s ≡ bit_xor (moved_sum f a t) (moved_sum g b t)
+    → p ≡ map (f (15 - t)) a → q ≡ map (g (15 - t)) b → s ≡ bit_xor (moved_sum f a t) (moved_sum g b t)
     → bit_xor (joined_bytes (zip2 bit_xor p q)) (raised_block 8 s)
     ≡ bit_xor (moved_sum f a (t + 1)) (moved_sum g b (t + 1))
 sums-next f g a b p q s t la lb ep eq es =

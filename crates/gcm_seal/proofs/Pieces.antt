@@ -86,8 +86,7 @@ two_parts key iv n m f xs ys zs le at ey ez =
     front-whole key iv n (f + j) xs _ (omega (arith, long)) (front-next key iv n f j xs now zs le held next)
 
 -- the first f bytes, up to the end of their block, and then all that are left
-pub two_pieces : (key iv : List ℕ) (from f : ℕ) (xs ys zs : List ℕ)
-    → f ≡ min ((16 - from % 16) % 16) (length xs)
+pub two_pieces : (key iv : List ℕ) (from f : ℕ) (xs ys zs : List ℕ) → f ≡ min ((16 - from % 16) % 16) (length xs)
     → ys ≡ masked_bytes key iv (16 * (from / 16) + from % 16) (take f xs)
     → zs ≡ masked_bytes key iv (16 * ((from + 15) / 16))
     (take (length (ys ++ drop f xs) - f) (drop f (ys ++ drop f xs)))
@@ -100,8 +99,7 @@ two_pieces key iv from f xs ys zs ef ey ez =
 
 -- the first 16 bytes and 16 more, each combined with a block of the key stream
 pub two_blocks : (key iv : List ℕ) (block : ℕ) (xs ys zs out more : List ℕ) → length xs ≡ 32
-    → out ≡ aes key (counter iv (block + 1))
-    → more ≡ aes key (counter iv (block + 1 + 1))
+    → out ≡ aes key (counter iv (block + 1)) → more ≡ aes key (counter iv (block + 1 + 1))
     → ys ≡ combined_bytes (take 16 xs) out
     → zs ≡ combined_bytes (take (length (ys ++ drop 16 xs) - 16) (drop 16 (ys ++ drop 16 xs))) more
     → take 16 (ys ++ drop 16 xs) ++ (zs ++ drop (length (ys ++ drop 16 xs) - 16) (drop 16 (ys ++ drop 16 xs)))

@@ -1,8 +1,7 @@
 -- Products 4 bits at a time: a polynomial in two parts acts as the sum of both, the second moved up, and a polynomial
 -- acts on a power of x times a block as on the block.
-use Rattle.std.proofs.Common.{◌≡◌, ℕ, zero, suc, ◌+◌, ◌/◌, ◌%◌, ◌^◌, ◌==◌, Bool, List}
-use Rattle.std.proofs.Common.{[], ◌∷◌, ◌++◌, length, bit_xor, refl, sym, ap, ◌∙◌}
-use Rattle.std.proofs.Common.{arith}
+use Rattle.std.proofs.Common.{◌≡◌, ℕ, zero, suc, ◌+◌, ◌/◌, ◌%◌, ◌^◌, ◌==◌, Bool, List, [], ◌∷◌, ◌++◌, length, bit_xor}
+use Rattle.std.proofs.Common.{refl, sym, ap, ◌∙◌, arith}
 use Rattle.std.proofs.lemmas.Nat.{shr-shr}
 use lib.Bits.{xor_assoc, xor_zero_l, xor_zero_r}
 use Rattle.gcm_seal.specs.Polynomials.{bits}

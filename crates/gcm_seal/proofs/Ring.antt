@@ -266,8 +266,7 @@ bits-half_whole b lt =
     ap (λ (d : ℕ). (d == 1) ∷ bits 127 (b / 2)) none ∙ ap (λ (l : List Bool). false ∷ l) (bits-half 127 b)
 
 -- what stands for x¹²⁸, as bits and as a block
-bits-carry : (t : Bool) (q : List Bool) → 128 ≤ length q
-    → plus (bits 128 (if t then 0xe1 * 2 ^ 120 else 0)) q
+bits-carry : (t : Bool) (q : List Bool) → 128 ≤ length q → plus (bits 128 (if t then 0xe1 * 2 ^ 120 else 0)) q
     ≡ plus q (if t then true ∷ true ∷ true ∷ false ∷ false ∷ false ∷ false ∷ true ∷ [] else [])
 unfolding bits
 bits-carry true q le =
@@ -349,8 +348,7 @@ times-sum h a b =
     ap (λ (p : List Bool). act p h) (polynomial-xor a b) ∙ act-plus (polynomial a) (polynomial b) h
 
 -- the product with the square, and one more
-pub two-products : (h u w : ℕ) → h < 2 ^ 128
-    → bit_xor (block_product (block_product h h) u) (block_product h w)
+pub two-products : (h u w : ℕ) → h < 2 ^ 128 → bit_xor (block_product (block_product h h) u) (block_product h w)
     ≡ block_product h (bit_xor (block_product h u) w)
 two-products h u w hl =
     ap (λ (x : ℕ). bit_xor x (block_product h w)) (times-times h h u hl hl) ∙ sym (times-sum h (block_product h u) w)
@@ -358,8 +356,7 @@ two-products h u w hl =
 xor_turned : (a b c : ℕ) → bit_xor (bit_xor a b) c ≡ bit_xor (bit_xor a c) b
 xor_turned a b c = xor_assoc a b c ∙ ap (bit_xor a) (xor_comm b c) ∙ sym (xor_assoc a c b)
 
-pub four-products : (h a b c d : ℕ) → h < 2 ^ 128
-    → sum_of_four h a b c d
+pub four-products : (h a b c d : ℕ) → h < 2 ^ 128 → sum_of_four h a b c d
     ≡ block_product h (bit_xor (block_product h (bit_xor (block_product h (bit_xor (block_product h a) b)) c)) d)
 four-products h a b c d hl =
     let g : ℕ = block_product h h in

@@ -15,7 +15,8 @@ use Rattle.std.specs.Int.{div_ceil, w32, w64, w128, from_be_bytes, to_be_bytes}
 use Rattle.aes_block.specs.Aes.{aes}
 use Rattle.aes_block.proofs.Blocks.{length-aes}
 use lib.Lanes.{zip2}
-use Rattle.gcm_seal.specs.Gcm.{counter, masked_bytes, combined_bytes, key_stream, padding, hash_input, block, blocks}
+use Rattle.gcm_seal.specs.Gcm.{counter, masked_bytes, combined_bytes, key_stream, padding_zeros, hash_input, block}
+use Rattle.gcm_seal.specs.Gcm.{blocks}
 use Rattle.gcm_seal.specs.Inside.{padded_block, padded_blocks}
 
 -- two strings with the same first 16 bytes spell the same block
@@ -220,9 +221,9 @@ lengths-block x y hx hy =
     ≡ from_be_bytes w64 (to_be_bytes w64 x) * 2 ^ 64 + from_be_bytes w64 (to_be_bytes w64 y) = omega arith in
     ap (λ (b : ℕ). b ∷ []) (whole ∙ rw (from_be_bytes-to_be_bytes_8 x hx, from_be_bytes-to_be_bytes_8 y hy) refl)
 
-length-padded : (s : List ℕ) → length (s ++ padding s) ≡ 16 * div_ceil (length s) 16
+length-padded : (s : List ℕ) → length (s ++ padding_zeros s) ≡ 16 * div_ceil (length s) 16
 length-padded s =
-    length-append s (padding s)
+    length-append s (padding_zeros s)
     ∙ omega (
       arith,
       length-replicate {A = ℕ} (16 * div_ceil (length s) 16 - length s) 0,
@@ -238,8 +239,8 @@ pub hashed_blocks : (a c : List ℕ) → 8 * length a < 2 ^ 64 → 8 * length c 
 hashed_blocks a c ha hc =
     let m : ℕ = div_ceil (length a) 16 in
     let n : ℕ = div_ceil (length c) 16 in
-    let p : List ℕ = a ++ padding a in
-    let q : List ℕ = c ++ padding c in
+    let p : List ℕ = a ++ padding_zeros a in
+    let q : List ℕ = c ++ padding_zeros c in
     let t : List ℕ = to_be_bytes w64 (8 * length a) ++ to_be_bytes w64 (8 * length c) in
     let lp = length-padded a in
     let lq = length-padded c in

@@ -1,6 +1,6 @@
 -- AES-256 in Galois/Counter Mode (SP 800-38D), with an IV of 12 bytes and a tag of 12 bytes, as
 -- functions on lists of bytes.
-use Rattle.std.specs.Prelude.{ℕ, zero, suc, ◌+◌, ◌-◌, ◌*◌, ◌/◌, ◌%◌, ◌^◌, Bool, List, [], ◌∷◌, ◌++◌, length, take, drop}
+use Rattle.std.specs.Prelude.{ℕ, zero, suc, ◌+◌, ◌-◌, ◌*◌, ◌/◌, ◌%◌, ◌^◌, List, [], ◌∷◌, ◌++◌, length, take, drop, Bool}
 use Rattle.std.specs.Prelude.{replicate, bit_xor, slice_range, bytes_eq}
 use Rattle.std.specs.Int.{w32, w64, w128, from_be_bytes, to_be_bytes, div_ceil}
 use Rattle.aes_block.specs.Aes.{Key, Block, aes}
@@ -61,14 +61,14 @@ unfoldable pub hash_key : Key → BlockNumber
 hash_key key = from_be_bytes w128 (aes key (replicate 16 0))
 
 -- the zeros that fill up the last block of a string (7.1, step 4)
-abbrev pub padding : Bytes → Bytes
-padding s = replicate (16 * div_ceil (length s) 16 - length s) 0
+abbrev pub padding_zeros : Bytes → Bytes
+padding_zeros s = replicate (16 * div_ceil (length s) 16 - length s) 0
 
 -- what is hashed: the additional data and the ciphertext, each with its padding, and their lengths
 -- in bits (7.1, step 5)
 abbrev pub hash_input : Bytes → Bytes → Bytes
 hash_input a c =
-    (a ++ padding a) ++ (c ++ padding c)
+    (a ++ padding_zeros a) ++ (c ++ padding_zeros c)
     ++ (to_be_bytes w64 (8 * length a) ++ to_be_bytes w64 (8 * length c))
 
 -- block i of a string

@@ -31,8 +31,7 @@ pub record PutsPage (name : PageName) (new : List ℕ) (es es' : List (PageName 
       ≡ cond (is_page_name name q) (Some new) (lookup (is_page_name q) es)
 
 found : (name q : PageName) (t : Bool) (new : List ℕ) (es es' : List (PageName × List ℕ)) → PutsPage name new es es'
-    → is_page_name name q ≡ t
-    → lookup (is_page_name q) es' ≡ cond t (Some new) (lookup (is_page_name q) es)
+    → is_page_name name q ≡ t → lookup (is_page_name q) es' ≡ cond t (Some new) (lookup (is_page_name q) es)
 found name q t new es es' puts e =
     puts.there q ∙ ap (λ (u : Bool). cond u (Some new) (lookup (is_page_name q) es)) e
 

@@ -3,7 +3,7 @@ use Rattle.std.proofs.Common.{◌≡◌, ℕ, Bool, true, false, cond, not, ◌&
 use Rattle.std.proofs.Common.{is_some, refl, sym, ap, ◌∙◌, inl, inr}
 use Rattle.std.proofs.lemmas.Bool.{cases_Bool, true≢false}
 use Rattle.std.specs.List.{cons_option}
-use Rattle.trusted_memory.specs.Writes.{Write, written, byte_after}
+use Rattle.trusted_memory.specs.Writes.{Write, byte_written, byte_after}
 use Rattle.trusted_memory.proofs.Turns.{byte_after-next, byte_after-none}
 use Rattle.guarded_memory.specs.Standings.{has_open_range}
 use Rattle.guarded_memory.specs.Happenings.{Happened, WriteStored, InterfaceReset, AllReset, InterfaceStopped}
@@ -16,7 +16,7 @@ cleared true ws a = byte_after-none a
 cleared false ws a = refl
 
 stored : (t : Bool) (w : Write) (ws : List Write) (a : ℕ) → byte_after (cons_option (cond t (Some w) None) ws) a
-    ≡ cond t (written w (byte_after ws) a) (byte_after ws a)
+    ≡ cond t (byte_written w (byte_after ws) a) (byte_after ws a)
 stored true w ws a = byte_after-next w ws a
 stored false w ws a = refl
 

@@ -1,6 +1,6 @@
 -- Why a claimed write is blocked, the first cause that holds (this profile). The causes speak of the bytes that it
 -- names, of T, and of the stream and the draw that its packet came under, and of no payload.
-use Rattle.std.specs.Prelude.{ℕ, ◌||◌, nat_lt, Bool, true, false, if◌then◌else◌, List, Option, Some, None}
+use Rattle.std.specs.Prelude.{ℕ, ◌||◌, Bool, true, false, if◌then◌else◌, List, Option, Some, None}
 use Rattle.ide_types.specs.declared.interface.BarPlan.{BarPlan}
 use Rattle.trusted_memory.specs.declared.span.Span.{Span}
 use Rattle.trusted_memory.specs.Spans.{crosses}
@@ -9,7 +9,7 @@ use Rattle.guarded_memory.specs.declared.standing.InterfaceStatus.{InterfaceStat
 use Rattle.guarded_memory.specs.declared.claims.Claim.{Claim}
 use Rattle.link_verdicts.specs.declared.verdict.BlockCause.{BlockCause}
 use Rattle.link_verdicts.specs.declared.verdict.BlockCause.TheVariants.{Crosses, NotTrusted, NotRunning, WrongStream}
-use Rattle.link_verdicts.specs.declared.verdict.BlockCause.TheVariants.{Stale}
+use Rattle.link_verdicts.specs.Causes.{stale_cause}
 use Rattle.link_verdicts.specs.declared.verdict.Effect.{Effect}
 use Rattle.link_verdicts.specs.declared.verdict.Effect.TheVariants.{Delivered, Stored, Blocked}
 use Rattle.interface_state.specs.Bindings.{floor_on}
@@ -23,7 +23,7 @@ untrusted_cause state range = if is_open_range range || is_config_unlocked state
 -- it came on a stream that has no floor, since the interface is not bound to it; its draw is less than the floor
 abbrev pub floor_cause : Option ℕ → ℕ → Option BlockCause
 floor_cause None draw = Some WrongStream
-floor_cause (Some floor) draw = if nat_lt draw floor then Some Stale else None
+floor_cause (Some floor) draw = stale_cause floor draw
 
 -- of a trusted write: the interface is not in RUN; else by stream and draw
 abbrev pub trusted_cause : InterfaceStatus → ℕ → ℕ → Option BlockCause

@@ -3,7 +3,7 @@
 use Rattle.std.specs.Prelude.{ℕ, ◌==◌, ◌&&◌, not, Bool, true, false, if◌then◌else◌, List, [], ◌∷◌, Option, Some, None}
 use Rattle.std.specs.List.{cons_option}
 use Rattle.ide_types.specs.declared.interface.BarPlan.{BarPlan}
-use Rattle.trusted_memory.specs.Writes.{Write, written, byte_after}
+use Rattle.trusted_memory.specs.Writes.{Write, byte_written, byte_after}
 use Rattle.guarded_memory.specs.Standings.{has_open_range}
 
 -- A write was stored in the range of a BAR of an interface, with its offset there for its address; an interface was
@@ -45,7 +45,7 @@ byte_shown happened i b offset = byte_after (writes_since happened i b) offset
 -- the byte at each place once it happened, by the bytes before
 abbrev pub contents_after : Happened → (ℕ → ℕ → ℕ → ℕ) → ℕ → ℕ → ℕ → ℕ
 contents_after (WriteStored i b w) old j c offset =
-    if (i == j) && (b == c) then written w (old j c) offset else old j c offset
+    if (i == j) && (b == c) then byte_written w (old j c) offset else old j c offset
 contents_after (InterfaceReset i) old j c offset = if i == j then 0 else old j c offset
 contents_after AllReset old j c offset = 0
 contents_after (InterfaceStopped i bars) old j c offset =

@@ -11,7 +11,7 @@ pub use Rattle.guarded_memory.specs.declared.standing.InterfaceState.{InterfaceS
 pub use Rattle.guarded_memory.specs.declared.standing.InterfaceStatus.{InterfaceStatus}
 pub use Rattle.guarded_memory.specs.declared.claims.Claim.{Claim}
 pub use Rattle.guarded_memory.specs.Standings.{is_open_range, has_open_range, is_config_unlocked, is_in_run}
-pub use Rattle.guarded_memory.specs.Standings.{is_locked_or_run, state_of_interface, standing_of}
+pub use Rattle.guarded_memory.specs.Standings.{is_locked_or_run, state_of_interface, interface_status}
 pub use Rattle.guarded_memory.specs.Claims.{holds_span, first_passing, holding_bar, claimed_bar, claim_by, claim_from}
 pub use Rattle.guarded_memory.specs.Claims.{claim_of}
 pub use Rattle.guarded_memory.specs.Causes.{untrusted_cause, floor_cause, trusted_cause, access_cause, mmio_cause}

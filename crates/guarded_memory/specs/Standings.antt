@@ -44,8 +44,8 @@ state_of_interface tdi.Error = Error
 
 -- memory space is bit 1 of its command register; it is bound to the stream that its lock keeps, with this floor, and to
 -- streams between two devices
-abbrev pub standing_of : Tdi → ℕ → InterfaceStatus
-standing_of t floor = record {
+abbrev pub interface_status : Tdi → ℕ → InterfaceStatus
+interface_status t floor = record {
   state = state_of_interface t.state;
   memory_space = has_bit 1 t.registers.command;
   bars = bars_of t.plan t.registers;

@@ -6,7 +6,7 @@ ghost use Rattle.guarded_memory.specs.Causes.{untrusted_cause, floor_cause, trus
 use crate::standing::is_open_range;
 use crate::{Claim, InterfaceState, InterfaceStatus};
 use ide_types::BarPlan;
-use link_verdicts::BlockCause;
+use link_verdicts::{BlockCause, stale_cause};
 use trusted_memory::Span;
 
 // Of a write that is not trusted.
@@ -26,13 +26,7 @@ fn floor_cause(floor: Option<u32>, draw: u32) -> Option<BlockCause>
 {
     match floor {
         None => Some(BlockCause::WrongStream),
-        Some(floor) => {
-            if draw < floor {
-                Some(BlockCause::Stale)
-            } else {
-                None
-            }
-        }
+        Some(floor) => stale_cause(floor, draw),
     }
 }
 

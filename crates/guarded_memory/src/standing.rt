@@ -3,7 +3,7 @@
 ghost use Rattle.std.specs.Prelude.{◌≡◌};
 ghost use Rattle.interface_state.specs.RegisterValues.{has_bit};
 ghost use Rattle.guarded_memory.specs.Standings.{is_open_range, has_open_range};
-ghost use Rattle.guarded_memory.specs.Standings.{is_config_unlocked, is_in_run, state_of_interface, standing_of};
+ghost use Rattle.guarded_memory.specs.Standings.{is_config_unlocked, is_in_run, state_of_interface, interface_status};
 
 use ide_types::BarPlan;
 use interface_state::{Bindings, Interface, Register, TdiState};
@@ -87,7 +87,7 @@ impl InterfaceStatus {
     /// How a device interface with this floor stands, the least draw under which writes on the stream of its link are
     /// admitted.
     pub fn of(interface: &Interface, floor: u32) -> InterfaceStatus
-        ensures { result ≡ standing_of interface.now floor }
+        ensures { result ≡ interface_status interface.now floor }
     {
         InterfaceStatus {
             state: InterfaceState::of(interface.standing()),

@@ -2,7 +2,7 @@
 use Rattle.std.proofs.Common.{◌≡◌, ℕ, List, Option, Some, None, Result, Ok, Err, ap, sym, subst, arith}
 use Rattle.std.specs.Prelude.{IfOk}
 use Rattle.cli_files.specs.Outside.{AsksOnly, Contents, ShelfSeen}
-use Rattle.cli_words.specs.Words.{CommandRequest, asked}
+use Rattle.cli_words.specs.Words.{CommandRequest, command_asked}
 use Rattle.line_runs.specs.declared.ends.End.{End}
 use Rattle.line_runs.specs.declared.ends.Fault.{Fault}
 use Rattle.line_runs.specs.Gain.{Text}
@@ -10,7 +10,7 @@ use Rattle.line_runs.specs.Gathering.{ReadAsFar, ReadAsFarOf}
 use Rattle.ide_cli.specs.Reads.{AskedNoFurther, Names, ReadNoFurther}
 use Rattle.ide_cli.specs.Seen.{CallSeen}
 
-pub asked_far : (call : CallSeen) (a : CommandRequest) → asked call.words ≡ Some a
+pub asked_far : (call : CallSeen) (a : CommandRequest) → command_asked call.words ≡ Some a
     → IfOk call.outcome (λ e. ReadAsFar (AskedNoFurther (Some a)) call.shelf_before call.shelf_after)
     → ReadNoFurther call
 asked_far call a is far = subst
@@ -19,7 +19,7 @@ asked_far call a is far = subst
     (sym is) far
 
 -- nothing is read if nothing is asked for, or generated events are
-pub nothing_read : (call : CallSeen) (a : Option CommandRequest) → asked call.words ≡ a → call.shelf_after
+pub nothing_read : (call : CallSeen) (a : Option CommandRequest) → command_asked call.words ≡ a → call.shelf_after
     ≡ call.shelf_before
     → ((contents : Contents) (ahead : ℕ) → AskedNoFurther a contents 0 ahead) → ReadNoFurther call
 nothing_read call a is same none = subst

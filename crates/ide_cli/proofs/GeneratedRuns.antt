@@ -1,14 +1,13 @@
 -- The script of generated events runs on their topology as these events.
 use Rattle.std.proofs.Common.{◌≡◌, refl, sym, ap, ap₂, ◌∙◌, subst, ℕ, ◌+◌, ◌≤◌, ◌==◌, nat_lt, Bool, true, false, List}
-use Rattle.std.proofs.Common.{[]}
-use Rattle.std.proofs.Common.{◌∷◌, ◌++◌, length, map, take, Option, Some, None, Result, Ok, cond, arith}
+use Rattle.std.proofs.Common.{[], ◌∷◌, ◌++◌, length, map, take, Option, Some, None, Result, Ok, cond, arith}
 use Rattle.std.specs.List.{slice_index_or}
 use Rattle.std.proofs.lemmas.Bool.Decides.{nat_tests}
 use Rattle.std.proofs.lemmas.List.{take_all}
 use Rattle.std.proofs.lemmas.Option.{same_Some}
 use Rattle.cli_files.specs.Outside.{Contents}
-use Rattle.cli_words.specs.Words.{CommandRequest, asked}
-use Rattle.script_events.specs.GeneratedEvents.{generated}
+use Rattle.cli_words.specs.Words.{CommandRequest, command_asked}
+use Rattle.script_events.specs.GeneratedEvents.{generated_events}
 use Rattle.script_events.specs.GeneratedTopology.{the_plan}
 use Rattle.script_events.specs.TextLaws.{Spells}
 use Rattle.script_events.specs.ScriptText.{generated_script}
@@ -26,7 +25,7 @@ use Rattle.line_runs.specs.Outcome.{Due, EndsDue, EndsOn}
 use Rattle.line_runs.specs.Pieces.{pieces}
 use Rattle.ide_runs.specs.declared.topologies.Loaded.TheVariants.{Sound}
 use Rattle.ide_runs.specs.Script.{AtEnd, Script, run_due, script_in, script_of, with_line}
-use Rattle.ide_runs.specs.Topologies.{loaded}
+use Rattle.ide_runs.specs.Topologies.{loaded_topology}
 use Rattle.ide_cli.specs.GeneratedRuns.{RunsGenerated, generated_run_due}
 use Rattle.ide_cli.specs.Meaning.{Answered, command_due}
 use Rattle.ide_cli.specs.Seen.{CallSeen}
@@ -73,7 +72,7 @@ script_is file events s few =
 
 -- ---- and the topology
 
-loads : loaded generated_topology ≡ Sound the_plan
+loads : loaded_topology generated_topology ≡ Sound the_plan
 loads = rw (not_less 1048576 (length generated_topology) topology_short, topology_read) refl
 
 -- ---- together
@@ -82,7 +81,7 @@ pub generated_runs : (seed count : ℕ) → count ≤ 100000
     → run_due (Some generated_topology) (Some (generated_script seed count)) ≡ Some (generated_run_due seed count)
 generated_runs seed count few =
     let s = script_spells seed count few in
-    let is = script_is (generated_script seed count) (generated seed count) s (script_short seed count few) in
+    let is = script_is (generated_script seed count) (generated_events seed count) s (script_short seed count few) in
     rw (loads, is, s.are_events) refl
 
 -- ---- in a call
@@ -99,8 +98,8 @@ ends_by (Some c) contents due other read write quiet gained r is same ends =
 
 pub runs_generated : (call : CallSeen) → Answered call → RunsGenerated call
 runs_generated call answered contents topology script seed count told asks is_topology is_script few =
-    let same : command_due answered.migrated (asked call.words) contents ≡ Some (generated_run_due seed count) =
+    let same : command_due answered.migrated (command_asked call.words) contents ≡ Some (generated_run_due seed count) =
     ap (λ (a : Option CommandRequest). command_due answered.migrated a contents) asks
     ∙ (ap₂ run_due is_topology is_script ∙ generated_runs seed count few) in
-    ends_by call.shelf_before.contents contents (command_due answered.migrated (asked call.words))
+    ends_by call.shelf_before.contents contents (command_due answered.migrated (command_asked call.words))
     (λ c. Some (generated_run_due seed count)) _ _ _ _ call.outcome told same answered.ran

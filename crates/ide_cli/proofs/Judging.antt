@@ -9,13 +9,13 @@ use Rattle.line_runs.specs.declared.ends.End.TheVariants as end
 use Rattle.line_runs.specs.declared.ends.Fault.{Fault}
 use Rattle.line_runs.specs.Gain.{Text, Gained}
 use Rattle.line_runs.specs.Outcome.{Due, EndsBy, EndsDue, EndsOn}
-use Rattle.ide_runs.specs.{Tells, judged}
+use Rattle.ide_runs.specs.{Tells, judgement_due}
 use Rattle.ide_runs.specs.declared.topologies.Loaded.TheVariants.{Sound}
 use Rattle.ide_runs.specs.Judge.{judge_due, judged_script_run, judged_run}
 use Rattle.ide_runs.specs.Script.{AtEnd, Script, due_after, end_of_stop, events_on, run_due, script_of}
-use Rattle.ide_runs.specs.Topologies.{loaded}
+use Rattle.ide_runs.specs.Topologies.{loaded_topology}
 use Rattle.ide_runs.proofs.{judged_tells}
-use Rattle.cli_words.specs.Words.{asked}
+use Rattle.cli_words.specs.Words.{command_asked}
 use Rattle.ide_cli.specs.Headline.{AllJudged}
 use Rattle.ide_cli.specs.Meaning.{Answered, command_due}
 use Rattle.ide_cli.specs.Seen.{CallSeen}
@@ -23,17 +23,18 @@ use Rattle.ide_cli.specs.Went.{AsksJudge, CameToEnd, JudgedCall}
 use Rattle.ide_cli.proofs.Written.{at_end}
 
 ended_at : (verdicts : Option Text) (e : End) (text : Text) → e ≡ end.Done
-    → judged_script_run verdicts e text ≡ option_map (judged text) verdicts
-ended_at verdicts e text is = subst (λ (x : End). judged_script_run verdicts x text ≡ option_map (judged text) verdicts)
+    → judged_script_run verdicts e text ≡ option_map (judgement_due text) verdicts
+ended_at verdicts e text is = subst (λ (x : End). judged_script_run verdicts x text
+    ≡ option_map (judgement_due text) verdicts)
     (sym is) refl
 
-ran_is : (topology bytes : Text) (plan : Plan) (script : Script) → loaded topology ≡ Sound plan
+ran_is : (topology bytes : Text) (plan : Plan) (script : Script) → loaded_topology topology ≡ Sound plan
     → script ≡ script_of bytes → run_due (Some topology) (Some bytes) ≡ Some (due_after plan [] script)
 ran_is topology bytes plan script plan_is read = rw (plan_is, read) refl
 
-judge_is : (topology bytes claimed : Text) (plan : Plan) (script : Script) → loaded topology ≡ Sound plan
+judge_is : (topology bytes claimed : Text) (plan : Plan) (script : Script) → loaded_topology topology ≡ Sound plan
     → script ≡ script_of bytes → script.stop ≡ AtEnd
-    → judge_due (Some topology) (Some bytes) (Some claimed) ≡ Some (judged (due_after plan [] script).1 claimed)
+    → judge_due (Some topology) (Some bytes) (Some claimed) ≡ Some (judgement_due (due_after plan [] script).1 claimed)
 judge_is topology bytes claimed plan script plan_is read stop =
     let due = due_after plan [] script in
     ap (judged_run (Some claimed)) (ran_is topology bytes plan script plan_is read)
@@ -41,7 +42,8 @@ judge_is topology bytes claimed plan script plan_is read stop =
 
 asked_is : (migrated : Text) (call : CallSeen) (plan : Plan) (script : Script) (a : AsksJudge call plan script)
     (claimed : Text) → a.contents a.verdicts_name ≡ Some claimed
-    → command_due migrated (asked call.words) a.contents ≡ judge_due (Some a.topology) (Some a.bytes) (Some claimed)
+    → command_due migrated (command_asked call.words) a.contents
+    ≡ judge_due (Some a.topology) (Some a.bytes) (Some claimed)
 asked_is migrated call plan script a claimed claims = rw (a.asks, a.topology_is, a.script_is, claims) refl
 
 -- what came of it
@@ -65,11 +67,11 @@ at_this_end (Err f) holds = tt
 pub is_judged : (call : CallSeen) → Answered call → JudgedCall call
 is_judged call answered = at_this_end call.outcome (λ e ended plan script a claimed held stop claims held_before.
     let text = (due_after plan [] script).1 in
-    let due = judged text claimed in
+    let due = judgement_due text claimed in
     let is = asked_is answered.migrated call plan script a claimed claims
     ∙ judge_is a.topology a.bytes claimed plan script a.plan_is a.read stop in
     let came = there _ _ _ (Gained call.sink_before.held call.sink_after.held) call.outcome e due ended
-    (ends_told call a.contents (command_due answered.migrated (asked call.words)) due _ _ _
+    (ends_told call a.contents (command_due answered.migrated (command_asked call.words)) due _ _ _
     (Gained call.sink_before.held call.sink_after.held) a.are_told is answered.ran) in
     record {
       told = due.1;

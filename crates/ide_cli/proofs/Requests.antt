@@ -4,9 +4,8 @@ use Rattle.std.proofs.Common.{◌≡◌, ◌≢◌, ◌∙◌, ◌≤◌, ◌+�
 use Rattle.std.proofs.Common.{sym, ap, subst}
 use Rattle.std.specs.Prelude.{IfOk}
 use Rattle.cli_files.specs.Outside.{Contents, ShelfSeen, SinkSeen}
-use Rattle.cli_words.specs.Words.{CommandRequest, asked, run, judge, why, check, migrate, show, generate}
-use Rattle.cli_words.specs.Words.{generate_script}
-use Rattle.cli_words.specs.Words.{generate_topology}
+use Rattle.cli_words.specs.Words.{CommandRequest, command_asked, run, judge, why, check, migrate, show, generate}
+use Rattle.cli_words.specs.Words.{generate_script, generate_topology}
 use Rattle.line_runs.specs.declared.ends.End.{End}
 use Rattle.line_runs.specs.declared.ends.End.TheVariants as end
 use Rattle.line_runs.specs.declared.ends.Fault.{Fault}
@@ -74,8 +73,7 @@ AsksAlone a due = ((contents : Contents) → command_due [] (Some a) contents �
 
 -- of generated events
 pub answered_alone : (a : CommandRequest) (due : Due) (s : ShelfSeen) (o0 o1 : SinkSeen) (r : Result End Fault)
-    → AsksAlone a due
-    → Ran due o0 o1 r → AnsweredFor (Some a) s s o0 o1 r
+    → AsksAlone a due → Ran due o0 o1 r → AnsweredFor (Some a) s s o0 o1 r
 answered_alone a due s o0 o1 r asks ran = record {
   migrated = [];
   migrates = asks.1 s.contents r;
@@ -132,7 +130,7 @@ ran_without_memory due o = ([], (due.1, refl), gained_nothing o.held)
 
 -- ---- of generated events
 
-pub asks_alone : (call : CallSeen) (a : Option CommandRequest) → asked call.words ≡ a
+pub asks_alone : (call : CallSeen) (a : Option CommandRequest) → command_asked call.words ≡ a
     → RanAlone a call.sink_before call.sink_after call.outcome → RanGenerated call
 asks_alone call a is ran = subst
     (λ (o : Option CommandRequest). RanAlone o call.sink_before call.sink_after call.outcome)
@@ -182,8 +180,7 @@ ends_as to (Err f) e is other = tt
 -- ---- the status tells how the run ended
 
 pub ended : (e : End) (s t : Status) (r : Result End Fault) (A : Type 0) → outcome_of_status t ≡ Ok e
-    → outcome_of_status s ≡ r
-    → IfOk r (λ x. x ≡ e → A) → s ≡ t → A
+    → outcome_of_status s ≡ r → IfOk r (λ x. x ≡ e → A) → s ≡ t → A
 ended e s t r A of is holds same =
     let there : Ok e ≡ r = sym of ∙ (ap outcome_of_status (sym same) ∙ is) in
     subst (λ (x : Result End Fault). IfOk x (λ y. y ≡ e → A)) (sym there) holds refl

@@ -3,7 +3,7 @@ use Rattle.std.proofs.Common.{◌≡◌, [], Option, Some, None, refl, sym, subs
 use Rattle.std.specs.Prelude.{IfErr}
 use Rattle.cli_files.specs.Outside.{Contents, ShelfSeen}
 use Rattle.cli_words.specs.Words.{CommandRequest, run, judge, why, check, migrate, show, generate, generate_script}
-use Rattle.cli_words.specs.Words.{asked, generate_topology}
+use Rattle.cli_words.specs.Words.{command_asked, generate_topology}
 use Rattle.line_runs.specs.Outcome.{Due, Ran}
 use Rattle.ide_cli.specs.Seen.{CallSeen}
 use Rattle.ide_cli.specs.SoFar.{WroteSoFar, asked_so_far, lines_given}
@@ -11,7 +11,7 @@ use Rattle.ide_runs.specs.SoFar.{WroteBy, script_so_far}
 use Rattle.ide_runs.specs.Why.{told_so_far}
 use Rattle.ide_runs.proofs.Loads.{NoLineOf, no_line_at_first, no_line_wrote, none_so_far}
 
-pub asked_wrote : (call : CallSeen) (a : CommandRequest) → asked call.words ≡ Some a
+pub asked_wrote : (call : CallSeen) (a : CommandRequest) → command_asked call.words ≡ Some a
     → IfErr call.outcome (λ e. WroteBy e (asked_so_far (Some a)) (lines_given (Some a)) call.shelf_before
     call.shelf_after call.sink_before call.sink_after) → WroteSoFar call
 asked_wrote call a is wrote = subst
@@ -39,7 +39,7 @@ none_at_first (Some (generate_topology seed count)) contents = (refl, refl)
 pub wrote_no_line : (call : CallSeen) (last : Due) → call.shelf_after ≡ call.shelf_before
     → Ran last call.sink_before call.sink_after call.outcome → WroteSoFar call
 wrote_no_line call last same ran =
-    let a = asked call.words in
+    let a = command_asked call.words in
     let P : ShelfSeen → Type 0 = λ s. NoLineOf (asked_so_far a) (lines_given a) call.shelf_before.contents
     call.shelf_before.given s.given in
     no_line_wrote (asked_so_far a) (lines_given a) last call.shelf_before call.shelf_after call.sink_before

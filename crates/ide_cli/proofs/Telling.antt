@@ -8,10 +8,10 @@ use Rattle.line_runs.specs.Gain.{Text, Gained}
 use Rattle.line_runs.specs.Outcome.{Due}
 use Rattle.ide_runs.specs.declared.topologies.Loaded.TheVariants.{Sound}
 use Rattle.ide_runs.specs.Script.{Script, events_on, script_of}
-use Rattle.ide_runs.specs.Topologies.{loaded}
+use Rattle.ide_runs.specs.Topologies.{loaded_topology}
 use Rattle.ide_runs.specs.Why.{told_event_due, why_due}
 use Rattle.ide_runs.proofs.Whys.{told_event, told_none}
-use Rattle.cli_words.specs.Words.{asked}
+use Rattle.cli_words.specs.Words.{command_asked}
 use Rattle.ide_cli.specs.Headline.{AllTold}
 use Rattle.ide_cli.specs.Meaning.{Answered, command_due}
 use Rattle.ide_cli.specs.Seen.{CallSeen}
@@ -19,12 +19,12 @@ use Rattle.ide_cli.specs.Went.{AsksWhy, CameToEnd, Explained}
 use Rattle.ide_cli.proofs.Judging.{at_this_end, ends_told, there}
 use Rattle.ide_cli.proofs.Written.{at_end}
 
-why_is : (n : ℕ) (topology bytes : Text) (plan : Plan) (script : Script) → loaded topology ≡ Sound plan
+why_is : (n : ℕ) (topology bytes : Text) (plan : Plan) (script : Script) → loaded_topology topology ≡ Sound plan
     → script ≡ script_of bytes → why_due n (Some topology) (Some bytes) ≡ Some (told_event_due n plan [] script)
 why_is n topology bytes plan script plan_is read = rw (plan_is, read) refl
 
 asked_is : (migrated : Text) (call : CallSeen) (plan : Plan) (script : Script) (n : ℕ) (a : AsksWhy call plan script n)
-    → command_due migrated (asked call.words) a.contents ≡ why_due n (Some a.topology) (Some a.bytes)
+    → command_due migrated (command_asked call.words) a.contents ≡ why_due n (Some a.topology) (Some a.bytes)
 asked_is migrated call plan script n a = rw (a.asks, a.topology_is, a.script_is) refl
 
 pub is_explained : (call : CallSeen) → Answered call → Explained call
@@ -33,7 +33,7 @@ is_explained call answered = at_this_end call.outcome (λ e ended plan script n 
     let is = asked_is answered.migrated call plan script n a
     ∙ why_is n a.topology a.bytes plan script a.plan_is a.read in
     let came = there _ _ _ (Gained call.sink_before.held call.sink_after.held) call.outcome e due ended
-    (ends_told call a.contents (command_due answered.migrated (asked call.words)) due _ _ _
+    (ends_told call a.contents (command_due answered.migrated (command_asked call.words)) due _ _ _
     (Gained call.sink_before.held call.sink_after.held) a.are_told is answered.ran) in
     let holds = came.1 ∙ ap (option_map (λ (t : Text). t ++ due.1)) held_before in
     record {

@@ -6,9 +6,9 @@ use Rattle.std.proofs.lemmas.List.{append-nil}
 use Rattle.cli_files.specs.Outside.{Contents}
 use Rattle.ide_types.specs.declared.plan.Plan.{Plan}
 use Rattle.ide_types.specs.Fits.{FitsPlan}
-use Rattle.cli_words.specs.Words.{CommandRequest, asked}
+use Rattle.cli_words.specs.Words.{CommandRequest, command_asked}
 use Rattle.cli_words.proofs.Rounds.{few_rounds}
-use Rattle.script_events.specs.GeneratedEvents.{generated}
+use Rattle.script_events.specs.GeneratedEvents.{generated_events}
 use Rattle.script_events.specs.GeneratedTopology.{the_plan}
 use Rattle.script_events.proofs.GeneratedAllowed.{few_events}
 use Rattle.script_events.proofs.PlanFits.{the_plan_fits}
@@ -27,36 +27,36 @@ use Rattle.line_runs.proofs.Joins.{front_of_front, gained_front, later}
 use Rattle.ide_runs.specs.declared.topologies.Loaded.TheVariants.{Sound}
 use Rattle.ide_runs.specs.Script.{Script, last_line, due_after, events_on, script_of}
 use Rattle.ide_runs.specs.Generated.{generated_due, generated_history, generated_line}
-use Rattle.ide_runs.specs.Topologies.{loaded}
+use Rattle.ide_runs.specs.Topologies.{loaded_topology}
 use Rattle.ide_runs.proofs.Events.{events_allowed}
 use Rattle.ide_runs.proofs.Plans.{loaded_fits}
 use Rattle.ide_cli.specs.Meaning.{Answered, RanAlone, RanGenerated, command_due}
 use Rattle.ide_cli.specs.Laws.{IsDue}
-use Rattle.ide_cli.specs.Headline.{AllCounted, AllWritten, AsksFor, InEvery, Written}
+use Rattle.ide_cli.specs.Headline.{AllCounted, AllWritten, AsksRun, InEvery, Written}
 use Rattle.ide_cli.specs.Seen.{CallSeen}
 use Rattle.ide_cli.specs.Went.{WentOver, WentThrough, WentUpTo}
 
 -- ---- the run that the words ask for
 
-due_is : (migrated : Text) (call : CallSeen) (plan : Plan) (script : Script) (a : AsksFor call plan script)
-    → command_due migrated (asked call.words) a.contents ≡ Some (due_after plan [] script)
+due_is : (migrated : Text) (call : CallSeen) (plan : Plan) (script : Script) (a : AsksRun call plan script)
+    → command_due migrated (command_asked call.words) a.contents ≡ Some (due_after plan [] script)
 due_is migrated call plan script a = rw (a.asks, a.topology_is, a.plan_is, a.script_is, a.read) refl
 
 ran_script : (migrated : Text) (call : CallSeen) (read write quiet : Type 0) (gained : Text → Type 0)
     (r : Result End Fault)
-    → EndsOn call.shelf_before.contents (command_due migrated (asked call.words)) read write quiet gained r
-    → (plan : Plan) (script : Script) → AsksFor call plan script
+    → EndsOn call.shelf_before.contents (command_due migrated (command_asked call.words)) read write quiet gained r
+    → (plan : Plan) (script : Script) → AsksRun call plan script
     → EndsBy (due_after plan [] script) read write quiet gained r
 ran_script migrated call read write quiet gained r ran plan script a =
-    let due = command_due migrated (asked call.words) in
+    let due = command_due migrated (command_asked call.words) in
     let ran_there : EndsDue (due a.contents) read write quiet gained r = subst
     (λ (t : Option Contents). EndsOn t due read write quiet gained r) a.are_told ran in
     subst (λ (d : Option Due). EndsDue d read write quiet gained r) (due_is migrated call plan script a) ran_there
 
-plan_fits : (call : CallSeen) (plan : Plan) (script : Script) → AsksFor call plan script → FitsPlan plan
+plan_fits : (call : CallSeen) (plan : Plan) (script : Script) → AsksRun call plan script → FitsPlan plan
 plan_fits call plan script a = loaded_fits a.topology plan a.plan_is
 
-script_allowed : (call : CallSeen) (plan : Plan) (script : Script) → AsksFor call plan script
+script_allowed : (call : CallSeen) (plan : Plan) (script : Script) → AsksRun call plan script
     → AreAllowed (events_on plan script)
 script_allowed call plan script a = subst (λ (t : Script). AreAllowed (events_on plan t)) (sym a.read)
     (events_allowed plan (plan_fits call plan script a) a.bytes)
@@ -101,13 +101,14 @@ so_many : (plan : Plan) (h : History) (events : List Event) → length (history_
 so_many plan h [] = omega arith
 so_many plan h (e ∷ events) = omega (arith, so_many plan (history_with plan h e) events)
 
-few_generated : (seed count : ℕ) → count ≤ 100000 → (first later : List Event) → first ++ later ≡ generated seed count
+few_generated : (seed count : ℕ) → count ≤ 100000 → (first later : List Event) → first ++ later
+    ≡ generated_events seed count
     → length (history_on the_plan [] first) ≤ 4294967296
 few_generated seed count few first later same = omega
     (arith, so_many the_plan [] first, length-append first later, ap length same, few_events seed count, few)
 
 generated_is_due : (seed count : ℕ) → count ≤ 100000 → (first later : List Event)
-    → first ++ later ≡ generated seed count → IsDue the_plan (history_on the_plan [] first)
+    → first ++ later ≡ generated_events seed count → IsDue the_plan (history_on the_plan [] first)
 generated_is_due seed count few first later same = record {
   fits = the_plan_fits;
   cause = caused the_plan [] first tt;
@@ -128,7 +129,7 @@ few_through plan first later events same allowed = omega
     (arith, so_many plan [] first, length-append first later, ap length same, allowed.few)
 
 first_is_due : (topology bytes : Text) (plan : Plan) (script : Script) (first later : List Event)
-    → loaded topology ≡ Sound plan → script ≡ script_of bytes → first ++ later ≡ events_on plan script
+    → loaded_topology topology ≡ Sound plan → script ≡ script_of bytes → first ++ later ≡ events_on plan script
     → IsDue plan (history_on plan [] first)
 first_is_due topology bytes plan script first later plan_is read events_are =
     let fits = loaded_fits topology plan plan_is in
@@ -207,9 +208,9 @@ all_counted call ran = at_end call.outcome (λ e ended seed count held asks held
       count = count;
       asks = asks;
       plan_is = refl;
-      first = generated seed count;
+      first = generated_events seed count;
       later = [];
-      events_are = append-nil (generated seed count);
+      events_are = append-nil (generated_events seed count);
       history_is = refl;
       held = held;
       held_before = held_before;

@@ -1,7 +1,7 @@
 -- The histories that a run writes.
 use Rattle.std.specs.Prelude.{ℕ, ◌≡◌, ◌⊎◌, List, [], ◌++◌, Some, IfOk, take}
 use Rattle.cli_files.specs.Outside.{Contents}
-use Rattle.cli_words.specs.Words.{run, generate, asked}
+use Rattle.cli_words.specs.Words.{run, generate, command_asked}
 use Rattle.script_events.specs.GeneratedTopology.{the_plan}
 use Rattle.ide_types.specs.declared.plan.Plan.{Plan}
 use Rattle.link_events.specs.declared.event.Event.{Event}
@@ -13,20 +13,20 @@ use Rattle.ide_runs.specs.declared.topologies.Loaded.TheVariants.{Sound}
 use Rattle.ide_runs.specs.Generated.{generated_history}
 use Rattle.ide_runs.specs.Script.{Script, events_on, script_of}
 use Rattle.ide_cli.specs.Seen.{CallSeen}
-use Rattle.ide_runs.specs.Topologies.{loaded}
+use Rattle.ide_runs.specs.Topologies.{loaded_topology}
 use Rattle.ide_cli.specs.Went.{AsksJudge, AsksWhy, WentOver, WentThrough, WentUpTo}
 
 -- The words ask for a run: the shelf tells its contents, in which the names that the words give are a sound topology of
 -- this plan, and this script.
-pub record AsksFor (call : CallSeen) (plan : Plan) (script : Script) : Type 0 where
+pub record AsksRun (call : CallSeen) (plan : Plan) (script : Script) : Type 0 where
   pub contents : Contents
   pub are_told : call.shelf_before.contents ≡ Some contents
   pub topology_name : Text
   pub script_name : Text
-  pub asks : asked call.words ≡ Some (run topology_name script_name)
+  pub asks : command_asked call.words ≡ Some (run topology_name script_name)
   pub topology : Text
   pub topology_is : contents topology_name ≡ Some topology
-  pub plan_is : loaded topology ≡ Sound plan
+  pub plan_is : loaded_topology topology ≡ Sound plan
   pub bytes : Text
   pub script_is : contents script_name ≡ Some bytes
   pub read : script ≡ script_of bytes
@@ -36,7 +36,7 @@ pub record AsksFor (call : CallSeen) (plan : Plan) (script : Script) : Type 0 wh
 -- numbered from 1, and maybe more after them.
 pub record Written (call : CallSeen) (plan : Plan) (h : History) : Type 0 where
   pub script : Script
-  pub asks_for : AsksFor call plan script
+  pub asks_for : AsksRun call plan script
   pub later : List Event
   pub events_are : events_told h ++ later ≡ events_on plan script
   pub verdicts_fit : VerdictsFit plan h
@@ -59,12 +59,13 @@ InEveryHistory law call = InEvery (λ p. law) call
 -- if the call comes to an end of its own, the history of all events of the script was written, each with the verdict
 -- that is due
 abbrev pub AllWritten : CallSeen → Type 0
-AllWritten call = IfOk call.outcome (λ e. (plan : Plan) (script : Script) (held : Text) → AsksFor call plan script
+AllWritten call = IfOk call.outcome (λ e. (plan : Plan) (script : Script) (held : Text) → AsksRun call plan script
     → call.sink_before.held ≡ Some held → Written call plan (history_on plan [] (events_on plan script)))
 
 -- and the line of the history of all generated events, if the words ask for them
 abbrev pub AllCounted : CallSeen → Type 0
-AllCounted call = IfOk call.outcome (λ e. (seed count : ℕ) (held : Text) → asked call.words ≡ Some (generate seed count)
+AllCounted call = IfOk call.outcome (λ e. (seed count : ℕ) (held : Text) → command_asked call.words
+    ≡ Some (generate seed count)
     → call.sink_before.held ≡ Some held → WentOver call the_plan (generated_history seed count))
 
 -- and went over the history of all events of the script by which it judged a text

@@ -2,7 +2,7 @@
 use Rattle.std.specs.Prelude.{ℕ, ◌++◌, Option, Some, None, Result, option_map, codes}
 use Rattle.cli_files.specs.Outside.{Contents, ShelfSeen, SinkSeen}
 use Rattle.cli_words.specs.Words.{CommandRequest, run, judge, why, check, migrate, show, generate, generate_script}
-use Rattle.cli_words.specs.Words.{asked, generate_topology}
+use Rattle.cli_words.specs.Words.{command_asked, generate_topology}
 use Rattle.script_events.specs.ScriptText.{generated_script}
 use Rattle.script_events.specs.TopologyText.{generated_topology}
 use Rattle.line_runs.specs.declared.ends.End.{End}
@@ -65,7 +65,8 @@ pub record AnsweredFor (request : Option CommandRequest) (shelf shelf_now : Shel
 
 abbrev pub Answered : CallSeen → Type 0
 Answered call =
-    AnsweredFor (asked call.words) call.shelf_before call.shelf_after call.sink_before call.sink_after call.outcome
+    AnsweredFor (command_asked call.words) call.shelf_before call.shelf_after call.sink_before call.sink_after
+    call.outcome
 
 -- Of generated events the due text was written, whatever the shelf tells: their totals, their script, or their
 -- topology.
@@ -76,4 +77,4 @@ RanAlone (Some (generate_topology seed count)) sink sink_now r = Ran topology_te
 RanAlone asked sink sink_now r = Unit {0}
 
 abbrev pub RanGenerated : CallSeen → Type 0
-RanGenerated call = RanAlone (asked call.words) call.sink_before call.sink_after call.outcome
+RanGenerated call = RanAlone (command_asked call.words) call.sink_before call.sink_after call.outcome

@@ -11,14 +11,14 @@ use Rattle.line_runs.specs.Gain.{Text}
 use Rattle.line_runs.specs.Outcome.{Due, IsWholeLines}
 use Rattle.ide_runs.specs.LineLaws.{whole_line}
 
-abbrev pub showing : ℕ → Result (Option Text) LineFault → Result (Unit {0} × Text) LineFault
-showing n (Err fault) = Err fault
-showing n (Ok None) = Ok (tt, [])
-showing n (Ok (Some bytes)) = Ok (tt, line_shown n bytes)
+abbrev pub packet_shown_at : ℕ → Result (Option Text) LineFault → Result (Unit {0} × Text) LineFault
+packet_shown_at n (Err fault) = Err fault
+packet_shown_at n (Ok None) = Ok (tt, [])
+packet_shown_at n (Ok (Some bytes)) = Ok (tt, line_shown n bytes)
 
 -- what a line of a packet file gives
 abbrev pub shown_line : Unit {0} → ℕ → Text → Result (Unit {0} × Text) LineFault
-shown_line u n line = showing n (packet_meaning line)
+shown_line u n line = packet_shown_at n (packet_meaning line)
 
 -- after the last line nothing is written
 abbrev pub nothing_due : Unit {0} → Due
@@ -28,7 +28,7 @@ pub long_packet : (u : Unit {0}) (n : ℕ) (line : Text) → nat_lt line_limit (
     → shown_line u n line ≡ Err TooLong
 long_packet u n line long = rw long refl
 
-packet_lines : (n : ℕ) (m : Result (Option Text) LineFault) → IfOk (showing n m) (λ came. IsWholeLines came.1)
+packet_lines : (n : ℕ) (m : Result (Option Text) LineFault) → IfOk (packet_shown_at n m) (λ came. IsWholeLines came.1)
 packet_lines n (Err fault) = tt
 packet_lines n (Ok None) = inl refl
 packet_lines n (Ok (Some bytes)) = whole_line _ _

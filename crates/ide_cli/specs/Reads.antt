@@ -2,7 +2,7 @@
 use Rattle.std.specs.Prelude.{ℕ, ◌+◌, ◌≤◌, ◌≡◌, ◌⊎◌, length, Option, Some, None, IfOk}
 use Rattle.cli_files.specs.Outside.{Contents}
 use Rattle.cli_words.specs.Words.{CommandRequest, run, judge, why, check, migrate, show, generate, generate_script}
-use Rattle.cli_words.specs.Words.{asked, generate_topology}
+use Rattle.cli_words.specs.Words.{command_asked, generate_topology}
 use Rattle.line_runs.specs.Front.{Gave, bytes_of}
 use Rattle.line_runs.specs.Gain.{Text}
 use Rattle.line_runs.specs.Gathering.{GoesOn, NoFurther, ReadAsFar}
@@ -98,4 +98,4 @@ AskedNoFurther (Some (generate_topology seed count)) contents given ahead = give
 -- if the call comes to an end of its own, no more was read than what is asked for needs
 abbrev pub ReadNoFurther : CallSeen → Type 0
 ReadNoFurther call =
-    IfOk call.outcome (λ e. ReadAsFar (AskedNoFurther (asked call.words)) call.shelf_before call.shelf_after)
+    IfOk call.outcome (λ e. ReadAsFar (AskedNoFurther (command_asked call.words)) call.shelf_before call.shelf_after)

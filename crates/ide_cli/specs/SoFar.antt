@@ -2,7 +2,7 @@
 use Rattle.std.specs.Prelude.{ℕ, [], take, Option, Some, None, IfErr}
 use Rattle.cli_files.specs.Outside.{Contents}
 use Rattle.cli_words.specs.Words.{CommandRequest, run, judge, why, check, migrate, show, generate, generate_script}
-use Rattle.cli_words.specs.Words.{asked, generate_topology}
+use Rattle.cli_words.specs.Words.{command_asked, generate_topology}
 use Rattle.line_runs.specs.Front.{bytes_of}
 use Rattle.line_runs.specs.Gain.{Text}
 use Rattle.line_runs.specs.Gathering.{ended_text}
@@ -48,5 +48,6 @@ lines_given (Some (generate_topology seed count)) contents n = []
 -- bytes but those of the last read was written: no line waits while a later piece is read. Where a text is judged,
 -- nothing was written at a fault of reading.
 abbrev pub WroteSoFar : CallSeen → Type 0
-WroteSoFar call = IfErr call.outcome (λ e. WroteBy e (asked_so_far (asked call.words)) (lines_given (asked call.words))
+WroteSoFar call = IfErr call.outcome (λ e. WroteBy e (asked_so_far (command_asked call.words))
+    (lines_given (command_asked call.words))
     call.shelf_before call.shelf_after call.sink_before call.sink_after)

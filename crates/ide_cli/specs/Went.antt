@@ -1,10 +1,9 @@
 -- The histories that a call goes over and does not write.
-use Rattle.std.specs.Prelude.{ℕ, ◌≡◌, ◌≢◌, ◌⊎◌, ◌+◌, ◌<◌, ◌≤◌, List, [], ◌∷◌, ◌++◌, length, Some, Result, Ok, Err}
-use Rattle.std.specs.Prelude.{IfOk}
+use Rattle.std.specs.Prelude.{ℕ, ◌≡◌, ◌≢◌, ◌⊎◌, ◌+◌, ◌<◌, ◌≤◌, List, [], ◌∷◌, ◌++◌, length, Some, Result, Ok, Err, IfOk}
 use Rattle.cli_files.specs.Outside.{Contents}
-use Rattle.cli_words.specs.Words.{asked, generate, judge, why}
+use Rattle.cli_words.specs.Words.{command_asked, generate, judge, why}
 use Rattle.ide_types.specs.declared.plan.Plan.{Plan}
-use Rattle.script_events.specs.GeneratedEvents.{generated}
+use Rattle.script_events.specs.GeneratedEvents.{generated_events}
 use Rattle.script_events.specs.GeneratedTopology.{the_plan}
 use Rattle.link_events.specs.declared.event.Event.{Event}
 use Rattle.spec_keys.specs.History.{History}
@@ -17,7 +16,7 @@ use Rattle.ide_runs.specs.{Tells}
 use Rattle.ide_runs.specs.declared.topologies.Loaded.TheVariants.{Sound}
 use Rattle.ide_runs.specs.Generated.{generated_history, generated_line}
 use Rattle.ide_runs.specs.Script.{AtEnd, Script, due_after, end_of_stop, events_on, script_of}
-use Rattle.ide_runs.specs.Topologies.{loaded}
+use Rattle.ide_runs.specs.Topologies.{loaded_topology}
 use Rattle.ide_runs.specs.Why.{event_told, left_line, no_event_line}
 use Rattle.ide_cli.specs.Seen.{CallSeen}
 
@@ -28,11 +27,11 @@ use Rattle.ide_cli.specs.Seen.{CallSeen}
 pub record WentOver (call : CallSeen) (plan : Plan) (h : History) : Type 0 where
   pub seed : ℕ
   pub count : ℕ
-  pub asks : asked call.words ≡ Some (generate seed count)
+  pub asks : command_asked call.words ≡ Some (generate seed count)
   pub plan_is : plan ≡ the_plan
   pub first : List Event
   pub later : List Event
-  pub events_are : first ++ later ≡ generated seed count
+  pub events_are : first ++ later ≡ generated_events seed count
   pub history_is : h ≡ history_on the_plan [] first
   pub held : Text
   pub held_before : call.sink_before.held ≡ Some held
@@ -48,10 +47,10 @@ pub record AsksJudge (call : CallSeen) (plan : Plan) (script : Script) : Type 0 
   pub topology_name : Text
   pub script_name : Text
   pub verdicts_name : Text
-  pub asks : asked call.words ≡ Some (judge topology_name script_name verdicts_name)
+  pub asks : command_asked call.words ≡ Some (judge topology_name script_name verdicts_name)
   pub topology : Text
   pub topology_is : contents topology_name ≡ Some topology
-  pub plan_is : loaded topology ≡ Sound plan
+  pub plan_is : loaded_topology topology ≡ Sound plan
   pub bytes : Text
   pub script_is : contents script_name ≡ Some bytes
   pub read : script ≡ script_of bytes
@@ -104,10 +103,10 @@ pub record AsksWhy (call : CallSeen) (plan : Plan) (script : Script) (n : ℕ) :
   pub are_told : call.shelf_before.contents ≡ Some contents
   pub topology_name : Text
   pub script_name : Text
-  pub asks : asked call.words ≡ Some (why topology_name script_name n)
+  pub asks : command_asked call.words ≡ Some (why topology_name script_name n)
   pub topology : Text
   pub topology_is : contents topology_name ≡ Some topology
-  pub plan_is : loaded topology ≡ Sound plan
+  pub plan_is : loaded_topology topology ≡ Sound plan
   pub bytes : Text
   pub script_is : contents script_name ≡ Some bytes
   pub read : script ≡ script_of bytes

@@ -5,7 +5,7 @@ ghost use Rattle.law_bytes.specs.{AnswerLaw, AnswersLaw, Attested, ByteOriginLaw
 ghost use Rattle.law_bytes.specs.{LockLaw, MmioOriginLaw, NamedLaw, OneLockPerKey, Scrubbed, TrustLaw, ViewsAreTrue};
 ghost use Rattle.law_delivery.specs.PostedCounts.{CountLaw};
 ghost use Rattle.cli_files.specs.Outside.{AsksOnly};
-ghost use Rattle.cli_words.specs.Words.{asked};
+ghost use Rattle.cli_words.specs.Words.{command_asked};
 ghost use Rattle.spec_interfaces.specs.Laws.{BindLaw, RunLaw};
 ghost use Rattle.spec_keys.specs.Laws.{SetGoFindsKey, NeverAgain, OperationsSettle, StaysSecure, KeysFollowOperations};
 ghost use Rattle.spec_links.specs.Cause.{CauseLaw};
@@ -48,25 +48,28 @@ fn perform<S: Shelf, O: Sink>(
     shelf: &mut S,
     out: &mut O,
 ) -> Result<End, Fault>
-    ensures usage { IfOk result (λ e. e ≡ End.Usage → asked (map string_bytes words.now) ≡ None) }
-    ensures refused { asked (map string_bytes words.now) ≡ None → Ran (End.Usage, usage_line) (O.seen out.old)
+    ensures usage { IfOk result (λ e. e ≡ End.Usage → command_asked (map string_bytes words.now) ≡ None) }
+    ensures refused { command_asked (map string_bytes words.now) ≡ None → Ran (End.Usage, usage_line) (O.seen out.old)
         (O.seen out.new) result }
     ensures generated { RanGenerated (call_seen S.seen O.seen words.now shelf.old shelf.new out.old out.new result) }
     ensures answers { Answered (call_seen S.seen O.seen words.now shelf.old shelf.new out.old out.new result) }
     ensures so_far { WroteSoFar (call_seen S.seen O.seen words.now shelf.old shelf.new out.old out.new result) }
     ensures no_further { ReadNoFurther (call_seen S.seen O.seen words.now shelf.old shelf.new out.old out.new result) }
-    ensures names { AsksOnly (Names (asked (map string_bytes words.now))) (S.seen shelf.old).asked
+    ensures names { AsksOnly (Names (command_asked (map string_bytes words.now))) (S.seen shelf.old).asked
         (S.seen shelf.new).asked }
-    ensures cap { (S.seen shelf.new).given ≤ (S.seen shelf.old).given + most_read (asked (map string_bytes words.now)) }
+    ensures cap { (S.seen shelf.new).given ≤ (S.seen shelf.old).given
+        + most_read (command_asked (map string_bytes words.now)) }
     ensures read_pieces { AskedPieces (S.seen shelf.old).longest (S.seen shelf.new).longest }
-    ensures too_long { IfOk result (λ e. e ≡ End.TooLong → ReadPast (asked (map string_bytes words.now))
+    ensures too_long { IfOk result (λ e. e ≡ End.TooLong → ReadPast (command_asked (map string_bytes words.now))
         (S.seen shelf.old).given (S.seen shelf.new).given) }
     ensures whole { IfOk result (λ e. e ≡ End.Done → (S.seen shelf.new).given ≤ (S.seen shelf.old).given + most_counted
-        (asked (map string_bytes words.now))) }
-    ensures other { IfOk result (λ e. e ≡ End.Differs → AsksToJudge (asked (map string_bytes words.now))
-        × ((S.seen shelf.new).given ≤ (S.seen shelf.old).given + most_counted (asked (map string_bytes words.now)))) }
-    ensures absent { IfOk result (λ e. e ≡ End.NoEvent → AsksToTell (asked (map string_bytes words.now))
-        × ((S.seen shelf.new).given ≤ (S.seen shelf.old).given + most_counted (asked (map string_bytes words.now)))) }
+        (command_asked (map string_bytes words.now))) }
+    ensures other { IfOk result (λ e. e ≡ End.Differs → AsksToJudge (command_asked (map string_bytes words.now))
+        × ((S.seen shelf.new).given ≤ (S.seen shelf.old).given
+        + most_counted (command_asked (map string_bytes words.now)))) }
+    ensures absent { IfOk result (λ e. e ≡ End.NoEvent → AsksToTell (command_asked (map string_bytes words.now))
+        × ((S.seen shelf.new).given ≤ (S.seen shelf.old).given
+        + most_counted (command_asked (map string_bytes words.now)))) }
 {
     match read_words(alloc, words) {
         Err(WordsError::Usage) => finish(
@@ -128,8 +131,8 @@ pub fn run<S: Shelf, O: Sink>(
     out: &mut O,
 ) -> Status
     // Words that ask for nothing are answered with the usage line, and only those.
-    ensures usage { result ≡ Status.Usage → asked (said_words words.now) ≡ None }
-    ensures refused { asked (said_words words.now) ≡ None → Ran (End.Usage, usage_line) (O.seen out.old)
+    ensures usage { result ≡ Status.Usage → command_asked (said_words words.now) ≡ None }
+    ensures refused { command_asked (said_words words.now) ≡ None → Ran (End.Usage, usage_line) (O.seen out.old)
         (O.seen out.new) (outcome_of_status result) }
 
     // If the shelf tells its contents, the due status comes with all of the due text, and a fault or want of memory
@@ -151,17 +154,20 @@ pub fn run<S: Shelf, O: Sink>(
     // No file is asked for but those that the words name: no other name comes to the list that the shelf tells. Of each
     // one byte more is read than count, and no read asks for more than 4,096 bytes. A file is too long if that byte was
     // given, and a file that was read to its end has no more than count.
-    ensures names { AsksOnly (Names (asked (said_words words.now))) (S.seen shelf.old).asked (S.seen shelf.new).asked }
-    ensures cap { (S.seen shelf.new).given ≤ (S.seen shelf.old).given + most_read (asked (said_words words.now)) }
+    ensures names { AsksOnly (Names (command_asked (said_words words.now))) (S.seen shelf.old).asked
+        (S.seen shelf.new).asked }
+    ensures cap { (S.seen shelf.new).given ≤ (S.seen shelf.old).given
+        + most_read (command_asked (said_words words.now)) }
     ensures read_pieces { AskedPieces (S.seen shelf.old).longest (S.seen shelf.new).longest }
-    ensures too_long { result ≡ Status.TooLong → ReadPast (asked (said_words words.now)) (S.seen shelf.old).given
+    ensures too_long { result ≡ Status.TooLong
+        → ReadPast (command_asked (said_words words.now)) (S.seen shelf.old).given
         (S.seen shelf.new).given }
     ensures whole { result ≡ Status.Done → (S.seen shelf.new).given ≤ (S.seen shelf.old).given + most_counted
-        (asked (said_words words.now)) }
+        (command_asked (said_words words.now)) }
 
     // A text that was judged is said to be another only if the words ask to judge one; it was read to its end then.
-    ensures other { result ≡ Status.Differs → AsksToJudge (asked (said_words words.now))
-        × ((S.seen shelf.new).given ≤ (S.seen shelf.old).given + most_counted (asked (said_words words.now))) }
+    ensures other { result ≡ Status.Differs → AsksToJudge (command_asked (said_words words.now))
+        × ((S.seen shelf.new).given ≤ (S.seen shelf.old).given + most_counted (command_asked (said_words words.now))) }
     // If the words ask to judge a text, and the script is read to its end, the text is said to be the same exactly if
     // the contents of its file are the text that is due, whole; else the first line that differs is named, with the
     // line that is due there, if any is.
@@ -169,8 +175,8 @@ pub fn run<S: Shelf, O: Sink>(
 
     // A script is said to lack an event only if the words ask why an event got its verdict; it was read to its end
     // then.
-    ensures absent { result ≡ Status.NoEvent → AsksToTell (asked (said_words words.now))
-        × ((S.seen shelf.new).given ≤ (S.seen shelf.old).given + most_counted (asked (said_words words.now))) }
+    ensures absent { result ≡ Status.NoEvent → AsksToTell (command_asked (said_words words.now))
+        × ((S.seen shelf.new).given ≤ (S.seen shelf.old).given + most_counted (command_asked (said_words words.now))) }
     // If the words ask why event N of a script got its verdict, the text is the line of the verdict that is due, the
     // rule that answers, and the facts that its machine's state is due to have after the events before N, one a line;
     // of a script that is read to its end with fewer events it is the line that says so.

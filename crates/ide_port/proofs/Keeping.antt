@@ -2,42 +2,39 @@
 use Rattle.ide_types.specs.declared.direction.Direction.{Direction}
 use Rattle.ide_port.proofs.Terms.{◌≡◌, ℕ, suc, zero, ◌+◌, ◌<◌, ◌≤◌, List, [], ◌∷◌, length, map, get_or, Option, Some}
 use Rattle.ide_port.proofs.Terms.{None, Result, refl, ap, ◌∙◌, arith, slice_set, slice_get, vec_capacity, nat_tests}
-use Rattle.ide_port.proofs.Terms.{Side, SubKind, StreamPlan, Packet}
-use Rattle.ide_port.proofs.Terms.{StreamState, Sending, KeyCall, StreamEnd, joined_packets, packets_sent, end_outcome}
-use Rattle.ide_port.proofs.Terms.{end_taken, called_end, SendRefusal, Inside, PortEnd, Found, found_stream, NoneWaits}
-use Rattle.ide_port.proofs.Terms.{AreStreamsOf, IsKept, packets_lent}
+use Rattle.ide_port.proofs.Terms.{Side, SubKind, StreamPlan, Packet, StreamState, Sending, KeyCall, StreamEnd}
+use Rattle.ide_port.proofs.Terms.{joined_packets, packets_sent, end_outcome, end_taken, called_end, SendRefusal, Inside}
+use Rattle.ide_port.proofs.Terms.{PortEnd, Found, found_stream, NoneWaits, AreStreamsOf, IsKept, packets_lent}
 use Rattle.ide_port.proofs.Terms.{delivered_at}
 use Rattle.std.proofs.lemmas.List.{length-set}
 use Rattle.sub_stream.specs.declared.answer.MeasuredPacket.{MeasuredPacket}
-use Rattle.ide_stream.specs.{IsSent}
-use Rattle.ide_port.specs.Kept.{plan_place}
+use Rattle.ide_port.specs.StreamSends.{IsSent}
+use Rattle.tlp_layout.specs.Choice.{plan_place}
 use Rattle.ide_port.proofs.Waiting.{none-unless, none-taken, none-stream_after_call}
-use Rattle.ide_port.proofs.Streams.{state_of, later, IsPlaced, placed, within}
+use Rattle.ide_port.proofs.Streams.{state_of, IsPlaced, placed, within}
 use Rattle.ide_port.proofs.Lengths.{sent-length}
 
--- a port with these streams, with these bytes, lent and calls
-abbrev pub seen : Inside → List StreamEnd → List ℕ → Option ℕ → ℕ → PortEnd
-seen p xs sealed lent calls =
+-- a port with these streams and bytes, of which this stream lends
+abbrev pub port_within : Inside → List StreamEnd → List ℕ → Option ℕ → PortEnd
+port_within p xs sealed lent =
     record {
       name = p.name;
       plans = p.plans;
       limit = p.limit;
       states = map state_of xs;
       sealed = sealed;
-      delivered =
-          delivered_at xs lent;
-      calls = calls;
+      delivered = delivered_at xs lent;
     }
 
 -- as it is
 abbrev pub now : Inside → PortEnd
-now p = seen p p.streams.items p.sealed.items p.lent p.calls
+now p = port_within p p.streams.items p.sealed.items p.lent
 
 abbrev pub Keeps : Inside → Type 0
-Keeps p = IsKept p.name.side p.limit p.calls p.plans p.streams.items p.lent p.sealed.items (vec_capacity p.sealed)
+Keeps p = IsKept p.name.side p.limit p.plans p.streams.items p.lent p.sealed.items (vec_capacity p.sealed)
 
 pub inside : (p : Inside) (id place : ℕ) → Keeps p → plan_place p.plans id ≡ Some place → place < length p.streams.items
-inside p id place kept at = within _ _ _ _ _ id _ kept.each at
+inside p id place kept at = within _ _ _ _ id _ kept.each at
 
 pub lends-none : (n p : ℕ) → (let o : Option ℕ = None in o) ≡ Some p → p < n
 lends-none n p e = absurd cc
@@ -46,20 +43,18 @@ lends-none n p e = absurd cc
 
 module _ (p : Inside) (kept : Keeps p) (id place : ℕ) (x : StreamEnd) (at : plan_place p.plans id ≡ Some place)
     (is : x ≡ get_or p.streams.items place x) where
-  pub there : IsPlaced p.name.side p.limit p.calls p.plans p.streams.items id place x
-  there = placed _ _ _ _ _ id place x kept.each at is
+  pub there : IsPlaced p.name.side p.limit p.plans p.streams.items id place x
+  there = placed _ _ _ _ id place x kept.each at is
 
-  kept-with : (more n : ℕ) (y : StreamEnd) (st : StreamState) (packets : List Packet) (lent : Option ℕ)
-      (sealed : List ℕ) (capacity : ℕ) → p.calls ≤ more
-      → y ≡ record x { state = st; delivered = packets; calls = n } → NoneWaits st → n ≤ more
+  kept-with : (y : StreamEnd) (st : StreamState) (packets : List Packet) (lent : Option ℕ)
+      (sealed : List ℕ) (capacity : ℕ) → y ≡ record x { state = st; delivered = packets } → NoneWaits st
       → ((q : ℕ) → lent ≡ Some q → q < length p.streams.items)
-      → length sealed ≤ 4184 → 4184 ≤ capacity → IsKept p.name.side p.limit more p.plans
+      → length sealed ≤ 4184 → 4184 ≤ capacity → IsKept p.name.side p.limit p.plans
       (slice_set p.streams.items place y) lent sealed capacity
-  kept-with more n y st packets lent sealed capacity le after none few lends short room = record {
-    each = there.keeps more y le
+  kept-with y st packets lent sealed capacity after none lends short room = record {
+    each = there.keeps y
         (rw after (record {
-          plan = (λ i. record (there.of_plan.plan i) { state = st; delivered = packets; calls = n });
-          few = few;
+          plan = (λ i. record (there.of_plan.plan i) { state = st; delivered = packets });
           receivers = none;
         }));
     lends = λ q e. (let lt = lends q e in omega (arith, lt, length-set p.streams.items place y));
@@ -72,32 +67,28 @@ module _ (p : Inside) (kept : Keeps p) (id place : ℕ) (x : StreamEnd) (at : pl
       (capacity : ℕ)
       → IsSent x head payload s number answer before out y → before ≡ [] → length head ≤ 16 → length payload ≤ 4096
       → 4184 ≤ capacity
-      → IsKept p.name.side p.limit (p.calls + 1) p.plans (slice_set p.streams.items place y) p.lent out capacity
+      → IsKept p.name.side p.limit p.plans (slice_set p.streams.items place y) p.lent out capacity
   kept-sent y head payload s number answer before out capacity sent none h b room =
       let bytes : out ≡ joined_packets (packets_sent x head payload s number) = rw none at sent.bytes in
-      kept-with (p.calls + 1) (x.calls + 1) y _ x.delivered p.lent out capacity (omega arith) sent.stream
-      (none-unless _ x.state _ there.of_plan.receivers)
-      (omega (arith, there.of_plan.few)) kept.lends (rw bytes (sent-length x head payload s number h b)) room
+      kept-with y _ x.delivered p.lent out capacity sent.stream (none-unless _ x.state _ there.of_plan.receivers)
+      kept.lends (rw bytes (sent-length x head payload s number h b)) room
 
   pub kept-taken : (y : StreamEnd) (packet : Packet) → y ≡ end_taken x packet
-      → IsKept p.name.side p.limit (p.calls + 1) p.plans (slice_set p.streams.items place y) (Some place) p.sealed.items
+      → IsKept p.name.side p.limit p.plans (slice_set p.streams.items place y) (Some place) p.sealed.items
       (vec_capacity p.sealed)
   kept-taken y packet after =
       let lends : (q : ℕ) → Some place ≡ Some q → q < length p.streams.items =
       λ q e. (let same : place ≡ q = cc in rw (← same) (inside p id place kept at)) in
-      kept-with (p.calls + 1) (x.calls + 1) y _ _ (Some place) _ _ (omega arith) after
-      (none-taken x.state packet (end_outcome x packet) there.of_plan.receivers)
-      (omega (arith, there.of_plan.few)) lends kept.short kept.room
+      kept-with y _ _ (Some place) _ _ after
+      (none-taken x.state packet (end_outcome x packet) there.of_plan.receivers) lends kept.short kept.room
 
   pub kept-stream_after_call : (y : StreamEnd) (d : Direction) (u : SubKind) (c : KeyCall)
       → y ≡ called_end x d u c
-      → IsKept p.name.side p.limit p.calls p.plans (slice_set p.streams.items place y) None p.sealed.items
+      → IsKept p.name.side p.limit p.plans (slice_set p.streams.items place y) None p.sealed.items
       (vec_capacity p.sealed)
   kept-stream_after_call y d u c after =
-      kept-with p.calls x.calls y _ [] None _ _ (omega arith) after
-      (none-stream_after_call _ u c x.state there.of_plan.receivers)
-      there.of_plan.few
-      (lends-none _) kept.short kept.room
+      kept-with y _ [] None _ _ after (none-stream_after_call _ u c x.state there.of_plan.receivers) (lends-none _)
+      kept.short kept.room
 
 -- ---- what is lent
 
@@ -117,27 +108,25 @@ same-lent (z ∷ xs) (suc i) zero x y lt is same = refl
 same-lent (z ∷ xs) (suc i) (suc k) x y lt is same = same-lent xs i k x y (omega arith) is same
 
 pub lends-still : (xs : List StreamEnd) (i : ℕ) (lent : Option ℕ) (x y : StreamEnd) → i < length xs → x ≡ get_or xs i x
-    → y.delivered ≡ x.delivered
-    → delivered_at (slice_set xs i y) lent ≡ delivered_at xs lent
+    → y.delivered ≡ x.delivered → delivered_at (slice_set xs i y) lent ≡ delivered_at xs lent
 lends-still xs i None x y lt is same = refl
 lends-still xs i (Some k) x y lt is same = same-lent xs i k x y lt is same
 
 -- ---- no call of a stream
 
 pub kept-later : (p : Inside) (lent : Option ℕ) (sealed : List ℕ) (capacity : ℕ) → Keeps p
-    → ((q : ℕ) → lent ≡ Some q → q < length p.streams.items)
-    → length sealed ≤ 4184
-    → 4184 ≤ capacity → IsKept p.name.side p.limit (p.calls + 1) p.plans p.streams.items lent sealed capacity
+    → ((q : ℕ) → lent ≡ Some q → q < length p.streams.items) → length sealed ≤ 4184
+    → 4184 ≤ capacity → IsKept p.name.side p.limit p.plans p.streams.items lent sealed capacity
 kept-later p lent sealed capacity kept lends short room =
-    record { each = later _ _ _ (p.calls + 1) _ _ (omega arith) kept.each; lends = lends; short = short; room = room }
+    record { each = kept.each; lends = lends; short = short; room = room }
 
 -- ---- no receiver waits
 
-pub none-found_stream : (side : Side) (limit calls : ℕ) (ss : List StreamPlan) (xs : List StreamEnd)
-    → AreStreamsOf side limit calls ss xs
+pub none-found_stream : (side : Side) (limit : ℕ) (ss : List StreamPlan) (xs : List StreamEnd)
+    → AreStreamsOf side limit ss xs
     → (id : ℕ) (f : Found) → found_stream ss (map state_of xs) id ≡ Some f → NoneWaits f.state
-none-found_stream side limit calls [] [] h id f e u = absurd cc
-none-found_stream side limit calls [] (x ∷ xs) h id f e u = absurd h
-none-found_stream side limit calls (s ∷ ss) [] h id f e u = absurd h
-none-found_stream side limit calls (s ∷ ss) (x ∷ xs) h id f e u = grind
-    (arith, nat_tests, none-found_stream side limit calls ss xs h.1 id f, h.0.receivers u)
+none-found_stream side limit [] [] h id f e u = absurd cc
+none-found_stream side limit [] (x ∷ xs) h id f e u = absurd h
+none-found_stream side limit (s ∷ ss) [] h id f e u = absurd h
+none-found_stream side limit (s ∷ ss) (x ∷ xs) h id f e u = grind
+    (arith, nat_tests, none-found_stream side limit ss xs h.1 id f, h.0.receivers u)

@@ -1,12 +1,11 @@
 -- What one send seals has at most 4,184 bytes.
 use Rattle.ide_port.proofs.Terms.{◌≡◌, ℕ, ◌+◌, ◌≤◌, true, false, List, [], ◌∷◌, ◌++◌, length, Option, Some, None, arith}
 use Rattle.ide_port.proofs.Terms.{length-append, if◌then◌else◌, SubKind, Packet, packet_bytes, sync_head, Verdict}
-use Rattle.ide_port.proofs.Terms.{Sending, Lanes, described_seal}
-use Rattle.ide_port.proofs.Terms.{needs_sync, sync_before, ends_unit, sets_trusted, total_ahead, sealed_with_syncs}
-use Rattle.ide_port.proofs.Terms.{LiveKey}
-use Rattle.ide_port.proofs.Terms.{Three, TxSub, at_sub, live_sender, untagged_under, tagged_under, packet_under}
-use Rattle.ide_port.proofs.Terms.{sealed_one, sealed_all, StreamEnd}
-use Rattle.ide_port.proofs.Terms.{joined_packets, packets_sent, lanes_in, unless_verdict, sealing, sending_refusal}
+use Rattle.ide_port.proofs.Terms.{Sending, Lanes, described_seal, needs_sync, sync_before, ends_unit, sets_trusted}
+use Rattle.ide_port.proofs.Terms.{total_ahead, sealed_with_syncs, LiveKey, Three, TxSub, at_sub, live_sender}
+use Rattle.ide_port.proofs.Terms.{untagged_under, tagged_under, packet_under, sealed_one, sealed_all, StreamEnd}
+use Rattle.ide_port.proofs.Terms.{joined_packets, packets_sent, lanes_in, unless_verdict, packets_and_senders}
+use Rattle.ide_port.proofs.Terms.{sending_refusal}
 use Rattle.std.proofs.Common.{Bool}
 use Rattle.gcm_seal.specs.Gcm.{masked_bytes, tag_of}
 use Rattle.gcm_seal.proofs.Sealing.{length-masked_bytes, length-tag_of}
@@ -33,8 +32,7 @@ parts_length true key iv n head payload h b = omega (arith, length-masked_bytes 
 parts_length false key iv n head payload h b = omega (arith, length-masked_bytes key iv n payload, h, b)
 
 packet_length : (ahead : List ℕ) (o : Option (Bool × LiveKey)) (d : SealedPacket) (head payload : List ℕ)
-    → length head ≤ 16 → length payload ≤ 4096
-    → length (packet_bytes (packet_under ahead o d head payload)) ≤ room_of d
+    → length head ≤ 16 → length payload ≤ 4096 → length (packet_bytes (packet_under ahead o d head payload)) ≤ room_of d
 packet_length ahead None d head payload h b =
     omega (
       arith,
@@ -57,8 +55,7 @@ room_all [] = 0
 room_all (d ∷ ds) = room_of d + room_all ds
 
 all_length : (closed : Bool) (head payload : List ℕ) (ds : List SealedPacket) (tx : Three TxSub) → length head ≤ 16
-    → length payload ≤ 4096
-    → length (joined_packets (sealed_all closed head payload ds tx).0) ≤ room_all ds
+    → length payload ≤ 4096 → length (joined_packets (sealed_all closed head payload ds tx).0) ≤ room_all ds
 unfolding room_all
 all_length closed head payload [] tx h b = omega arith
 all_length closed head payload (d ∷ ds) tx h b =
@@ -102,10 +99,9 @@ unless_length : (o : Option Verdict) (ps : List Packet) (n : ℕ) → length (jo
 unless_length o ps n le = grind arith
 
 pub sent-length : (e : StreamEnd) (head payload : List ℕ) (s : Sending) (number : ℕ) → length head ≤ 16
-    → length payload ≤ 4096
-    → length (joined_packets (packets_sent e head payload s number)) ≤ 4184
+    → length payload ≤ 4096 → length (joined_packets (packets_sent e head payload s number)) ≤ 4184
 sent-length e head payload s number h b =
-    unless_length (sending_refusal e s) (sealing e head payload s number).0 4184
+    unless_length (sending_refusal e s) (packets_and_senders e head payload s number).0 4184
     (omega (
       arith,
       all_length e.closed head payload (sealed_with_syncs (lanes_in e) s number) e.state.tx h b,

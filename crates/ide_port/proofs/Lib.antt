@@ -2,8 +2,10 @@ pub mod Terms
 pub mod Parts
 pub mod Waiting
 pub mod Streams
+pub mod Units
 pub mod Moves
 pub mod Shown
 pub mod Lengths
 pub mod Keeping
 pub mod Steps
+pub mod Settling

@@ -1,10 +1,8 @@
 -- What a call makes of slots is what key management says of them.
 use Rattle.ide_port.proofs.Terms.{◌≡◌, true, false, ◌&&◌, ◌||◌, arith, nat_tests, SubKind, LaneSlots, Three, TxSub}
-use Rattle.ide_port.proofs.Terms.{RxSub}
-use Rattle.ide_port.proofs.Terms.{StreamState, at_sub, set_sub, rested_stream, slot_pair, KeyCall, slots_at, pair_at}
-use Rattle.ide_port.proofs.Terms.{stream_after_call, slots_called_out, slots_called_into, slots_by, has_open_unit}
-use Rattle.ide_port.proofs.Terms.{is_waiting}
-use Rattle.ide_port.proofs.Terms.{NoneWaits}
+use Rattle.ide_port.proofs.Terms.{RxSub, StreamState, at_sub, set_sub, rested_stream, slot_pair, KeyCall, slots_at}
+use Rattle.ide_port.proofs.Terms.{pair_at, stream_after_call, slots_called_out, slots_called_into, slots_by}
+use Rattle.ide_port.proofs.Terms.{has_open_unit, is_waiting, NoneWaits}
 use Rattle.std.proofs.Common.{Bool}
 
 slots_out : (c : KeyCall) (s : LaneSlots) → slot_pair true (slots_called_out c s)

@@ -1,12 +1,10 @@
 -- A call moves the slots of a port at its place, and nowhere else.
-use Rattle.ide_port.proofs.Terms.{◌≡◌, ℕ, ◌<◌, true, false, ◌&&◌, [], Option, Some, None, refl, ap, ◌∙◌, arith}
-use Rattle.ide_port.proofs.Terms.{nat_lt, if◌then◌else◌, option_map, nat_tests, Side, SlotPair, Place, KeyCall}
-use Rattle.ide_port.proofs.Terms.{PlaceCall, slots_by, SlotsAfter}
+use Rattle.ide_port.proofs.Terms.{◌≡◌, ℕ, ◌<◌, true, false, ◌&&◌, [], Option, Some, None, refl, ap, ◌∙◌, arith, nat_lt}
+use Rattle.ide_port.proofs.Terms.{if◌then◌else◌, option_map, nat_tests, Side, SlotPair, Place, KeyCall, PlaceCall}
+use Rattle.ide_port.proofs.Terms.{slots_by, SlotsAfter, StreamState, sends_in, stream_after_call, PortEnd, Found}
+use Rattle.ide_port.proofs.Terms.{found_stream, changed_states, sub_from, is_place, stream_at, slot_pair_at}
+use Rattle.ide_port.proofs.Terms.{unfinished_at, called_states, called_port, NoneWaits}
 use Rattle.ide_types.specs.declared.direction.Direction.{Direction}
-use Rattle.ide_port.proofs.Terms.{StreamState, sends_in, stream_after_call, PortEnd, Found, found_stream}
-use Rattle.ide_port.proofs.Terms.{changed_states, sub_from}
-use Rattle.ide_port.proofs.Terms.{is_place, stream_at, slot_pair_at, unfinished_at, called_states, called_port}
-use Rattle.ide_port.proofs.Terms.{NoneWaits}
 use Rattle.key_messages.specs.Calls as km
 use Rattle.ide_port.proofs.Streams.{found_stream-id, found_stream-changed_states, found_stream-other}
 use Rattle.ide_port.proofs.Moves.{moved-pair, other-pair}
@@ -48,16 +46,14 @@ abbrev with_stream : PortEnd → ℕ → StreamState → PortEnd
 with_stream e id y = record e { states = changed_states e.plans e.states id y; delivered = [] }
 
 shown_same : (e : PortEnd) (k : KeyCall) (q : Place) (f : Found) → Waitless e → is_place q ≡ true
-    → found_stream e.plans e.states q.stream ≡ Some f
-    → slot_pair_at (with_stream e q.stream (after e k q f)) q
+    → found_stream e.plans e.states q.stream ≡ Some f → slot_pair_at (with_stream e q.stream (after e k q f)) q
     ≡ option_map (slots_by k (unfinished_at e q)) (slot_pair_at e q)
 shown_same e k q f h here is =
     rw (here, found_stream-changed_states e.plans e.states q.stream f (after e k q f) is, is)
     (ap Some (moved-pair (sends_in e.name.side q.direction) (sub_from q.sub) k f.state (h.none q.stream f is)))
 
 shown_other : (e : PortEnd) (k : KeyCall) (p q : Place) (f : Found) → is_place q ≡ true
-    → found_stream e.plans e.states q.stream ≡ Some f
-    → km.is_same_place p q ≡ false
+    → found_stream e.plans e.states q.stream ≡ Some f → km.is_same_place p q ≡ false
     → slot_pair_at (with_stream e q.stream (after e k q f)) p ≡ slot_pair_at e p
 shown_other e k p q f here is differ =
     grind (

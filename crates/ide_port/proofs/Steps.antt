@@ -4,17 +4,12 @@
 -- plan. If no plan has the ID the specs find nothing, and no stream changes.
 use Rattle.ide_port.proofs.Terms.{◌≡◌, ℕ, ◌+◌, ◌<◌, true, List, [], length, map, get_or, Option, Some, None, Result}
 use Rattle.ide_port.proofs.Terms.{Err, refl, sym, ap, ◌∙◌, subst, arith, slice_set, nat_lt, if◌then◌else◌, option_map}
-use Rattle.std.proofs.Common.{Bool}
-use Rattle.ide_port.proofs.Terms.{nat_tests, SubKind, StreamPlan}
-use Rattle.ide_port.proofs.Terms.{Packet, Tlp, class_of, head_bytes, header, body, SlotPair, program_answer}
-use Rattle.ide_port.proofs.Terms.{PlaceCall, SlotsAfter, shown_pair, program_answer_at, answer_taken, StreamEnd}
-use Rattle.ide_port.proofs.Terms.{sending}
-use Rattle.ide_port.proofs.Terms.{numbered_answer}
-use Rattle.ide_port.proofs.Terms.{end_outcome, end_taken, called_end}
-use Rattle.ide_port.proofs.Terms.{pair_in, lengths_said, Inside, SendRefusal, PortEnd, Found, found_stream}
-use Rattle.ide_port.proofs.Terms.{changed_states, sub_from}
-use Rattle.ide_port.proofs.Terms.{stream_at, slot_pair_at, unfinished_at, called_states, called_port, stream_of}
-use Rattle.ide_port.proofs.Terms.{place_and_sub, arrival_said}
+use Rattle.ide_port.proofs.Terms.{nat_tests, SubKind, StreamPlan, Packet, Tlp, class_of, head_bytes, header, body}
+use Rattle.ide_port.proofs.Terms.{SlotPair, program_answer, PlaceCall, SlotsAfter, shown_pair, program_answer_at}
+use Rattle.ide_port.proofs.Terms.{answer_taken, StreamEnd, new_sending, numbered_answer, end_outcome, end_taken}
+use Rattle.ide_port.proofs.Terms.{called_end, pair_in, lengths_said, Inside, SendRefusal, PortEnd, Found, found_stream}
+use Rattle.ide_port.proofs.Terms.{changed_states, sub_from, stream_at, slot_pair_at, unfinished_at, called_states}
+use Rattle.ide_port.proofs.Terms.{called_port, stream_of, place_and_sub, arrival_said}
 use Rattle.std.proofs.Common.{Bool, Ok}
 use Rattle.ide_types.specs.declared.port.PortName.{PortName}
 use Rattle.key_slots.specs.declared.slots.OnlyLive.{OnlyLive}
@@ -23,16 +18,16 @@ use Rattle.key_messages.specs.declared.port.ProgramFault.TheVariants as km
 use Rattle.spec_stream.specs.Stream.{Taken as Answer}
 use Rattle.sub_stream.specs.declared.answer.MeasuredPacket.{MeasuredPacket}
 use Rattle.sub_stream.specs.declared.answer.Taken.{Taken}
-use Rattle.ide_stream.specs.Sends.{IsSent}
+use Rattle.ide_port.specs.StreamSends.{IsSent}
 use Rattle.ide_port.specs.declared.answer.Sent.{Sent}
-use Rattle.ide_port.specs.declared.answer.Sent.TheVariants.{Plain, Refused, Sealed}
+use Rattle.ide_port.specs.declared.answer.Sent.TheVariants.{Refused, Sealed}
 use Rattle.ide_port.specs.declared.answer.Arrival.{Arrival}
 use Rattle.ide_port.specs.declared.answer.Arrival.TheVariants.{Unknown}
 use Rattle.ide_port.specs.Sends.{as_verdict, sent_verdict, lengths_sent, stream_step, IsSendStep}
 use Rattle.ide_port.specs.Arrivals.{TakeStep, port_arrival, packet_step}
-use Rattle.ide_port.specs.Kept.{plan_place}
+use Rattle.tlp_layout.specs.Choice.{plan_place}
 use Rattle.ide_port.proofs.Streams.{state_of, absent}
-use Rattle.ide_port.proofs.Keeping.{Keeps, seen, now, inside, there, lends-there, lends-still, none-found_stream}
+use Rattle.ide_port.proofs.Keeping.{Keeps, port_within, now, inside, there, lends-there, lends-still, none-found_stream}
 use Rattle.ide_port.proofs.Shown.{slots-after}
 
 abbrev pub sent_as : Result (List MeasuredPacket) SendRefusal → Sent
@@ -59,11 +54,6 @@ module _ (p : Inside) (e : PortEnd) (view : now p ≡ e) (id : ℕ) (at : plan_p
   pub gone : found_stream e.plans e.states id ≡ None
   gone = rw (← view) (absent p.plans _ id at)
 
-  pub plain-step : (new : PortEnd) (t : Tlp) (more trusted : Bool) (number : ℕ) → new
-      ≡ record e { sealed = []; calls = e.calls + 1 }
-      → IsSendStep e.name number Plain new (stream_step e t more trusted number (found_stream e.plans e.states id))
-  plain-step new t more trusted number is = rw gone (record { answered = refl; lengths = refl; port = is })
-
 -- ---- a call of a stream
 
 module _ (p : Inside) (e : PortEnd) (view : now p ≡ e) (kept : Keeps p) (id place : ℕ) (x : StreamEnd)
@@ -78,17 +68,19 @@ module _ (p : Inside) (e : PortEnd) (view : now p ≡ e) (kept : Keeps p) (id pl
   pub sent-step : (y : StreamEnd) (t : Tlp) (more trusted : Bool) (number : ℕ)
       (answer : Result (List MeasuredPacket) SendRefusal) (r : Sent)
       (before out : List ℕ) → before ≡ []
-      → IsSent x (head_bytes (header t)) (body t) (sending p.name x.id (class_of (header t)) more trusted) number answer
+      → IsSent x (head_bytes (header t)) (body t) (new_sending p.name x.id (class_of (header t)) more trusted) number
+      answer
       before out y → r ≡ sent_as answer
-      → IsSendStep e.name number r (seen p (slice_set p.streams.items place y) out p.lent (p.calls + 1))
+      → IsSendStep e.name number r (port_within p (slice_set p.streams.items place y) out p.lent)
       (stream_step e t more trusted number (found_stream e.plans e.states id))
   sent-step y t more trusted number answer r before out none sent said =
       let k = there p kept id place x at is in
       let z = stream_of p.name.side p.limit k.plan x in
       let Q : StreamEnd → Type 0 =
-      λ w. IsSent w (head_bytes (header t)) (body t) (sending p.name w.id (class_of (header t)) more trusted) number
+      λ w. IsSent w (head_bytes (header t)) (body t) (new_sending p.name w.id (class_of (header t)) more trusted) number
       answer before out y in
-      let mine : IsSent z (head_bytes (header t)) (body t) (sending p.name k.plan.id (class_of (header t)) more trusted)
+      let mine : IsSent z (head_bytes (header t)) (body t)
+      (new_sending p.name k.plan.id (class_of (header t)) more trusted)
       number answer before out y =
       subst Q k.of_plan.plan sent in
       rw (← view, k.is_found) (record {
@@ -101,7 +93,6 @@ module _ (p : Inside) (e : PortEnd) (view : now p ≡ e) (kept : Keeps p) (id pl
           sealed = (rw none at mine.bytes) i;
           delivered = lends-still p.streams.items place p.lent x y (inside p id place kept at) is
               (ap (λ (w : StreamEnd). w.delivered) sent.stream) i;
-          calls = p.calls + 1;
         });
       })
 
@@ -112,7 +103,7 @@ module _ (p : Inside) (e : PortEnd) (view : now p ≡ e) (packet : Packet) where
       → plan_place p.plans packet.prefix.stream ≡ Some place
       → x ≡ get_or p.streams.items place x → taken ≡ answer_taken (end_outcome x packet) → y ≡ end_taken x packet
       → r ≡ arrival_said packet.prefix.stream packet.prefix.sub taken
-      → IsTaken r (seen p (slice_set p.streams.items place y) p.sealed.items (Some place) (p.calls + 1))
+      → IsTaken r (port_within p (slice_set p.streams.items place y) p.sealed.items (Some place))
       (packet_step e packet (found_stream e.plans e.states packet.prefix.stream))
   taken-step kept place x y taken r at is answered after said =
       let k = there p kept packet.prefix.stream place x at is in
@@ -128,12 +119,11 @@ module _ (p : Inside) (e : PortEnd) (view : now p ≡ e) (packet : Packet) where
               (λ (w : StreamEnd). changed_states p.plans (map state_of p.streams.items) k.plan.id w.state) mine) i;
           delivered = (lends-there p.streams.items place y (inside p packet.prefix.stream place kept at) ∙ ap
               (λ (w : StreamEnd). w.delivered) mine) i;
-          calls = p.calls + 1;
         });
       })
 
   pub unknown-step : (new : PortEnd) → plan_place p.plans packet.prefix.stream ≡ None → new
-      ≡ record e { delivered = []; calls = e.calls + 1 }
+      ≡ record e { delivered = [] }
       → IsTaken (Unknown packet.prefix.stream) new
       (packet_step e packet (found_stream e.plans e.states packet.prefix.stream))
   unknown-step new at is = rw (gone p e view packet.prefix.stream at) (record { answer = refl; port = is })
@@ -178,16 +168,16 @@ module _ (p : Inside) (e : PortEnd) (view : now p ≡ e) (kept : Keeps p) (c : P
       (slot_pair_at new)
   slots-step new is = rw is
       (slots-after e c (rw (← view)
-      (record { none = none-found_stream p.name.side p.limit p.calls p.plans p.streams.items kept.each })))
+      (record { none = none-found_stream p.name.side p.limit p.plans p.streams.items kept.each })))
 
   pub nowhere-step : place_and_sub p.plans c.place.stream c.place.sub ≡ None
-      → IsCalled e (seen p p.streams.items p.sealed.items None p.calls) c None
+      → IsCalled e (port_within p p.streams.items p.sealed.items None) c None
   nowhere-step at =
       let q = c.place in
       let none : nat_lt q.sub 3 ≡ true → found_stream e.plans e.states q.stream ≡ None =
       λ t. gone p e view q.stream (none_in (nat_lt q.sub 3) (plan_place p.plans q.stream) (sub_from q.sub) at t) in
       let out : stream_at e q ≡ None = grind (arith, nat_tests, none) in
-      let moves : seen p p.streams.items p.sealed.items None p.calls ≡ called_port c e =
+      let moves : port_within p p.streams.items p.sealed.items None ≡ called_port c e =
       ap (λ (e : PortEnd). record e { delivered = [] }) view ∙ ap
       (λ o. record e { states = called_states e c o; delivered = [] }) (sym out) in
       record { shows = grind (arith, nat_tests, out); moves = moves; slots = slots-step _ moves }
@@ -195,7 +185,7 @@ module _ (p : Inside) (e : PortEnd) (view : now p ≡ e) (kept : Keeps p) (c : P
   pub stream_after_call-step : (place : ℕ) (u : SubKind) (x y : StreamEnd)
       → IsLane p.plans c.place.stream c.place.sub place u
       → x ≡ get_or p.streams.items place x → y ≡ called_end x c.place.direction u c.call
-      → IsCalled e (seen p (slice_set p.streams.items place y) p.sealed.items None p.calls) c
+      → IsCalled e (port_within p (slice_set p.streams.items place y) p.sealed.items None) c
       (Some (pair_in x c.place.direction u))
   stream_after_call-step place u x y lane is after =
       let q = c.place in
@@ -206,7 +196,7 @@ module _ (p : Inside) (e : PortEnd) (view : now p ≡ e) (kept : Keeps p) (c : P
       after ∙ (λ i. called_end (k.of_plan.plan i) q.direction (lane.sub_is i) c.call) in
       let was : slot_pair_at (now p) q ≡ Some (pair_in x q.direction u) =
       ap (option_map _) at ∙ ap Some (sym (λ i. pair_in (k.of_plan.plan i) q.direction (lane.sub_is i))) in
-      let moves : seen p (slice_set p.streams.items place y) p.sealed.items None p.calls ≡ called_port c e =
+      let moves : port_within p (slice_set p.streams.items place y) p.sealed.items None ≡ called_port c e =
       (λ i. record (now p) {
         states =
             (k.change y ∙ ap (λ (w : StreamEnd). changed_states p.plans (map state_of p.streams.items) k.plan.id

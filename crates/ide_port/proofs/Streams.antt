@@ -1,12 +1,11 @@
 -- The streams of a port and their plans: the stream of an ID at its place.
 use Rattle.ide_port.proofs.Terms.{◌≡◌, ◌≢◌, ℕ, suc, zero, ◌<◌, ◌≤◌, true, false, ◌==◌, List, [], ◌∷◌, length, map}
 use Rattle.ide_port.proofs.Terms.{get_or, Some, None, refl, sym, ap, subst, arith, slice_set, nat_tests, Side}
-use Rattle.ide_port.proofs.Terms.{StreamPlan, StreamState, no_stream}
-use Rattle.ide_port.proofs.Terms.{StreamEnd, reset_end, Found, found_stream, changed_states, IsStreamOf, AreStreamsOf}
-use Rattle.ide_port.proofs.Terms.{new_stream_ends}
+use Rattle.ide_port.proofs.Terms.{StreamPlan, StreamState, no_stream, StreamEnd, reset_end, Found, found_stream}
+use Rattle.ide_port.proofs.Terms.{changed_states, IsStreamOf, AreStreamsOf, new_stream_ends}
 use Rattle.std.specs.List.{position_or_len}
 use Rattle.std.proofs.lemmas.List.Quantifiers.{position-Some}
-use Rattle.ide_port.specs.Kept.{plan_place}
+use Rattle.tlp_layout.specs.Choice.{plan_place}
 use Rattle.ide_port.proofs.Waiting.{none-new}
 
 abbrev pub state_of : StreamEnd → StreamState
@@ -38,8 +37,7 @@ found_stream-other (s ∷ ss) (x ∷ xs) id w y ne = grind (arith, nat_tests, fo
 -- ---- no place
 
 absent_from : (ss : List StreamPlan) (xs : List StreamState) (id : ℕ)
-    → length ss ≤ position_or_len (λ (s : StreamPlan). s.id == id) ss
-    → found_stream ss xs id ≡ None
+    → length ss ≤ position_or_len (λ (s : StreamPlan). s.id == id) ss → found_stream ss xs id ≡ None
 absent_from [] xs id le = refl
 absent_from (s ∷ ss) [] id le = refl
 absent_from (s ∷ ss) (x ∷ xs) id le = grind (arith, nat_tests, absent_from ss xs id)
@@ -54,26 +52,11 @@ absent ss xs id e = absent_from ss xs id (none_within ss id e)
 
 -- ---- all streams
 
-pub of-plan-later : (side : Side) (limit calls more : ℕ) (s : StreamPlan) (x : StreamEnd) → calls ≤ more
-    → IsStreamOf side limit calls s x
-    → IsStreamOf side limit more s x
-of-plan-later side limit calls more s x le h = record
-    { plan = h.plan; few = omega (arith, h.few, le); receivers = h.receivers }
-
-pub later : (side : Side) (limit calls more : ℕ) (ss : List StreamPlan) (xs : List StreamEnd) → calls ≤ more
-    → AreStreamsOf side limit calls ss xs
-    → AreStreamsOf side limit more ss xs
-later side limit calls more [] [] le h = tt
-later side limit calls more [] (x ∷ xs) le h = absurd h
-later side limit calls more (s ∷ ss) [] le h = absurd h
-later side limit calls more (s ∷ ss) (x ∷ xs) le h =
-    (of-plan-later side limit calls more s x le h.0, later side limit calls more ss xs le h.1)
-
 pub streams-new : (side : Side) (limit : ℕ) (ss : List StreamPlan)
-    → AreStreamsOf side limit 0 ss (new_stream_ends side limit ss)
+    → AreStreamsOf side limit ss (new_stream_ends side limit ss)
 streams-new side limit [] = tt
 streams-new side limit (s ∷ ss) =
-    (record { plan = refl; few = omega arith; receivers = none-new }, streams-new side limit ss)
+    (record { plan = refl; receivers = none-new }, streams-new side limit ss)
 
 pub states-new : (side : Side) (limit : ℕ) (ss : List StreamPlan) → map state_of (new_stream_ends side limit ss)
     ≡ map (λ (s : StreamPlan). no_stream) ss
@@ -81,55 +64,54 @@ states-new side limit [] = refl
 states-new side limit (s ∷ ss) = ap (λ xs. no_stream ∷ xs) (states-new side limit ss)
 
 -- there are as many as plans, and a reset leaves streams of these plans, without keys
-pub record Resets (side : Side) (limit calls : ℕ) (ss : List StreamPlan) (xs : List StreamEnd) : Type 0 where
+pub record Resets (side : Side) (limit : ℕ) (ss : List StreamPlan) (xs : List StreamEnd) : Type 0 where
   pub same : length ss ≡ length xs
-  pub each : AreStreamsOf side limit calls ss (map reset_end xs)
+  pub each : AreStreamsOf side limit ss (map reset_end xs)
   pub states : map state_of (map reset_end xs) ≡ map (λ (s : StreamPlan). no_stream) ss
 
-pub resets : (side : Side) (limit calls : ℕ) (ss : List StreamPlan) (xs : List StreamEnd)
-    → AreStreamsOf side limit calls ss xs → Resets side limit calls ss xs
-resets side limit calls [] [] h = record { same = refl; each = tt; states = refl }
-resets side limit calls [] (x ∷ xs) h = absurd h
-resets side limit calls (s ∷ ss) [] h = absurd h
-resets side limit calls (s ∷ ss) (x ∷ xs) h =
-    let r = resets side limit calls ss xs h.1 in record {
+pub resets : (side : Side) (limit : ℕ) (ss : List StreamPlan) (xs : List StreamEnd)
+    → AreStreamsOf side limit ss xs → Resets side limit ss xs
+resets side limit [] [] h = record { same = refl; each = tt; states = refl }
+resets side limit [] (x ∷ xs) h = absurd h
+resets side limit (s ∷ ss) [] h = absurd h
+resets side limit (s ∷ ss) (x ∷ xs) h =
+    let r = resets side limit ss xs h.1 in record {
       same = ap suc r.same;
-      each = (record { plan = ap reset_end h.0.plan; few = h.0.few; receivers = none-new }, r.each);
+      each = (record { plan = ap reset_end h.0.plan; receivers = none-new }, r.each);
       states = ap (λ xs. no_stream ∷ xs) r.states;
     }
 
 -- ---- the stream at a place
 
 -- its plan, that it is the one of the ID, and what another in its place makes of all
-pub record IsPlaced (side : Side) (limit calls : ℕ) (ss : List StreamPlan) (xs : List StreamEnd) (id place : ℕ)
+pub record IsPlaced (side : Side) (limit : ℕ) (ss : List StreamPlan) (xs : List StreamEnd) (id place : ℕ)
     (x : StreamEnd) : Type 0 where
   pub plan : StreamPlan
-  pub of_plan : IsStreamOf side limit calls plan x
+  pub of_plan : IsStreamOf side limit plan x
   pub is_found : found_stream ss (map state_of xs) id ≡ Some (record { plan = plan; state = x.state })
   pub change : (y : StreamEnd) → map state_of (slice_set xs place y)
       ≡ changed_states ss (map state_of xs) plan.id y.state
-  pub keeps : (more : ℕ) (y : StreamEnd) → calls ≤ more → IsStreamOf side limit more plan y
-      → AreStreamsOf side limit more ss (slice_set xs place y)
+  pub keeps : (y : StreamEnd) → IsStreamOf side limit plan y → AreStreamsOf side limit ss (slice_set xs place y)
 
-placed_at : (side : Side) (limit calls : ℕ) (ss : List StreamPlan) (xs : List StreamEnd) (id place : ℕ) (x : StreamEnd)
+placed_at : (side : Side) (limit : ℕ) (ss : List StreamPlan) (xs : List StreamEnd) (id place : ℕ) (x : StreamEnd)
     (d : StreamPlan)
-    → AreStreamsOf side limit calls ss xs → place < length ss → ((get_or ss place d).id == id) ≡ true
+    → AreStreamsOf side limit ss xs → place < length ss → ((get_or ss place d).id == id) ≡ true
     → ((k : ℕ) → k < place → ((get_or ss k d).id == id) ≡ false) → x ≡ get_or xs place x
-    → IsPlaced side limit calls ss xs id place x
-placed_at side limit calls [] xs id place x d h lt at before is = absurd (omega (arith, lt))
-placed_at side limit calls (s ∷ ss) [] id place x d h lt at before is = absurd h
-placed_at side limit calls (s ∷ ss) (z ∷ xs) id zero x d h lt at before is =
+    → IsPlaced side limit ss xs id place x
+placed_at side limit [] xs id place x d h lt at before is = absurd (omega (arith, lt))
+placed_at side limit (s ∷ ss) [] id place x d h lt at before is = absurd h
+placed_at side limit (s ∷ ss) (z ∷ xs) id zero x d h lt at before is =
     record {
       plan = s;
-      of_plan = subst (λ (w : StreamEnd). IsStreamOf side limit calls s w) (sym is) h.0;
+      of_plan = subst (λ (w : StreamEnd). IsStreamOf side limit s w) (sym is) h.0;
       is_found = rw at (ap (λ (w : StreamEnd). Some (let f : Found = record { plan = s; state = w.state } in f))
           (sym is));
       change = λ y. grind (arith, nat_tests);
-      keeps = λ more y le g. (g, later side limit calls more ss xs le h.1);
+      keeps = λ y g. (g, h.1);
     }
-placed_at side limit calls (s ∷ ss) (z ∷ xs) id (suc place) x d h lt at before is =
+placed_at side limit (s ∷ ss) (z ∷ xs) id (suc place) x d h lt at before is =
     let no : (s.id == id) ≡ false = before 0 (omega arith) in
-    let r = placed_at side limit calls ss xs id place x d h.1 (omega (arith, lt)) at
+    let r = placed_at side limit ss xs id place x d h.1 (omega (arith, lt)) at
     (λ k l. before (suc k) (omega (arith, l))) is in
     let named : r.plan.id ≡ id = found_stream-id ss (map state_of xs) id _ r.is_found in
     record {
@@ -137,21 +119,20 @@ placed_at side limit calls (s ∷ ss) (z ∷ xs) id (suc place) x d h lt at befo
       of_plan = r.of_plan;
       is_found = rw no r.is_found;
       change = λ y. rw (named, no) (ap (λ ys. z.state ∷ ys) (rw named at (r.change y)));
-      keeps = λ more y le g. (of-plan-later side limit calls more s z le h.0, r.keeps more y le g);
+      keeps = λ y g. (h.0, r.keeps y g);
     }
 
-pub within : (side : Side) (limit calls : ℕ) (ss : List StreamPlan) (xs : List StreamEnd) (id place : ℕ)
-    → AreStreamsOf side limit calls ss xs
-    → plan_place ss id ≡ Some place → place < length xs
-within side limit calls [] xs id place h e = absurd cc
-within side limit calls (s ∷ ss) xs id place h e =
+pub within : (side : Side) (limit : ℕ) (ss : List StreamPlan) (xs : List StreamEnd) (id place : ℕ)
+    → AreStreamsOf side limit ss xs → plan_place ss id ≡ Some place → place < length xs
+within side limit [] xs id place h e = absurd cc
+within side limit (s ∷ ss) xs id place h e =
     let lt = (position-Some (λ (s : StreamPlan). s.id == id) (s ∷ ss) place s e).0 in
-    omega (arith, lt, (resets side limit calls (s ∷ ss) xs h).same)
+    omega (arith, lt, (resets side limit (s ∷ ss) xs h).same)
 
-pub placed : (side : Side) (limit calls : ℕ) (ss : List StreamPlan) (xs : List StreamEnd) (id place : ℕ) (x : StreamEnd)
-    → AreStreamsOf side limit calls ss xs
-    → plan_place ss id ≡ Some place → x ≡ get_or xs place x → IsPlaced side limit calls ss xs id place x
-placed side limit calls [] xs id place x h e is = absurd cc
-placed side limit calls (s ∷ ss) xs id place x h e is =
+pub placed : (side : Side) (limit : ℕ) (ss : List StreamPlan) (xs : List StreamEnd) (id place : ℕ) (x : StreamEnd)
+    → AreStreamsOf side limit ss xs
+    → plan_place ss id ≡ Some place → x ≡ get_or xs place x → IsPlaced side limit ss xs id place x
+placed side limit [] xs id place x h e is = absurd cc
+placed side limit (s ∷ ss) xs id place x h e is =
     let p = position-Some (λ (s : StreamPlan). s.id == id) (s ∷ ss) place s e in
-    placed_at side limit calls (s ∷ ss) xs id place x s h p.0 p.1 p.2 is
+    placed_at side limit (s ∷ ss) xs id place x s h p.0 p.1 p.2 is

@@ -11,10 +11,10 @@ pub use Rattle.ide_port.specs.Kept.{is_waiting, place_and_sub, packets_lent, new
 pub use Rattle.ide_port.specs.declared.port.Port.TheInside.{Inside}
 pub use Rattle.ide_prefix.specs.Packet.{Packet, packet_bytes, sync_head}
 pub use Rattle.ide_prefix.specs.{sub_from}
-pub use Rattle.ide_stream.specs.{StreamEnd, numbered_answer, called_end, end_taken, joined_packets, lanes_in}
-pub use Rattle.ide_stream.specs.{packets_sent}
-pub use Rattle.ide_stream.specs.{pair_in, reset_end, sending, end_outcome}
-pub use Rattle.ide_stream.specs.Sends.{lengths_said, sending_refusal, sealing, unless_verdict}
+pub use Rattle.ide_port.specs.StreamEnds.{StreamEnd, called_end, end_taken, lanes_in, pair_in, reset_end, end_outcome}
+pub use Rattle.ide_port.specs.StreamSends.{numbered_answer, packets_sent, new_sending, lengths_said, sending_refusal}
+pub use Rattle.ide_port.specs.StreamSends.{packets_and_senders, unless_verdict}
+pub use Rattle.stream_lanes.specs.{joined_packets}
 pub use Rattle.ide_types.specs.declared.port.Side.{Side}
 pub use Rattle.ide_types.specs.declared.sub.SubKind.{SubKind}
 pub use Rattle.key_slots.specs.{Go, Stop, KeyCall, Program, SlotPair, is_one, live_set, program_answer}
@@ -29,8 +29,7 @@ pub use Rattle.sub_stream.specs.Calls.{stream_after_call, no_stream, pair_at, se
 pub use Rattle.sub_stream.specs.Calls.{slots_called_out, stream_status}
 pub use Rattle.stream_lanes.specs.declared.refusal.SendRefusal.{SendRefusal}
 pub use Rattle.spec_stream.specs.Sending.{Lanes, Sending, described_seal, ends_unit, total_ahead, needs_sync}
-pub use Rattle.spec_stream.specs.Sending.{sealed_with_syncs}
-pub use Rattle.spec_stream.specs.Sending.{sets_trusted, sync_before}
+pub use Rattle.spec_stream.specs.Sending.{sealed_with_syncs, sets_trusted, sync_before}
 pub use Rattle.spec_stream.specs.Slots.{rested_stream}
 pub use Rattle.spec_stream.specs.Stream.{Accepted, Failed, Held, Insecure, LiveKey, NotKeyed, RxSub, LaneSlots}
 pub use Rattle.spec_stream.specs.Stream.{StreamState, Three, TxSub, accepted_sub, at_sub, dropped_held, held_sub}

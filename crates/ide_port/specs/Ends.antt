@@ -5,11 +5,11 @@ use Rattle.ide_types.specs.declared.stream.StreamPlan.{StreamPlan}
 use Rattle.ide_prefix.specs.Packet.{Packet}
 use Rattle.spec_stream.specs.Stream.{StreamState}
 use Rattle.sub_stream.specs.Calls.{no_stream}
-use Rattle.ide_stream.specs.{StreamEnd}
+use Rattle.ide_port.specs.StreamEnds.{StreamEnd}
 
 -- The streams are those of its line, in order, with their states; a key seals at most `limit` units. `sealed` are the
 -- bytes of the packets of the last send, joined; `delivered` the packets of the last accepted unit, decrypted, until
--- the next packet or call of key management; `calls` counts sends and packets that came.
+-- the next packet or call of key management.
 pub record PortEnd : Type 0 where
   pub name : PortName
   pub plans : List StreamPlan
@@ -17,7 +17,6 @@ pub record PortEnd : Type 0 where
   pub states : List StreamState
   pub sealed : List ℕ
   pub delivered : List Packet
-  pub calls : ℕ
 
 abbrev pub new_port : PortName → List StreamPlan → ℕ → PortEnd
 new_port name plans limit = record {
@@ -27,7 +26,6 @@ new_port name plans limit = record {
   states = map (λ (s : StreamPlan). no_stream) plans;
   sealed = [];
   delivered = [];
-  calls = 0;
 }
 
 -- ---- one stream
@@ -56,7 +54,6 @@ stream_end_at e f = record {
   limit = e.limit;
   state = f.state;
   delivered = [];
-  calls = 0;
 }
 
 -- ---- a reset: no stream has keys, counts or a failure

@@ -1,17 +1,18 @@
 -- The streams of a port as the code keeps them, beside their plans.
-use Rattle.std.specs.Prelude.{◌≡◌, ℕ, ◌==◌, ◌<◌, ◌≤◌, nat_lt, Bool, true, false, ◌||◌, List, [], ◌∷◌, map, length}
-use Rattle.std.specs.Prelude.{slice_get, position, Option, Some, None, if◌then◌else◌}
+use Rattle.std.specs.Prelude.{◌≡◌, ℕ, ◌<◌, ◌≤◌, nat_lt, Bool, true, false, ◌||◌, List, [], ◌∷◌, map, length}
+use Rattle.std.specs.Prelude.{slice_get, Option, Some, None, if◌then◌else◌}
 use Rattle.std.specs.Option.{option_map}
 use Rattle.ide_types.specs.declared.port.Side.{Side}
 use Rattle.ide_types.specs.declared.sub.SubKind.{SubKind}
 use Rattle.ide_types.specs.declared.stream.StreamPlan.{StreamPlan}
+use Rattle.tlp_layout.specs.Choice.{plan_place}
 use Rattle.ide_prefix.specs.Packet.{Packet}
 use Rattle.ide_prefix.specs.{sub_from}
 use Rattle.spec_stream.specs.Stream.{LaneSlot, Armed, StreamState, at_sub}
 use Rattle.sub_stream.specs.declared.answer.Taken.{Taken}
 use Rattle.sub_stream.specs.declared.answer.Taken.TheVariants as taken
 use Rattle.link_verdicts.specs.declared.verdict.UnitName.{UnitName}
-use Rattle.ide_stream.specs.{StreamEnd, new_end}
+use Rattle.ide_port.specs.StreamEnds.{StreamEnd, new_end}
 use Rattle.ide_port.specs.declared.answer.Arrival.{Arrival}
 use Rattle.ide_port.specs.declared.answer.Arrival.TheVariants.{Insecure, NotKeyed, Fail, Held, Accepted}
 
@@ -36,19 +37,16 @@ stream_of side limit s x = record {
   limit = limit;
   state = x.state;
   delivered = x.delivered;
-  calls = x.calls;
 }
 
--- it had at most so many calls
-pub record IsStreamOf (side : Side) (limit calls : ℕ) (s : StreamPlan) (x : StreamEnd) : Type 0 where
+pub record IsStreamOf (side : Side) (limit : ℕ) (s : StreamPlan) (x : StreamEnd) : Type 0 where
   pub plan : x ≡ stream_of side limit s x
-  pub few : x.calls ≤ calls
   pub receivers : NoneWaits x.state
 
-abbrev pub AreStreamsOf : Side → ℕ → ℕ → List StreamPlan → List StreamEnd → Type 0
-AreStreamsOf side limit calls [] [] = Unit {0}
-AreStreamsOf side limit calls (s ∷ ss) (x ∷ xs) = IsStreamOf side limit calls s x × AreStreamsOf side limit calls ss xs
-AreStreamsOf side limit calls ss xs = ⊥
+abbrev pub AreStreamsOf : Side → ℕ → List StreamPlan → List StreamEnd → Type 0
+AreStreamsOf side limit [] [] = Unit {0}
+AreStreamsOf side limit (s ∷ ss) (x ∷ xs) = IsStreamOf side limit s x × AreStreamsOf side limit ss xs
+AreStreamsOf side limit ss xs = ⊥
 
 abbrev pub new_stream_ends : Side → ℕ → List StreamPlan → List StreamEnd
 new_stream_ends side limit plans = map (λ (s : StreamPlan). new_end side s.id s.aggregation s.closed limit) plans
@@ -65,20 +63,16 @@ delivered_at xs None = []
 delivered_at xs (Some place) = packets_lent (slice_get xs place)
 
 -- the streams are those of the plans, one of them lends, and what was sealed has room
-pub record IsKept (side : Side) (limit calls : ℕ) (plans : List StreamPlan) (streams : List StreamEnd) (lent : Option ℕ)
+pub record IsKept (side : Side) (limit : ℕ) (plans : List StreamPlan) (streams : List StreamEnd) (lent : Option ℕ)
     (sealed : List ℕ) (capacity : ℕ) : Type 0 where
-  pub each : AreStreamsOf side limit calls plans streams
+  pub each : AreStreamsOf side limit plans streams
   pub lends : (place : ℕ) → lent ≡ Some place → place < length streams
   pub short : length sealed ≤ 4184
   pub room : 4184 ≤ capacity
 
 -- ---- one stream
 
--- the place of the first stream of an ID
-abbrev pub plan_place : List StreamPlan → ℕ → Option ℕ
-plan_place plans id = position (λ (s : StreamPlan). s.id == id) plans
-
--- and the sub-stream of a number, if there is such a one
+-- the place of the first stream of an ID, and the sub-stream of a number, if there are such
 abbrev pub place_and_sub : List StreamPlan → ℕ → ℕ → Option (ℕ × SubKind)
 place_and_sub plans id sub = if nat_lt sub 3 then option_map (λ place. (place, sub_from sub)) (plan_place plans id)
     else None

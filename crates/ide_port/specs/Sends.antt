@@ -1,5 +1,5 @@
 -- What becomes of a send at a port.
-use Rattle.std.specs.Prelude.{ℕ, ◌≡◌, ◌+◌, Bool, List, [], map, Option, Some, None, Result, Ok, Err}
+use Rattle.std.specs.Prelude.{ℕ, ◌≡◌, Bool, List, [], map, Option, Some, None, Result, Ok, Err}
 use Rattle.ide_types.specs.declared.port.PortName.{PortName}
 use Rattle.link_verdicts.specs.declared.verdict.Verdict.{Verdict}
 use Rattle.link_verdicts.specs.declared.verdict.Verdict.TheVariants as v
@@ -12,10 +12,10 @@ use Rattle.tlp_layout.specs.Head.{head_bytes}
 use Rattle.tlp_layout.specs.Tlp.{header, body}
 use Rattle.ide_prefix.specs.Packet.{Packet}
 use Rattle.ide_prefix.specs.FaultWords.{tlp_word}
-use Rattle.association.specs.Outgoing.{Outgoing, NoTlp, OnNone, OnStream, outgoing_of}
+use Rattle.tlp_layout.specs.Outgoing.{Outgoing, NoTlp, OnNone, OnStream, outgoing_of}
 use Rattle.sub_stream.specs.declared.answer.MeasuredPacket.{MeasuredPacket}
-use Rattle.ide_stream.specs.{refusal_verdict, numbered_from, sending, sent_descriptions, packets_sent, end_sent}
-use Rattle.ide_stream.specs.{joined_packets, packet_lengths}
+use Rattle.stream_lanes.specs.{refusal_verdict, numbered_from, joined_packets, packet_lengths}
+use Rattle.ide_port.specs.StreamSends.{new_sending, sent_descriptions, packets_sent, end_sent}
 use Rattle.ide_port.specs.declared.answer.Sent.{Sent}
 use Rattle.ide_port.specs.declared.answer.Sent.TheVariants.{Malformed, Plain, Refused, Sealed}
 use Rattle.ide_port.specs.Ends.{PortEnd, Found, found_stream, changed_states, stream_end_at}
@@ -31,8 +31,8 @@ pub record SendStep : Type 0 where
   pub port : PortEnd
 
 -- nothing is sealed
-abbrev pub unsealed : PortEnd → Verdict → SendStep
-unsealed e verdict = record { verdict = verdict; packets = []; port = record e { sealed = []; calls = e.calls + 1 } }
+abbrev pub unsealed_step : PortEnd → Verdict → SendStep
+unsealed_step e verdict = record { verdict = verdict; packets = []; port = record e { sealed = [] } }
 
 abbrev pub as_verdict : Result (List Described) Verdict → Verdict
 as_verdict (Ok packets) = v.Sealed packets
@@ -40,10 +40,10 @@ as_verdict (Err verdict) = verdict
 
 -- a TLP on a stream; it goes plain if the port has no such stream
 abbrev pub stream_step : PortEnd → Tlp → Bool → Bool → ℕ → Option Found → SendStep
-stream_step e t more trusted number None = unsealed e (v.Plain e.name)
+stream_step e t more trusted number None = unsealed_step e (v.Plain e.name)
 stream_step e t more trusted number (Some f) =
     let x = stream_end_at e f in
-    let s = sending e.name f.plan.id (class_of (header t)) more trusted in
+    let s = new_sending e.name f.plan.id (class_of (header t)) more trusted in
     let packets = packets_sent x (head_bytes (header t)) (body t) s number in
     record {
       verdict = as_verdict (sent_descriptions x s number);
@@ -53,14 +53,13 @@ stream_step e t more trusted number (Some f) =
             states = changed_states e.plans e.states f.plan.id
                 (end_sent x (head_bytes (header t)) (body t) s number).state;
             sealed = joined_packets packets;
-            calls = e.calls + 1;
           };
     }
 
 -- a send whose bytes come to this, and whose first sealed packet has this number over the run
 abbrev pub send_step : PortEnd → Outgoing → Bool → Trusting → ℕ → SendStep
-send_step e (NoTlp fault) more sets number = unsealed e (v.Malformed e.name (tlp_word fault) (place_in fault))
-send_step e OnNone more sets number = unsealed e (v.Plain e.name)
+send_step e (NoTlp fault) more sets number = unsealed_step e (v.Malformed e.name (tlp_word fault) (place_in fault))
+send_step e OnNone more sets number = unsealed_step e (v.Plain e.name)
 send_step e (OnStream t id) more sets number = stream_step e t more (sets (header t) id) number
     (found_stream e.plans e.states id)
 

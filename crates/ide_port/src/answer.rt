@@ -1,7 +1,7 @@
 //! What a port answers.
 
+use crate::{MeasuredPackets, SendRefusal};
 use ide_prefix::PacketFault;
-use ide_stream::{MeasuredPackets, SendRefusal};
 use ide_types::{FailCause, SubKind};
 use link_verdicts::UnitName;
 use tlp_layout::TlpFault;

@@ -3,9 +3,10 @@
 ghost use Rattle.std.specs.Prelude.{◌≡◌, IfOk, map, All};
 ghost use Rattle.ide_types.specs.Fits.{FitsStream};
 ghost use Rattle.ide_prefix.specs.{sub_from};
-ghost use Rattle.ide_port.specs.Kept.{plan_place, place_and_sub, new_stream_ends};
+ghost use Rattle.tlp_layout.specs.Choice.{plan_place};
+ghost use Rattle.ide_port.specs.Kept.{place_and_sub, new_stream_ends};
 
-use ide_stream::Stream;
+use crate::Stream;
 use ide_types::{Items, OutOfMemory, Selector, Side, StreamPlan, SubKind};
 use std::alloc::Global;
 

@@ -1,21 +1,20 @@
 //! A port.
 
-ghost use Rattle.std.specs.Prelude.{◌≡◌, ◌+◌, ◌<◌, ◌≤◌, ◌^◌, ℕ, [], Ok, Some, IfOk, All, length, map};
+ghost use Rattle.std.specs.Prelude.{◌≡◌, ◌+◌, ◌<◌, ◌≤◌, ◌^◌, ℕ, [], Ok, Some, IfOk, IfSome, All, length, map};
 ghost use Rattle.tlp_layout.specs.Head.{head_bytes};
 ghost use Rattle.tlp_layout.specs.Tlp.{header, body, viewed_tlp};
 ghost use Rattle.tlp_layout.specs.Reading.{read_of};
-ghost use Rattle.association.specs.Choice.{chosen_stream};
+ghost use Rattle.tlp_layout.specs.Choice.{choice_in, choice_of, chosen_stream, plan_place};
 ghost use Rattle.ide_types.specs.Fits.{FitsStream};
 ghost use Rattle.ide_prefix.specs.Cut.{packet_of_view, IsView};
-ghost use Rattle.ide_stream.specs.{reset_end};
+ghost use Rattle.ide_port.specs.StreamEnds.{reset_end};
 ghost use Rattle.ide_port.specs.Kept.{arrival_said};
 
 use crate::answer::{Arrival, Sent};
 use crate::plans::{copied, lane, place, planned};
 use crate::trusting::Trusting;
-use association::{Choice, choose};
+use crate::{SEND_ROOM, Stream};
 use ide_prefix::{Cut, PacketView, cut};
-use ide_stream::{SEND_ROOM, Stream};
 use ide_types::{Items, KeySet, OutOfMemory, PortName, Side, StreamPlan, StreamStatus, SubKind};
 use key_messages::{Place, ProgramFault, SlotPort};
 use key_slots::{Key, OnlyLive};
@@ -23,7 +22,7 @@ use link_verdicts::UnitName;
 use std::alloc::Global;
 use std::marker::Model;
 use sub_stream::{Delivered, StreamFacts, Taken};
-use tlp_layout::{TlpView, read};
+use tlp_layout::{ChosenStream, HeadView, TlpView, choose, read};
 use tsm_host::HostPort;
 
 /// A port at an end of a line with the line's streams (PCI Express Base 6.0 section 6.33, in this profile).
@@ -38,12 +37,11 @@ pub struct Port {
     sealed: Vec<u8>,
     // the place of the stream that lends what it accepted
     lent: Option<usize>,
-    calls: u64,
 }
 
 impl Model for Port {
     ghost use Rattle.std.specs.Prelude.{map, vec_capacity};
-    ghost use Rattle.ide_stream.specs.{StreamEnd};
+    ghost use Rattle.ide_port.specs.StreamEnds.{StreamEnd};
     ghost use Rattle.ide_port.specs.Ends.{PortEnd};
     ghost use Rattle.ide_port.specs.Kept.{IsKept, delivered_at};
 
@@ -56,21 +54,10 @@ impl Model for Port {
       states = map (λ (x : StreamEnd). x.state) p.streams.items;
       sealed = p.sealed.items;
       delivered = delivered_at p.streams.items p.lent;
-      calls = p.calls;
     } };
 
     ghost invariant = { λ p.
-        IsKept p.name.side p.limit p.calls p.plans p.streams.items p.lent p.sealed.items (vec_capacity p.sealed) };
-}
-
-// The stream that a choice names.
-fn named(choice: Choice) -> Option<u8>
-    ensures { result ≡ chosen_stream choice }
-{
-    match choice {
-        Choice::Selective(id) | Choice::Default(id) | Choice::Link(id) => Some(id),
-        Choice::Plain => None,
-    }
+        IsKept p.name.side p.limit p.plans p.streams.items p.lent p.sealed.items (vec_capacity p.sealed) };
 }
 
 // The header and the payload of a TLP's bytes.
@@ -122,9 +109,11 @@ fn reset_streams(streams: &mut Vec<Stream>)
 impl Port {
     ghost use Rattle.ide_port.specs.Ends.{new_port, found_stream, reset_port};
     ghost use Rattle.ide_prefix.specs.Reading.{cut_of};
-    ghost use Rattle.association.specs.Outgoing.{outgoing_on, outgoing_of, stream_taken};
-    ghost use Rattle.ide_port.specs.Sends.{IsSendStep, IsSentAtPort, send_step, stream_step, sent_verdict, unsealed};
+    ghost use Rattle.tlp_layout.specs.Outgoing.{outgoing_on, outgoing_of, stream_taken};
+    ghost use Rattle.ide_port.specs.Sends.{IsSendStep, IsSentAtPort, send_step, stream_step, sent_verdict};
+    ghost use Rattle.ide_port.specs.Sends.{unsealed_step};
     ghost use Rattle.ide_port.specs.Arrivals.{take_step, packet_step};
+    ghost use Rattle.ide_port.specs.Units.{PortUnitsAtMost};
     ghost use Rattle.ide_port.specs.Calls.{port_stream_status, live_in_port};
     ghost use Rattle.ide_port.specs.Calls.{sealing_draw_in, receiving_draw_in};
 
@@ -148,25 +137,22 @@ impl Port {
             streams,
             sealed,
             lent: None,
-            calls: 0,
         })
     }
 
     // Nothing is sealed.
     fn unsealed(&mut self)
-        requires { self.old.calls < 2 ^ 40 }
-        ensures { self.new ≡ record self.old { sealed = []; calls = self.old.calls + 1 } }
+        ensures { self.new ≡ record self.old { sealed = [] } }
     {
         self.sealed.clear();
-        self.calls += 1;
     }
 
     /// Sends a TLP's bytes: the TLP takes a stream, which seals it after the sync packets that must go first, or it
     /// goes plain. `more` says that the unit goes on if it has room, `trusting` whether T is set. What was sealed is
     /// lent by `packets` until the next send.
-    #[tactic(auto, unfolding(association::specs::Outgoing::outgoing_of))]
+    #[tactic(auto, unfolding(tlp_layout::specs::Outgoing::outgoing_of))]
     pub fn send<T: Trusting>(&mut self, tlp: &[u8], more: bool, trusting: &T) -> Sent
-        requires { self.old.calls < 2 ^ 40 }
+        requires { PortUnitsAtMost (2 ^ 40) self.old }
         // Whatever the number of the next sealed packet is over the run.
         ensures { (number : ℕ) → IsSentAtPort self.old tlp.now more (T.trusting trusting.now) number result self.new }
     {
@@ -176,8 +162,8 @@ impl Port {
                 Sent::Malformed(fault)
             }
             Ok(view) => {
-                let choice = choose(&self.plans, self.name.side, &view.head());
-                self.send_chosen(named(choice), tlp, &view, more, trusting)
+                let stream = choose(&self.plans, self.name.side, &view.head());
+                self.send_chosen(stream, tlp, &view, more, trusting)
             }
         }
     }
@@ -185,46 +171,51 @@ impl Port {
     // Sends a TLP on the stream that it takes.
     fn send_chosen<T: Trusting>(
         &mut self,
-        id: Option<u8>,
+        chosen: Option<ChosenStream>,
         bytes: &[u8],
         tlp: &TlpView,
         more: bool,
         trusting: &T,
     ) -> Sent
-        requires few { self.old.calls < 2 ^ 40 }
+        requires few { PortUnitsAtMost (2 ^ 40) self.old }
         requires read { read_of bytes.now ≡ Ok (viewed_tlp tlp.now) }
-        ensures { (number : ℕ) → IsSendStep self.old.name number result self.new
-            (send_step self.old (outgoing_on (viewed_tlp tlp.now) id) more (T.trusting trusting.now) number) }
+        requires place { IfSome chosen (λ c. plan_place self.old.plans c.id ≡ Some c.place) }
+        ensures { (number : ℕ) → let out = outgoing_on (viewed_tlp tlp.now) (chosen_stream (choice_in chosen)) in
+            IsSendStep self.old.name number result self.new
+            (send_step self.old out more (T.trusting trusting.now) number) }
     {
-        match id {
+        match chosen {
             None => {
                 self.unsealed();
                 Sent::Plain
             }
-            Some(id) => {
-                let t = trusting.is_trusted(&tlp.head(), id);
-                self.send_on(id, bytes, tlp, more, t)
+            Some(chosen) => {
+                let t = trusting.is_trusted(&tlp.head(), chosen.id);
+                self.send_on(chosen, bytes, tlp, more, t)
             }
         }
     }
 
     // Sends a TLP on a stream.
-    fn send_on(&mut self, id: u8, bytes: &[u8], tlp: &TlpView, more: bool, trusted: bool) -> Sent
-        requires few { self.old.calls < 2 ^ 40 }
+    fn send_on(
+        &mut self,
+        chosen: ChosenStream,
+        bytes: &[u8],
+        tlp: &TlpView,
+        more: bool,
+        trusted: bool,
+    ) -> Sent
+        requires few { PortUnitsAtMost (2 ^ 40) self.old }
         requires read { read_of bytes.now ≡ Ok (viewed_tlp tlp.now) }
-        ensures { (number : ℕ) → let f = found_stream self.old.plans self.old.states id in
+        requires place { plan_place self.old.plans chosen.id ≡ Some chosen.place }
+        ensures { (number : ℕ) → let f = found_stream self.old.plans self.old.states chosen.id in
             IsSendStep self.old.name number result self.new
             (stream_step self.old (viewed_tlp tlp.now) more trusted number f) }
     {
-        let Some(place) = place(self.plans.as_slice(), id) else {
-            self.unsealed();
-            return Sent::Plain;
-        };
         let (head, payload) = parts(bytes, tlp);
         let sealed = &mut self.sealed;
         sealed.clear();
-        self.calls += 1;
-        let stream = &mut self.streams[place];
+        let stream = &mut self.streams[chosen.place];
         match stream.send(tlp.class(), head, payload, more, trusted, sealed) {
             Ok(sealed) => Sent::Sealed(sealed),
             Err(refusal) => Sent::Refused(refusal),
@@ -241,16 +232,14 @@ impl Port {
 
     // Nothing of a stream changes, and nothing is lent any more.
     fn untaken(&mut self)
-        requires { self.old.calls < 2 ^ 40 }
-        ensures { self.new ≡ record self.old { delivered = []; calls = self.old.calls + 1 } }
+        ensures { self.new ≡ record self.old { delivered = [] } }
     {
         self.lent = None;
-        self.calls += 1;
     }
 
     /// Takes bytes that arrive. What an accepted unit carries is lent until the next arrival or call of key management.
     pub fn take(&mut self, bytes: &[u8]) -> Arrival
-        requires { self.old.calls < 2 ^ 40 }
+        requires { PortUnitsAtMost (2 ^ 40) self.old }
         ensures answer { result ≡ (take_step self.old (cut_of bytes.now)).answer }
         ensures port { self.new ≡ (take_step self.old (cut_of bytes.now)).port }
     {
@@ -269,7 +258,7 @@ impl Port {
 
     // Takes a packet of a stream.
     fn take_packet(&mut self, packet: &PacketView) -> Arrival
-        requires few { self.old.calls < 2 ^ 40 }
+        requires few { PortUnitsAtMost (2 ^ 40) self.old }
         requires view { IsView packet.now }
         ensures answer { let f = found_stream self.old.plans self.old.states packet.now.prefix.stream in
             result ≡ (packet_step self.old (packet_of_view packet.now) f).answer }
@@ -281,7 +270,6 @@ impl Port {
             self.untaken();
             return Arrival::Unknown(id);
         };
-        self.calls += 1;
         self.lent = Some(place);
         let stream = &mut self.streams[place];
         arrival(id, packet.prefix.sub, stream.take(packet))
@@ -337,14 +325,24 @@ impl Port {
         }
     }
 
+    /// The stream that a TLP with this header takes, if it takes one (PCI Express Base 6.0 section 6.33).
+    pub fn stream_by_head(&self, head: &HeadView) -> Option<u8>
+        ensures { result ≡ chosen_stream (choice_of self.now.plans self.now.name.side head.now) }
+    {
+        match choose(&self.plans, self.name.side, head) {
+            None => None,
+            Some(stream) => Some(stream.id),
+        }
+    }
+
     /// The stream that a TLP with these bytes takes, if it is one and takes one (PCI Express Base 6.0 section 6.33).
-    #[tactic(auto, unfolding(association::specs::Outgoing::outgoing_of))]
+    #[tactic(auto, unfolding(tlp_layout::specs::Outgoing::outgoing_of))]
     pub fn outgoing_stream(&self, tlp: &[u8]) -> Option<u8>
         ensures { result ≡ stream_taken (outgoing_of self.now.plans self.now.name.side tlp.now) }
     {
         match read(tlp) {
             Err(_) => None,
-            Ok(view) => named(choose(&self.plans, self.name.side, &view.head())),
+            Ok(view) => self.stream_by_head(&view.head()),
         }
     }
 

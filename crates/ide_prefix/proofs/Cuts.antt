@@ -6,7 +6,7 @@ use Rattle.std.specs.Prelude.{◌↔◌, IfOk, IfErr, MatchResult}
 use Rattle.std.proofs.Math.Seq.{drop-append_seam, take-append_seam}
 use Rattle.std.proofs.lemmas.Bool.{cases_Bool}
 use Rattle.std.proofs.lemmas.List.{get_or_append_left}
-use Rattle.ide_types.specs.Walks.{reading}
+use Rattle.ide_types.specs.Walks.{whole_reading}
 use Rattle.ide_types.proofs.Walks.{reads_iff, refuses_iff as refused}
 use Rattle.tlp_layout.specs.{class_of, body_size, head_size, head_of, rest_size, layout_of}
 use Rattle.ide_prefix.specs.declared.packet.Prefix.{Prefix}
@@ -15,14 +15,13 @@ use Rattle.ide_prefix.specs.Packet.{packet_bytes, begins_sync, is_sync_packet, I
 use Rattle.ide_prefix.specs.Packet.{FitsPacket, SpellsPacket, IsPacket}
 use Rattle.ide_prefix.specs.Causes.{is_plain, packet_fault_at}
 use Rattle.ide_prefix.specs.Faults.{IsPacketFault}
-use Rattle.ide_prefix.specs.Reading.{sync_at}
-use Rattle.ide_prefix.specs.Reading.{packet_read, wants_packet, packet_may_follow, CutValue, PlainTlp, IdePacket}
+use Rattle.ide_prefix.specs.Reading.{sync_at, packet_read, wants_packet, packet_may_follow, CutValue, PlainTlp}
+use Rattle.ide_prefix.specs.Reading.{IdePacket, head_part, body_part, cut_of}
 use Rattle.ide_prefix.specs.Cut.{packet_of_view, cut_value, cut_values, IsCut}
 use Rattle.tlp_layout.specs.Reading.{read_head_of}
 use Rattle.tlp_layout.proofs.Readings.{read_head_spells}
 use Rattle.ide_prefix.specs.declared.packet.Cut.{Cut}
 use Rattle.ide_prefix.specs.declared.packet.Cut.TheVariants.{Plain, Ide}
-use Rattle.ide_prefix.specs.Reading.{head_part, body_part, cut_of}
 use Rattle.ide_prefix.proofs.Units.{not_sync}
 use Rattle.ide_prefix.proofs.Grammar.{packets, prefix_again, sync_is, sync_begins}
 use Rattle.ide_prefix.proofs.Terms.{HeadView, IsRight, kept, again, head_size_at_least, head_size_at_most, body_at_most}
@@ -151,7 +150,8 @@ cut_plain s e = rw e refl
 abbrev value_in : List ℕ → CutValue
 value_in s = IdePacket (packet_read s)
 
-cut_ide : (s : List ℕ) → is_plain s ≡ false → cut_of s ≡ reading wants_packet packet_may_follow value_in packet_fault_at
+cut_ide : (s : List ℕ) → is_plain s ≡ false → cut_of s
+    ≡ whole_reading wants_packet packet_may_follow value_in packet_fault_at
     s
 unfolding cut_of
 cut_ide s e = rw e refl
@@ -167,7 +167,7 @@ value_is (IdePacket p) s sp =
     (record { packet = p; spells = sp }, ap (λ (x : Packet). IdePacket x) (packet_value p s sp))
 
 reads_value : (v : CutValue) (s : List ℕ) → (SpellsValue v s) ↔
-    (reading wants_packet packet_may_follow value_in packet_fault_at s ≡ Ok v)
+    (whole_reading wants_packet packet_may_follow value_in packet_fault_at s ≡ Ok v)
 reads_value = reads_iff packets value_in packet_fault_at SpellsValue (λ s x. (IdePacket x.packet, x.spells)) value_is
 
 pub plain_iff : (s : List ℕ) → (is_plain s ≡ true) ↔ (cut_of s ≡ Ok PlainTlp)

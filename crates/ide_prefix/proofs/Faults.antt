@@ -6,15 +6,13 @@ use Rattle.std.proofs.Common.{length-take, length-drop, get_or-take, get_or-drop
 use Rattle.std.proofs.Common.{append-nil, min, not, add_comm}
 use Rattle.std.specs.Prelude.{MatchOption}
 use Rattle.std.specs.Array.{IsWholeChunk}
-use Rattle.tlp_layout.specs.{kind_at, head_size, has_data, layout_at, fault_at, cause_at, head_of, rest_size}
+use Rattle.tlp_layout.specs.{kind_of_byte, head_size, has_data, layout_at, fault_at, cause_at, head_of, rest_size}
 use Rattle.tlp_layout.specs.{may_follow, body_size, layout_of, head_bytes}
 use Rattle.ide_prefix.specs.Causes.{prefix_read, clear_size, fits_early, packet_fault_at}
 use Rattle.ide_prefix.specs.Cut.{lent_tag}
 use Rattle.ide_prefix.specs.Faults.{GoesOff}
-use Rattle.ide_prefix.specs.Packet.{FitsPacket}
-use Rattle.ide_prefix.specs.Packet.{is_sync_packet, SpellsPacket, begins_sync}
-use Rattle.ide_prefix.specs.Reading.{sync_at, tag_part, packet_size}
-use Rattle.ide_prefix.specs.Reading.{packet_may_follow}
+use Rattle.ide_prefix.specs.Packet.{FitsPacket, is_sync_packet, SpellsPacket, begins_sync}
+use Rattle.ide_prefix.specs.Reading.{sync_at, tag_part, packet_size, packet_may_follow}
 use Rattle.ide_prefix.specs.declared.fault.PacketFault.{PacketFault}
 use Rattle.ide_prefix.specs.declared.packet.Prefix.{Prefix}
 use Rattle.ide_prefix.specs.Inside.{StopsEarly, StopsSync, StopsInHead, HasHeader, SizesAre, head_slice}
@@ -28,10 +26,9 @@ use Rattle.std.proofs.lemmas.Bool.{true≢false}
 use Rattle.std.proofs.lemmas.List.{nil_from_length}
 use Rattle.ide_types.proofs.Fronts.{Fitting, EndsAt, place_of, ends_of}
 use Rattle.ide_prefix.specs.declared.fault.PacketFault.TheVariants.{Short, Trailing, Tlp}
-use Rattle.ide_prefix.proofs.Terms.{Layout, HeadView, belongs, fault_after_prefix, kind_among, Packet, IsRight, kept}
-use Rattle.ide_prefix.proofs.Terms.{again}
-use Rattle.ide_prefix.proofs.Terms.{body_at_most, IsWalked, fits_from, head_size_at_least, rest_front, SubKind, heads}
-use Rattle.ide_prefix.proofs.Terms.{is_right, walked_of}
+use Rattle.ide_prefix.proofs.Terms.{Layout, HeadView, belongs, fault_after_prefix, kind_if_layout, Packet, IsRight}
+use Rattle.ide_prefix.proofs.Terms.{kept, again, body_at_most, IsWalked, fits_from, head_size_at_least, rest_front}
+use Rattle.ide_prefix.proofs.Terms.{SubKind, heads, is_right, walked_of}
 
 -- a walk up to a place, and no further
 halt : (s : List ℕ) (place : ℕ) → place ≤ length s → place ≤ packet_size s → IsWalkedPacket s place
@@ -92,7 +89,7 @@ head_walked s place fit long early plain le w = record {
 }
 
 -- a header's first bytes are not off at the first one, if the packet's byte 4 is right
-some_kind : (sub : SubKind) (p : Bool) (o : Option Layout) → belongs sub (kind_among o p) ≡ true → is_some o ≡ true
+some_kind : (sub : SubKind) (p : Bool) (o : Option Layout) → belongs sub (kind_if_layout o p) ≡ true → is_some o ≡ true
 some_kind sub p None e = absurd cc
 some_kind sub p (Some k) e = refl
 
@@ -100,8 +97,8 @@ begins_head : (s : List ℕ) → IsBytes s → 5 ≤ length s → ((i : ℕ) →
     → sync_at s ≡ false → IsTrue (may_follow [] (get_or s 4 0))
 begins_head s fit long early plain =
     let first : cond (sync_at s) (cond (prefix_read s).m (not (prefix_read s).t) false)
-    (belongs (prefix_read s).sub (kind_at (get_or s 4 0))) ≡ true = early 4 (omega arith) in
-    let c : belongs (prefix_read s).sub (kind_at (get_or s 4 0)) ≡ true = rw plain at first in
+    (belongs (prefix_read s).sub (kind_of_byte (get_or s 4 0))) ≡ true = early 4 (omega arith) in
+    let c : belongs (prefix_read s).sub (kind_of_byte (get_or s 4 0)) ≡ true = rw plain at first in
     and_from _ _ (lt-ltb _ _ (fit 4))
     (some_kind (prefix_read s).sub (has_data (get_or s 4 0)) (layout_at (get_or s 4 0)) c)
 

@@ -10,22 +10,20 @@ use Rattle.std.proofs.lemmas.Bool.{eqb-true, ne_eqb, and_parts, and_from, agree_
 use Rattle.std.proofs.lemmas.List.{ext_get_or, drop-take, get_or_past, get_or-replicate, get_or_append_left}
 use Rattle.std.proofs.lemmas.List.{get_or-append_right}
 use Rattle.std.proofs.lemmas.List.Elements.{All-from_get_or}
-use Rattle.tlp_layout.specs.{bit, head_size, has_data, layout_at, class_of, kind_class, kind_with, kind_at, head_of}
-use Rattle.tlp_layout.specs.{rest_size, may_follow, whole_size, body_size, layout_of}
+use Rattle.tlp_layout.specs.{bit, head_size, has_data, layout_at, class_of, kind_class, kind_with, kind_of_byte}
+use Rattle.tlp_layout.specs.{head_of, rest_size, may_follow, whole_size, body_size, layout_of}
 use Rattle.ide_types.specs.Sub.{sub_bits}
-use Rattle.ide_prefix.specs.Reading.{sync_at, tag_part, packet_size, packet_may_follow}
-use Rattle.ide_prefix.specs.Causes.{sub_from, prefix_read}
-use Rattle.ide_prefix.specs.Causes.{fits_first, fits_early}
+use Rattle.ide_prefix.specs.Reading.{sync_at, tag_part, packet_size, packet_may_follow, fits_late}
+use Rattle.ide_prefix.specs.Causes.{sub_from, prefix_read, fits_first, fits_early}
 use Rattle.ide_prefix.specs.Packet.{prefix_bytes, packet_bytes, IsCarried, IsSync, FitsPrefix}
 use Rattle.ide_prefix.specs.Packet.{FitsPacket, SpellsPacket, IsPacket, sync_head, begins_sync}
 use Rattle.ide_prefix.specs.declared.packet.Prefix.{Prefix}
 use Rattle.tlp_layout.specs.declared.layout.Layout.TheVariants as layouts
-use Rattle.ide_prefix.specs.Reading.{fits_late}
 use Rattle.ide_types.proofs.Cells.{IsBytes, cells, drop_cells, all_bytes}
 use Rattle.ide_prefix.proofs.Units.{Prefix-of, flags, parts_of, bit_small, sub_small, sub_again, low_flags, not_sync}
 use Rattle.ide_types.proofs.Fronts.{Fitting, IsGrammar}
-use Rattle.ide_prefix.proofs.Terms.{Layout, HeadView, SubKind, Pr, Npr, Cpl, belongs, Packet, kind_among, IsRight, kept}
-use Rattle.ide_prefix.proofs.Terms.{again, back, IsWalked, fits_from, agrees_there, head_size_at_least, next_fits}
+use Rattle.ide_prefix.proofs.Terms.{Layout, HeadView, SubKind, Pr, Npr, Cpl, belongs, Packet, kind_if_layout, IsRight}
+use Rattle.ide_prefix.proofs.Terms.{kept, again, back, IsWalked, fits_from, agrees_there, head_size_at_least, next_fits}
 use Rattle.ide_prefix.proofs.Terms.{rest_front, take_right, walked_of}
 
 -- ---- what a walk says
@@ -154,7 +152,7 @@ prefix_is_front s le w =
     cc
 
 -- what byte 4 of a packet that carries a TLP says
-carried_first : (sub : SubKind) (p : Bool) (o : Option Layout) → belongs sub (kind_among o p) ≡ true
+carried_first : (sub : SubKind) (p : Bool) (o : Option Layout) → belongs sub (kind_if_layout o p) ≡ true
     → (k : Layout) × (o ≡ Some k) × (kind_class (kind_with k p) ≡ sub)
 carried_first sub p None e = absurd cc
 carried_first sub p (Some k) e =
@@ -206,8 +204,8 @@ pub tail_walked : (s : List ℕ) → 5 ≤ length s → IsWalkedPacket s (length
     (kind_class (kind_with k (has_data (get_or s 4 0))) ≡ (prefix_read s).sub)
 tail_walked s le w n =
     let first : cond (sync_at s) (cond (prefix_read s).m (not (prefix_read s).t) false)
-    (belongs (prefix_read s).sub (kind_at (get_or s 4 0))) ≡ true = w.early 4 (omega arith) (omega arith) in
-    let c : belongs (prefix_read s).sub (kind_at (get_or s 4 0)) ≡ true = rw n at first in
+    (belongs (prefix_read s).sub (kind_of_byte (get_or s 4 0))) ≡ true = w.early 4 (omega arith) (omega arith) in
+    let c : belongs (prefix_read s).sub (kind_of_byte (get_or s 4 0)) ≡ true = rw n at first in
     let k = carried_first (prefix_read s).sub (has_data (get_or s 4 0)) (layout_at (get_or s 4 0)) c in
     let zeroth : get_or (drop 4 s) 0 0 ≡ get_or s 4 0 = get_or-drop 4 s 0 0 in
     let kind : layout_at (get_or (drop 4 s) 0 0) ≡ Some k.0 = ap layout_at zeroth ∙ k.1 in (
@@ -324,7 +322,7 @@ sync_spells s le w y size =
     let long : length s ≡ 16 + tag_part s = size ∙ size_sync s y in
     let f = sync_of (prefix_read s).sub (get_or s 4 0) y in
     let first : cond (sync_at s) (cond (prefix_read s).m (not (prefix_read s).t) false)
-    (belongs (prefix_read s).sub (kind_at (get_or s 4 0))) ≡ true = w.early 4 (omega arith) (omega arith) in
+    (belongs (prefix_read s).sub (kind_of_byte (get_or s 4 0))) ≡ true = w.early 4 (omega arith) (omega arith) in
     let flags : cond (prefix_read s).m (not (prefix_read s).t) false ≡ true = rw y at first in
     let mt = flags_are (prefix_read s).m (prefix_read s).t flags in
     let t = drop 4 s in
@@ -435,7 +433,8 @@ carried_spelled p f c =
     let plain : begins_sync p.prefix.sub (get_or x 0 0) ≡ false = not_sync p.prefix.sub c.head (get_or x 0 0) w.kind
     c.class in
     let class = ap (λ (h : HeadView). kind_class (kind_with k h.has_payload)) same ∙ c.class in
-    let carried : belongs p.prefix.sub (kind_at (get_or x 0 0)) ≡ true = rw w.kind (eq-eqb _ _ (ap sub_bits class)) in
+    let carried : belongs p.prefix.sub (kind_of_byte (get_or x 0 0)) ≡ true = rw w.kind (eq-eqb _ _ (ap sub_bits class))
+    in
     let first : fits_first p.prefix (get_or x 0 0) ≡ true = rw plain carried in
     let no : sync_at (packet_bytes p) ≡ false = sync_is p.prefix x ∙ plain in
     let head0 : get_or x 0 0 ≡ get_or p.head 0 0 = get_or_append_left p.head more 0 0

@@ -8,7 +8,7 @@ use Rattle.tlp_layout.specs.declared.head.TlpKind.{TlpKind}
 use Rattle.tlp_layout.specs.declared.fault.TlpFault.{TlpFault}
 use Rattle.tlp_layout.specs.declared.fault.TlpFault.TheVariants as tlps
 use Rattle.tlp_layout.specs.Causes.{head_size, cause_at}
-use Rattle.tlp_layout.specs.Class.{kind_at, kind_class}
+use Rattle.tlp_layout.specs.Class.{kind_of_byte, kind_class}
 use Rattle.ide_prefix.specs.declared.packet.Prefix.{Prefix}
 use Rattle.ide_prefix.specs.declared.fault.PacketFault.{PacketFault}
 use Rattle.ide_prefix.specs.declared.fault.PacketFault.TheVariants.{Short, Reserved, SubStream, Class, Tlp, Sync}
@@ -46,7 +46,7 @@ belongs sub (Some kind) = sub_bits (kind_class kind) == sub_bits sub
 abbrev pub fits_first : Prefix → ℕ → Bool
 fits_first p b =
     if begins_sync p.sub b then (if p.m then not p.t else false)
-    else belongs p.sub (kind_at b)
+    else belongs p.sub (kind_of_byte b)
 
 -- byte 1: bits 4:3 are 0, and the sub-stream is one of three; byte 3: posted packets carry no count
 abbrev pub fits_early : ℕ → List ℕ → ℕ → Bool
@@ -65,7 +65,7 @@ early_cause place s b =
     if place == 1 then (if b / 8 % 4 == 0 then SubStream 1 else Reserved 1)
     else if place == 4 then
     (if begins_sync (prefix_read s).sub b then Sync 4
-    else if is_some (kind_at b) then Class 4
+    else if is_some (kind_of_byte b) then Class 4
     else Tlp (tlps.Kind 4))
     else Reserved place
 

@@ -7,6 +7,9 @@ pub mod Cut
 pub mod Inside
 pub mod Iv
 pub mod FaultWords
+pub mod CollectedUnits
+pub mod Layout
+pub mod Lending
 -- what clauses and crates above cite
 pub use Rattle.ide_types.specs.Sub.{sub_bits}
 pub use Rattle.ide_types.specs.Fronts.{Begins, IsFaultPlace}
@@ -30,3 +33,7 @@ pub use Rattle.ide_prefix.specs.Cut.{packet_of_view, cut_value, cut_values, lent
 pub use Rattle.ide_prefix.specs.Iv.{iv_of}
 unfoldable pub use Rattle.ide_prefix.specs.Reading.{cut_of}
 pub use Rattle.ide_prefix.specs.FaultWords.{tlp_word, packet_word}
+pub use Rattle.ide_prefix.specs.CollectedUnits.{Collected, empty_unit, heads_of, bodies_of, aad_of, body_of, has_room}
+pub use Rattle.ide_prefix.specs.CollectedUnits.{unit_with_packet, overwritten_bytes, packets_with_bodies, with_bodies}
+pub use Rattle.ide_prefix.specs.CollectedUnits.{lengths_of, KeepsLengths}
+pub use Rattle.ide_prefix.specs.Lending.{LendsBody}

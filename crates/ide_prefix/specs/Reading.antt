@@ -1,12 +1,12 @@
 -- Reading a packet from left to right: its parts, or the first fault, as a function.
-use Rattle.std.specs.Prelude.{ℕ, ◌+◌, Bool, true, List, length, take, drop, slice_index, Result, Ok, nat_lt, ◌==◌, ◌&&◌}
+use Rattle.std.specs.Prelude.{ℕ, ◌+◌, Bool, true, List, length, take, drop, slice_index, Ok, nat_lt, ◌==◌, ◌&&◌, Result}
 use Rattle.std.specs.Prelude.{if◌then◌else◌}
-use Rattle.ide_types.specs.Walks.{reading}
+use Rattle.ide_types.specs.Walks.{whole_reading}
 use Rattle.tlp_layout.specs.Causes.{head_size}
 use Rattle.tlp_layout.specs.Reading.{may_follow, rest_size}
-use Rattle.ide_prefix.specs.declared.fault.PacketFault.{PacketFault}
 use Rattle.ide_prefix.specs.Packet.{Packet, begins_sync}
 use Rattle.ide_prefix.specs.Causes.{is_plain, prefix_read, fits_early, packet_fault_at}
+use Rattle.ide_prefix.specs.declared.fault.PacketFault.{PacketFault}
 
 -- ---- the parts of a packet, whose bytes count as 0 if they are not there yet
 
@@ -61,4 +61,4 @@ pub data CutValue : Type 0 where
 unfoldable pub cut_of : List ℕ → Result CutValue PacketFault
 cut_of bytes =
     if is_plain bytes then Ok PlainTlp
-    else reading wants_packet packet_may_follow (λ s. IdePacket (packet_read s)) packet_fault_at bytes
+    else whole_reading wants_packet packet_may_follow (λ s. IdePacket (packet_read s)) packet_fault_at bytes

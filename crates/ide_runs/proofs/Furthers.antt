@@ -15,11 +15,12 @@ use Rattle.ide_runs.specs.declared.topologies.Loaded.{Loaded}
 use Rattle.ide_runs.specs.declared.topologies.Loaded.TheVariants.{Sound, Faulty, Long}
 use Rattle.ide_runs.specs.Loading.{GaveAllOf, LoadedIn, LoadedOf}
 use Rattle.ide_runs.specs.Reads.{LoadedNoFurther, RunNoFurther, ScriptGoesOn}
-use Rattle.ide_runs.specs.Topologies.{loaded}
+use Rattle.ide_runs.specs.Topologies.{loaded_topology}
 
 -- ---- after a sound topology
 
-behind_in : (topology script : Option Text) (plan : Plan) (given latest : ℕ) → LoadedIn loaded topology (Sound plan)
+behind_in : (topology script : Option Text) (plan : Plan) (given latest : ℕ)
+    → LoadedIn loaded_topology topology (Sound plan)
     → NoFurther (ScriptGoesOn plan) (bytes_of script) given (given - latest)
     → RunNoFurther topology script (length (bytes_of topology) + given) ((length (bytes_of topology) + given) - latest)
 behind_in None script plan given latest is far = absurd is
@@ -34,7 +35,8 @@ behind_in (Some file) script plan given latest is far =
     ((length file + given) - latest)) is there
 
 pub far_behind : (topology script : Text) (plan : Plan) (s0 s1 s2 : ShelfSeen) (r : Result End Fault) → s1.contents
-    ≡ s0.contents → LoadedOf loaded s0.contents topology (Sound plan) → GaveAllOf s0.contents topology s0.given s1.given
+    ≡ s0.contents → LoadedOf loaded_topology s0.contents topology (Sound plan)
+    → GaveAllOf s0.contents topology s0.given s1.given
     → IfOk r (λ e. ReadAsFar (λ contents. NoFurther (ScriptGoesOn plan) (bytes_of (contents script))) s1 s2)
     → IfOk r (λ e. ReadAsFar (λ contents. RunNoFurther (contents topology) (contents script)) s0 s2)
 far_behind topology script plan s0 s1 s2 (Err e) same is all far = tt
@@ -43,7 +45,7 @@ far_behind topology script plan s0 s1 s2 (Ok e) same is all far =
     (subst (λ (told : Option Contents). ReadAsFarOf
     (λ contents. NoFurther (ScriptGoesOn plan) (bytes_of (contents script))) told s1 s2) same far)
   where
-    by_told : (told : Option Contents) → LoadedOf loaded told topology (Sound plan)
+    by_told : (told : Option Contents) → LoadedOf loaded_topology told topology (Sound plan)
         → GaveAllOf told topology s0.given s1.given → ReadAsFarOf
         (λ contents. NoFurther (ScriptGoesOn plan) (bytes_of (contents script))) told s1 s2
         → ReadAsFarOf (λ contents. RunNoFurther (contents topology) (contents script)) told s0 s2
@@ -67,7 +69,8 @@ alone (Sound plan) topology script given ahead none le = absurd none
 alone (Faulty fault) topology script given ahead none le = le
 alone Long topology script given ahead none le = le
 
-alone_in : (topology script : Option Text) (l : Loaded) (given ahead : ℕ) → IsNoPlan l → LoadedIn loaded topology l
+alone_in : (topology script : Option Text) (l : Loaded) (given ahead : ℕ) → IsNoPlan l
+    → LoadedIn loaded_topology topology l
     → given ≤ length (bytes_of topology) → RunNoFurther topology script given ahead
 alone_in None script l given ahead none is le = absurd is
 alone_in (Some file) script l given ahead none is le = subst
@@ -75,7 +78,8 @@ alone_in (Some file) script l given ahead none is le = subst
     (alone l file (bytes_of script) given ahead none le)
 
 pub topology_alone : (told : Option Contents) (topology script : Text) (l : Loaded) (s0 s1 : ShelfSeen)
-    (r : Result End Fault) → IsNoPlan l → LoadedOf loaded told topology l → GaveOf told topology s0.given s1.given
+    (r : Result End Fault) → IsNoPlan l → LoadedOf loaded_topology told topology l
+    → GaveOf told topology s0.given s1.given
     → IfOk r (λ e. ReadAsFarOf (λ contents. RunNoFurther (contents topology) (contents script)) told s0 s1)
 topology_alone told topology script l s0 s1 (Err e) none is gave = tt
 topology_alone None topology script l s0 s1 (Ok e) none is gave = tt

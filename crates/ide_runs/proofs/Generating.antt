@@ -1,6 +1,5 @@
 -- Generated events that are given to the world one after another: what is left of them is run on, until none is.
-use Rattle.std.proofs.Common.{◌≡◌, ◌∙◌, ◌≤◌, ◌+◌, ℕ, List, [], ◌∷◌, length, Option, Some, Ok, sym, ap, subst}
-use Rattle.std.proofs.Common.{arith}
+use Rattle.std.proofs.Common.{◌≡◌, ◌∙◌, ◌≤◌, ◌+◌, ℕ, List, [], ◌∷◌, length, Option, Some, Ok, sym, ap, subst, arith}
 use Rattle.std.specs.List.{AllByRecursion}
 use Rattle.script_events.specs.Left.{Takes}
 use Rattle.script_events.specs.GeneratedTopology.{the_plan}
@@ -33,8 +32,7 @@ follows_first plan world r plan_is new is =
 
 -- one event more
 pub runs_next : (all : List Event) (r now : RunningView) (before left : List Event) (e : Event) → RunsOn all r before
-    → before ≡ e ∷ left
-    → ((past : ScriptPast) → Follows r past → Follows now
+    → before ≡ e ∷ left → ((past : ScriptPast) → Follows r past → Follows now
     (record past { history = history_with past.plan past.history e }))
     → RunsOn all now left
 runs_next all r now before left e runs taken step = record {

@@ -1,7 +1,6 @@
 -- A text that is judged by a run into a sink in memory: what the sink holds is what is due of the run.
 use Rattle.std.proofs.Common.{◌≡◌, ◌≢◌, ◌≤◌, ◌+◌, ◌++◌, ◌⊎◌, ℕ, [], length, Option, Some, None, Result, Ok, Err}
-use Rattle.std.proofs.Common.{option_map}
-use Rattle.std.proofs.Common.{List, refl, sym, ap, inl, inr, subst, ◌∙◌, arith}
+use Rattle.std.proofs.Common.{option_map, List, refl, sym, ap, inl, inr, subst, ◌∙◌, arith}
 use Rattle.std.specs.Prelude.{IfErr, IfOk}
 use Rattle.cli_files.specs.Outside.{AsksFor, AsksOnly, Contents, Rose, ShelfSeen, SinkSeen}
 use Rattle.line_runs.specs.declared.ends.End.{End}
@@ -10,12 +9,12 @@ use Rattle.line_runs.specs.declared.ends.Fault.{Fault}
 use Rattle.line_runs.specs.declared.ends.Fault.TheVariants as fault
 use Rattle.line_runs.specs.Front.{GaveOf, bytes_of}
 use Rattle.line_runs.specs.Gain.{Text, Gained}
-use Rattle.line_runs.specs.Gathering.{GainedAt, NoFurther, ReadAsFar, ReadAsFarOf}
+use Rattle.line_runs.specs.Gathering.{GainedAt, ReadAsFar, ReadAsFarOf, NoFurther}
 use Rattle.line_runs.specs.Outcome.{Due, EndsDue, EndsOn}
 use Rattle.line_runs.proofs.Joins.{joined}
 use Rattle.line_runs.proofs.FileNames.{asks_as, asks_more}
 use Rattle.line_runs.proofs.WholeFiles.{IsDue, SameDue, gained_nothing}
-use Rattle.line_runs.specs.Judging.{judged}
+use Rattle.line_runs.specs.Judging.{judgement_due}
 use Rattle.ide_runs.specs.declared.topologies.Loaded.{Loaded}
 use Rattle.ide_runs.specs.declared.topologies.Loaded.TheVariants.{Sound, Faulty, Long}
 use Rattle.ide_runs.specs.Judge.{FurtherAt, FurtherBy, IsOneOf, JudgeNoFurther, judge_due, judged_script_run}
@@ -23,7 +22,7 @@ use Rattle.ide_runs.specs.Judge.{judged_run, text_left}
 use Rattle.ide_runs.specs.Reads.{LoadedNoFurther, RunNoFurther}
 use Rattle.ide_runs.specs.Script.{run_due}
 use Rattle.ide_runs.specs.SoFar.{WroteBy, WroteByOf}
-use Rattle.ide_runs.specs.Topologies.{loaded}
+use Rattle.ide_runs.specs.Topologies.{loaded_topology}
 use Rattle.ide_runs.proofs.Loads.{NoLineOf, no_line_wrote_of}
 
 -- ---- the run
@@ -98,7 +97,7 @@ never_rose rose = omega (arith, rose)
 -- of a run that came to the end of its script
 pub judged_same : (told : Option Contents) (topology script verdicts text : Text)
     → IsDue told (run_on topology script) (end.Done, text)
-    → SameDue told (λ contents. option_map (judged text) (contents verdicts)) (judge_on topology script verdicts)
+    → SameDue told (λ contents. option_map (judgement_due text) (contents verdicts)) (judge_on topology script verdicts)
 judged_same None topology script verdicts text is = tt
 judged_same (Some contents) topology script verdicts text is = sym (ap (judged_run (contents verdicts)) is)
 
@@ -124,8 +123,7 @@ left_is_due (Some contents) topology script verdicts e text is other =
 
 -- what a run was given if a fault ended it, and if it came to an end of its own
 pub given_cut : (text lines : Contents → ℕ → Text) (e : Fault) (s0 s1 : ShelfSeen) (o0 o1 : SinkSeen)
-    → WroteBy e text lines s0 s1 o0 o1
-    → NoLineOf (λ contents n. []) (λ contents n. []) s0.contents s0.given s1.given
+    → WroteBy e text lines s0 s1 o0 o1 → NoLineOf (λ contents n. []) (λ contents n. []) s0.contents s0.given s1.given
 given_cut text lines e s0 s1 o0 o1 wrote = by_told s0.contents wrote
   where
     by_told : (told : Option Contents) → WroteByOf e text lines told s0 s1 o0 o1
@@ -176,7 +174,8 @@ within_loaded Long topology script given ahead far = omega (arith, far)
 within_run : (topology script : Option Text) (given ahead : ℕ) → RunNoFurther topology script given ahead
     → given ≤ length (bytes_of topology) + length (bytes_of script)
 within_run None script given ahead far = omega (arith, far)
-within_run (Some file) script given ahead far = within_loaded (loaded file) file (bytes_of script) given ahead far
+within_run (Some file) script given ahead far =
+    within_loaded (loaded_topology file) file (bytes_of script) given ahead far
 
 further_done : (topology script verdicts : Option Text) (due : Option Due) (text : Text) (n m ahead : ℕ)
     → due ≡ Some (end.Done, text) → n ≤ length (bytes_of topology) + length (bytes_of script)

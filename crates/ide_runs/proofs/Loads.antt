@@ -24,7 +24,7 @@ use Rattle.ide_runs.specs.declared.topologies.Loaded.{Loaded}
 use Rattle.ide_runs.specs.SoFar.{WroteBy, WroteByIn, WroteByOf, files_so_far, loaded_so_far, script_given}
 use Rattle.ide_runs.specs.declared.topologies.Loaded.TheVariants.{Sound, Faulty, Long}
 use Rattle.ide_runs.specs.Loading.{GaveAllOf, Loads, LoadedIn, LoadedOf, LoadCut, topology_limit, loaded_within}
-use Rattle.ide_runs.specs.Topologies.{loaded}
+use Rattle.ide_runs.specs.Topologies.{loaded_topology}
 use Rattle.ide_runs.specs.Reads.{RanPast}
 use Rattle.ide_runs.specs.Script.{due_of_files}
 
@@ -129,13 +129,13 @@ cut_by_load told due name s0 s1 write quiet h fault.Memory lacks c = stopped tol
 -- ---- what is due, two ways
 
 due_there : (due : Plan → Text → Due) (topology script : Option Text) (plan : Plan)
-    → LoadedIn loaded topology (Sound plan) → option_map (due plan) script ≡ due_of_files due topology script
+    → LoadedIn loaded_topology topology (Sound plan) → option_map (due plan) script ≡ due_of_files due topology script
 due_there due None script plan is = absurd is
 due_there due (Some bytes) script plan is = rw (← is) refl
 
 -- once a topology is loaded, what is due is the script's
 pub due_behind_load : (due : Plan → Text → Due) (told : Option Contents) (topology script : Text) (plan : Plan)
-    → LoadedOf loaded told topology (Sound plan)
+    → LoadedOf loaded_topology told topology (Sound plan)
     → SameDue told (λ contents. option_map (due plan) (contents script))
     (λ contents. due_of_files due (contents topology) (contents script))
 due_behind_load due None topology script plan is = tt
@@ -242,7 +242,7 @@ none_so_far text none None script n le = (refl, refl)
 none_so_far text none (Some file) script n le =
     let zero : n - length file ≡ 0 = omega arith in
     let first : script_given (Some file) script n ≡ [] = ap (λ (k : ℕ). take k (bytes_of script)) zero in
-    (ap (loaded_so_far text (loaded file)) first ∙ no_line text none (loaded file), first)
+    (ap (loaded_so_far text (loaded_topology file)) first ∙ no_line text none (loaded_topology file), first)
 
 pub in_topology : (text : Plan → Text → Text) → IsNoneAtFirst text → (told : Option Contents) (topology script : Text)
     (before now : ℕ) → GaveOf told topology before now
@@ -279,7 +279,7 @@ ended_by text name s0 s1 o0 o1 (Err e) wrote = by_told s0.contents wrote
 -- of the script after a topology that was wholly read
 run_ended_in : (due : Plan → Text → Text) (e : Fault) (topology script : Option Text) (plan : Plan)
     (s0 s1 s2 : ShelfSeen) (o0 o1 : SinkSeen)
-    → LoadedIn loaded topology (Sound plan) → Gave s0.given (length (bytes_of topology)) s1.given
+    → LoadedIn loaded_topology topology (Sound plan) → Gave s0.given (length (bytes_of topology)) s1.given
     → WroteEndedIn e (due plan) (bytes_of script) s1 s2 o0 o1
     → WroteByIn e (λ n. files_so_far due topology script n) (λ n. script_given topology script n) s0 s2 o0 o1
 run_ended_in due e None script plan s0 s1 s2 o0 o1 is all wrote = absurd is
@@ -290,7 +290,7 @@ run_ended_in due e (Some file) script plan s0 s1 s2 o0 o1 is all wrote =
     (λ (k : ℕ). take k (bytes_of script)) rest in
     let text : due plan (take ran (bytes_of script)) ≡ files_so_far due (Some file) script (length file + ran) =
     ap (λ (l : Loaded). loaded_so_far due l (take ran (bytes_of script))) is
-    ∙ ap (loaded_so_far due (loaded file)) bytes in
+    ∙ ap (loaded_so_far due (loaded_topology file)) bytes in
     record {
       given = length file + wrote.given;
       ran = length file + ran;
@@ -303,7 +303,8 @@ run_ended_in due e (Some file) script plan s0 s1 s2 o0 o1 is all wrote =
 
 pub run_ended : (due : Plan → Text → Text) (topology script : Text) (plan : Plan) (s0 s1 s2 : ShelfSeen)
     (o0 o1 : SinkSeen) (r : Result End Fault)
-    → s1.contents ≡ s0.contents → LoadedOf loaded s0.contents topology (Sound plan) → GaveAllOf s0.contents topology
+    → s1.contents ≡ s0.contents → LoadedOf loaded_topology s0.contents topology (Sound plan)
+    → GaveAllOf s0.contents topology
     s0.given s1.given
     → IfErr r (λ e. WroteEnded e (due plan) script s1 s2 o0 o1)
     → IfErr r (λ e. WroteBy e (λ contents n. files_so_far due (contents topology) (contents script) n)
@@ -312,7 +313,7 @@ run_ended due topology script plan s0 s1 s2 o0 o1 (Ok e) same is all wrote = tt
 run_ended due topology script plan s0 s1 s2 o0 o1 (Err e) same is all wrote = by_told s0.contents is all
     (subst (λ (told : Option Contents). WroteEndedOf e (due plan) told script s1 s2 o0 o1) same wrote)
   where
-    by_told : (told : Option Contents) → LoadedOf loaded told topology (Sound plan)
+    by_told : (told : Option Contents) → LoadedOf loaded_topology told topology (Sound plan)
         → GaveAllOf told topology s0.given s1.given → WroteEndedOf e (due plan) told script s1 s2 o0 o1
         → WroteByOf e (λ contents n. files_so_far due (contents topology) (contents script) n)
         (λ contents n. script_given (contents topology) (contents script) n) told s0 s2 o0 o1

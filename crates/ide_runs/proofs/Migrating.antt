@@ -19,7 +19,7 @@ use Rattle.line_runs.proofs.WholeFiles.{fault_of, gained_nothing, ran_after, sto
 use Rattle.ide_runs.specs.declared.topologies.Loaded.TheVariants.{Sound, Long}
 use Rattle.ide_runs.specs.Loading.{topology_limit}
 use Rattle.ide_runs.specs.Migrating.{IsFailure, MigratedFor, MigratesFile, WritesMigrated}
-use Rattle.ide_runs.specs.Topologies.{by_plan, loaded, migrate_due, migrated_as}
+use Rattle.ide_runs.specs.Topologies.{by_plan, loaded_topology, migrate_due, migrated_as}
 use Rattle.ide_runs.proofs.Loads.{due_loaded, loads_front}
 
 sound_long : (plan : Plan) → Long ≡ Sound plan → ⊥
@@ -49,16 +49,16 @@ front_is (Some whole) front bytes is read =
 
 migrates_file : (contents : Contents) (name front text : Text) (r : Result End Fault)
     → FrontOf (Some contents) name 1048577 front
-    → ((plan : Plan) → loaded front ≡ Sound plan → IsMigrated front text ⊎ ((text ≡ []) × IsFailure r))
+    → ((plan : Plan) → loaded_topology front ≡ Sound plan → IsMigrated front text ⊎ ((text ≡ []) × IsFailure r))
     → MigratesFile (Some contents) name text r
 migrates_file contents name front text r read migrates = λ bytes plan is sound.
     let whole = whole_sound bytes plan (nat_lt topology_limit (length bytes)) refl sound in
     let same : front ≡ bytes = front_is (contents name) front bytes is read ∙ whole in
     subst (λ (t : Text). IsMigrated t text ⊎ ((text ≡ []) × IsFailure r)) same
-    (migrates plan (ap loaded same ∙ sound))
+    (migrates plan (ap loaded_topology same ∙ sound))
 
 by_told : (told : Option Contents) (name front text : Text) (r : Result End Fault) → FrontOf told name 1048577 front
-    → ((plan : Plan) → loaded front ≡ Sound plan → IsMigrated front text ⊎ ((text ≡ []) × IsFailure r))
+    → ((plan : Plan) → loaded_topology front ≡ Sound plan → IsMigrated front text ⊎ ((text ≡ []) × IsFailure r))
     → MigratesFile told name text r
 by_told None name front text r read migrates = tt
 by_told (Some contents) name front text r read migrates = migrates_file contents name front text r read migrates
@@ -68,8 +68,9 @@ pub migrated_file : (name front : Text) (s0 s1 : ShelfSeen) (o0 o1 : SinkSeen) (
     → MigratedFor name s0 s1 o0 o1 r
 migrated_file name front s0 s1 o0 o1 r read quiet w =
     let text = w.migrated in
-    let is = loads_front Long (λ b. by_plan (plan_of b)) s0.contents name front (Ok (loaded front)) read refl in
-    let due_is = due_loaded loaded (migrated_as text) s0.contents name (loaded front) is in
+    let is = loads_front Long (λ b. by_plan (plan_of b)) s0.contents name front (Ok (loaded_topology front)) read refl
+    in
+    let due_is = due_loaded loaded_topology (migrated_as text) s0.contents name (loaded_topology front) is in
     record {
       migrated = text;
       migrates = by_told s0.contents name front text r read w.migrates;

@@ -10,7 +10,7 @@ use Rattle.topology.proofs.PlanFits.{given_fits}
 use Rattle.line_runs.specs.Gain.{Text}
 use Rattle.ide_runs.specs.declared.topologies.Loaded.TheVariants.{Sound, Long}
 use Rattle.ide_runs.specs.Loading.{topology_limit}
-use Rattle.ide_runs.specs.Topologies.{by_plan, loaded}
+use Rattle.ide_runs.specs.Topologies.{by_plan, loaded_topology}
 
 of_document : (d : Option Members) (plan : Plan) → plan_of_document d ≡ Ok plan → FitsPlan plan
 of_document None plan is = absurd cc
@@ -20,7 +20,7 @@ of_result : (r : Result Plan PlanFault) (plan : Plan) → by_plan r ≡ Sound pl
 of_result (Ok p) plan is = cc
 of_result (Err f) plan is = absurd cc
 
-pub loaded_fits : (bytes : Text) (plan : Plan) → loaded bytes ≡ Sound plan → FitsPlan plan
+pub loaded_fits : (bytes : Text) (plan : Plan) → loaded_topology bytes ≡ Sound plan → FitsPlan plan
 loaded_fits bytes plan is = by_size (nat_lt topology_limit (length bytes)) is
   where
     by_size : (b : Bool) → (if b then Long else by_plan (plan_of bytes)) ≡ Sound plan → FitsPlan plan

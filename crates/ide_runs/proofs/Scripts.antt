@@ -13,7 +13,7 @@ use Rattle.link_verdicts.specs.declared.verdict.Totals.{Totals}
 use Rattle.link_events.specs.declared.fault.LineFault.{LineFault}
 use Rattle.link_events.specs.Parse.{line_meaning}
 use Rattle.link_verdicts.specs.Lines.{line_of}
-use Rattle.link_verdicts.specs.Shown.{shown}
+use Rattle.link_verdicts.specs.Shown.{verdict_by_ports}
 use Rattle.spec_keys.specs.History.{History}
 use Rattle.spec_links.specs.Due.{due}
 use Rattle.script_events.specs.{event_of}
@@ -23,10 +23,9 @@ use Rattle.ide_why.specs.{WorldView, WorldStandsFor, IsNewWorld, IsStep}
 use Rattle.line_runs.specs.Gain.{Text}
 use Rattle.line_runs.specs.Outcome.{Due}
 use Rattle.line_runs.specs.Pieces.{pieces}
-use Rattle.line_runs.specs.Lines.{after, cut_text, file_due, go_on, is_over, process, unended}
+use Rattle.line_runs.specs.Lines.{after, cut_text, file_due, go_on, is_over, process, unended_due}
 use Rattle.ide_runs.specs.Script.{Script, AtEnd, stops, with_line, unended_line, script_in, end_of_stop, last_line}
-use Rattle.ide_runs.specs.Script.{due_after, events_on}
-use Rattle.ide_runs.specs.Script.{script_due}
+use Rattle.ide_runs.specs.Script.{due_after, events_on, script_due}
 use Rattle.line_runs.specs.Gathering.{GoesOn, ended_text}
 use Rattle.ide_runs.specs.Reads.{ScriptGoesOn}
 use Rattle.ide_runs.specs.SoFar.{script_so_far}
@@ -87,14 +86,15 @@ verdict_comes past t now e old new v follows step more =
 
 -- the line of that verdict
 pub event_comes : (past : ScriptPast) (e : Event) (r : RunningView) (v : Verdict) (text : Text)
-    → VerdictCame past e r v → text ≡ line_of r.world.steps (shown r.world.plan.peers v)
+    → VerdictCame past e r v → text ≡ line_of r.world.steps (verdict_by_ports r.world.plan.peers v)
     → EventCame (ran_event past e) r text
 event_comes past e r v text came line =
     let number : r.world.steps ≡ length past.history + 1 = omega (arith, came.follows.steps_are) in
     record {
-      text_is = line ∙ ap (λ (m : ℕ). line_of m (shown r.world.plan.peers v)) number
-          ∙ ap (λ (p : Plan). line_of (length past.history + 1) (shown p.peers v)) came.follows.plan_is
-          ∙ ap (λ (w : Verdict). line_of (length past.history + 1) (shown past.plan.peers w)) came.verdict_is;
+      text_is = line ∙ ap (λ (m : ℕ). line_of m (verdict_by_ports r.world.plan.peers v)) number
+          ∙ ap (λ (p : Plan). line_of (length past.history + 1) (verdict_by_ports p.peers v)) came.follows.plan_is
+          ∙ ap (λ (w : Verdict). line_of (length past.history + 1) (verdict_by_ports past.plan.peers w))
+          came.verdict_is;
       follows = came.follows;
     }
 
@@ -125,18 +125,17 @@ one_line plan n h (Ok None) later script rest = rest h
 one_line plan n h (Ok (Some e)) later script rest =
     let x = event_of plan e in
     let g = history_with plan h x in
-    let text = line_of (length h + 1) (shown plan.peers (due plan h x)) in
+    let text = line_of (length h + 1) (verdict_by_ports plan.peers (due plan h x)) in
     ap (after text) (rest g) ∙ ap (λ (t : Text). (end_of_stop script.stop, t))
     (sym (append_assoc text (text_on plan g (events_on plan script))
     (last_line script.stop (history_on plan g (events_on plan script)))))
 
 unended_is : (plan : Plan) (n : ℕ) (piece : Text) (h : History) (b : Bool) → nat_lt 20000 (length piece) ≡ b
-    → unended n piece ≡ due_after plan h (unended_line n piece)
+    → unended_due n piece ≡ due_after plan h (unended_line n piece)
 unended_is plan n piece h true is = rw is refl
 unended_is plan n piece h false is = rw is refl
 
-last_piece : (plan : Plan) (over : Bool) (n : ℕ) (h : History) (piece : Text) (b : Bool)
-    → (length piece == 0) ≡ b
+last_piece : (plan : Plan) (over : Bool) (n : ℕ) (h : History) (piece : Text) (b : Bool) → (length piece == 0) ≡ b
     → process ran_line closing_due over n (past_of plan h) (piece ∷ [])
     ≡ due_after plan h (script_in over n (piece ∷ []))
 unfolding past_of

@@ -12,18 +12,18 @@ use Rattle.link_events.specs.declared.fault.LineFault.{LineFault}
 use Rattle.link_events.specs.Parse.{line_meaning}
 use Rattle.link_verdicts.specs.declared.verdict.Verdict.{Verdict}
 use Rattle.link_verdicts.specs.Lines.{line_of}
-use Rattle.link_verdicts.specs.Shown.{shown}
+use Rattle.link_verdicts.specs.Shown.{verdict_by_ports}
 use Rattle.spec_keys.specs.History.{History}
 use Rattle.spec_links.specs.Due.{due}
 use Rattle.script_events.specs.{event_of}
 use Rattle.law_text.specs.Runs.{history_on, history_with}
 use Rattle.ide_why.specs.{IsNewWorld, WorldStandsFor, WorldView, facts_due}
-use Rattle.why_lines.specs.declared.fact.Fact.{Fact}
-use Rattle.why_lines.specs.{why_text_of}
+use Rattle.why_facts.specs.declared.fact.Fact.{Fact}
+use Rattle.why_facts.specs.{why_text_of}
 use Rattle.line_runs.specs.declared.ends.End.TheVariants as end
 use Rattle.line_runs.specs.Gain.{Text}
 use Rattle.line_runs.specs.Gathering.{GoesOn, ended_text}
-use Rattle.line_runs.specs.Lines.{after, cut_text, file_due, go_on, is_over, process, unended}
+use Rattle.line_runs.specs.Lines.{after, cut_text, file_due, go_on, is_over, process, unended_due}
 use Rattle.line_runs.specs.Outcome.{Due}
 use Rattle.line_runs.specs.Pieces.{pieces}
 use Rattle.ide_runs.specs.Reads.{ScriptGoesOn}
@@ -31,8 +31,7 @@ use Rattle.ide_runs.specs.Script.{AtEnd, AtLimit, Refused, Script, Stop, end_of_
 use Rattle.ide_runs.specs.Script.{unended_line, with_line}
 use Rattle.ide_runs.specs.Why.{FollowsWhy, WhyCame, WhyPast, WhyView, event_told, ran_why, told_event_due, told_due}
 use Rattle.ide_runs.specs.Why.{EventIsTold, no_event_line, left_line, told_last, numbered_event_text, told_so_far}
-use Rattle.ide_runs.specs.Why.{why_by_meaning, why_closing}
-use Rattle.ide_runs.specs.Why.{why_line, why_past_with}
+use Rattle.ide_runs.specs.Why.{why_by_meaning, why_closing, why_line}
 use Rattle.ide_runs.specs.Works.{Follows, RunningView, ScriptPast, VerdictCame}
 use Rattle.ide_runs.proofs.Scripts.{event_comes, follows_nothing}
 
@@ -82,11 +81,13 @@ comes_told past e w now text was same least most told =
 pub event_tells : (past : ScriptPast) (e : Event) (old r : RunningView) (v : Verdict) (xs : List Fact) (text : Text)
     → Follows old past → ((h : History) → WorldStandsFor old.world h → xs ≡ facts_due old.world.plan h e)
     → VerdictCame past e r v
-    → text ≡ line_of r.world.steps (shown r.world.plan.peers v) ++ why_text_of e v xs → EventIsTold past e r text
+    → text ≡ line_of r.world.steps (verdict_by_ports r.world.plan.peers v) ++ why_text_of e v xs
+    → EventIsTold past e r text
 event_tells past e old r v xs text was facts came is =
     let h = past.history in
-    let line : Text = line_of (length h + 1) (shown past.plan.peers (due past.plan h e)) in
-    let shown_is = (event_comes past e r v (line_of r.world.steps (shown r.world.plan.peers v)) came refl).text_is in
+    let line : Text = line_of (length h + 1) (verdict_by_ports past.plan.peers (due past.plan h e)) in
+    let shown_is = (event_comes past e r v (line_of r.world.steps (verdict_by_ports r.world.plan.peers v)) came
+    refl).text_is in
     let told : xs ≡ facts_due past.plan h e = facts h was.stands
     ∙ ap (λ (p : Plan). facts_due p h e) was.plan_is in
     record {
@@ -97,11 +98,10 @@ event_tells past e old r v xs text was facts came is =
     }
 
 -- the first world follows no events
-pub tells_nothing : (n : ℕ) (plan : Plan) (world : WorldView) → IsNewWorld plan world
-    → FollowsWhy (record {
-      number = n;
-      running = record { world = world; totals = record { sealed = 0; accepted = 0; failed = 0; blocked = 0 } };
-    }) (record { number = n; script = record { plan = plan; history = [] } })
+pub tells_nothing : (n : ℕ) (plan : Plan) (world : WorldView) → IsNewWorld plan world → FollowsWhy (record {
+  number = n;
+  running = record { world = world; totals = record { sealed = 0; accepted = 0; failed = 0; blocked = 0 } };
+}) (record { number = n; script = record { plan = plan; history = [] } })
 tells_nothing n plan world new = record { number_is = refl; follows = follows_nothing plan world new }
 
 -- the end after the last line
@@ -185,7 +185,7 @@ one_line n m plan h (Ok (Some e)) later script rest =
     one_event n m plan h e later script rest (nat_lt (length h + 1) n) (nat_lt n (length h + 1)) refl refl
 
 unended_is : (n m : ℕ) (plan : Plan) (piece : Text) (h : History) (b : Bool) → nat_lt 20000 (length piece) ≡ b
-    → unended m piece ≡ told_event_due n plan h (unended_line m piece)
+    → unended_due m piece ≡ told_event_due n plan h (unended_line m piece)
 unended_is n m plan piece h true is = rw is refl
 unended_is n m plan piece h false is = rw is refl
 
@@ -196,8 +196,7 @@ at_end n plan h =
     ap (λ (k : ℕ). told_last n AtEnd k) count
 
 last_piece : (n : ℕ) (plan : Plan) (over : Bool) (m : ℕ) (h : History) (piece : Text) (b : Bool)
-    → (length piece == 0) ≡ b
-    → process why_line why_closing over m (past_of n plan h) (piece ∷ [])
+    → (length piece == 0) ≡ b → process why_line why_closing over m (past_of n plan h) (piece ∷ [])
     ≡ told_event_due n plan h (script_in over m (piece ∷ []))
 unfolding past_of
 last_piece n plan true m h piece b is = unended_is n m plan piece h (nat_lt 20000 (length piece)) refl
@@ -254,8 +253,7 @@ told_goes_on n plan bytes goes_on =
 -- ---- the event that is told
 
 -- of the events after a history it is the one at its number
-told_at : (n : ℕ) (plan : Plan) (h : History) (before later : List Event) (e : Event)
-    → n ≡ length h + length before + 1
+told_at : (n : ℕ) (plan : Plan) (h : History) (before later : List Event) (e : Event) → n ≡ length h + length before + 1
     → numbered_event_text n plan h (before ++ e ∷ later) ≡ event_told plan (history_on plan h before) e
 told_at n plan h [] later e is =
     let before : nat_lt (length h + 1) n ≡ false = le-ltb (length h + 1) n (omega (arith, is)) in

@@ -1,7 +1,7 @@
 -- What a run over generated events writes: the totals of their history, in which each verdict is the one that is due.
 use Rattle.std.specs.Prelude.{ℕ, ◌++◌, [], length, codes}
 use Rattle.std.specs.Fmt.{decimal}
-use Rattle.script_events.specs.GeneratedEvents.{generated}
+use Rattle.script_events.specs.GeneratedEvents.{generated_events}
 use Rattle.script_events.specs.GeneratedTopology.{the_plan}
 use Rattle.spec_keys.specs.History.{History}
 use Rattle.law_text.specs.Runs.{history_on, totals_of}
@@ -12,7 +12,7 @@ use Rattle.line_runs.specs.Outcome.{Due}
 
 -- the history of the events of a seed and a number of rounds
 abbrev pub generated_history : (seed count : ℕ) → History
-generated_history seed count = history_on the_plan [] (generated seed count)
+generated_history seed count = history_on the_plan [] (generated_events seed count)
 
 -- how many events there were, and their totals
 abbrev pub generated_line : History → Text

@@ -6,7 +6,7 @@ use Rattle.line_runs.specs.Front.{Gave, bytes_of}
 use Rattle.line_runs.specs.Gain.{Text}
 use Rattle.line_runs.specs.Lines.{file_limit}
 use Rattle.line_runs.specs.Outcome.{Due}
-use Rattle.line_runs.specs.Judging.{judged, last_line_of, verdicts_limit}
+use Rattle.line_runs.specs.Judging.{judgement_due, last_line_of, verdicts_limit}
 use Rattle.ide_runs.specs.Loading.{topology_limit}
 use Rattle.ide_runs.specs.Reads.{RanPast, RunNoFurther}
 use Rattle.ide_runs.specs.Script.{run_due}
@@ -27,7 +27,7 @@ IsLeft e text left = (e ≢ end.Done) × (left ≡ text_left e text)
 
 -- by the end and the text of the run
 abbrev pub judged_script_run : Option Text → End → Text → Option Due
-judged_script_run verdicts end.Done text = option_map (judged text) verdicts
+judged_script_run verdicts end.Done text = option_map (judgement_due text) verdicts
 judged_script_run verdicts end.Differs text = Some (end.Differs, [])
 judged_script_run verdicts end.Usage text = Some (end.Usage, [])
 judged_script_run verdicts end.Topology text = Some (end.Topology, text)

@@ -10,4 +10,4 @@ pub mod SoFar
 pub mod Reads
 pub mod Judge
 -- what clauses above cite
-pub use Rattle.line_runs.specs.Judging.{Tells, judged, verdicts_limit}
+pub use Rattle.line_runs.specs.Judging.{Tells, judgement_due, verdicts_limit}

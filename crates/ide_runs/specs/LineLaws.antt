@@ -4,18 +4,18 @@ use Rattle.std.specs.Prelude.{ℕ, ◌≡◌, nat_lt, true, List, [], ◌∷◌,
 use Rattle.std.specs.Prelude.{◌+◌, Bool, IfOk, codes, false, if◌then◌else◌, refl}
 use Rattle.std.proofs.Common.{inl, inr, ap, ◌∙◌, sym, subst, append_assoc}
 use Rattle.std.proofs.lemmas.List.{append-nil}
-use Rattle.ide_types.specs.Names.{joined}
+use Rattle.ide_types.specs.Names.{joined_words}
 use Rattle.ide_types.specs.declared.port.PortName.{PortName}
 use Rattle.ide_types.specs.declared.sub.SubKind.{SubKind}
 use Rattle.ide_types.specs.declared.plan.Plan.{Plan}
-use Rattle.why_lines.specs.declared.fact.Fact.{Fact}
-use Rattle.why_lines.specs.{effect_rule_of, fact_line, fact_word, rule_of, why_text_of}
-use Rattle.why_lines.specs.Lines.{effect_lines, facts_text, rule_line, rules_text}
+use Rattle.why_facts.specs.declared.fact.Fact.{Fact}
+use Rattle.why_facts.specs.{effect_rule_of, fact_line, fact_word, rule_of, why_text_of}
+use Rattle.why_facts.specs.Lines.{effect_lines, facts_text, rule_line, rules_text}
 use Rattle.ide_why.specs.{facts_due}
 use Rattle.spec_keys.specs.History.{History}
 use Rattle.spec_links.specs.Due.{due}
 use Rattle.link_verdicts.specs.Lines.{line_of}
-use Rattle.link_verdicts.specs.Shown.{shown}
+use Rattle.link_verdicts.specs.Shown.{verdict_by_ports}
 use Rattle.script_events.specs.{event_of}
 use Rattle.link_events.specs.declared.event.Event.{Event}
 use Rattle.link_events.specs.declared.script.ScriptEvent.{ScriptEvent}
@@ -32,7 +32,7 @@ use Rattle.ide_runs.specs.Why.{WhyPast, event_told, why_by_meaning, why_line, wh
 use Rattle.ide_runs.specs.Works.{ScriptPast, by_meaning, ran_line}
 
 -- words that are joined end with a line feed
-ends_line : (words : List Text) → (lines : Text) × (joined words ≡ lines ++ 10 ∷ [])
+ends_line : (words : List Text) → (lines : Text) × (joined_words words ≡ lines ++ 10 ∷ [])
 ends_line [] = ([], refl)
 ends_line (w ∷ words) =
     let later = ends_line words in (
@@ -41,7 +41,7 @@ ends_line (w ∷ words) =
           (sym (append_assoc w later.0 (10 ∷ []))),
     )
 
-pub whole_line : (front : Text) (words : List Text) → IsWholeLines (front ++ joined words)
+pub whole_line : (front : Text) (words : List Text) → IsWholeLines (front ++ joined_words words)
 whole_line front words =
     let later = ends_line words in
     inr (front ++ later.0, ap (λ (t : Text). front ++ t) later.1 ∙ sym (append_assoc front later.0 (10 ∷ [])))
@@ -96,7 +96,8 @@ event_whole front e w xs first =
 
 told_whole : (plan : Plan) (h : History) (e : Event) → IsWholeLines (event_told plan h e)
 told_whole plan h e =
-    event_whole (line_of (length h + 1) (shown plan.peers (due plan h e))) e (due plan h e) (facts_due plan h e)
+    event_whole (line_of (length h + 1) (verdict_by_ports plan.peers (due plan h e))) e (due plan h e)
+    (facts_due plan h e)
     (whole_line _ _)
 
 abbrev pick : {A : Type 0} → (before behind : Bool) → (x y z : A) → Text → A × Text

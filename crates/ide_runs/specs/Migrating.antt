@@ -8,7 +8,7 @@ use Rattle.line_runs.specs.declared.ends.Fault.{Fault}
 use Rattle.line_runs.specs.Gain.{Text}
 use Rattle.line_runs.specs.Outcome.{Ran, RanOn}
 use Rattle.ide_runs.specs.declared.topologies.Loaded.TheVariants.{Sound}
-use Rattle.ide_runs.specs.Topologies.{migrate_due, loaded}
+use Rattle.ide_runs.specs.Topologies.{migrate_due, loaded_topology}
 
 -- the run failed
 abbrev pub IsFailure : Result End Fault → Type 0
@@ -20,7 +20,7 @@ IsFailure (Err e) = Unit {0}
 abbrev pub MigratesFile : Option Contents → (name text : Text) → Result End Fault → Type 0
 MigratesFile None name text r = Unit {0}
 MigratesFile (Some contents) name text r =
-    (bytes : Text) (plan : Plan) → contents name ≡ Some bytes → loaded bytes ≡ Sound plan
+    (bytes : Text) (plan : Plan) → contents name ≡ Some bytes → loaded_topology bytes ≡ Sound plan
     → IsMigrated bytes text ⊎ ((text ≡ []) × IsFailure r)
 
 -- The run ends as the contents call for; the text is one of those that a migration may write.
@@ -34,6 +34,6 @@ pub record MigratedFor (name : Text) (shelf shelf_now : ShelfSeen) (sink sink_no
 -- failed gave none.
 pub record WritesMigrated (front : Text) (before now : SinkSeen) (r : Result End Fault) : Type 0 where
   pub migrated : Text
-  pub migrates : (plan : Plan) → loaded front ≡ Sound plan → IsMigrated front migrated
+  pub migrates : (plan : Plan) → loaded_topology front ≡ Sound plan → IsMigrated front migrated
       ⊎ ((migrated ≡ []) × IsFailure r)
   pub ran : Ran (migrate_due migrated front) before now r

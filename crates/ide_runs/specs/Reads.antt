@@ -11,7 +11,7 @@ use Rattle.ide_runs.specs.declared.topologies.Loaded.{Loaded}
 use Rattle.ide_runs.specs.declared.topologies.Loaded.TheVariants.{Sound, Faulty, Long}
 use Rattle.ide_runs.specs.Loading.{topology_limit}
 use Rattle.ide_runs.specs.Script.{due_after, script_in}
-use Rattle.ide_runs.specs.Topologies.{loaded}
+use Rattle.ide_runs.specs.Topologies.{loaded_topology}
 
 -- a run was given one byte more of the topology than count, or all of it and one byte more of the script than count
 abbrev pub RanPast : ℕ → ℕ → Type 0
@@ -34,4 +34,4 @@ LoadedNoFurther Long topology script given ahead = given ≤ length topology
 abbrev pub RunNoFurther : (topology script : Option Text) → (given ahead : ℕ) → Type 0
 RunNoFurther None script given ahead = given ≡ 0
 RunNoFurther (Some topology) script given ahead =
-    LoadedNoFurther (loaded topology) topology (bytes_of script) given ahead
+    LoadedNoFurther (loaded_topology topology) topology (bytes_of script) given ahead

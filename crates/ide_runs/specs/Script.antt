@@ -20,7 +20,7 @@ use Rattle.line_runs.specs.Outcome.{Due}
 use Rattle.line_runs.specs.Lines.{is_over, cut_text}
 use Rattle.ide_runs.specs.declared.topologies.Loaded.{Loaded}
 use Rattle.ide_runs.specs.declared.topologies.Loaded.TheVariants.{Sound, Faulty, Long}
-use Rattle.ide_runs.specs.Topologies.{loaded, plan_refusal}
+use Rattle.ide_runs.specs.Topologies.{loaded_topology, plan_refusal}
 
 -- at the end of the file, at a line of this number that is not spelled, or at the limit
 pub data Stop : Type 0 where
@@ -99,7 +99,7 @@ due_by_topology due script (Sound plan) = option_map (due plan) script
 -- the same of two files
 abbrev pub due_of_files : (Plan → Text → Due) → (topology script : Option Text) → Option Due
 due_of_files due None script = None
-due_of_files due (Some topology) script = due_by_topology due script (loaded topology)
+due_of_files due (Some topology) script = due_by_topology due script (loaded_topology topology)
 
 -- of a script that is run
 abbrev pub run_due : (topology script : Option Text) → Option Due

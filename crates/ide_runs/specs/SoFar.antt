@@ -11,7 +11,7 @@ use Rattle.line_runs.specs.Gathering.{GainedAt, open_line, waiting_at}
 use Rattle.ide_runs.specs.declared.topologies.Loaded.{Loaded}
 use Rattle.ide_runs.specs.declared.topologies.Loaded.TheVariants.{Sound, Faulty, Long}
 use Rattle.ide_runs.specs.Script.{due_after, script_in}
-use Rattle.ide_runs.specs.Topologies.{loaded}
+use Rattle.ide_runs.specs.Topologies.{loaded_topology}
 
 -- The text that is due of some bytes of a script that goes on after them: the verdict lines of the lines that ended in
 -- them.
@@ -33,7 +33,7 @@ script_given (Some topology) script n = take (n - length topology) (bytes_of scr
 abbrev pub files_so_far : (Plan → Text → Text) → (topology script : Option Text) → ℕ → Text
 files_so_far text None script n = []
 files_so_far text (Some topology) script n =
-    loaded_so_far text (loaded topology) (script_given (Some topology) script n)
+    loaded_so_far text (loaded_topology topology) (script_given (Some topology) script n)
 
 -- of a script that is run
 abbrev pub run_so_far : (topology script : Option Text) → ℕ → Text

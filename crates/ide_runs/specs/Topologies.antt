@@ -17,8 +17,8 @@ by_plan (Ok plan) = Sound plan
 by_plan (Err fault) = Faulty fault
 
 -- a plan, the first fault of the bytes, or too many of them
-abbrev pub loaded : Text → Loaded
-loaded bytes = loaded_within Long (λ b. by_plan (plan_of b)) bytes
+abbrev pub loaded_topology : Text → Loaded
+loaded_topology bytes = loaded_within Long (λ b. by_plan (plan_of b)) bytes
 
 -- the line of a fault
 abbrev pub plan_refusal : PlanFault → Text
@@ -31,7 +31,7 @@ report Long = (end.TooLong, [])
 
 -- the end and the text of a topology that is checked
 abbrev pub check_due : Text → Due
-check_due file = report (loaded file)
+check_due file = report (loaded_topology file)
 
 -- the end and the text of a topology that is migrated, if this is the text in version 2
 abbrev pub migrated_as : Text → Loaded → Due
@@ -40,7 +40,7 @@ migrated_as text (Faulty fault) = (end.Topology, plan_refusal fault)
 migrated_as text Long = (end.TooLong, [])
 
 abbrev pub migrate_due : Text → Text → Due
-migrate_due text file = migrated_as text (loaded file)
+migrate_due text file = migrated_as text (loaded_topology file)
 
 -- a plan meets every bound and rule
 abbrev pub HasFitting : Loaded → Type 0

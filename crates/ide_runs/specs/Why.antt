@@ -1,7 +1,6 @@
 -- One event of a script, told with what its verdict came from.
 use Rattle.std.specs.Prelude.{ℕ, ◌+◌, ◌≡◌, nat_lt, true, List, [], ◌∷◌, ◌++◌, length, Option, Some, None, Result, Ok}
-use Rattle.std.specs.Prelude.{Err, codes}
-use Rattle.std.specs.Prelude.{if◌then◌else◌}
+use Rattle.std.specs.Prelude.{Err, codes, if◌then◌else◌}
 use Rattle.std.specs.Fmt.{decimal}
 use Rattle.ide_types.specs.declared.plan.Plan.{Plan}
 use Rattle.link_events.specs.declared.event.Event.{Event}
@@ -10,13 +9,13 @@ use Rattle.link_events.specs.declared.fault.LineFault.{LineFault}
 use Rattle.link_events.specs.Words.{fault_line_of}
 use Rattle.link_events.specs.Parse.{line_meaning}
 use Rattle.link_verdicts.specs.Lines.{line_of}
-use Rattle.link_verdicts.specs.Shown.{shown}
+use Rattle.link_verdicts.specs.Shown.{verdict_by_ports}
 use Rattle.spec_keys.specs.History.{History}
 use Rattle.spec_links.specs.Due.{due}
 use Rattle.script_events.specs.{event_of}
 use Rattle.law_text.specs.Runs.{history_with}
 use Rattle.ide_why.specs.{facts_due}
-use Rattle.why_lines.specs.{why_text_of}
+use Rattle.why_facts.specs.{why_text_of}
 use Rattle.line_runs.specs.declared.ends.End.TheVariants as end
 use Rattle.line_runs.specs.Gain.{Text}
 use Rattle.line_runs.specs.Lines.{after}
@@ -28,7 +27,8 @@ use Rattle.ide_runs.specs.Works.{Follows, RunningView, ScriptPast, past_with}
 -- the line of the verdict that is due to an event after a history, and what that came from
 abbrev pub event_told : Plan → History → Event → Text
 event_told plan h e =
-    line_of (length h + 1) (shown plan.peers (due plan h e)) ++ why_text_of e (due plan h e) (facts_due plan h e)
+    line_of (length h + 1) (verdict_by_ports plan.peers (due plan h e))
+    ++ why_text_of e (due plan h e) (facts_due plan h e)
 
 -- of events that come after a history, the text of the one of this number, if there are so many
 abbrev pub numbered_event_text : ℕ → Plan → History → List Event → Text

@@ -8,9 +8,8 @@ use Rattle.link_events.specs.Parse.{line_meaning}
 use Rattle.link_events.specs.Spells.{IsAllowedInScript}
 use Rattle.link_verdicts.specs.declared.verdict.Verdict.{Verdict}
 use Rattle.link_verdicts.specs.declared.verdict.Totals.{Totals}
-use Rattle.link_verdicts.specs.Lines.{line_of}
-use Rattle.link_verdicts.specs.Lines.{totals_line_of}
-use Rattle.link_verdicts.specs.Shown.{shown}
+use Rattle.link_verdicts.specs.Lines.{line_of, totals_line_of}
+use Rattle.link_verdicts.specs.Shown.{verdict_by_ports}
 use Rattle.spec_keys.specs.History.{History}
 use Rattle.spec_links.specs.Due.{due}
 use Rattle.script_events.specs.{event_of}
@@ -54,7 +53,7 @@ past_with past e = record past { history = history_with past.plan past.history e
 abbrev pub ran_event : ScriptPast → Event → ScriptPast × Text
 ran_event past e = (
   past_with past e,
-  line_of (length past.history + 1) (shown past.plan.peers (due past.plan past.history e)),
+  line_of (length past.history + 1) (verdict_by_ports past.plan.peers (due past.plan past.history e)),
 )
 
 -- the same of an event of a script

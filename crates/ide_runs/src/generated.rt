@@ -3,7 +3,7 @@
 ghost use Rattle.std.specs.Prelude.{◌≡◌, ◌≤◌, ◌++◌, [], IfOk, codes, length};
 ghost use Rattle.std.specs.Fmt.{decimal};
 ghost use Rattle.std.specs.List.{AllByRecursion};
-ghost use Rattle.script_events.specs.GeneratedEvents.{generated};
+ghost use Rattle.script_events.specs.GeneratedEvents.{generated_events};
 ghost use Rattle.script_events.specs.GeneratedTopology.{the_plan};
 ghost use Rattle.line_runs.specs.Outcome.{Ran};
 ghost use Rattle.link_events.specs.Spells.{IsAllowed};

@@ -10,7 +10,7 @@ ghost use Rattle.line_runs.specs.Outcome.{RanOn};
 ghost use Rattle.link_events.specs.Parse.{line_meaning, IsLineAnswer};
 ghost use Rattle.link_events.specs.Spells.{IsAllowed, IsAllowedInScript};
 ghost use Rattle.link_verdicts.specs.Lines.{line_of};
-ghost use Rattle.link_verdicts.specs.Shown.{shown as shown_of};
+ghost use Rattle.link_verdicts.specs.Shown.{verdict_by_ports as shown_of};
 ghost use Rattle.ide_runs.specs.LineLaws.{long_event, whole_event};
 ghost use Rattle.ide_runs.specs.Loading.{topology_limit};
 ghost use Rattle.ide_runs.specs.Reads.{RanPast, RunNoFurther, ScriptGoesOn};

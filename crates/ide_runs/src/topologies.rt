@@ -8,7 +8,8 @@ ghost use Rattle.line_runs.specs.Outcome.{Ran, RanOn};
 ghost use Rattle.ide_runs.specs.Loading.{GaveAllOf, LoadCause, Loads, topology_limit};
 ghost use Rattle.ide_runs.specs.Migrating.{MigratedFor, WritesMigrated};
 ghost use Rattle.ide_runs.specs.SoFar.{WroteBy};
-ghost use Rattle.ide_runs.specs.Topologies.{check_due, loaded, plan_refusal as refusal_of, report as report_of};
+ghost use Rattle.ide_runs.specs.Topologies.{check_due, loaded_topology, plan_refusal as refusal_of};
+ghost use Rattle.ide_runs.specs.Topologies.{report as report_of};
 ghost use Rattle.ide_runs.specs.Topologies.{HasFitting};
 
 use cli_files::{Shelf, Sink};
@@ -33,7 +34,7 @@ pub enum Loaded {
 
 /// What the first bytes of a topology give; one byte more than those that count was read.
 pub fn load_bytes(alloc: Global, front: &[u8]) -> Result<Loaded, Fault>
-    ensures loaded { IfOk result (λ l. l ≡ loaded front.now) }
+    ensures loaded { IfOk result (λ l. l ≡ loaded_topology front.now) }
     ensures memory { IfErr result (λ e. e ≡ Fault.Memory) }
     ensures fits { IfOk result HasFitting }
     ensures long { IfOk result (λ l. l ≡ Loaded.Long → topology_limit < length front.now) }
@@ -52,7 +53,7 @@ pub fn load_bytes(alloc: Global, front: &[u8]) -> Result<Loaded, Fault>
 /// Reads a topology.
 pub(crate) fn load<S: Shelf>(alloc: Global, shelf: &mut S, name: &str) -> Result<Loaded, Fault>
     ensures same { (S.seen shelf.new).contents ≡ (S.seen shelf.old).contents }
-    ensures loads { Loads loaded (S.seen shelf.old).contents name.now result }
+    ensures loads { Loads loaded_topology (S.seen shelf.old).contents name.now result }
     ensures cause { LoadCause (S.seen shelf.old).faults (S.seen shelf.new).faults (S.seen shelf.old).contents name.now
         result }
     ensures fits { IfOk result HasFitting }

@@ -8,7 +8,7 @@ use Rattle.ide_types.specs.declared.plan.Plan.{Plan}
 use Rattle.line_runs.specs.declared.ends.End.TheVariants as end
 use Rattle.line_runs.specs.Gain.{Text}
 use Rattle.ide_runs.specs.declared.topologies.Loaded.TheVariants.{Sound}
-use Rattle.ide_runs.specs.Topologies.{check_due, loaded}
+use Rattle.ide_runs.specs.Topologies.{check_due, loaded_topology}
 use Rattle.ide_runs.specs.Works.{Follows, RunningView, ScriptPast, by_meaning, closing_line, ran_line}
 use Rattle.ide_session.specs.declared.answer.Answer.{Answer}
 use Rattle.ide_session.specs.declared.answer.Answer.TheVariants.{Done, Topology, Script, Memory, TooLong, Room, Closed}
@@ -147,7 +147,7 @@ BeginCame _ plan new = ⊥
 -- the session of the plan that a topology's bytes mean
 pub record BegunSession (topology : Text) (new : Option Going) : Type 0 where
   pub plan : Plan
-  pub plan_is : loaded topology ≡ Sound plan
+  pub plan_is : loaded_topology topology ≡ Sound plan
   pub session : IsSessionOf plan new
 
 -- of a handle with no session

@@ -20,7 +20,7 @@ use Rattle.ide_types.specs.declared.plan.Plan.{Plan}
 use Rattle.ide_types.specs.Plans.{has_stream_id, hop_has_id, link_has_id, links_have_id}
 use Rattle.ide_types.specs.Fits.{FitsPlan, FitsLink, FitsHopIf, FitsPeer}
 use Rattle.ide_types.specs.Ends.{own_has_id, link_hop, peer_has_id, line_has, peer_link}
-use Rattle.ide_types.specs.Ends.{port_at, peer_end, end_on, end_at}
+use Rattle.ide_types.specs.Ends.{port_beside_end, peer_end, end_at}
 
 -- ---- lists
 
@@ -76,8 +76,7 @@ not_here q n link id rest other = rw other refl
 -- where one has the ID and none before it has, it is the one that is found
 found : (ps : List PeerPlan) (n link id k m : ℕ) (p : PeerPlan) (e : PortName) → slice_get ps k ≡ Some p → m ≡ n + k
     → ((j : ℕ) (q : PeerPlan) → j < k → slice_get ps j ≡ Some q → (q.id == id) ≡ false)
-    → ((rest : Option PortName) → here p m link id rest ≡ Some e)
-    → peer_end ps n link id ≡ Some e
+    → ((rest : Option PortName) → here p m link id rest ≡ Some e) → peer_end ps n link id ≡ Some e
 unfolding peer_end
 found [] n link id zero m p e is at others tells = absurd (none_some p is)
 found [] n link id (suc k) m p e is at others tells = absurd (none_some p is)
@@ -192,8 +191,7 @@ some_peer plan fits side line id None low mid high is has = absurd (false_true h
 some_peer plan fits side line id (Some p) low mid high is has = on_peer plan fits side line id p low mid high is has
 
 by_line : (plan : Plan) → FitsPlan plan → (side : Side) (line id : ℕ) (a b c : Bool) → nat_lt line 8 ≡ a
-    → nat_lt line 16 ≡ b → nat_lt line 24 ≡ c
-    → (if a then own_has_id (slice_get plan.links line) id
+    → nat_lt line 16 ≡ b → nat_lt line 24 ≡ c → (if a then own_has_id (slice_get plan.links line) id
     else if b then hop_has_id (link_hop (slice_get plan.links (line - 8))) id
     else if c then hop_has_id (link_hop (slice_get plan.links (line - 16))) id
     else peer_has_id (slice_get plan.peers (line - 24)) id) ≡ true
@@ -211,12 +209,11 @@ end_found plan fits e id has = by_line plan fits e.side e.line id _ _ _ refl ref
 -- ---- the port of an end is one
 
 port_by_line : (plan : Plan) → FitsPlan plan → (side : Side) (line id : ℕ) (a b c : Bool) → nat_lt line 8 ≡ a
-    → nat_lt line 16 ≡ b → nat_lt line 24 ≡ c
-    → (if a then own_has_id (slice_get plan.links line) id
+    → nat_lt line 16 ≡ b → nat_lt line 24 ≡ c → (if a then own_has_id (slice_get plan.links line) id
     else if b then hop_has_id (link_hop (slice_get plan.links (line - 8))) id
     else if c then hop_has_id (link_hop (slice_get plan.links (line - 16))) id
     else peer_has_id (slice_get plan.peers (line - 24)) id) ≡ true
-    → is_port (port_at plan.peers (the_end side line)) ≡ true
+    → is_port (port_beside_end plan.peers (the_end side line)) ≡ true
 port_by_line plan fits side line id true b c low mid high has = rw (low, low) refl
 port_by_line plan fits Host line id false true c low mid high has =
     rw (low, mid, lt-ltb (line - 8) 8 (omega (arith, ltb-false line 8 low, ltb-true line 16 mid))) refl
@@ -232,7 +229,7 @@ port_by_line plan fits side line id false false false low mid high has =
     at_device (slice_get plan.peers (line - 24)) refl has
   where
     at_device : (x : Option PeerPlan) → slice_get plan.peers (line - 24) ≡ x → peer_has_id x id ≡ true
-        → is_port (port_at plan.peers (the_end side line)) ≡ true
+        → is_port (port_beside_end plan.peers (the_end side line)) ≡ true
     at_device None is has = absurd (false_true has)
     at_device (Some p) is has =
         rw (low, mid, high, is) (device_is_port (peer_link side p)
@@ -246,7 +243,7 @@ port_by_line plan fits side line id false false false low mid high has =
         device_is_port l few = rw (lt-ltb l 8 few) refl
 
 pub port_is_one : (plan : Plan) → FitsPlan plan → (e : PortName) (id : ℕ) → line_has plan e.line id ≡ true
-    → is_port (port_at plan.peers e) ≡ true
+    → is_port (port_beside_end plan.peers e) ≡ true
 port_is_one plan fits e id has = port_by_line plan fits e.side e.line id _ _ _ refl refl refl has
 
 -- ---- few lines have streams
@@ -258,8 +255,7 @@ few_peers plan fits line id high (Some p) is has = omega
     (arith, slice_get_within plan.peers (line - 24) p is, fits.peers_most, ltb-false line 24 high)
 
 few_by_line : (plan : Plan) → FitsPlan plan → (line id : ℕ) (a b c : Bool) → nat_lt line 8 ≡ a → nat_lt line 16 ≡ b
-    → nat_lt line 24 ≡ c
-    → (if a then own_has_id (slice_get plan.links line) id
+    → nat_lt line 24 ≡ c → (if a then own_has_id (slice_get plan.links line) id
     else if b then hop_has_id (link_hop (slice_get plan.links (line - 8))) id
     else if c then hop_has_id (link_hop (slice_get plan.links (line - 16))) id
     else peer_has_id (slice_get plan.peers (line - 24)) id) ≡ true

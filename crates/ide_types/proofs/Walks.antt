@@ -7,9 +7,8 @@ use Rattle.std.proofs.lemmas.Bool.{cases_eq, cases_lt, cases_Bool, eq-eqb, ne_eq
 use Rattle.std.proofs.lemmas.Bool.{and_from}
 use Rattle.std.proofs.lemmas.List.{take-append-le, get_or-append_right}
 use Rattle.ide_types.specs.Fronts.{IsFaultPlace}
-use Rattle.ide_types.specs.Walks.{walked_from, walk_length, reading}
-use Rattle.ide_types.proofs.Fronts.{IsGrammar, EndsAt, Walks, fitting_like, size_like, walks_push, place_of}
-use Rattle.ide_types.proofs.Fronts.{same_place}
+use Rattle.ide_types.specs.Walks.{walked_from, walk_length, whole_reading}
+use Rattle.ide_types.proofs.Fronts.{IsGrammar, EndsAt, Walks, fitting_like, size_like, walks_push, place_of, same_place}
 
 -- a prefix wants more if it is shorter than it says
 abbrev pub wants : (List ℕ → ℕ) → List ℕ → Bool
@@ -53,9 +52,10 @@ module _ {Spelled : List ℕ → Type 0} {size : List ℕ → ℕ} {fits : List 
 
   -- what a reading of these bytes answers
   answer : {V F : Type 0} (value : List ℕ → V) (cause : List ℕ → ℕ → F) (s : List ℕ)
-      → (Spelled s × (reading (wants size) fits value cause s ≡ Ok (value s)))
-      ⊎ ((place : ℕ) × IsFaultPlace Spelled s place × (reading (wants size) fits value cause s ≡ Err (cause s place)))
-  unfolding reading walk_length
+      → (Spelled s × (whole_reading (wants size) fits value cause s ≡ Ok (value s)))
+      ⊎ ((place : ℕ) × IsFaultPlace Spelled s place
+      × (whole_reading (wants size) fits value cause s ≡ Err (cause s place)))
+  unfolding whole_reading walk_length
   answer value cause s =
       let place = walked_from (wants size) fits [] s in
       let e : EndsAt size fits s place = ends_at [] s
@@ -73,7 +73,7 @@ module _ {Spelled : List ℕ → Type 0} {size : List ℕ → ℕ} {fits : List 
   pub reads_iff : {V F : Type 0} (value : List ℕ → V) (cause : List ℕ → ℕ → F) (Spells : V → List ℕ → Type 0)
       → ((s : List ℕ) → Spelled s → (v : V) × Spells v s) →
       ((v : V) (s : List ℕ) → Spells v s → Spelled s × (value s ≡ v))
-      → (v : V) (s : List ℕ) → (Spells v s) ↔ (reading (wants size) fits value cause s ≡ Ok v)
+      → (v : V) (s : List ℕ) → (Spells v s) ↔ (whole_reading (wants size) fits value cause s ≡ Ok v)
   reads_iff value cause Spells some only v s = (
     λ p. elim (answer value cause s) [
       | inl ok ↦ ok.1 ∙ ap (λ x. Ok x) (only v s p).1
@@ -93,7 +93,7 @@ module _ {Spelled : List ℕ → Type 0} {size : List ℕ → ℕ} {fits : List 
   -- and what goes off is refused for the cause there, and nothing else is refused
   pub refuses_iff : {V F : Type 0} (value : List ℕ → V) (cause : List ℕ → ℕ → F) (f : F) (s : List ℕ)
       → ((place : ℕ) × IsFaultPlace Spelled s place × (f ≡ cause s place)) ↔
-      (reading (wants size) fits value cause s ≡ Err f)
+      (whole_reading (wants size) fits value cause s ≡ Err f)
   refuses_iff value cause f s = (
     λ p. elim (answer value cause s) [
       | inl ok ↦ absurd (p.1.not_spelled ok.0)

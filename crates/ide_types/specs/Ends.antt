@@ -55,16 +55,16 @@ abbrev pub peer_port : Option PeerPlan → PortName → PortName
 peer_port None e = e
 peer_port (Some p) e = device_port (peer_link e.side p)
 
-abbrev pub port_at : List PeerPlan → PortName → PortName
-port_at peers e =
+abbrev pub port_beside_end : List PeerPlan → PortName → PortName
+port_beside_end peers e =
     if nat_lt e.line 8 then e
     else if nat_lt e.line 16 then near_hop_port e.side (e.line - 8)
     else if nat_lt e.line 24 then far_hop_port e.side (e.line - 16)
     else peer_port (slice_get peers (e.line - 24)) e
 
 -- a switch's port is there if its link has a hop
-abbrev pub has_port : Plan → PortName → Bool
-has_port plan port =
+abbrev pub is_planned_port : Plan → PortName → Bool
+is_planned_port plan port =
     if nat_lt port.line 8 then true
     else if nat_lt port.line 16 then is_some (link_hop (slice_get plan.links (port.line - 8)))
     else is_some (link_hop (slice_get plan.links (port.line - 16)))
@@ -103,7 +103,7 @@ end_on plan port id =
 
 -- the same at the port of an end
 abbrev pub end_at : Plan → PortName → ℕ → PortName
-end_at plan e id = end_on plan (port_at plan.peers e) id
+end_at plan e id = end_on plan (port_beside_end plan.peers e) id
 
 -- ---- what the reset of a link clears
 

@@ -25,9 +25,9 @@ abbrev pub is_printable : ℕ → Bool
 is_printable b = nat_le 32 b && nat_le b 126
 
 -- words, each after a space, and a line feed
-abbrev pub joined : List Text → Text
-joined [] = 10 ∷ []
-joined (w ∷ ws) = 32 ∷ (w ++ joined ws)
+abbrev pub joined_words : List Text → Text
+joined_words [] = 10 ∷ []
+joined_words (w ∷ ws) = 32 ∷ (w ++ joined_words ws)
 
 abbrev pub side_word : Side → Text
 side_word Host = codes "h"

@@ -6,10 +6,10 @@ use Rattle.ide_types.specs.declared.status.StreamStatus.{StreamStatus}
 use Rattle.ide_types.specs.declared.status.StreamStatus.TheVariants.{Idle, Partial, Secure, Insecure}
 
 abbrev pub host_port : ℕ → PortName
-host_port link = record { side = Host; line = link }
+host_port line = record { side = Host; line = line }
 
 abbrev pub device_port : ℕ → PortName
-device_port link = record { side = Device; line = link }
+device_port line = record { side = Device; line = line }
 
 -- failed; or keyed throughout, in part, or not at all
 abbrev pub keyed_status : Bool → Bool → Bool → StreamStatus

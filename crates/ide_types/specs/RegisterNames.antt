@@ -2,8 +2,7 @@
 use Rattle.std.specs.Prelude.{ℕ, ◌<◌, nat_lt, Bool, true, length}
 use Rattle.ide_types.specs.declared.interface.InterfacePlan.{InterfacePlan}
 use Rattle.ide_types.specs.declared.register.Register.{Register}
-use Rattle.ide_types.specs.declared.register.Register.TheVariants.{Command, CacheLine, Msix, Lnr, Tph, Pasid, Ats}
-use Rattle.ide_types.specs.declared.register.Register.TheVariants.{Bar}
+use Rattle.ide_types.specs.declared.register.Register.TheVariants.{Command, CacheLine, Msix, Lnr, Tph, Pasid, Ats, Bar}
 
 -- how many bits it has
 abbrev pub width_of : Register → ℕ

@@ -1,6 +1,6 @@
 -- Reading from left to right, for a grammar that two tests give: whether a prefix of a spelling wants more, and whether
 -- a byte may follow it.
-use Rattle.std.specs.Prelude.{ℕ, Bool, List, [], ◌∷◌, ◌++◌, length, Result, Ok, Err, ◌==◌, ◌&&◌, not, if◌then◌else◌}
+use Rattle.std.specs.Prelude.{ℕ, List, [], ◌∷◌, ◌++◌, length, Result, Ok, Err, ◌==◌, ◌&&◌, not, if◌then◌else◌, Bool}
 
 -- after this prefix, how far the bytes go on
 unfoldable pub walked_from : (List ℕ → Bool) → (List ℕ → ℕ → Bool) → List ℕ → List ℕ → ℕ
@@ -14,8 +14,8 @@ unfoldable pub walk_length : (List ℕ → Bool) → (List ℕ → ℕ → Bool)
 walk_length wants may_follow bytes = walked_from wants may_follow [] bytes
 
 -- the value of the bytes if they are a whole spelling, and else the cause at the place where they go off
-unfoldable pub reading : {V F : Type 0} → (List ℕ → Bool) → (List ℕ → ℕ → Bool) → (List ℕ → V) → (List ℕ → ℕ → F)
+unfoldable pub whole_reading : {V F : Type 0} → (List ℕ → Bool) → (List ℕ → ℕ → Bool) → (List ℕ → V) → (List ℕ → ℕ → F)
     → List ℕ → Result V F
-reading wants may_follow value cause bytes =
+whole_reading wants may_follow value cause bytes =
     if (walk_length wants may_follow bytes == length bytes) && not (wants bytes) then Ok (value bytes)
     else Err (cause bytes (walk_length wants may_follow bytes))

@@ -1,7 +1,7 @@
 //! At which port the end of a line is.
 
 ghost use Rattle.std.specs.Prelude.{◌≡◌, ◌<◌, slice_get};
-ghost use Rattle.ide_types.specs.Ends.{port_at as port_of_end, near_hop_port, far_hop_port, peer_port};
+ghost use Rattle.ide_types.specs.Ends.{port_beside_end as port_of_end, near_hop_port, far_hop_port, peer_port};
 ghost use Rattle.ide_types.specs.EndLaws.{EndsAreFound};
 
 use crate::{PeerPlan, PortName, Side};
@@ -53,15 +53,15 @@ fn peer(peers: &[PeerPlan], end: PortName, number: usize) -> PortName
 pub fn port_at(peers: &[PeerPlan], end: PortName) -> PortName
     ensures { result ≡ port_of_end peers.now end }
 {
-    let PortName { side, line: link } = end;
-    if link < 8 {
+    let PortName { side, line } = end;
+    if line < 8 {
         end
-    } else if link < 16 {
-        near_hop(side, link - 8)
-    } else if link < 24 {
-        far_hop(side, link - 16)
+    } else if line < 16 {
+        near_hop(side, line - 8)
+    } else if line < 24 {
+        far_hop(side, line - 16)
     } else {
-        peer(peers, end, (link - 24) as usize)
+        peer(peers, end, (line - 24) as usize)
     }
 }
 

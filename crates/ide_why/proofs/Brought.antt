@@ -11,10 +11,10 @@ use Rattle.link_events.specs.declared.event.Event.{Event}
 use Rattle.link_events.specs.declared.event.Event.TheVariants as event
 use Rattle.spec_links.specs.Packets.{arrival_at}
 use Rattle.spec_links.specs.Plan.{has_link, partner}
-use Rattle.machine_ports.specs.Machine.{LinkPacket, altered_to, cut_short, packet_numbered, passed}
+use Rattle.machine_ports.specs.Machine.{LinkPacket, altered_to, cut_short, packet_numbered, whole_arrival}
 use Rattle.trusted_memory.specs.declared.queue.WaitingRead.{WaitingRead}
 use Rattle.machine_whole.specs.Machine.{arrival_of}
-use Rattle.why_lines.specs.declared.fact.Fact.{Fact}
+use Rattle.why_facts.specs.declared.fact.Fact.{Fact}
 use Rattle.why_facts.specs.Forms.{waiting_fact}
 use Rattle.world.specs.{WholeLinks, reads_at}
 use Rattle.ide_why.specs.Facts.{answer_read, arrival_facts, brought_facts, oldest_read, sealed_facts, state_of_whole}
@@ -37,7 +37,7 @@ module _ (plan : Plan) (s : WholeLinks) where
     where
       pub whole_arrives : arrival_of plan (state_of_whole plan s) (event.Pass n)
           ≡ Some (arrival_at plan (partner port) bytes)
-      whole_arrives = ap (λ (o : Option LinkPacket). option_and_then (passed plan) o) (sym is)
+      whole_arrives = ap (λ (o : Option LinkPacket). option_and_then (whole_arrival plan) o) (sym is)
 
       pub altered_arrives : (at mask : ℕ) → nat_lt at (length bytes) ≡ true
           → arrival_of plan (state_of_whole plan s) (event.Alter n at mask)

@@ -7,7 +7,7 @@ use Rattle.ide_types.specs.declared.port.PortName.{PortName}
 use Rattle.ide_types.specs.declared.sub.SubKind.{SubKind}
 use Rattle.ide_types.specs.declared.sub.SubKind.TheVariants.{Pr, Npr, Cpl}
 use Rattle.ide_types.specs.declared.plan.Plan.{Plan}
-use Rattle.association.specs.Outgoing.{Outgoing, NoTlp, OnNone, OnStream}
+use Rattle.tlp_layout.specs.Outgoing.{Outgoing, NoTlp, OnNone, OnStream}
 use Rattle.ide_port.specs.Facts.{held_by}
 use Rattle.ide_prefix.specs.Packet.{Packet}
 use Rattle.ide_prefix.specs.Reading.{CutValue, PlainTlp, IdePacket, cut_of}
@@ -15,9 +15,9 @@ use Rattle.ide_prefix.specs.declared.fault.PacketFault.{PacketFault}
 use Rattle.tlp_layout.specs.Class.{class_of}
 use Rattle.tlp_layout.specs.Tlp.{header}
 use Rattle.tlp_layout.specs.declared.head.HeadView.{HeadView}
-use Rattle.spec_interfaces.specs.Cause.{owner_of, owners_link}
+use Rattle.spec_interfaces.specs.Cause.{owner_id, owners_link}
 use Rattle.spec_interfaces.specs.Sites.{sites}
-use Rattle.machine_interfaces.specs.Machine.{with_requester}
+use Rattle.machine_whole.specs.Interfaces.{with_requester}
 use Rattle.spec_links.specs.History.{Arrival}
 use Rattle.spec_links.specs.Plan.{is_closed}
 use Rattle.spec_links.specs.Ports.{goes_through, port_of}
@@ -27,8 +27,8 @@ use Rattle.spec_stream.specs.Stream.{LaneSlot, Empty, Programmed, Armed, Live, S
 use Rattle.spec_stream.specs.Stream.{slot_in_set}
 use Rattle.sub_stream.specs.Facts.{held_packets, lane_seen, slot_facts, stream_facts}
 use Rattle.sub_stream.specs.declared.facts.SlotFacts.{SlotFacts}
-use Rattle.machine_whole.specs.Accesses.{face_standings}
-use Rattle.why_lines.specs.declared.fact.Fact.{Fact}
+use Rattle.machine_whole.specs.Accesses.{face_statuses}
+use Rattle.why_facts.specs.declared.fact.Fact.{Fact}
 use Rattle.why_facts.specs.Due.{sets_own_t}
 use Rattle.why_facts.specs.Forms.{Readings, arrives_fact, at_port, sends_fact, state_fact, unit_facts}
 use Rattle.why_facts.specs.Kept.{arrival_facts_in, asks_in, asks_live, known_of, owner_found, owner_in, packet_facts}
@@ -36,10 +36,9 @@ use Rattle.why_facts.specs.Kept.{readings_in, received_by, send_facts_in, sent_s
 use Rattle.world.specs.{WorldStandsFor, WholeLinks, world_of}
 use Rattle.spec_keys.specs.History.{History}
 use Rattle.ide_why.specs.Facts.{arrival_facts, asks_if, asks_read_facts, known_read, met_facts, owner_facts}
-use Rattle.ide_why.specs.Facts.{readings_read}
-use Rattle.ide_why.specs.Facts.{received_read, sending_facts, state_of_whole, stream_sends}
-use Rattle.ide_why.specs.Reading.{owner_face, requester_read, standings_read}
-use Rattle.why_appends.specs.{is_live_seen, set_seen}
+use Rattle.ide_why.specs.Facts.{readings_read, received_read, sending_facts, state_of_whole, stream_sends}
+use Rattle.ide_why.specs.Reading.{owner_face, requester_read, statuses_read}
+use Rattle.why_facts.specs.{is_live_seen, set_seen}
 use Rattle.ide_why.proofs.SeenStreams.{receiver_is, senders_are}
 
 set_is : (closed : Bool) (x : StreamState) (u : SubKind) (k : Bool)
@@ -55,20 +54,20 @@ set_is closed x Cpl false = refl
 module _ (plan : Plan) (s : WholeLinks) (h : History) (stood : WorldStandsFor (world_of plan s) h)
     (known : (link requester : ℕ)
     → known_read (requester_read s link requester) ≡ known_of (with_requester plan stood.whole.faces link requester))
-    (stand : (link : ℕ) → standings_read s link
-    ≡ face_standings link (sites plan) stood.whole.faces.list stood.whole.accesses.floors)
+    (stand : (link : ℕ) → statuses_read s link
+    ≡ face_statuses link (sites plan) stood.whole.faces.list stood.whole.accesses.floors)
   where
     pub state_is : state_of_whole plan s ≡ stood.whole.links
     state_is = sym stood.is.links
 
-    owner_by : (link : ℕ) (o : Option ℕ) (head : HeadView) → owner_of head ≡ o
+    owner_by : (link : ℕ) (o : Option ℕ) (head : HeadView) → owner_id head ≡ o
         → known_read (owner_face s link head) ≡ known_of (owner_found plan stood.whole.faces link head)
     owner_by link None head of = rw of refl
     owner_by link (Some requester) head of = rw of (known link requester)
 
     owner_is : (link : ℕ) (head : HeadView)
         → known_read (owner_face s link head) ≡ known_of (owner_found plan stood.whole.faces link head)
-    owner_is link head = owner_by link (owner_of head) head refl
+    owner_is link head = owner_by link (owner_id head) head refl
 
     -- ---- requests
 

@@ -15,7 +15,7 @@ use Rattle.spec_links.specs.Ports.{may_send, outgoing_at, sealing_end}
 use Rattle.link_verdicts.specs.declared.verdict.Operation.TheVariants as op
 use Rattle.machine_operations.specs.{LinkState, find_op, ports_of, machine_status}
 use Rattle.machine_whole.specs.Machine.{arrival_of}
-use Rattle.why_lines.specs.declared.fact.Fact.{Fact}
+use Rattle.why_facts.specs.declared.fact.Fact.{Fact}
 use Rattle.why_facts.specs.Forms.{clears_fact, draws_fact, establish_facts, manager_fact, packets_fact, pool_of}
 use Rattle.why_facts.specs.Forms.{refresh_facts, state_fact, stop_facts}
 use Rattle.why_facts.specs.Kept.{arrival_facts_in, cleared_in, if_found, reset_facts_in, packet_count_facts}

@@ -15,13 +15,9 @@ use Rattle.interface_host.specs.declared.facts.InterfaceFacts.{InterfaceFacts}
 use Rattle.interface_host.specs.Facts.{interface_facts}
 use Rattle.interface_host.specs.Views.{HostTdi}
 use Rattle.interface_state.specs.{Tdi, state_code}
-use Rattle.tsm_host.specs.Managers.{named, op_named}
-use Rattle.world.specs.{AreLinks, LinkEnds, WholeLinks, interface_named, place_on_links, port_on}
-use Rattle.world.specs.{interface_of_ends}
-use Rattle.world.proofs.{closed_at, port_is}
-use Rattle.world.proofs.{end_found, none_found, op_is, unnamed}
-use Rattle.world.proofs.{get_there}
-use Rattle.world.proofs.{IsLocated, located_read}
+use Rattle.tsm_host.specs.Managers.{named_stream, op_named}
+use Rattle.world.specs.{AreLinks, LinkEnds, WholeLinks, interface_named, place_on_links, port_on, interface_of_ends}
+use Rattle.world.proofs.{closed_at, port_is, end_found, none_found, op_is, unnamed, get_there, IsLocated, located_read}
 use Rattle.ide_why.specs.Facts.{state_of_whole}
 use Rattle.ide_why.specs.Reading.{face_located, face_of, face_read, stream_read, tdi_read}
 
@@ -53,7 +49,8 @@ module _ (plan : Plan) (s : WholeLinks) (links : AreLinks plan s.links.ends s.li
   -- ---- operations
 
   pub stage_is : (line stream : ℕ)
-      → op_named (named s.links.keeper.keys.manager line stream) ≡ find_op plan (state_of_whole plan s) line stream
+      → op_named (named_stream s.links.keeper.keys.manager line stream)
+      ≡ find_op plan (state_of_whole plan s) line stream
   stage_is line stream =
       sym (op_is plan s.links.ends s.links.keeper.keys s.links.packets.packets line stream links)
 

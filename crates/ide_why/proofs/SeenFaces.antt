@@ -3,32 +3,30 @@ use Rattle.std.proofs.Common.{◌≡◌, ℕ, ◌==◌, ◌&&◌, ◌<◌, ◌�
 use Rattle.std.proofs.Common.{◌∙◌, arith, Option, Some, None, ⊎_elim, ◌⊎◌, subst}
 use Rattle.std.proofs.lemmas.Bool.{cases_Bool, cases_lt, and_parts, and_from, eqb-true, eq-eqb}
 use Rattle.std.proofs.lemmas.Option.{same_Some, slice_get_within}
-use Rattle.std.specs.Option.{option_and_then, option_map}
+use Rattle.std.specs.Option.{option_and_then}
 use Rattle.std.specs.Prelude.{slice_get}
 use Rattle.ide_types.specs.declared.plan.Plan.{Plan}
 use Rattle.join_interfaces.specs.Faces.{SeenAs}
-use Rattle.machine_interfaces.specs.Machine.{Face, find_face, with_requester}
+use Rattle.machine_whole.specs.Interfaces.{Face, find_face, with_requester}
 use Rattle.spec_interfaces.specs.Sites.{Site, sites}
 use Rattle.spec_interfaces.specs.Views.{Managed, bound_if}
 use Rattle.interface_host.specs.Facts.{interface_facts, reported_in}
 use Rattle.interface_host.specs.Managers.{interface_of_requester}
 use Rattle.interface_host.specs.Views.{HostTdi, Seen, IsUnlocked, IsLocked, IsRunning, IsDoubt, IsBroken, floor_of}
-use Rattle.interface_host.specs.Views.{is_requester, view_of}
+use Rattle.interface_host.specs.Views.{grant_by, is_requester, view_of}
 use Rattle.interface_state.specs.{Tdi, state_code}
 use Rattle.ide_types.specs.declared.view.View.{View}
-use Rattle.why_lines.specs.declared.fact.InterfaceFact.TheVariants as face
-use Rattle.why_lines.specs.declared.fact.Fact.TheVariants as fact
+use Rattle.why_facts.specs.declared.fact.InterfaceFact.TheVariants as face
+use Rattle.why_facts.specs.declared.fact.Fact.TheVariants as fact
 use Rattle.why_facts.specs.Forms.{bound_facts, face_facts, interface_fact, reported_facts, shown_facts}
 use Rattle.why_facts.specs.Kept.{known_of, shown_in}
-use Rattle.world.specs.{AreLinks, WorldStandsFor, WholeLinks, interface_of_ends, world_of}
-use Rattle.world.specs.{IsPlaced}
+use Rattle.world.specs.{AreLinks, WorldStandsFor, WholeLinks, interface_of_ends, world_of, IsPlaced}
 use Rattle.spec_keys.specs.History.{History}
-use Rattle.world.proofs.{tdi_there}
-use Rattle.world.proofs.{requester_found, requester_nowhere, requester_true}
-use Rattle.world.proofs.{IsSomeSite, get_there, position_at, position_none, site_or_none}
-use Rattle.world.proofs.{face_absent, face_found, interface_absent, interface_there, site_apart, site_numbered}
-use Rattle.why_appends.specs.declared.faces.FaceSeen.{FaceSeen}
-use Rattle.why_appends.specs.{face_seen, reported_seen}
+use Rattle.world.proofs.{tdi_there, requester_found, requester_nowhere, requester_true, IsSomeSite, get_there}
+use Rattle.world.proofs.{position_at, position_none, site_or_none, face_absent, face_found, interface_absent}
+use Rattle.world.proofs.{interface_there, site_apart, site_numbered}
+use Rattle.why_facts.specs.declared.appends.faces.FaceSeen.{FaceSeen}
+use Rattle.why_facts.specs.{face_seen, reported_seen}
 use Rattle.ide_why.specs.Facts.{known_read, shown_read, shown_seen}
 use Rattle.ide_why.specs.Faces.{AreFacesSeen, IsFaceSeen}
 use Rattle.ide_why.specs.Reading.{face_located, face_of, face_read, requester_read, tdi_read}
@@ -88,8 +86,7 @@ module _ (plan : Plan) (s : WholeLinks) (links : AreLinks plan s.links.ends s.li
         needs = kept.needs;
         started = kept.started;
         draw_is = kept.draw_is;
-        bound = ap (λ (n : ℕ). option_map (λ floor. (n, floor)) (interface_facts p.interface).floor)
-            kept.laid_out.stream
+        bound = ap (λ (n : ℕ). grant_by n (interface_facts p.interface).floor) kept.laid_out.stream
             ∙ bound_is p.interface.seen p.face.managed x.plan.stream kept.seen;
         tdi = interface_at i x p at;
         reported = reported_is p.interface.seen p.face.managed kept.seen;
@@ -103,8 +100,7 @@ module _ (plan : Plan) (s : WholeLinks) (links : AreLinks plan s.links.ends s.li
       view_is IsBroken m as_seen = sym as_seen
 
       bound_is : (seen : Seen) (m : Managed) (stream : ℕ) → SeenAs seen m
-          → option_map (λ floor. (stream, floor)) (floor_of seen)
-          ≡ bound_if m.view stream m.floor
+          → grant_by stream (floor_of seen) ≡ bound_if m.view stream m.floor
       bound_is IsUnlocked m stream as_seen = ap (λ (u : View). bound_if u stream m.floor) (sym as_seen)
       bound_is (IsLocked nonce reported) m stream as_seen = ap (λ (u : View). bound_if u stream m.floor) (sym as_seen.0)
       bound_is (IsRunning floor) m stream as_seen = (λ j. bound_if (sym as_seen.0 j) stream (sym as_seen.1 j))

@@ -10,7 +10,7 @@ use Rattle.ide_types.specs.declared.port.Side.TheVariants.{Host}
 use Rattle.ide_types.specs.declared.sub.SubKind.TheVariants.{Cpl}
 use Rattle.ide_types.specs.Ports.{host_port}
 use Rattle.ide_types.specs.declared.plan.Plan.{Plan}
-use Rattle.machine_interfaces.specs.Machine.{Face, face_standing, find_face, with_requester}
+use Rattle.machine_whole.specs.Interfaces.{Face, asked_state_of_face, find_face, with_requester}
 use Rattle.spec_interfaces.specs.Sites.{Site, sites}
 use Rattle.spec_interfaces.specs.Peers.{has_peer, live_by_id}
 use Rattle.spec_interfaces.specs.Views.{number_in, peer_of}
@@ -25,10 +25,10 @@ use Rattle.spec_stream.specs.Slots.{stream_status}
 use Rattle.spec_stream.specs.Stream.{StreamState}
 use Rattle.sub_stream.specs.Facts.{stream_facts}
 use Rattle.trusted_memory.specs.declared.queue.WaitingRead.{WaitingRead}
-use Rattle.machine_whole.specs.Machine.{live_in, op_or_idle, whole_streams}
-use Rattle.why_lines.specs.declared.fact.Fact.{Fact}
-use Rattle.why_lines.specs.declared.fact.InterfaceFact.TheVariants as face
-use Rattle.why_lines.specs.declared.fact.Fact.TheVariants as fact
+use Rattle.machine_whole.specs.Machine.{live_draw_at_end, op_or_idle, whole_streams}
+use Rattle.why_facts.specs.declared.fact.Fact.{Fact}
+use Rattle.why_facts.specs.declared.fact.InterfaceFact.TheVariants as face
+use Rattle.why_facts.specs.declared.fact.Fact.TheVariants as fact
 use Rattle.why_facts.specs.Forms.{asked_besides, bind_facts, draw_fact, draws_fact, face_facts, peer_facts, pool_of}
 use Rattle.why_facts.specs.Forms.{read_fact, state_fact, takes_facts, waiting_fact}
 use Rattle.why_facts.specs.Kept.{answer_facts_in, asked_face, asked_facts_in, completion_facts, first_tlp_facts}
@@ -36,7 +36,7 @@ use Rattle.why_facts.specs.Kept.{forward_facts_in, oldest_read_facts, reader_in}
 use Rattle.world.specs.{AreLinks, WorldStandsFor, WholeLinks, carried_on_link, peer_live, world_of}
 use Rattle.world.proofs.{live_is, peer_line_is}
 use Rattle.spec_keys.specs.History.{History}
-use Rattle.why_appends.specs.declared.faces.FaceSeen.{FaceSeen}
+use Rattle.why_facts.specs.declared.appends.faces.FaceSeen.{FaceSeen}
 use Rattle.ide_why.specs.Facts.{answer_read, asked_by_face, asked_by_number, besides_read, bind_read, completion_read}
 use Rattle.ide_why.specs.Facts.{first_read, forward_read, oldest_read, reader_read, state_of_whole}
 use Rattle.ide_why.specs.Faces.{AreFacesSeen, IsFaceSeen}
@@ -68,15 +68,16 @@ module _ (plan : Plan) (s : WholeLinks) (links : AreLinks plan s.links.ends s.li
         ∙ (λ j. stood.whole.draw (r.line_is j) (r.id_is j)))
 
     peer_live_is : (link stream : ℕ) → peer_live s.links.ends link stream
-        ≡ live_by_id (live_in plan stood.whole.links) plan.peers link stream
+        ≡ live_by_id (live_draw_at_end plan stood.whole.links) plan.peers link stream
     peer_live_is link stream =
         sym (live_is plan s.links.ends s.links.keeper.keys s.links.packets.packets links link stream)
-        ∙ ap (λ (st : LinkState). live_by_id (live_in plan st) plan.peers link stream) st_is
+        ∙ ap (λ (st : LinkState). live_by_id (live_draw_at_end plan st) plan.peers link stream) st_is
 
     bind_is : (y : Site × Face) (f : FaceSeen) (line stream : ℕ) → IsFaceSeen stood.whole.draw (tdi_read s) y f
         → has_peer plan.peers y.0.link line stream ≡ true
         → bind_read plan s f line stream
-        ≡ bind_facts (face_standing plan (whole_streams plan stood.whole) stood.whole.faces.used y.0 y.1) line stream
+        ≡ bind_facts (asked_state_of_face plan (whole_streams plan stood.whole) stood.whole.faces.used y.0 y.1) line
+        stream
     bind_is y f line stream seen has =
         let live = ap (λ (n : ℕ). peer_live s.links.ends n stream) seen.link ∙ peer_live_is y.0.link stream in
         (λ j. peer_facts (op_or_idle (find_op plan (st_is j) line stream))
@@ -98,7 +99,8 @@ module _ (plan : Plan) (s : WholeLinks) (links : AreLinks plan s.links.ends s.li
 
     besides_are : (e : InterfaceEvent) (y : Site × Face) (f : FaceSeen) → IsFaceSeen stood.whole.draw (tdi_read s) y f
         → besides_read plan s f e
-        ≡ asked_besides plan y.0 (face_standing plan (whole_streams plan stood.whole) stood.whole.faces.used y.0 y.1) e
+        ≡ asked_besides plan y.0 (asked_state_of_face plan (whole_streams plan stood.whole) stood.whole.faces.used y.0
+        y.1) e
     besides_are (ie.Lock i loss) y f seen =
         (λ j. state_fact (machine_status plan (st_is j) Host (seen.link j) (seen.stream j)) ∷ [])
     besides_are (ie.Start i loss) y f seen =

@@ -11,7 +11,7 @@ use Rattle.ide_types.specs.declared.sub.SubKind.{SubKind}
 use Rattle.ide_types.specs.declared.sub.SubKind.TheVariants.{Pr, Npr, Cpl}
 use Rattle.ide_types.specs.declared.plan.Plan.{Plan}
 use Rattle.spec_keys.specs.Due.{PortView}
-use Rattle.spec_keys.specs.History.{program_at}
+use Rattle.spec_keys.specs.History.{program_exchange}
 use Rattle.spec_keys.specs.Operations.{StreamStage, Idle, Establishing, Up, Refreshing, Stopping, last_exchange_of}
 use Rattle.spec_keys.specs.Keys.{refusal_if}
 use Rattle.spec_keys.specs.Places.{KeyPlace, places_of, told_places}
@@ -23,13 +23,13 @@ use Rattle.machine_operations.specs.{find, is_live_at, port_at, ports_of}
 use Rattle.spec_stream.specs.Slots.{is_live_slot, slots_at}
 use Rattle.spec_stream.specs.Stream.{LaneSlot, Empty, Programmed, Armed, Live, LaneSlots, StreamState, slot_in_set}
 use Rattle.sub_stream.specs.Facts.{lane_seen, set_facts, slot_facts, stream_facts}
-use Rattle.why_lines.specs.declared.fact.Fact.{Fact}
-use Rattle.why_lines.specs.declared.fact.Fact.TheVariants as fact
-use Rattle.why_lines.specs.declared.fact.OperationFact.TheVariants as of
+use Rattle.why_facts.specs.declared.fact.Fact.{Fact}
+use Rattle.why_facts.specs.declared.fact.Fact.TheVariants as fact
+use Rattle.why_facts.specs.declared.fact.OperationFact.TheVariants as of
 use Rattle.why_facts.specs.Forms.{exchange_facts, open_facts, opens_facts, refuses_fact, refusing_facts}
 use Rattle.world.specs.{WholeLinks}
-use Rattle.why_appends.specs.declared.places.Place.{Place}
-use Rattle.why_appends.specs.{is_last_seen, is_live_seen, key_place, open_seen, seen_place_at, set_seen}
+use Rattle.why_facts.specs.declared.appends.places.Place.{Place}
+use Rattle.why_facts.specs.{is_last_seen, is_live_seen, key_place, open_seen, seen_place_at, set_seen}
 use Rattle.ide_why.specs.Facts.{exchanges_read, opens_read, opens_seen, refusal_facts, state_of_whole}
 use Rattle.ide_why.specs.Places.{first_refusing, if_refusing, is_refusing, place_or, refuses_seen, refusing_on}
 use Rattle.ide_why.specs.Places.{refusing_or, sets_in}
@@ -90,13 +90,13 @@ module _ (plan : Plan) (s : WholeLinks) (o : Operation) (set : Bool) (first : �
   due ks = refusing_facts plan ports o set first ks
 
   test_is : (p : Place) → is_refusing plan s o set first p
-      ≡ (nat_le first (program_at o (key_place p)) && is_some (ports.refusal (key_place p) set))
-  test_is p = refusing_found (nat_le first (program_at o (key_place p))) p set (is_closed plan p.line p.stream)
+      ≡ (nat_le first (program_exchange o (key_place p)) && is_some (ports.refusal (key_place p) set))
+  test_is p = refusing_found (nat_le first (program_exchange o (key_place p))) p set (is_closed plan p.line p.stream)
       (find plan (state_of_whole plan s) (port_at p.side p.line) p.stream)
 
   one_by : (b : Bool) (p : Place) (next : Option Place) (ks : List KeyPlace) → refusal_facts plan o next ≡ due ks
       → refusal_facts plan o (if_refusing b p next)
-      ≡ (if b then refuses_fact plan (program_at o (key_place p)) (key_place p) ∷ [] else due ks)
+      ≡ (if b then refuses_fact plan (program_exchange o (key_place p)) (key_place p) ∷ [] else due ks)
   one_by true p next ks same = refl
   one_by false p next ks same = same
 
@@ -104,7 +104,7 @@ module _ (plan : Plan) (s : WholeLinks) (o : Operation) (set : Bool) (first : �
       → refusal_facts plan o (refusing_or plan s o set first p next) ≡ due (key_place p ∷ ks)
   one_is p next ks same =
       one_by (is_refusing plan s o set first p) p next ks same
-      ∙ ap (λ (b : Bool). if b then refuses_fact plan (program_at o (key_place p)) (key_place p) ∷ [] else due ks)
+      ∙ ap (λ (b : Bool). if b then refuses_fact plan (program_exchange o (key_place p)) (key_place p) ∷ [] else due ks)
       (test_is p)
 
   abbrev or_one : Side → ℕ → ℕ → Bool → SubKind → Option Place → Option Place

@@ -9,9 +9,9 @@ use Rattle.ide_types.specs.declared.port.PortName.{PortName}
 use Rattle.ide_types.specs.declared.port.Side.{Side}
 use Rattle.ide_types.specs.declared.plan.Plan.{Plan}
 use Rattle.ide_types.specs.declared.stream.StreamPlan.{StreamPlan}
-use Rattle.association.specs.Choice.{choice_of, chosen_stream}
-use Rattle.association.specs.Outgoing.{Outgoing, NoTlp, OnNone, OnStream, outgoing_as, outgoing_on, stream_taken}
-unfoldable use Rattle.association.specs.Outgoing.{outgoing_of}
+use Rattle.tlp_layout.specs.Choice.{choice_of, chosen_stream}
+use Rattle.tlp_layout.specs.Outgoing.{Outgoing, NoTlp, OnNone, OnStream, outgoing_as, outgoing_on, stream_taken}
+unfoldable use Rattle.tlp_layout.specs.Outgoing.{outgoing_of}
 use Rattle.spec_links.specs.Plan.{has_link, has_port, streams_of}
 use Rattle.spec_links.specs.Ports.{outgoing_at}
 use Rattle.tlp_layout.specs.Reading.{read_of}

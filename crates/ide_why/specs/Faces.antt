@@ -1,12 +1,12 @@
 -- An interface that is seen is one of the machine.
 use Rattle.std.specs.Prelude.{ℕ, ◌≡◌, Option, Some, None}
-use Rattle.machine_interfaces.specs.Machine.{Face}
+use Rattle.machine_whole.specs.Interfaces.{Face}
 use Rattle.spec_interfaces.specs.Sites.{Site}
 use Rattle.spec_interfaces.specs.Views.{bound_if}
 use Rattle.interface_state.specs.{Tdi, state_code}
 use Rattle.why_facts.specs.Forms.{reported_facts}
-use Rattle.why_appends.specs.declared.faces.FaceSeen.{FaceSeen}
-use Rattle.why_appends.specs.{grant_seen, reported_seen}
+use Rattle.why_facts.specs.declared.appends.faces.FaceSeen.{FaceSeen}
+use Rattle.why_facts.specs.{grant_seen, reported_seen}
 
 -- it is this interface, of which the machine keeps this; `draw` is that of its stream, and `tdis` are the interfaces at
 -- devices by their numbers

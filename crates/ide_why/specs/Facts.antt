@@ -10,7 +10,7 @@ use Rattle.ide_types.specs.declared.sub.SubKind.TheVariants.{Pr, Npr, Cpl}
 use Rattle.ide_types.specs.Ports.{host_port}
 use Rattle.ide_types.specs.declared.plan.Plan.{Plan}
 use Rattle.ide_types.specs.declared.stream.StreamPlan.{StreamPlan}
-use Rattle.association.specs.Outgoing.{Outgoing, NoTlp, OnNone, OnStream}
+use Rattle.tlp_layout.specs.Outgoing.{Outgoing, NoTlp, OnNone, OnStream}
 use Rattle.ide_prefix.specs.Packet.{Packet}
 use Rattle.ide_prefix.specs.Reading.{CutValue, PlainTlp, IdePacket, cut_of}
 use Rattle.ide_prefix.specs.declared.fault.PacketFault.{PacketFault}
@@ -22,7 +22,7 @@ use Rattle.interface_state.specs.{Tdi}
 use Rattle.spec_interfaces.specs.Cause.{owners_link}
 use Rattle.spec_interfaces.specs.Peers.{has_peer}
 use Rattle.spec_interfaces.specs.Views.{number_in, peer_of}
-use Rattle.spec_keys.specs.History.{program_at}
+use Rattle.spec_keys.specs.History.{program_exchange}
 use Rattle.spec_keys.specs.Operations.{StreamStage, Up, last_exchange_of, work_of}
 use Rattle.link_verdicts.specs.declared.verdict.Operation.{Operation}
 use Rattle.link_verdicts.specs.declared.verdict.Operation.TheVariants as op
@@ -39,22 +39,22 @@ use Rattle.machine_operations.specs.{LinkState, find_op, machine_status}
 use Rattle.sub_stream.specs.declared.facts.StreamFacts.{StreamFacts}
 use Rattle.sub_stream.specs.Facts.{lane_seen}
 use Rattle.machine_whole.specs.Machine.{arrival_of, op_or_idle}
-use Rattle.why_lines.specs.declared.fact.Fact.{Fact}
-use Rattle.why_lines.specs.declared.fact.InterfaceFact.TheVariants as face
-use Rattle.why_lines.specs.declared.fact.OperationFact.TheVariants as of
-use Rattle.why_lines.specs.declared.fact.Fact.TheVariants as fact
+use Rattle.why_facts.specs.declared.fact.Fact.{Fact}
+use Rattle.why_facts.specs.declared.fact.InterfaceFact.TheVariants as face
+use Rattle.why_facts.specs.declared.fact.OperationFact.TheVariants as of
+use Rattle.why_facts.specs.declared.fact.Fact.TheVariants as fact
 use Rattle.why_facts.specs.Due.{sets_own_t}
 use Rattle.why_facts.specs.Forms.{Readings, arrives_fact, at_port, clears_fact, draw_fact, draws_fact, manager_fact}
 use Rattle.why_facts.specs.Forms.{may_go, memory_facts, packets_fact, peer_facts, pool_of, read_fact, refuses_fact}
 use Rattle.why_facts.specs.Forms.{sends_fact, shown_facts, state_fact, takes_facts, unit_facts, waiting_fact}
 use Rattle.why_facts.specs.Kept.{if_found}
 use Rattle.world.specs.{WholeLinks, carried_on_link, links_state, peer_live, reads_at}
-use Rattle.why_appends.specs.declared.faces.FaceSeen.{FaceSeen}
-use Rattle.why_appends.specs.declared.places.Place.{Place}
-use Rattle.why_appends.specs.{face_seen, is_live_seen, key_place, open_seen, receiver_seen, reported_seen}
-use Rattle.why_appends.specs.{sender_seen, senders_seen, set_seen}
+use Rattle.why_facts.specs.declared.appends.faces.FaceSeen.{FaceSeen}
+use Rattle.why_facts.specs.declared.appends.places.Place.{Place}
+use Rattle.why_facts.specs.{face_seen, is_live_seen, key_place, open_seen, receiver_seen, reported_seen}
+use Rattle.why_facts.specs.{sender_seen, senders_seen, set_seen}
 use Rattle.ide_why.specs.Places.{refusing_on}
-use Rattle.ide_why.specs.Reading.{bindings_read, face_read, held_read, owner_face, requester_read, standings_read}
+use Rattle.ide_why.specs.Reading.{bindings_read, face_read, held_read, owner_face, requester_read, statuses_read}
 use Rattle.ide_why.specs.Reading.{stream_read, tdi_read}
 
 abbrev pub state_of_whole : Plan → WholeLinks → LinkState
@@ -95,7 +95,7 @@ abbrev pub readings_read : WholeLinks → Readings
 readings_read s = record {
   known = λ link requester. known_read (requester_read s link requester);
   waiting = λ link. length (reads_at s.accesses link);
-  standings = standings_read s;
+  standings = statuses_read s;
 }
 
 -- under a Live key; `held` are the packets of its unit that are held
@@ -143,7 +143,7 @@ arrived_facts plan s port bytes =
 -- the first place that refuses a KEY_PROG of this set from an exchange on
 abbrev pub refusal_facts : Plan → Operation → Option Place → List Fact
 refusal_facts plan o None = []
-refusal_facts plan o (Some p) = refuses_fact plan (program_at o (key_place p)) (key_place p) ∷ []
+refusal_facts plan o (Some p) = refuses_fact plan (program_exchange o (key_place p)) (key_place p) ∷ []
 
 abbrev pub refusing_read : Plan → WholeLinks → Operation → Bool → ℕ → ℕ → ℕ → List Fact
 refusing_read plan s op.Stop set first line stream = []

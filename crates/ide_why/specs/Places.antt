@@ -6,14 +6,14 @@ use Rattle.ide_types.specs.declared.port.Side.{Side}
 use Rattle.ide_types.specs.declared.port.Side.TheVariants.{Host, Device}
 use Rattle.ide_types.specs.declared.sub.SubKind.TheVariants.{Pr, Npr, Cpl}
 use Rattle.ide_types.specs.declared.plan.Plan.{Plan}
-use Rattle.spec_keys.specs.History.{program_at}
+use Rattle.spec_keys.specs.History.{program_exchange}
 use Rattle.link_verdicts.specs.declared.verdict.Operation.{Operation}
 use Rattle.sub_stream.specs.declared.facts.SetFacts.{SetFacts}
 use Rattle.sub_stream.specs.declared.facts.StreamFacts.{StreamFacts}
 use Rattle.sub_stream.specs.Facts.{lane_seen}
 use Rattle.world.specs.{WholeLinks}
-use Rattle.why_appends.specs.declared.places.Place.{Place}
-use Rattle.why_appends.specs.{is_last_seen, key_place, seen_place_at}
+use Rattle.why_facts.specs.declared.appends.places.Place.{Place}
+use Rattle.why_facts.specs.{is_last_seen, key_place, seen_place_at}
 use Rattle.ide_why.specs.Reading.{stream_read}
 
 abbrev pub sets_in : Place → StreamFacts → SetFacts
@@ -28,7 +28,8 @@ refuses_seen set sets = if set then is_last_seen sets.one sets.zero else is_last
 -- it has a KEY_PROG of this set from an exchange on, which it refuses
 abbrev pub is_refusing : Plan → WholeLinks → Operation → Bool → ℕ → Place → Bool
 is_refusing plan s o set first p =
-    option_map_or (λ sets. nat_le first (program_at o (key_place p)) && refuses_seen set sets) (sets_at plan s p) false
+    option_map_or (λ sets. nat_le first (program_exchange o (key_place p)) && refuses_seen set sets) (sets_at plan s p)
+    false
 
 abbrev pub if_refusing : Bool → Place → Option Place → Option Place
 if_refusing b p next = if b then Some p else next

@@ -8,7 +8,7 @@ use Rattle.ide_port.specs.Facts.{held_by}
 use Rattle.ide_prefix.specs.Packet.{Packet}
 use Rattle.guarded_memory.specs.declared.standing.InterfaceStatus.{InterfaceStatus}
 use Rattle.tlp_layout.specs.declared.head.HeadView.{HeadView}
-use Rattle.spec_interfaces.specs.Cause.{owner_of}
+use Rattle.spec_interfaces.specs.Cause.{owner_id}
 use Rattle.spec_links.specs.Plan.{is_closed}
 use Rattle.machine_operations.specs.{find}
 use Rattle.sub_stream.specs.declared.facts.StreamFacts.{StreamFacts}
@@ -17,9 +17,9 @@ use Rattle.interface_host.specs.Facts.{interface_facts}
 use Rattle.interface_host.specs.Managers.{interface_of_requester}
 use Rattle.interface_host.specs.Views.{HostTdi}
 use Rattle.interface_state.specs.{Tdi, state_code}
-use Rattle.interface_state.specs.declared.bindings.Binding.{Binding}
-use Rattle.world.specs.{WholeLinks, interface_named, links_state, standings_of_ends, interface_of_ends}
-use Rattle.why_appends.specs.declared.faces.FaceSeen.{FaceSeen}
+use Rattle.ide_types.specs.declared.binding.Binding.{Binding}
+use Rattle.world.specs.{WholeLinks, interface_named, links_state, statuses_of_ends, interface_of_ends}
+use Rattle.why_facts.specs.declared.appends.faces.FaceSeen.{FaceSeen}
 
 -- a stream at an end
 abbrev pub stream_read : Plan → WholeLinks → PortName → ℕ → Option StreamFacts
@@ -48,7 +48,7 @@ requester_read s link requester =
 
 -- the interface at a link that owns a TLP
 abbrev pub owner_face : WholeLinks → ℕ → HeadView → Option FaceSeen
-owner_face s link head = option_and_then (requester_read s link) (owner_of head)
+owner_face s link head = option_and_then (requester_read s link) (owner_id head)
 
 -- an interface of a number at its device
 abbrev pub tdi_read : WholeLinks → ℕ → Option Tdi
@@ -60,8 +60,8 @@ abbrev pub bindings_read : WholeLinks → ℕ → List Binding
 bindings_read s number = option_map_or (λ (t : Tdi). t.bindings) (tdi_read s number) []
 
 -- how the interfaces of a link's device stand
-abbrev pub standings_read : WholeLinks → ℕ → List InterfaceStatus
-standings_read s link = standings_of_ends (slice_get s.links.ends.links link) (slice_get s.accesses link)
+abbrev pub statuses_read : WholeLinks → ℕ → List InterfaceStatus
+statuses_read s link = statuses_of_ends (slice_get s.links.ends.links link) (slice_get s.accesses link)
 
 -- the packets of the next unit of a sub-stream that its receiver at an end holds in a key set
 abbrev pub held_read : Plan → WholeLinks → PortName → ℕ → SubKind → Bool → List Packet

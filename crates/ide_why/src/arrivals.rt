@@ -17,8 +17,9 @@ use ide_types::{OutOfMemory, PortName, SubKind};
 use line_routes::{goes_through, partner, reached};
 use std::alloc::Global;
 use sub_stream::{Delivered, StreamFacts};
-use why_appends::{arrives_fact, is_live, push, push_port, push_receiver, push_status};
-use why_lines::{Fact, StreamFact};
+use why_facts::{
+    Fact, StreamFact, arrives_fact, is_live, push, push_port, push_receiver, push_status,
+};
 
 // A copy of the bytes, with the one at `at` combined with `mask`.
 fn altered(alloc: Global, bytes: &[u8], at: usize, mask: u8) -> Result<Vec<u8>, OutOfMemory>

@@ -11,8 +11,7 @@ use ide_types::{OutOfMemory, PortName};
 use line_routes::{has_port, may_send, sealing_end};
 use link_events::{AccessEvent, Event};
 use std::alloc::Global;
-use why_facts::facts_stand;
-use why_lines::Fact;
+use why_facts::{Fact, facts_stand};
 use world::World;
 
 impl Reader<'_> {
@@ -72,12 +71,12 @@ impl Reader<'_> {
             Event::Cut { packet, length } => self.push_cut(facts, *packet, *length),
             Event::Arrive { port, bytes } => self.push_arrived(facts, *port, bytes.as_slice()),
             Event::Dump { .. } => self.push_sealed(facts),
-            Event::Establish { link, stream, .. } => self.push_establish(facts, *link, *stream),
-            Event::Refresh { link, stream, .. } if *link < 8 => {
-                self.push_refresh(facts, *link, *stream)
+            Event::Establish { line, stream, .. } => self.push_establish(facts, *line, *stream),
+            Event::Refresh { line, stream, .. } if *line < 8 => {
+                self.push_refresh(facts, *line, *stream)
             }
-            Event::Stop { link, stream, .. } => self.push_stop(facts, *link, *stream),
-            Event::Status { link, stream } => self.push_stage(facts, *link, *stream),
+            Event::Stop { line, stream, .. } => self.push_stop(facts, *line, *stream),
+            Event::Status { line, stream } => self.push_stage(facts, *line, *stream),
             Event::Interface { event } => self.push_asked(facts, event),
             Event::Access {
                 event: AccessEvent::Answer { link },

@@ -15,11 +15,10 @@ use ide_types::{Direction, OutOfMemory, PortName, Side, SubKind};
 use line_routes::{has_hop, leaving_end};
 use link_events::InterfaceEvent;
 use trusted_memory::WaitingRead;
-use why_appends::{
-    FaceSeen, push_draw, push_face, push_memory, push_of_interface, push_reported, push_sender,
-    push_status,
+use why_facts::{
+    FaceSeen, Fact, InterfaceFact, push_draw, push_face, push_memory, push_of_interface,
+    push_reported, push_sender, push_status,
 };
-use why_lines::{Fact, InterfaceFact};
 
 // The number of the interface that an event is on.
 fn number_in(event: &InterfaceEvent) -> Option<u64>

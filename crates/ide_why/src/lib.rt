@@ -14,5 +14,5 @@ mod resets;
 mod sends;
 
 pub use events::facts;
-pub use why_lines::{Fact, why_text};
+pub use why_facts::{Fact, why_text};
 pub use world::World;

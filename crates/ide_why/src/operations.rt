@@ -14,10 +14,10 @@ use crate::reader::{Reader, StageSeen};
 use ide_types::{OutOfMemory, PortName, Side, StreamStatus, SubKind};
 use link_verdicts::Operation;
 use tsm_host::StageFacts;
-use why_appends::{
-    first_exchange, last_exchange, may_go, push_manager, push_of_operation, push_open, push_status,
+use why_facts::{
+    Fact, OperationFact, first_exchange, last_exchange, may_go, push_manager, push_of_operation,
+    push_open, push_status,
 };
-use why_lines::{Fact, OperationFact};
 
 impl Reader<'_> {
     // Appends the senders at the host's port that are in use in a key set.

@@ -14,11 +14,10 @@ ghost use Rattle.ide_why.specs.Reading.{bindings_read, tdi_read};
 use crate::reader::Reader;
 use ide_types::OutOfMemory;
 use interface_state::Interface;
-use why_appends::{
-    FaceSeen, manager_state, push_bar_of, push_draw, push_live, push_of_interface,
-    push_of_operation, push_takes,
+use why_facts::{
+    FaceSeen, Fact, InterfaceFact, ManagerState, OperationFact, manager_state, push_bar_of,
+    push_draw, push_live, push_of_interface, push_of_operation, push_takes,
 };
-use why_lines::{Fact, InterfaceFact, ManagerState, OperationFact};
 
 /// The line of the first stream between devices.
 const FIRST_PEER_LINE: u64 = 24;

@@ -12,10 +12,10 @@ use ide_types::{OutOfMemory, PortName, Side, SubKind};
 use line_routes::port_of;
 use link_verdicts::Operation;
 use sub_stream::SetFacts;
-use why_appends::{
-    Place, first_exchange, is_last, key_set, place_at, program_at, push_of_operation,
+use why_facts::{
+    Fact, OperationFact, Place, first_exchange, is_last, key_set, place_at, program_at,
+    push_of_operation,
 };
-use why_lines::{Fact, OperationFact};
 
 impl Reader<'_> {
     // What both key sets hold at a place; `None` if there is no such stream.

@@ -7,12 +7,11 @@ ghost use Rattle.tsm_host.specs.Facts.{op_seen};
 ghost use Rattle.world.specs.{IsWorld, links_state};
 ghost use Rattle.ide_why.specs.Reading.{face_read, owner_face, requester_read, stream_read};
 
-use association::owner;
 use ide_types::{PortName, ValidPlan};
 use sub_stream::StreamFacts;
-use tlp_layout::HeadView;
+use tlp_layout::{HeadView, owner};
 use tsm_host::StageFacts;
-use why_appends::FaceSeen;
+use why_facts::FaceSeen;
 use world::WholeLinks;
 
 /// A topology, and what is kept of its links and managers.

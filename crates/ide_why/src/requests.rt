@@ -9,22 +9,20 @@ ghost use Rattle.why_facts.specs.Forms.{asks_facts, claim_facts, device_facts, h
 ghost use Rattle.why_facts.specs.Forms.{requests_facts, unit_facts};
 ghost use Rattle.world.specs.{IsWorld, reads_at};
 ghost use Rattle.ide_why.specs.Facts.{readings_read};
-ghost use Rattle.ide_why.specs.Reading.{standings_read};
+ghost use Rattle.ide_why.specs.Reading.{statuses_read};
 
 use crate::reader::Reader;
-use association::owner;
 use guarded_memory::Claim;
 use ide_prefix::PacketView;
 use ide_types::{OutOfMemory, PortName, Side, ValidPlan};
 use line_routes::{at_switch, port_of};
 use sub_stream::{Delivered, PacketMark};
-use tlp_layout::{HeadView, read_head};
+use tlp_layout::{HeadView, owner, read_head};
 use trusted_memory::{MemReadView, Span};
-use why_appends::{
-    packet_fact, push, push_adds, push_bar, push_bytes, push_face, push_of_interface, push_span,
-    push_takes,
+use why_facts::{
+    Fact, InterfaceFact, packet_fact, push, push_adds, push_bar, push_bytes, push_face,
+    push_of_interface, push_span, push_takes,
 };
-use why_lines::{Fact, InterfaceFact};
 
 // The requester ID of the interface at a place of a link.
 fn requester_at(plan: &ValidPlan, link: u8, place: usize) -> Option<u16>
@@ -106,7 +104,7 @@ impl Reader<'_> {
     // The claim of the interfaces of a link's device on a write over these bytes.
     fn claim(&self, link: u8, span: Span) -> Option<Claim>
         requires { IsWorld self.now.plan.now self.now.links.now }
-        ensures { result ≡ claim_of (standings_read self.now.links.now link) span }
+        ensures { result ≡ claim_of (statuses_read self.now.links.now link) span }
     {
         if (link as usize) < self.links.links.ends.count() {
             let interfaces = &self.links.links.ends.link(link).device.interfaces;

@@ -10,8 +10,7 @@ ghost use Rattle.ide_why.specs.Facts.{cleared_read, reset_read, state_of_whole, 
 use crate::reader::Reader;
 use ide_types::{OutOfMemory, PortName, StreamPlan};
 use line_routes::port_of;
-use why_appends::push_of_operation;
-use why_lines::{Fact, OperationFact};
+use why_facts::{Fact, OperationFact, push_of_operation};
 
 impl Reader<'_> {
     // Appends the state of a stream at an end that is cleared, and what the manager knows of it.

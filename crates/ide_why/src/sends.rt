@@ -1,7 +1,7 @@
 //! Facts of what is sent.
 
 ghost use Rattle.std.specs.Prelude.{◌≡◌, ◌++◌, IfOk, true};
-ghost use Rattle.association.specs.Outgoing.{stream_taken};
+ghost use Rattle.tlp_layout.specs.Outgoing.{stream_taken};
 ghost use Rattle.spec_links.specs.Plan.{has_port};
 ghost use Rattle.spec_links.specs.Ports.{outgoing_at};
 ghost use Rattle.world.specs.{IsWorld};
@@ -11,8 +11,9 @@ ghost use Rattle.ide_why.specs.Reading.{stream_read};
 use crate::reader::Reader;
 use ide_types::{OutOfMemory, PortName};
 use tlp_layout::{HeadView, TlpView, read};
-use why_appends::{owners_link, push, push_face, push_port, push_senders, sends_fact, sets_own_t};
-use why_lines::Fact;
+use why_facts::{
+    Fact, owners_link, push, push_face, push_port, push_senders, sends_fact, sets_own_t,
+};
 
 impl Reader<'_> {
     // Appends the interface that owns a TLP with this header, where it sets T.

@@ -9,8 +9,8 @@ use Rattle.interface_host.specs.declared.operation.InterfaceOutcome.{InterfaceOu
 use Rattle.interface_host.specs.Judging.{Judged, interface_reply_judged}
 use Rattle.interface_host.specs.Managers.{InterfaceManagerView, CurrentInterface, current_exchange, interface_request}
 use Rattle.interface_host.specs.Managers.{outcome_by, taken_interface_manager}
-use Rattle.interface_device.specs.declared.said.StreamSaid.{StreamSaid}
-use Rattle.interface_device.specs.Replies.{DeviceTdis, interfaces_after_answer, answer_bytes}
+use Rattle.interface_ends.specs.declared.said.StreamSaid.{StreamSaid}
+use Rattle.interface_ends.specs.Replies.{DeviceTdis, interfaces_after_answer, answer_bytes}
 use Rattle.spec_keys.specs.Due.{lost_message}
 use Rattle.interface_ends.specs.Operations.{judgment_if_carried, interfaces_after_request}
 use Rattle.interface_ends.specs.Keepers.{Ended, IsInterfaceExchanged}

@@ -11,13 +11,11 @@ use Rattle.interface_state.specs.Machine.{Tdi, lock_of, error_code, portion_of, 
 use Rattle.interface_host.specs.declared.step.Step.{Step}
 use Rattle.interface_host.specs.declared.step.Step.TheVariants as step
 use Rattle.interface_host.specs.Judging.{Judged, if_same, is_portion, nonce_in, portion_in, start_in, bind_in}
-use Rattle.interface_host.specs.Judging.{unbind_in}
-use Rattle.interface_host.specs.Judging.{step_judged}
+use Rattle.interface_host.specs.Judging.{unbind_in, step_judged}
 use Rattle.interface_host.specs.Views.{HostTdi, step_request}
-use Rattle.interface_device.specs.declared.said.StreamSaid.{StreamSaid}
-use Rattle.interface_device.specs.Replies.{DeviceTdis, NamedTdi, lock_reply, portion_reply, start_reply, bind_reply}
-use Rattle.interface_device.specs.Replies.{unbind_reply, interface_reply}
-use Rattle.interface_device.specs.Replies.{next_nonce}
+use Rattle.interface_ends.specs.declared.said.StreamSaid.{StreamSaid}
+use Rattle.interface_ends.specs.Replies.{DeviceTdis, NamedTdi, lock_reply, portion_reply, start_reply, bind_reply}
+use Rattle.interface_ends.specs.Replies.{unbind_reply, interface_reply, next_nonce}
 use Rattle.interface_ends.specs.Exchanges.{nonce_due, portion_due, start_judged, bind_judged, unbind_judged, judged_due}
 use Rattle.interface_ends.specs.Exchanges.{IsReport, Meets}
 

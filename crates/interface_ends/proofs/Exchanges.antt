@@ -11,16 +11,13 @@ use Rattle.interface_host.specs.declared.step.Step.{Step}
 use Rattle.interface_host.specs.declared.step.Step.TheVariants as step
 use Rattle.interface_host.specs.Judging.{Bad, interface_reply_judged}
 use Rattle.interface_host.specs.Views.{HostTdi, step_request}
-use Rattle.interface_device.specs.declared.said.StreamSaid.{StreamSaid}
-use Rattle.interface_device.specs.Replies.{DeviceTdis, NamedTdi, named_interface, next_nonce, interfaces_after_call}
-use Rattle.interface_device.specs.Replies.{interfaces_asked_by, named_reply}
-use Rattle.interface_device.specs.Replies.{request_checked}
-use Rattle.interface_device.specs.Replies.{interfaces_after_answer, tdi_answer, answer_bytes, interface_reply}
-use Rattle.interface_device.specs.Replies.{function_or_none, interfaces_by}
-use Rattle.interface_device.specs.Replies.{interface_reply_from}
+use Rattle.interface_ends.specs.declared.said.StreamSaid.{StreamSaid}
+use Rattle.interface_ends.specs.Replies.{DeviceTdis, NamedTdi, named_interface, next_nonce, interfaces_after_call}
+use Rattle.interface_ends.specs.Replies.{interfaces_asked_by, named_reply, request_checked, interfaces_after_answer}
+use Rattle.interface_ends.specs.Replies.{tdi_answer, answer_bytes, interface_reply, function_or_none, interfaces_by}
+use Rattle.interface_ends.specs.Replies.{interface_reply_from}
 use Rattle.interface_ends.specs.Exchanges.{judged_due, nonce_due, portion_due, start_judged, bind_judged, unbind_judged}
-use Rattle.interface_ends.specs.Exchanges.{ExchangesAreDue}
-use Rattle.interface_ends.specs.Exchanges.{RepliesAreNeverBad}
+use Rattle.interface_ends.specs.Exchanges.{ExchangesAreDue, RepliesAreNeverBad}
 use Rattle.interface_ends.proofs.Widths.{function_of, request_fits, reply_fits}
 use Rattle.interface_ends.proofs.Due.{reply_due}
 

@@ -7,3 +7,5 @@ pub mod Exchanges
 pub mod Operations
 pub mod Reports
 pub mod Kept
+pub mod Answers
+pub mod Errors

@@ -1,6 +1,5 @@
 -- Operations of up to three exchanges.
-use Rattle.std.proofs.Common.{◌≡◌, ℕ, suc, ◌≤◌, length, Option, Some, None, refl, ap, sym}
-use Rattle.std.proofs.Common.{subst, ◌∙◌, arith}
+use Rattle.std.proofs.Common.{◌≡◌, ℕ, suc, ◌≤◌, length, Option, Some, None, refl, ap, sym, subst, ◌∙◌, arith}
 use Rattle.std.specs.Prelude.{slice_set}
 use Rattle.ide_types.proofs.Places.{set_read}
 use Rattle.link_events.specs.declared.event.Loss.{Loss}
@@ -14,17 +13,15 @@ use Rattle.interface_host.specs.declared.step.Step.TheVariants as step
 use Rattle.interface_host.specs.Judging.{Judged, Passed, Nonce, Portion, State, Refused, Lost as NotCarried, Bad}
 use Rattle.interface_host.specs.Views.{HostTdi, start_outcome, halt_outcome, state_outcome, lock_outcome, bind_outcome}
 use Rattle.interface_host.specs.Views.{unbind_outcome}
-use Rattle.interface_device.specs.declared.said.StreamSaid.{StreamSaid}
-use Rattle.interface_device.specs.Replies.{DeviceTdis, NamedTdi, named_interface, interface_place, next_nonce}
+use Rattle.interface_ends.specs.declared.said.StreamSaid.{StreamSaid}
+use Rattle.interface_ends.specs.Replies.{DeviceTdis, NamedTdi, named_interface, interface_place, next_nonce}
 use Rattle.interface_ends.specs.Exchanges.{device_as, judged_due, FitsStep, Meets, ExchangesAreDue}
 use Rattle.spec_keys.specs.Due.{lost_message}
 use Rattle.interface_ends.specs.Operations.{judgment_if_carried, interfaces_after_request, Walking, WalkedInterface}
-use Rattle.interface_ends.specs.Operations.{walked_by, walked_once, walking_on}
-use Rattle.interface_ends.specs.Operations.{continued_walk, interface_walk, begun_walking, walking_exchange}
-use Rattle.interface_ends.specs.Operations.{stated_once, at_step}
-use Rattle.interface_ends.specs.Operations.{lost_early}
-use Rattle.interface_device.proofs.Errors.{in_list}
+use Rattle.interface_ends.specs.Operations.{walked_by, walked_once, walking_on, continued_walk, interface_walk}
+use Rattle.interface_ends.specs.Operations.{begun_walking, walking_exchange, stated_once, at_step, lost_early}
 use Rattle.interface_ends.specs.Operations.{walked_unless_lost, stated_lock, OperationsAreStated}
+use Rattle.interface_ends.proofs.Errors.{in_list}
 
 -- ---- a device that is asked what changes nothing
 

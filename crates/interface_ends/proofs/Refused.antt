@@ -8,8 +8,8 @@ use Rattle.interface_host.specs.declared.operation.InterfaceOutcome.TheVariants 
 use Rattle.interface_host.specs.declared.operation.InterfaceRefusal.{InterfaceRefusal}
 use Rattle.interface_host.specs.Views.{HostTdi, interface_refusal_of, interface_ok_unless, interface_unless}
 use Rattle.interface_host.specs.Managers.{InterfaceManagerView, begun_interface_manager}
-use Rattle.interface_device.specs.declared.said.StreamSaid.{StreamSaid}
-use Rattle.interface_device.specs.Replies.{DeviceTdis}
+use Rattle.interface_ends.specs.declared.said.StreamSaid.{StreamSaid}
+use Rattle.interface_ends.specs.Replies.{DeviceTdis}
 use Rattle.interface_ends.specs.Keepers.{Ended, unless_refused, interface_operated}
 
 refused_by : (x : Option InterfaceRefusal) (r : InterfaceRefusal) (m begun new : InterfaceManagerView) (d : DeviceTdis)

@@ -16,14 +16,13 @@ use Rattle.interface_host.specs.declared.operation.InterfaceOperation.TheVariant
 use Rattle.interface_host.specs.declared.step.Step.TheVariants as step
 use Rattle.interface_host.specs.Judging.{Portion}
 use Rattle.interface_host.specs.Views.{HostTdi, step_request, report_outcome}
-use Rattle.interface_device.specs.declared.said.StreamSaid.{StreamSaid}
-use Rattle.interface_device.specs.Replies.{DeviceTdis, NamedTdi, interfaces_after_call}
+use Rattle.interface_ends.specs.declared.said.StreamSaid.{StreamSaid}
+use Rattle.interface_ends.specs.Replies.{DeviceTdis, NamedTdi, interfaces_after_call}
 use Rattle.interface_ends.specs.Exchanges.{portion_due, Meets, IsReport, ExchangesAreDue}
 use Rattle.spec_keys.specs.Due.{lost_message}
 use Rattle.interface_ends.specs.Operations.{judgment_if_carried, interfaces_after_request, Walking, WalkedInterface}
-use Rattle.interface_ends.specs.Operations.{walked_by, walking_on}
-use Rattle.interface_ends.specs.Operations.{continued_walk}
-use Rattle.interface_ends.specs.Operations.{interface_walk, begun_walking, stated_once, at_step}
+use Rattle.interface_ends.specs.Operations.{walked_by, walking_on, continued_walk, interface_walk, begun_walking}
+use Rattle.interface_ends.specs.Operations.{stated_once, at_step}
 use Rattle.interface_ends.specs.Reports.{portion_count, lost_exchange_within, ReportIsRead, ReportsAreRead}
 use Rattle.interface_ends.specs.Reports.{ReportsAreRefused}
 use Rattle.interface_ends.proofs.Operations.{same_set, once_stated, goes, IsOver, stops}
@@ -170,8 +169,7 @@ ended : (more portion draws : ℕ) (loss : Option Loss) (i : HostTdi) (d : Devic
     (w : WalkedInterface)
     → lost_message loss (q + 1) ≡ None → length r ≤ off + portion → w
     ≡ now_at draws None i d r (take off r) q portion off
-    → behind r portion off ≡ 0
-    → nat_le (length r - off) portion ≡ true
+    → behind r portion off ≡ 0 → nat_le (length r - off) portion ≡ true
     → ReportIsRead (lost_exchange_within loss (q + 1) (portion_count (suc more) portion (length r - off))) r i d w
 ended more portion draws loss i d r off q w is short comes last one =
     let lost : lost_exchange_within loss (q + 1) (portion_count (suc more) portion (length r - off)) ≡ None

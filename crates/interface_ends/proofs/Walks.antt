@@ -1,6 +1,5 @@
 -- The exchanges that the manager carries are those of one interface.
-use Rattle.std.proofs.Common.{◌≡◌, ◌≢◌, ℕ, suc, zero, true, List, Option, Some, None, refl, ap, sym}
-use Rattle.std.proofs.Common.{subst, ◌∙◌}
+use Rattle.std.proofs.Common.{◌≡◌, ◌≢◌, ℕ, suc, zero, true, List, Option, Some, None, refl, ap, sym, subst, ◌∙◌}
 use Rattle.std.specs.Prelude.{slice_get, is_some, IfSome}
 use Rattle.ide_types.proofs.Places.{set_there, set_again, set_read}
 use Rattle.link_events.specs.declared.event.Loss.{Loss}
@@ -10,14 +9,12 @@ use Rattle.interface_host.specs.declared.operation.InterfaceOutcome.TheVariants 
 use Rattle.interface_host.specs.Steps.{next_step}
 use Rattle.interface_host.specs.Views.{HostTdi}
 use Rattle.interface_host.specs.Managers.{InterfaceManagerView, CurrentInterface, current_interface}
-use Rattle.interface_host.specs.Managers.{current_interface_in}
-use Rattle.interface_host.specs.Managers.{current_by, interface_asking_after}
-use Rattle.interface_device.specs.declared.said.StreamSaid.{StreamSaid}
-use Rattle.interface_device.specs.Replies.{DeviceTdis}
+use Rattle.interface_host.specs.Managers.{current_interface_in, current_by, interface_asking_after}
+use Rattle.interface_ends.specs.declared.said.StreamSaid.{StreamSaid}
+use Rattle.interface_ends.specs.Replies.{DeviceTdis}
 use Rattle.interface_ends.specs.Operations.{walked_once, walking_on, continued_walk, interface_walk}
 use Rattle.interface_ends.specs.Keepers.{Ended, IsInterfaceExchanged, interface_exchanged, ended_if_over, by_current}
-use Rattle.interface_ends.specs.Keepers.{manager_walk, walking_at}
-use Rattle.interface_ends.specs.Keepers.{IsInterfaceWalked, KeepersWalk}
+use Rattle.interface_ends.specs.Keepers.{manager_walk, walking_at, IsInterfaceWalked, KeepersWalk}
 
 -- ---- the exchange that is asked
 

@@ -13,16 +13,15 @@ use Rattle.interface_state.specs.Machine.{portion_of, portion_answer, start_answ
 use Rattle.interface_state.specs.Machine.{bind_answer, is_answered, unbind_answer}
 use Rattle.interface_state.specs.Bindings.{binds}
 use Rattle.interface_state.specs.RegisterValues.{has_bit}
-use Rattle.interface_state.specs.declared.bindings.Binding.{Binding}
+use Rattle.ide_types.specs.declared.binding.Binding.{Binding}
 use Rattle.interface_state.specs.declared.states.TdiState.{TdiState}
 use Rattle.interface_state.specs.declared.states.TdiState.TheVariants.{ConfigUnlocked, ConfigLocked, Run, Error}
 use Rattle.interface_host.specs.declared.step.Step.{Step}
 use Rattle.interface_host.specs.declared.step.Step.TheVariants as step
 use Rattle.interface_host.specs.Views.{HostTdi, step_request, nonce_of}
-use Rattle.interface_device.specs.declared.said.StreamSaid.{StreamSaid}
-use Rattle.interface_device.specs.Replies.{DeviceTdis, NamedTdi, refused_reply, lock_reply, portion_reply, start_reply}
-use Rattle.interface_device.specs.Replies.{interface_reply, bind_reply, unbind_reply}
-use Rattle.interface_device.specs.Replies.{next_nonce}
+use Rattle.interface_ends.specs.declared.said.StreamSaid.{StreamSaid}
+use Rattle.interface_ends.specs.Replies.{DeviceTdis, NamedTdi, refused_reply, lock_reply, portion_reply, start_reply}
+use Rattle.interface_ends.specs.Replies.{interface_reply, bind_reply, unbind_reply, next_nonce}
 use Rattle.interface_ends.specs.Exchanges.{IsNonce, IsReport, FitsStep, Meets}
 
 -- ---- requests
@@ -82,8 +81,7 @@ abbrev pub PortionFits : Result (List ℕ × ℕ) ℕ → Type 0
 PortionFits (Ok portion) = (length portion.0 ≤ 1140) × All (λ b. b < 256) portion.0 × (portion.1 ≤ 1140)
 PortionFits (Err code) = code < 2 ^ 32
 
-part_fits : (b : Bool) (report : List ℕ) (offset size : ℕ) → IsReport report
-    → PortionFits (if b then Err
+part_fits : (b : Bool) (report : List ℕ) (offset size : ℕ) → IsReport report → PortionFits (if b then Err
     (Rattle.interface_state.specs.Machine.error_code
     Rattle.interface_state.specs.declared.error_codes.ErrorCode.TheVariants.InvalidRequest) else Ok
     (take size (drop offset report), length (drop (offset + size) report)))
@@ -182,8 +180,7 @@ kept_fits tdi is offset size = kept_by tdi (lock_of tdi.state) is
     kept_by t (Some lock) h = portion_fits (Some (kept_report t.plan lock)) offset size h
 
 pub reply_fits : (s : Step) (portion read : ℕ) (i : HostTdi) (d : DeviceTdis) (n : NamedTdi) (said : StreamSaid)
-    → Meets portion i d n
-    → FitsReply (interface_reply n.tdi (step_request s portion read i) said (next_nonce d))
+    → Meets portion i d n → FitsReply (interface_reply n.tdi (step_request s portion read i) said (next_nonce d))
 reply_fits step.Version portion read i d n said m =
     (wide i.requester m.requester, omega arith, All-from_recursion (λ b. b < 256) (0x10 ∷ []) (search arith))
 reply_fits step.Capabilities portion read i d n said m = (

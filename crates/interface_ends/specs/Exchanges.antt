@@ -1,6 +1,5 @@
 -- One exchange of the manager with the device.
-use Rattle.std.specs.Prelude.{ℕ, ◌≡◌, ◌≢◌, ◌<◌, ◌≤◌, ◌^◌, List, length, All, Option, Some, IfSome, Result}
-use Rattle.std.specs.Prelude.{Ok, Err}
+use Rattle.std.specs.Prelude.{ℕ, ◌≡◌, ◌≢◌, ◌<◌, ◌≤◌, ◌^◌, List, length, All, Option, Some, IfSome, Result, Ok, Err}
 use Rattle.tdisp_codec.specs.Requests.{request_spelling}
 use Rattle.tdisp_codec.specs.Replies.{reply_reading}
 use Rattle.ide_types.specs.declared.interface.InterfacePlan.{InterfacePlan}
@@ -14,9 +13,9 @@ use Rattle.interface_host.specs.declared.step.Step.{Step}
 use Rattle.interface_host.specs.declared.step.Step.TheVariants as step
 use Rattle.interface_host.specs.Judging.{Judged, Passed, Nonce, Portion, State, Refused, Bad, interface_reply_judged}
 use Rattle.interface_host.specs.Views.{HostTdi, nonce_of, step_request}
-use Rattle.interface_device.specs.declared.said.StreamSaid.{StreamSaid}
-use Rattle.interface_device.specs.Replies.{DeviceTdis, NamedTdi, named_interface, next_nonce, interfaces_after_call}
-use Rattle.interface_device.specs.Replies.{interfaces_after_answer, answer_bytes}
+use Rattle.interface_ends.specs.declared.said.StreamSaid.{StreamSaid}
+use Rattle.interface_ends.specs.Replies.{DeviceTdis, NamedTdi, named_interface, next_nonce, interfaces_after_call}
+use Rattle.interface_ends.specs.Replies.{interfaces_after_answer, answer_bytes}
 
 -- ---- what is carried
 

@@ -11,8 +11,8 @@ use Rattle.interface_host.specs.Judging.{Judged}
 use Rattle.interface_host.specs.Views.{HostTdi, interface_refusal_of}
 use Rattle.interface_host.specs.Managers.{InterfaceManagerView, CurrentInterface, current_interface, current_exchange}
 use Rattle.interface_host.specs.Managers.{begun_interface_manager, outcome_by, taken_interface_manager}
-use Rattle.interface_device.specs.declared.said.StreamSaid.{StreamSaid}
-use Rattle.interface_device.specs.Replies.{DeviceTdis}
+use Rattle.interface_ends.specs.declared.said.StreamSaid.{StreamSaid}
+use Rattle.interface_ends.specs.Replies.{DeviceTdis}
 use Rattle.interface_ends.specs.Exchanges.{judged_by_manager, device_as}
 use Rattle.spec_keys.specs.Due.{lost_message}
 use Rattle.interface_ends.specs.Operations.{judgment_if_carried, interfaces_after_request, Walking, WalkedInterface}
@@ -79,9 +79,7 @@ unless_refused None m d e = e
 
 -- the interface at this place is this one
 abbrev pub interface_operated : ℕ → InterfaceOperation → StreamStatus → ℕ → StreamSaid → Option Loss
-    → InterfaceManagerView
-    → DeviceTdis → HostTdi
-    → Ended
+    → InterfaceManagerView → DeviceTdis → HostTdi → Ended
 interface_operated place op status draws said loss m d i =
     unless_refused (interface_refusal_of op status i) m d
     (manager_walk 1140 said loss (begun_interface_manager m place op status draws i) d)

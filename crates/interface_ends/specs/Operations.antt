@@ -16,8 +16,8 @@ use Rattle.interface_host.specs.Steps.{Read, first_step, next_step, exchange_num
 use Rattle.interface_host.specs.Judging.{Judged, Lost as NotCarried}
 use Rattle.interface_host.specs.Views.{HostTdi, step_request, taken_interface, interface_outcome}
 use Rattle.interface_host.specs.Managers.{nothing_read, report_after_reply}
-use Rattle.interface_device.specs.declared.said.StreamSaid.{StreamSaid}
-use Rattle.interface_device.specs.Replies.{DeviceTdis, NamedTdi, next_nonce, interfaces_after_call}
+use Rattle.interface_ends.specs.declared.said.StreamSaid.{StreamSaid}
+use Rattle.interface_ends.specs.Replies.{DeviceTdis, NamedTdi, next_nonce, interfaces_after_call}
 use Rattle.interface_ends.specs.Exchanges.{judged_by_manager, device_as, judged_due, Meets}
 
 -- ---- an exchange that may be lost

@@ -11,9 +11,9 @@ use Rattle.interface_host.specs.declared.operation.InterfaceOutcome.TheVariants 
 use Rattle.interface_host.specs.declared.operation.InterfaceRefusal.TheVariants.{SessionLost}
 use Rattle.interface_host.specs.declared.operation.InterfaceResult.TheVariants as shown
 use Rattle.interface_host.specs.declared.step.Step.TheVariants as step
-use Rattle.interface_host.specs.Views.{HostTdi, reported}
-use Rattle.interface_device.specs.declared.said.StreamSaid.{StreamSaid}
-use Rattle.interface_device.specs.Replies.{DeviceTdis, NamedTdi}
+use Rattle.interface_host.specs.Views.{HostTdi, reported_view}
+use Rattle.interface_ends.specs.declared.said.StreamSaid.{StreamSaid}
+use Rattle.interface_ends.specs.Replies.{DeviceTdis, NamedTdi}
 use Rattle.interface_ends.specs.Exchanges.{Meets}
 use Rattle.interface_ends.specs.Operations.{WalkedInterface, interface_walk, begun_walking, stated_alone}
 
@@ -34,7 +34,7 @@ read_outcome None = outcome.Done shown.Report
 read_outcome (Some exchange) = outcome.Refused (SessionLost exchange)
 
 abbrev pub read_interface : Option ℕ → HostTdi → HostTdi
-read_interface None i = record i { seen = reported i.seen }
+read_interface None i = record i { seen = reported_view i.seen }
 read_interface (Some exchange) i = i
 
 -- If one of its exchanges is lost, the view is as before; else the report is read, and it is the one that the lock

@@ -6,12 +6,12 @@ ghost use Rattle.tdisp_codec.specs.Requests.{request_spelling};
 ghost use Rattle.interface_host.specs.Managers.{new_interface_manager, current_interface, interface_request};
 ghost use Rattle.interface_host.specs.Managers.{begun_interface_manager};
 ghost use Rattle.interface_host.specs.Views.{interface_refusal_of};
-ghost use Rattle.interface_device.specs.Replies.{interfaces_after_answer, answer_bytes};
+ghost use Rattle.interface_ends.specs.Replies.{interfaces_after_answer, answer_bytes};
 ghost use Rattle.spec_keys.specs.Due.{lost_message};
 ghost use Rattle.interface_ends.specs.Keepers.{IsInterfaceExchanged, Ended, manager_walk, interface_operated};
 
+use crate::{DeviceInterfaces, StreamSaid, TDISP_REPLY_ROOM};
 use ide_types::{Items, LinkPlan, OutOfMemory, StreamStatus};
-use interface_device::{DeviceInterfaces, StreamSaid, TDISP_REPLY_ROOM};
 use interface_host::{InterfaceOperation, InterfaceOutcome, Interfaces};
 use link_events::{Loss, Lost};
 use std::alloc::Global;

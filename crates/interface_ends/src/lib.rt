@@ -1,14 +1,23 @@
-//! The manager's operations on interfaces, carried exchange by exchange to the device that has them, and that each
-//! makes one stated step of both. Each exchange may be lost (TDISP, PCI Express Base 6.0 with the ECN's chapter 11, in
-//! this profile).
+//! The interfaces of a link's device, and what they answer to the host; and the manager's operations on them, carried
+//! exchange by exchange, each of which may be lost, and that each makes one stated step of both (TDISP, PCI Express
+//! Base 6.0 with the ECN's chapter 11, in this profile). Only `DeviceInterfaces::make` takes memory.
 #![tactic(auto)]
 
+mod answer;
+mod device_interfaces;
+mod device_laws;
+mod front;
 mod keeper;
 mod laws;
+mod replies;
+mod said;
 mod walk_laws;
 
+pub use device_interfaces::{DeviceInterfaces, StreamStates, TDISP_REPLY_ROOM};
+pub use device_laws::errors_change_nothing;
 pub use keeper::InterfaceKeeper;
 pub use laws::keepers_walk;
+pub use said::StreamSaid;
 pub use walk_laws::{
     exchanges_are_due, operations_are_stated, replies_are_never_bad, reports_are_read, reports_fit,
 };

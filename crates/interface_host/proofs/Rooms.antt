@@ -8,12 +8,10 @@ use Rattle.interface_host.specs.declared.step.Step.{Step}
 use Rattle.interface_host.specs.declared.step.Step.TheVariants as step
 use Rattle.interface_host.specs.Judging.{Judged, Passed, Nonce, State, Bad, HasRoom, is_portion, if_portion, version_in}
 use Rattle.interface_host.specs.Judging.{capabilities_in, nonce_in, portion_in, start_in, halt_in, state_in, bind_in}
-use Rattle.interface_host.specs.Judging.{unbind_in, step_judged}
-use Rattle.interface_host.specs.Judging.{interface_reply_judged}
+use Rattle.interface_host.specs.Judging.{unbind_in, step_judged, interface_reply_judged}
 
 fitting : (asked read : ℕ) (bytes : List ℕ) (remainder : ℕ) (fits : Bool)
-    → is_portion asked read (length bytes) remainder ≡ fits
-    → HasRoom read (if_portion fits bytes remainder)
+    → is_portion asked read (length bytes) remainder ≡ fits → HasRoom read (if_portion fits bytes remainder)
 fitting asked read bytes remainder true e = grind arith
 fitting asked read bytes remainder false e = tt
 

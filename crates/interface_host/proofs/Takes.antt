@@ -8,16 +8,14 @@ use Rattle.interface_host.specs.Steps.{Read, exchange_number}
 use Rattle.interface_host.specs.Judging.{Judged, interface_judged}
 use Rattle.interface_host.specs.Views.{HostTdi, taken_interface, interface_outcome}
 use Rattle.interface_host.specs.Managers.{InterfaceManagerView, CurrentInterface, current_interface}
-use Rattle.interface_host.specs.Managers.{current_interface_in}
-use Rattle.interface_host.specs.Managers.{current_by, judged_now, outcome_by}
+use Rattle.interface_host.specs.Managers.{current_interface_in, current_by, judged_now, outcome_by}
 use Rattle.interface_host.specs.Managers.{interface_asking_after, report_after_reply, taken_interface_manager}
 
 abbrev pub asked_as : Asking → HostTdi → CurrentInterface
 asked_as a i = record { interface = i; asking = a }
 
 at_place : (a : Asking) (xs : List HostTdi) (p : ℕ) (i : HostTdi) → i ≡ get_or xs p i
-    → IsSome (current_by a (slice_get xs p))
-    → current_by a (slice_get xs p) ≡ Some (asked_as a i)
+    → IsSome (current_by a (slice_get xs p)) → current_by a (slice_get xs p) ≡ Some (asked_as a i)
 at_place a [] p i is some = absurd cc
 at_place a (x ∷ xs) zero i is some = ap (λ y. Some (asked_as a y)) (sym is)
 at_place a (x ∷ xs) (suc p) i is some = at_place a xs p i is some
@@ -31,8 +29,7 @@ asked_in xs asking a i asked is some = rw asked
 -- the exchange that is asked, by what is read of the fields
 pub asked_now : (m : InterfaceManagerView) (a : Asking) (i : HostTdi) → m.asking ≡ Some a → i
     ≡ get_or m.interfaces a.place i
-    → IsSome (current_interface m)
-    → current_interface m ≡ Some (asked_as a i)
+    → IsSome (current_interface m) → current_interface m ≡ Some (asked_as a i)
 asked_now m a i asked is some = asked_in m.interfaces m.asking a i asked is some
 
 pub outcome_now : (m : InterfaceManagerView) (a : Asking) (i new : HostTdi) (carried : ExchangeReply)

@@ -2,9 +2,8 @@
 use Rattle.std.specs.Prelude.{ℕ, ◌+◌, ◌≤◌, ◌==◌, Bool, ◌&&◌, nat_le, List, length, if◌then◌else◌, Some, None, Result}
 use Rattle.std.specs.Prelude.{Ok, Err}
 use Rattle.tdisp_codec.specs.declared.fault.TdispFault.{TdispFault}
-use Rattle.tdisp_codec.specs.Replies.{Reply, reply_reading}
-use Rattle.tdisp_codec.specs.Replies.{Version, Capabilities, LockInterface, DeviceInterfaceReport, DeviceInterfaceState}
-use Rattle.tdisp_codec.specs.Replies.{StartInterface, StopInterface, BindP2p, UnbindP2p, Error}
+use Rattle.tdisp_codec.specs.Replies.{Reply, reply_reading, Version, Capabilities, LockInterface, DeviceInterfaceReport}
+use Rattle.tdisp_codec.specs.Replies.{DeviceInterfaceState, StartInterface, StopInterface, BindP2p, UnbindP2p, Error}
 use Rattle.tsm_host.specs.declared.operation.ExchangeReply.{ExchangeReply}
 use Rattle.tsm_host.specs.declared.operation.ExchangeReply.TheVariants as carried
 use Rattle.interface_host.specs.declared.judge.Answer.{Answer}

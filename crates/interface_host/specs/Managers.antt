@@ -2,6 +2,7 @@
 use Rattle.std.specs.Prelude.{ℕ, ◌+◌, Option, Some, None, List, [], ◌∷◌, ◌++◌, length, map, position, slice_get}
 use Rattle.std.specs.Prelude.{slice_set}
 use Rattle.std.specs.Option.{option_map_or}
+use Rattle.ide_types.specs.declared.binding.Binding.{Binding}
 use Rattle.ide_types.specs.declared.status.StreamStatus.{StreamStatus}
 use Rattle.ide_types.specs.declared.interface.InterfacePlan.{InterfacePlan}
 use Rattle.ide_types.specs.declared.plan.LinkPlan.{LinkPlan}
@@ -14,10 +15,8 @@ use Rattle.interface_host.specs.declared.operation.InterfaceOutcome.TheVariants.
 use Rattle.interface_host.specs.Steps.{Read, first_step, next_step, exchange_number}
 use Rattle.interface_host.specs.Judging.{Judged, Portion, interface_judged}
 use Rattle.interface_host.specs.Views.{HostTdi, new_interface, interface_refusal_of, interface_unless, step_request}
-use Rattle.interface_host.specs.Views.{taken_interface, interface_outcome}
-use Rattle.interface_host.specs.Views.{left_by_stop, left_by_peer_stop, left_by_reset, keyed_by, is_requester}
-use Rattle.interface_host.specs.Views.{is_granted}
-use Rattle.interface_host.specs.Views.{interface_grant}
+use Rattle.interface_host.specs.Views.{taken_interface, interface_outcome, left_by_stop, left_by_peer_stop}
+use Rattle.interface_host.specs.Views.{left_by_reset, keyed_by, is_requester, is_granted, interface_grant}
 
 -- The interfaces of all links, in the order of the links and of each link's interfaces; how many bytes of a report one
 -- portion asks for; the exchange that is to be asked and taken; what was read of a report.
@@ -128,13 +127,13 @@ reset_interface_manager link m = all_interfaces (left_by_reset link) m
 
 -- ---- grants
 
-abbrev pub granted_at : List HostTdi → Option ℕ → Option (ℕ × ℕ)
+abbrev pub granted_at : List HostTdi → Option ℕ → Option Binding
 granted_at interfaces None = None
 granted_at interfaces (Some place) = option_map_or interface_grant (slice_get interfaces place) None
 
 -- of the interface of the link with this requester ID that is running
-abbrev pub granted : InterfaceManagerView → ℕ → ℕ → Option (ℕ × ℕ)
-granted m link requester = granted_at m.interfaces (position (is_granted link requester) m.interfaces)
+abbrev pub running_grant : InterfaceManagerView → ℕ → ℕ → Option Binding
+running_grant m link requester = granted_at m.interfaces (position (is_granted link requester) m.interfaces)
 
 -- ---- names
 

@@ -1,7 +1,7 @@
 -- The manager's views of interfaces, and what moves them (this profile).
-use Rattle.std.specs.Prelude.{ℕ, Bool, true, false, ◌&&◌, nat_lt, ◌==◌, List, replicate, slice_get, slice_set}
-use Rattle.std.specs.Prelude.{◌-◌, unwrap_or, Option, Some, None, Result, Ok}
-use Rattle.std.specs.Prelude.{Err, if◌then◌else◌}
+use Rattle.std.specs.Prelude.{ℕ, Bool, true, false, ◌&&◌, nat_lt, ◌==◌, List, replicate, slice_get, slice_set, ◌-◌}
+use Rattle.std.specs.Prelude.{unwrap_or, Option, Some, None, Result, Ok, Err, if◌then◌else◌}
+use Rattle.ide_types.specs.declared.binding.Binding.{Binding}
 use Rattle.ide_types.specs.declared.status.StreamStatus.{StreamStatus}
 use Rattle.ide_types.specs.declared.status.StreamStatus.TheVariants as status
 use Rattle.ide_types.specs.declared.interface.InterfacePlan.{InterfacePlan}
@@ -33,12 +33,12 @@ pub data Seen : Type 0 where
   IsDoubt : Seen
   IsBroken : Seen
 
-abbrev pub seen : ManagedTdi → Seen
-seen (standing.Unlocked tdi) = IsUnlocked
-seen (standing.Locked tdi) = IsLocked tdi.state.nonce tdi.state.is_reported
-seen (standing.Running tdi) = IsRunning tdi.state.floor
-seen (standing.Doubt tdi) = IsDoubt
-seen (standing.Broken tdi) = IsBroken
+abbrev pub seen_of_managed : ManagedTdi → Seen
+seen_of_managed (standing.Unlocked tdi) = IsUnlocked
+seen_of_managed (standing.Locked tdi) = IsLocked tdi.state.nonce tdi.state.is_reported
+seen_of_managed (standing.Running tdi) = IsRunning tdi.state.floor
+seen_of_managed (standing.Doubt tdi) = IsDoubt
+seen_of_managed (standing.Broken tdi) = IsBroken
 
 abbrev pub view_of : Seen → View
 view_of IsUnlocked = view.Unlocked
@@ -157,19 +157,19 @@ abbrev pub seen_after_lock : List ℕ → Seen → Seen
 seen_after_lock nonce IsUnlocked = IsLocked nonce false
 seen_after_lock nonce v = v
 
-abbrev pub reported : Seen → Seen
-reported (IsLocked nonce is_reported) = IsLocked nonce true
-reported v = v
+abbrev pub reported_view : Seen → Seen
+reported_view (IsLocked nonce is_reported) = IsLocked nonce true
+reported_view v = v
 
-abbrev pub started : ℕ → Seen → Seen
-started draw (IsLocked nonce is_reported) = IsRunning draw
-started draw v = v
+abbrev pub started_view : ℕ → Seen → Seen
+started_view draw (IsLocked nonce is_reported) = IsRunning draw
+started_view draw v = v
 
 -- the device's state, by its code, is not the one that the view wants
-abbrev pub compared : ℕ → Seen → Seen
-compared code (IsLocked nonce is_reported) = if code == 1 then IsLocked nonce is_reported else IsBroken
-compared code (IsRunning floor) = if code == 2 then IsRunning floor else IsBroken
-compared code v = v
+abbrev pub compared_view : ℕ → Seen → Seen
+compared_view code (IsLocked nonce is_reported) = if code == 1 then IsLocked nonce is_reported else IsBroken
+compared_view code (IsRunning floor) = if code == 2 then IsRunning floor else IsBroken
+compared_view code v = v
 
 -- a loss leaves Doubt, a refusal the view
 abbrev pub after_lock : Judged → Seen → Seen
@@ -179,11 +179,11 @@ after_lock judged v = IsDoubt
 
 -- the last portion has no remainder
 abbrev pub after_report : Judged → Seen → Seen
-after_report (Portion bytes remainder) v = if remainder == 0 then reported v else v
+after_report (Portion bytes remainder) v = if remainder == 0 then reported_view v else v
 after_report judged v = v
 
 abbrev pub seen_after_start : ℕ → Judged → Seen → Seen
-seen_after_start draw Passed v = started draw v
+seen_after_start draw Passed v = started_view draw v
 seen_after_start draw (Refused code) v = IsBroken
 seen_after_start draw judged v = IsDoubt
 
@@ -193,7 +193,7 @@ after_halt (Refused code) v = v
 after_halt judged v = IsDoubt
 
 abbrev pub after_state : Judged → Seen → Seen
-after_state (State code) v = compared code v
+after_state (State code) v = compared_view code v
 after_state judged v = v
 
 abbrev pub seen_after_step : Step → ℕ → Judged → Seen → Seen
@@ -295,23 +295,23 @@ interface_outcome (step.Unbind peer) exchange judged after = unbind_outcome exch
 -- ---- what breaks views
 
 -- Locked, Running and Doubt become Broken
-abbrev pub broken : Seen → Seen
-broken IsUnlocked = IsUnlocked
-broken v = IsBroken
+abbrev pub broken_view : Seen → Seen
+broken_view IsUnlocked = IsUnlocked
+broken_view v = IsBroken
 
 abbrev pub is_bound_to : ℕ → ℕ → HostTdi → Bool
 is_bound_to link stream i = (i.link == link) && (i.stream == stream)
 
 -- a stop of this stream began
 abbrev pub left_by_stop : ℕ → ℕ → HostTdi → HostTdi
-left_by_stop link stream i = if is_bound_to link stream i then record i { seen = broken i.seen } else i
+left_by_stop link stream i = if is_bound_to link stream i then record i { seen = broken_view i.seen } else i
 
 abbrev pub is_asked : ℕ → List Bool → Bool
 is_asked number asked = unwrap_or (slice_get asked number) false
 
 -- an event of a stop of the stream between devices of this number
 abbrev pub left_by_peer_stop : ℕ → HostTdi → HostTdi
-left_by_peer_stop number i = if is_asked number i.asked then record i { seen = broken i.seen } else i
+left_by_peer_stop number i = if is_asked number i.asked then record i { seen = broken_view i.seen } else i
 
 -- this is the stream's draw from now on
 abbrev pub keyed_by : ℕ → ℕ → ℕ → HostTdi → HostTdi
@@ -319,7 +319,7 @@ keyed_by link stream draw i = if is_bound_to link stream i then record i { draw 
 
 -- the link was reset
 abbrev pub left_by_reset : ℕ → HostTdi → HostTdi
-left_by_reset link i = if i.link == link then record i { seen = broken i.seen } else i
+left_by_reset link i = if i.link == link then record i { seen = broken_view i.seen } else i
 
 -- ---- grants
 
@@ -335,9 +335,9 @@ abbrev pub is_granted : ℕ → ℕ → HostTdi → Bool
 is_granted link requester i = is_requester link requester i && is_running i.seen
 
 -- the bound stream and the floor of a run
-abbrev pub grant_by : ℕ → Option ℕ → Option (ℕ × ℕ)
+abbrev pub grant_by : ℕ → Option ℕ → Option Binding
 grant_by stream None = None
-grant_by stream (Some floor) = Some (stream, floor)
+grant_by stream (Some floor) = Some (record { stream = stream; floor = floor })
 
-abbrev pub interface_grant : HostTdi → Option (ℕ × ℕ)
+abbrev pub interface_grant : HostTdi → Option Binding
 interface_grant i = grant_by i.stream (floor_of i.seen)

@@ -12,7 +12,7 @@ use crate::judge::Answer;
 use crate::operation::{InterfaceOperation, InterfaceOutcome, InterfaceRefusal, InterfaceResult};
 use crate::standing::ManagedTdi;
 use crate::step::Step;
-use ide_types::{InterfacePlan, StreamStatus, View};
+use ide_types::{Binding, InterfacePlan, StreamStatus, View};
 use std::marker::Model;
 use std::mem;
 use tdisp_codec::RequestView;
@@ -33,7 +33,7 @@ pub(crate) struct HostInterface {
 }
 
 impl Model for HostInterface {
-    ghost use Rattle.interface_host.specs.Views.{HostTdi, seen};
+    ghost use Rattle.interface_host.specs.Views.{HostTdi, seen_of_managed};
 
     ghost Value = { HostTdi };
 
@@ -46,7 +46,7 @@ impl Model for HostInterface {
       draw = i.draw;
       needs = i.needs;
       was_started = i.was_started;
-      seen = seen i.standing;
+      seen = seen_of_managed i.standing;
       asked = i.asked;
     } };
 }
@@ -140,7 +140,7 @@ impl HostInterface {
     ghost use Rattle.interface_host.specs.Views.{bind_refusal, interface_refusal_of, step_request, taken_interface};
     ghost use Rattle.interface_host.specs.Views.{interface_outcome, view_of, is_bound_to, left_by_stop};
     ghost use Rattle.interface_host.specs.Views.{left_by_peer_stop, is_asked, keyed_by, left_by_reset, is_requester};
-    ghost use Rattle.interface_host.specs.Views.{is_granted, interface_grant, broken};
+    ghost use Rattle.interface_host.specs.Views.{is_granted, interface_grant, broken_view};
 
     /// An interface of a link, not locked.
     pub(crate) fn new(link: u8, plan: &InterfacePlan) -> HostInterface
@@ -311,7 +311,7 @@ impl HostInterface {
     }
 
     fn leave(&mut self)
-        ensures { self.new ≡ record self.old { seen = broken self.old.seen } }
+        ensures { self.new ≡ record self.old { seen = broken_view self.old.seen } }
     {
         let standing = mem::replace(&mut self.standing, ManagedTdi::new());
         self.standing = standing.broken();
@@ -374,11 +374,14 @@ impl HostInterface {
     }
 
     /// The bound stream and the floor of a run.
-    pub(crate) fn grant(&self) -> Option<(u8, u32)>
+    pub(crate) fn grant(&self) -> Option<Binding>
         ensures { result ≡ interface_grant self.now }
     {
         match self.standing.floor() {
-            Some(floor) => Some((self.stream, floor)),
+            Some(floor) => Some(Binding {
+                stream: self.stream,
+                floor,
+            }),
             None => None,
         }
     }

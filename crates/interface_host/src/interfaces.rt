@@ -15,7 +15,7 @@ use crate::judge::judge;
 use crate::operation::{InterfaceOperation, InterfaceOutcome, InterfaceRefusal};
 use crate::portions::Portions;
 use crate::step::{Step, first_step};
-use ide_types::{InterfacePlan, Items, LinkPlan, OutOfMemory, StreamStatus, View};
+use ide_types::{Binding, InterfacePlan, Items, LinkPlan, OutOfMemory, StreamStatus, View};
 use std::alloc::Global;
 use std::marker::Model;
 use tdisp_codec::request_write;
@@ -118,7 +118,7 @@ impl Interfaces {
     ghost use Rattle.interface_host.specs.Managers.{new_interface_manager, nothing_read, current_interface};
     ghost use Rattle.interface_host.specs.Managers.{current_exchange, begun_interface_manager, interface_request};
     ghost use Rattle.interface_host.specs.Managers.{judged_now, outcome_by, taken_interface_manager, stop_begun};
-    ghost use Rattle.interface_host.specs.Managers.{peer_stop, stream_keyed, reset_interface_manager, granted};
+    ghost use Rattle.interface_host.specs.Managers.{peer_stop, stream_keyed, reset_interface_manager, running_grant};
     ghost use Rattle.interface_host.specs.Managers.{interface_of_requester};
 
     /// A manager of the interfaces of these links, up to 8 links; no interface is locked. It asks for a report in
@@ -204,8 +204,8 @@ impl Interfaces {
 
     /// The bound stream of the interface of this link with this requester ID, and its floor, the least draw under which
     /// its requests are admitted; `None` if the manager's view of it is not Running.
-    pub fn grant(&self, link: u8, requester: u16) -> Option<(u8, u32)>
-        ensures { result ≡ granted self.now link requester }
+    pub fn grant(&self, link: u8, requester: u16) -> Option<Binding>
+        ensures { result ≡ running_grant self.now link requester }
     {
         match self.granted_place(link, requester) {
             None => None,

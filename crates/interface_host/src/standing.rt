@@ -3,8 +3,9 @@
 ghost use Rattle.std.specs.Prelude.{◌≡◌};
 ghost use Rattle.interface_host.specs.Facts.{reported_in};
 ghost use Rattle.interface_host.specs.Judging.{answer_shown};
-ghost use Rattle.interface_host.specs.Views.{seen, IsUnlocked, seen_after_lock, reported, started, compared};
-ghost use Rattle.interface_host.specs.Views.{seen_after_step, broken};
+ghost use Rattle.interface_host.specs.Views.{seen_of_managed, IsUnlocked, seen_after_lock, reported_view, started_view};
+ghost use Rattle.interface_host.specs.Views.{compared_view};
+ghost use Rattle.interface_host.specs.Views.{seen_after_step, broken_view};
 
 use crate::judge::Answer;
 use crate::step::Step;
@@ -27,14 +28,14 @@ impl ManagedTdi {
 
     /// As the manager begins.
     pub(crate) fn new() -> ManagedTdi
-        ensures { seen result ≡ IsUnlocked }
+        ensures { seen_of_managed result ≡ IsUnlocked }
     {
         ManagedTdi::Unlocked(Tdi::unlocked())
     }
 
     /// Which it is.
     pub(crate) fn view(&self) -> View
-        ensures { result ≡ view_of (seen self.now) }
+        ensures { result ≡ view_of (seen_of_managed self.now) }
     {
         match self {
             ManagedTdi::Unlocked(_) => View::Unlocked,
@@ -47,7 +48,7 @@ impl ManagedTdi {
 
     /// The draw that the stream of a run had as it was started.
     pub(crate) fn floor(&self) -> Option<u32>
-        ensures { result ≡ floor_of (seen self.now) }
+        ensures { result ≡ floor_of (seen_of_managed self.now) }
     {
         match self {
             ManagedTdi::Running(tdi) => Some(tdi.floor()),
@@ -57,7 +58,7 @@ impl ManagedTdi {
 
     /// The nonce of a lock; 32 zero bytes stand for none.
     pub(crate) fn nonce(&self) -> [u8; 32]
-        ensures { result ≡ nonce_of (seen self.now) }
+        ensures { result ≡ nonce_of (seen_of_managed self.now) }
     {
         match self {
             ManagedTdi::Locked(tdi) => tdi.nonce(),
@@ -67,7 +68,7 @@ impl ManagedTdi {
 
     // The device locked it with this nonce.
     fn locked(self, nonce: [u8; 32]) -> ManagedTdi
-        ensures { seen result ≡ seen_after_lock nonce (seen self) }
+        ensures { seen_of_managed result ≡ seen_after_lock nonce (seen_of_managed self) }
     {
         match self {
             ManagedTdi::Unlocked(tdi) => ManagedTdi::Locked(tdi.lock(nonce)),
@@ -77,7 +78,7 @@ impl ManagedTdi {
 
     // Its report was read.
     fn reported(self) -> ManagedTdi
-        ensures { seen result ≡ reported (seen self) }
+        ensures { seen_of_managed result ≡ reported_view (seen_of_managed self) }
     {
         match self {
             ManagedTdi::Locked(tdi) => ManagedTdi::Locked(tdi.report()),
@@ -87,7 +88,7 @@ impl ManagedTdi {
 
     // The device started it, with its stream under this draw.
     fn started(self, draw: u32) -> ManagedTdi
-        ensures { seen result ≡ started draw (seen self) }
+        ensures { seen_of_managed result ≡ started_view draw (seen_of_managed self) }
     {
         match self {
             ManagedTdi::Locked(tdi) => ManagedTdi::Running(tdi.start(draw)),
@@ -97,7 +98,7 @@ impl ManagedTdi {
 
     // The device is in the state of this code.
     fn compared(self, code: u8) -> ManagedTdi
-        ensures { seen result ≡ compared code (seen self) }
+        ensures { seen_of_managed result ≡ compared_view code (seen_of_managed self) }
     {
         match self {
             ManagedTdi::Locked(tdi) => {
@@ -120,7 +121,7 @@ impl ManagedTdi {
 
     /// What ends a lock happened: a view of a lock, and one in doubt, breaks.
     pub(crate) fn broken(self) -> ManagedTdi
-        ensures { seen result ≡ broken (seen self) }
+        ensures { seen_of_managed result ≡ broken_view (seen_of_managed self) }
     {
         match self {
             ManagedTdi::Unlocked(tdi) => ManagedTdi::Unlocked(tdi),
@@ -130,7 +131,8 @@ impl ManagedTdi {
 
     /// The view after an exchange; `draw` is that of the bound stream.
     pub(crate) fn after(self, step: Step, draw: u32, answer: Answer) -> ManagedTdi
-        ensures { seen result ≡ seen_after_step step draw (answer_shown answer.entry) (seen self) }
+        ensures { seen_of_managed result ≡ seen_after_step step draw (answer_shown answer.entry)
+            (seen_of_managed self) }
     {
         match (step, answer) {
             (Step::Lock, Answer::Nonce(nonce)) => self.locked(nonce),
@@ -151,7 +153,7 @@ impl ManagedTdi {
 impl ManagedTdi {
     /// Whether the report of a lock was read; `None` if it is no lock.
     pub(crate) fn reported_in(&self) -> Option<bool>
-        ensures { result ≡ reported_in (seen self.now) }
+        ensures { result ≡ reported_in (seen_of_managed self.now) }
     {
         match self {
             ManagedTdi::Locked(tdi) => Some(tdi.is_reported()),

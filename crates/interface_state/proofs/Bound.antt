@@ -1,21 +1,16 @@
 -- An interface is bound to streams between two devices in CONFIG_LOCKED and RUN alone, and to eight at the most.
-use Rattle.std.proofs.Common.{◌≡◌, ◌≤◌, ℕ, Bool, true, false, not, nat_lt, List, [], ◌∷◌, length, filter}
-use Rattle.std.proofs.Common.{Option, Some, None, Result, Ok, Err, refl, ap, arith}
-use Rattle.std.proofs.Common.{length-append}
+use Rattle.std.proofs.Common.{◌≡◌, ◌≤◌, ℕ, Bool, true, false, not, nat_lt, List, [], ◌∷◌, length, filter, Option, Some}
+use Rattle.std.proofs.Common.{None, Result, Ok, Err, refl, ap, arith, length-append}
 use Rattle.std.proofs.lemmas.Bool.Decides.{nat_tests}
-use Rattle.interface_state.specs.declared.bindings.Binding.{Binding}
+use Rattle.ide_types.specs.declared.binding.Binding.{Binding}
 use Rattle.interface_state.specs.declared.states.TdiState.{TdiState}
 use Rattle.interface_state.specs.declared.states.TdiState.TheVariants.{ConfigUnlocked, ConfigLocked, Run, Error}
 use Rattle.interface_state.specs.Bindings.{is_binding_on, without}
-use Rattle.interface_state.specs.Machine.{Tdi, is_locked, bindings_left}
-use Rattle.interface_state.specs.Machine.{with_state, with_bindings, new_lock, interface_after_lock, lock_answer}
-use Rattle.interface_state.specs.Machine.{bind_answer}
-use Rattle.interface_state.specs.Machine.{interface_after_bind}
+use Rattle.interface_state.specs.Machine.{Tdi, is_locked, bindings_left, with_state, with_bindings, new_lock}
+use Rattle.interface_state.specs.Machine.{interface_after_lock, lock_answer, bind_answer, interface_after_bind}
 use Rattle.interface_state.specs.Machine.{unbind_answer, unbound_with, Call, LockInterface, StartInterface}
-use Rattle.interface_state.specs.Machine.{StopInterface}
-use Rattle.interface_state.specs.Machine.{BindStream, UnbindStream, WriteRegister, LevelReset, FirmwareUpdate}
-use Rattle.interface_state.specs.Machine.{StreamLeft}
-use Rattle.interface_state.specs.Machine.{LinkReset, tdi_after}
+use Rattle.interface_state.specs.Machine.{StopInterface, BindStream, UnbindStream, WriteRegister, LevelReset}
+use Rattle.interface_state.specs.Machine.{FirmwareUpdate, StreamLeft, LinkReset, tdi_after}
 use Rattle.interface_state.specs.Held.{IsBound}
 use Rattle.interface_state.specs.Laws.{BindingsEnd}
 

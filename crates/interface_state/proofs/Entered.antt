@@ -11,9 +11,8 @@ use Rattle.interface_state.specs.RegisterValues.{has_bit, changes_listed}
 use Rattle.interface_state.specs.Bars.{any_overlap, bars_of}
 use Rattle.interface_state.specs.Machine.{lock_of, Tdi, is_unlocked, lock_flags, are_lock_flags, is_page, nonce_answer}
 use Rattle.interface_state.specs.Machine.{lock_answer, new_lock, interface_after_lock, after_start, after_change}
-use Rattle.interface_state.specs.Machine.{LockInterface}
-use Rattle.interface_state.specs.Machine.{StartInterface, StopInterface, WriteRegister, LevelReset, FirmwareUpdate}
-use Rattle.interface_state.specs.Machine.{StreamLeft, LinkReset, BindStream, UnbindStream, bind_answer}
+use Rattle.interface_state.specs.Machine.{LockInterface, StartInterface, StopInterface, WriteRegister, LevelReset}
+use Rattle.interface_state.specs.Machine.{FirmwareUpdate, StreamLeft, LinkReset, BindStream, UnbindStream, bind_answer}
 use Rattle.interface_state.specs.Machine.{unbind_answer}
 use Rattle.interface_state.proofs.Bound.{bound_state, unbound_state}
 use Rattle.interface_state.specs.Laws.{EntersLock, LockIsEntered, EntersRun, RunIsEntered}

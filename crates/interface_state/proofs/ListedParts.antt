@@ -11,14 +11,13 @@ use Rattle.interface_state.specs.declared.register_set.Registers.{Registers}
 use Rattle.interface_state.specs.declared.states.Lock.{Lock}
 use Rattle.interface_state.specs.declared.states.TdiState.{TdiState}
 use Rattle.interface_state.specs.declared.states.TdiState.TheVariants.{ConfigUnlocked, ConfigLocked, Run, Error}
-use Rattle.interface_state.specs.RegisterValues.{IsAmongSix, planned, with_value, has_bit, Listed, listed}
-use Rattle.interface_state.specs.RegisterValues.{changes_listed}
+use Rattle.interface_state.specs.RegisterValues.{IsAmongSix, planned_registers, with_value, has_bit, Listed}
+use Rattle.interface_state.specs.RegisterValues.{listed_registers, changes_listed}
 use Rattle.interface_state.specs.Machine.{Tdi, KeepsListed, lock_of, lock_flags, after_change, after_failure}
-use Rattle.interface_state.specs.Machine.{after_start}
-use Rattle.interface_state.specs.Machine.{lock_answer, new_lock, interface_after_lock, LockInterface, StartInterface}
-use Rattle.interface_state.specs.Machine.{StopInterface}
-use Rattle.interface_state.specs.Machine.{WriteRegister, LevelReset, FirmwareUpdate, StreamLeft, LinkReset, BindStream}
-use Rattle.interface_state.specs.Machine.{UnbindStream, bind_answer, interface_after_bind, unbind_answer, unbound_with}
+use Rattle.interface_state.specs.Machine.{after_start, lock_answer, new_lock, interface_after_lock, LockInterface}
+use Rattle.interface_state.specs.Machine.{StartInterface, StopInterface, WriteRegister, LevelReset, FirmwareUpdate}
+use Rattle.interface_state.specs.Machine.{StreamLeft, LinkReset, BindStream, UnbindStream, bind_answer}
+use Rattle.interface_state.specs.Machine.{interface_after_bind, unbind_answer, unbound_with}
 use Rattle.interface_state.specs.Laws.{ChangesAreListed, ChangeIsError, ListedIsKept}
 
 set_back : (bars : List ℕ) (n value : ℕ) → value ≡ slice_index bars n → slice_set bars n value ≡ bars
@@ -29,15 +28,17 @@ set_changes : (bars : List ℕ) (n value : ℕ) → n < length bars → slice_se
 set_changes bars n value lt e = sym (get_or-set_same bars n value 0 lt) ∙ ap (λ (x : List ℕ). slice_index x n) e
 
 pub unchanged : (flags : ℕ) (registers : Registers) (register : Register) (value : ℕ)
-    → changes_listed flags registers register value ≡ false → listed flags (with_value registers register value)
-    ≡ listed flags registers
-unchanged flags registers (Bar n) value e = ap (λ (x : List ℕ). record (listed flags registers) { bars = x })
+    → changes_listed flags registers register value ≡ false
+    → listed_registers flags (with_value registers register value)
+    ≡ listed_registers flags registers
+unchanged flags registers (Bar n) value e = ap (λ (x : List ℕ). record (listed_registers flags registers) { bars = x })
     (set_back registers.bars n value (grind arith))
 unchanged flags registers register value e = grind (arith, nat_tests)
 
 -- register by register: the part of the list that the register is in tells its value
 changed_back : (flags : ℕ) (registers : Registers) (register : Register) (value : ℕ) → length registers.bars ≡ 6
-    → IsAmongSix register → listed flags (with_value registers register value) ≡ listed flags registers
+    → IsAmongSix register → listed_registers flags (with_value registers register value)
+    ≡ listed_registers flags registers
     → changes_listed flags registers register value ≡ false
 changed_back flags registers (Bar n) value six among e =
     let same = set_changes registers.bars n value (omega arith) (ap (λ (x : Listed). x.bars) e) in
@@ -89,7 +90,7 @@ kept_written registers Error register value false e kept = tt
 kept_locked : (tdi : Tdi) (lock : Lock) (answer : Result (List ℕ) ℕ) → lock.registers ≡ tdi.registers
     → KeepsListed tdi.registers tdi.state
     → KeepsListed (interface_after_lock tdi lock answer).registers (interface_after_lock tdi lock answer).state
-kept_locked tdi lock (Ok nonce) same kept = ap (λ (x : Registers). listed lock.flags x) (sym same)
+kept_locked tdi lock (Ok nonce) same kept = ap (λ (x : Registers). listed_registers lock.flags x) (sym same)
 kept_locked tdi lock (Err code) same kept = kept
 
 kept_run : (registers : Registers) (lock : Lock) (held : List ℕ) (b : Bool)
@@ -129,7 +130,7 @@ listed_is_kept tdi (BindStream stream live) kept = kept_bound tdi stream (bind_a
 listed_is_kept tdi (UnbindStream stream) kept = kept_unbound tdi stream (unbind_answer tdi stream) kept
 listed_is_kept tdi (WriteRegister register value) kept = kept_written tdi.registers tdi.state register value
     (changes_listed (lock_flags tdi.state) tdi.registers register value) refl kept
-listed_is_kept tdi LevelReset kept = lost (planned tdi.plan) tdi.state
+listed_is_kept tdi LevelReset kept = lost (planned_registers tdi.plan) tdi.state
 listed_is_kept tdi FirmwareUpdate kept = kept_changed tdi.registers tdi.state (has_bit 0 (lock_flags tdi.state)) kept
 listed_is_kept tdi StreamLeft kept = lost tdi.registers tdi.state
 listed_is_kept tdi LinkReset kept = tt

@@ -1,24 +1,21 @@
 -- Registers keep their widths. A write changes one register, by a value that has room in it; a level reset and a reset
 -- of the link give the topology's values; a lock keeps the registers as they stand.
-use Rattle.std.proofs.Common.{◌<◌, ◌^◌, ℕ, Bool, true, false, List, arith}
-use Rattle.std.proofs.Common.{Result, Ok, Err, ◌∙◌}
+use Rattle.std.proofs.Common.{◌<◌, ◌^◌, ℕ, Bool, true, false, List, arith, Result, Ok, Err, ◌∙◌}
 use Rattle.std.specs.Prelude.{IfSome}
 use Rattle.std.proofs.lemmas.List.{length-set}
 use Rattle.ide_types.specs.declared.register.Register.{Register}
-use Rattle.ide_types.specs.declared.register.Register.TheVariants.{Command, CacheLine, Msix, Lnr, Tph, Pasid, Ats}
-use Rattle.ide_types.specs.declared.register.Register.TheVariants.{Bar}
+use Rattle.ide_types.specs.declared.register.Register.TheVariants.{Command, CacheLine, Msix, Lnr, Tph, Pasid, Ats, Bar}
 use Rattle.ide_types.specs.RegisterNames.{width_of}
 use Rattle.interface_state.specs.declared.register_set.Registers.{Registers}
 use Rattle.interface_state.specs.declared.states.Lock.{Lock}
 use Rattle.interface_state.specs.declared.states.TdiState.{TdiState}
 use Rattle.interface_state.specs.declared.states.TdiState.TheVariants.{ConfigUnlocked, ConfigLocked, Run, Error}
-use Rattle.interface_state.specs.RegisterValues.{with_value, planned}
+use Rattle.interface_state.specs.RegisterValues.{with_value, planned_registers}
 use Rattle.interface_state.specs.Machine.{Tdi, lock_of, lock_answer, new_lock, interface_after_lock, after_start}
 use Rattle.interface_state.specs.Machine.{after_failure, after_change, Call, LockInterface, StartInterface}
-use Rattle.interface_state.specs.Machine.{StopInterface}
-use Rattle.interface_state.specs.Machine.{WriteRegister, LevelReset, FirmwareUpdate, StreamLeft, LinkReset, BindStream}
-use Rattle.interface_state.specs.Machine.{UnbindStream, bind_answer, interface_after_bind, unbind_answer, unbound_with}
-use Rattle.interface_state.specs.Machine.{tdi_after}
+use Rattle.interface_state.specs.Machine.{StopInterface, WriteRegister, LevelReset, FirmwareUpdate, StreamLeft}
+use Rattle.interface_state.specs.Machine.{LinkReset, BindStream, UnbindStream, bind_answer, interface_after_bind}
+use Rattle.interface_state.specs.Machine.{unbind_answer, unbound_with, tdi_after}
 use Rattle.interface_state.specs.Laws.{FitsRegisters, FitsWidths, FitsCall, WidthsAreKept}
 
 written_fits : (registers : Registers) (register : Register) (value : ℕ) → value < 2 ^ width_of register
@@ -79,7 +76,7 @@ unbound_fits : (tdi : Tdi) (stream : ℕ) (answer : Result (Unit {0}) ℕ) → F
 unbound_fits tdi stream (Ok done) fits = record { registers = fits.registers; locked = fits.locked }
 unbound_fits tdi stream (Err code) fits = fits
 
-later : (tdi : Tdi) (call : Call) → FitsRegisters (planned tdi.plan) → FitsWidths tdi → FitsCall call
+later : (tdi : Tdi) (call : Call) → FitsRegisters (planned_registers tdi.plan) → FitsWidths tdi → FitsCall call
     → FitsWidths (tdi_after tdi call)
 later tdi (LockInterface flags stream offset secure drawn) planned_fits fits room =
     locked_fits tdi (new_lock tdi flags stream offset) (lock_answer tdi flags offset secure drawn) fits fits.registers

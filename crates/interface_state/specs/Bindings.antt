@@ -1,12 +1,10 @@
 -- The streams between two devices that an interface is bound to (TDISP, PCI Express Base 6.0 chapter 11, in this
 -- profile).
-use Rattle.std.specs.Prelude.{ℕ, ◌==◌, not, Bool, List, filter, find, Option}
+use Rattle.std.specs.Prelude.{ℕ, not, Bool, List, filter, find, Option}
 use Rattle.std.specs.List.{list_any}
 use Rattle.std.specs.Option.{option_map}
-use Rattle.interface_state.specs.declared.bindings.Binding.{Binding}
-
-abbrev pub is_binding_on : ℕ → Binding → Bool
-is_binding_on stream b = b.stream == stream
+use Rattle.ide_types.specs.declared.binding.Binding.{Binding}
+pub use Rattle.ide_types.specs.Bindings.{is_binding_on}
 
 -- a binding to the stream is among them
 abbrev pub binds : ℕ → List Binding → Bool

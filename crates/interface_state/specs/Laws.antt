@@ -9,26 +9,26 @@ use Rattle.interface_state.specs.declared.register_set.Registers.{Registers}
 use Rattle.interface_state.specs.declared.states.Lock.{Lock}
 use Rattle.interface_state.specs.declared.states.TdiState.TheVariants.{ConfigUnlocked, ConfigLocked, Run, Error}
 use Rattle.ide_types.specs.RegisterNames.{width_of}
-use Rattle.interface_state.specs.RegisterValues.{IsAmongSix, with_value, planned, listed, changes_listed}
+use Rattle.interface_state.specs.RegisterValues.{IsAmongSix, with_value, planned_registers, listed_registers}
+use Rattle.interface_state.specs.RegisterValues.{changes_listed}
 use Rattle.interface_state.specs.Bars.{bar_end, bars_overlap, any_overlap}
 use Rattle.interface_state.specs.Kept.{interface_report, kept_report, IsShortReport}
 use Rattle.interface_state.specs.Machine.{Tdi, new_tdi, KeepsListed, lock_of, after_write, Call, LockInterface}
-use Rattle.interface_state.specs.Machine.{StartInterface}
-use Rattle.interface_state.specs.Machine.{WriteRegister, tdi_after}
+use Rattle.interface_state.specs.Machine.{StartInterface, WriteRegister, tdi_after}
 use Rattle.interface_state.specs.Held.{FitsTdi, FitsShown, IsBound}
 
 -- a write changes the listed part exactly if it is a listed change
 abbrev pub ChangesAreListed : Type 0
 ChangesAreListed = (flags : ℕ) (registers : Registers) (register : Register) (value : ℕ)
-    → length registers.bars ≡ 6 → IsAmongSix register
-    → (changes_listed flags registers register value ≡ false)
-    ↔ (listed flags (with_value registers register value) ≡ listed flags registers)
+    → length registers.bars ≡ 6 → IsAmongSix register → (changes_listed flags registers register value ≡ false)
+    ↔ (listed_registers flags (with_value registers register value) ≡ listed_registers flags registers)
 
 -- in CONFIG_LOCKED and RUN a write that changes the listed part leads to ERROR
 abbrev pub ChangeIsError : Type 0
 ChangeIsError = (tdi : Tdi) (lock : Lock) (register : Register) (value : ℕ) → length tdi.registers.bars ≡ 6
     → IsAmongSix register
-    → lock_of tdi.state ≡ Some lock → listed lock.flags (with_value tdi.registers register value) ≢ listed lock.flags
+    → lock_of tdi.state ≡ Some lock → listed_registers lock.flags (with_value tdi.registers register value)
+    ≢ listed_registers lock.flags
     tdi.registers
     → (after_write tdi register value).state ≡ Error
 
@@ -50,8 +50,8 @@ FitsCall call = Unit {0}
 -- what the laws on reports and on listed changes suppose holds of an interface from its beginning on, and each call
 -- keeps it
 pub record WidthsAreKept : Type 0 where
-  pub first : (plan : InterfacePlan) → FitsRegisters (planned plan) → FitsWidths (new_tdi plan)
-  pub later : (tdi : Tdi) (call : Call) → FitsRegisters (planned tdi.plan) → FitsWidths tdi → FitsCall call
+  pub first : (plan : InterfacePlan) → FitsRegisters (planned_registers plan) → FitsWidths (new_tdi plan)
+  pub later : (tdi : Tdi) (call : Call) → FitsRegisters (planned_registers tdi.plan) → FitsWidths tdi → FitsCall call
       → FitsWidths (tdi_after tdi call)
 
 -- a byte of a BAR's range

@@ -15,11 +15,12 @@ use Rattle.interface_state.specs.declared.error_codes.ErrorCode.TheVariants.{Ins
 use Rattle.interface_state.specs.declared.error_codes.ErrorCode.TheVariants.{InvalidDeviceConfiguration}
 use Rattle.ide_types.specs.declared.register.Register.{Register}
 use Rattle.interface_state.specs.declared.register_set.Registers.{Registers}
-use Rattle.interface_state.specs.declared.bindings.Binding.{Binding}
+use Rattle.ide_types.specs.declared.binding.Binding.{Binding}
 use Rattle.interface_state.specs.declared.states.Lock.{Lock}
 use Rattle.interface_state.specs.declared.states.TdiState.{TdiState}
 use Rattle.interface_state.specs.declared.states.TdiState.TheVariants.{ConfigUnlocked, ConfigLocked, Run, Error}
-use Rattle.interface_state.specs.RegisterValues.{planned, with_value, has_bit, listed, changes_listed}
+use Rattle.interface_state.specs.RegisterValues.{planned_registers, with_value, has_bit, listed_registers}
+use Rattle.interface_state.specs.RegisterValues.{changes_listed}
 use Rattle.interface_state.specs.Bars.{bars_of, any_overlap}
 use Rattle.interface_state.specs.Kept.{kept_report}
 use Rattle.interface_state.specs.Bindings.{binds, without}
@@ -54,7 +55,7 @@ pub record Tdi : Type 0 where
   pub bindings : List Binding
 
 abbrev pub new_tdi : InterfacePlan → Tdi
-new_tdi plan = record { plan = plan; registers = planned plan; state = ConfigUnlocked; bindings = [] }
+new_tdi plan = record { plan = plan; registers = planned_registers plan; state = ConfigUnlocked; bindings = [] }
 
 abbrev pub is_unlocked : TdiState → Bool
 is_unlocked ConfigUnlocked = true
@@ -90,7 +91,8 @@ lock_flags state = option_map_or (λ lock. lock.flags) (lock_of state) 0
 
 -- while a lock stands, the listed part of the registers is that of the registers that it kept
 abbrev pub KeepsListed : Registers → TdiState → Type 0
-KeepsListed registers state = IfSome (lock_of state) (λ lock. listed lock.flags registers ≡ listed lock.flags
+KeepsListed registers state = IfSome (lock_of state)
+    (λ lock. listed_registers lock.flags registers ≡ listed_registers lock.flags
     lock.registers)
 
 -- ---- LOCK_INTERFACE
@@ -126,8 +128,8 @@ abbrev pub interface_after_lock : Tdi → Lock → Result (List ℕ) ℕ → Tdi
 interface_after_lock tdi lock (Ok nonce) = with_state tdi (ConfigLocked lock nonce)
 interface_after_lock tdi lock (Err code) = tdi
 
-abbrev pub locked : Tdi → ℕ → ℕ → ℕ → Bool → Option (List ℕ) → Tdi
-locked tdi flags stream offset secure drawn = interface_after_lock tdi (new_lock tdi flags stream offset)
+abbrev pub locked_interface : Tdi → ℕ → ℕ → ℕ → Bool → Option (List ℕ) → Tdi
+locked_interface tdi flags stream offset secure drawn = interface_after_lock tdi (new_lock tdi flags stream offset)
     (lock_answer tdi flags offset secure drawn)
 
 -- ---- GET_DEVICE_INTERFACE_REPORT
@@ -187,7 +189,7 @@ after_write tdi register value = record {
 abbrev pub level_reset : Tdi → Tdi
 level_reset tdi = record {
   plan = tdi.plan;
-  registers = planned tdi.plan;
+  registers = planned_registers tdi.plan;
   state = after_failure tdi.state;
   bindings = bindings_after tdi (after_failure tdi.state);
 }
@@ -227,8 +229,8 @@ interface_after_bind tdi stream (Ok draw) =
     with_bindings tdi (tdi.bindings ++ record { stream = stream; floor = draw } ∷ [])
 interface_after_bind tdi stream (Err code) = tdi
 
-abbrev pub bound : Tdi → ℕ → Option ℕ → Tdi
-bound tdi stream live = interface_after_bind tdi stream (bind_answer tdi stream live)
+abbrev pub bound_interface : Tdi → ℕ → Option ℕ → Tdi
+bound_interface tdi stream live = interface_after_bind tdi stream (bind_answer tdi stream live)
 
 abbrev pub unbind_answer : Tdi → ℕ → Result (Unit {0}) ℕ
 unbind_answer tdi stream =
@@ -269,10 +271,10 @@ pub data Call : Type 0 where
   LinkReset : Call
 
 abbrev pub tdi_after : Tdi → Call → Tdi
-tdi_after tdi (LockInterface flags stream offset secure drawn) = locked tdi flags stream offset secure drawn
+tdi_after tdi (LockInterface flags stream offset secure drawn) = locked_interface tdi flags stream offset secure drawn
 tdi_after tdi (StartInterface nonce) = with_state tdi (after_start tdi.state nonce)
 tdi_after tdi StopInterface = with_state tdi ConfigUnlocked
-tdi_after tdi (BindStream stream live) = bound tdi stream live
+tdi_after tdi (BindStream stream live) = bound_interface tdi stream live
 tdi_after tdi (UnbindStream stream) = interface_after_unbind tdi stream
 tdi_after tdi (WriteRegister register value) = after_write tdi register value
 tdi_after tdi LevelReset = level_reset tdi

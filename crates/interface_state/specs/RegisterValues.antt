@@ -6,8 +6,7 @@ use Rattle.std.specs.Option.{option_map_or}
 use Rattle.ide_types.specs.declared.interface.InterfacePlan.{InterfacePlan}
 use Rattle.ide_types.specs.declared.interface.BarPlan.{BarPlan}
 use Rattle.ide_types.specs.declared.register.Register.{Register}
-use Rattle.ide_types.specs.declared.register.Register.TheVariants.{Command, CacheLine, Msix, Lnr, Tph, Pasid, Ats}
-use Rattle.ide_types.specs.declared.register.Register.TheVariants.{Bar}
+use Rattle.ide_types.specs.declared.register.Register.TheVariants.{Command, CacheLine, Msix, Lnr, Tph, Pasid, Ats, Bar}
 pub use Rattle.ide_types.specs.RegisterNames.{IsAmongSix}
 use Rattle.interface_state.specs.declared.register_set.Registers.{Registers}
 
@@ -38,8 +37,8 @@ abbrev pub planned_base : List BarPlan → ℕ → ℕ
 planned_base bars n = option_map_or (λ bar. bar.base) (slice_get bars n) 0
 
 -- the values that the topology gives
-abbrev pub planned : InterfacePlan → Registers
-planned plan = record {
+abbrev pub planned_registers : InterfacePlan → Registers
+planned_registers plan = record {
   command = plan.command;
   cache_line = plan.cache_line;
   msix = plan.msix;
@@ -74,8 +73,8 @@ pub record Listed : Type 0 where
   pub msix : Option ℕ
   pub cache_line : Option ℕ
 
-abbrev pub listed : ℕ → Registers → Listed
-listed flags registers = record {
+abbrev pub listed_registers : ℕ → Registers → Listed
+listed_registers flags registers = record {
   memory_space = bit_at 1 registers.command;
   bus_master = bit_at 2 registers.command;
   bars = registers.bars;

@@ -1,27 +1,11 @@
 //! The streams that an interface is bound to.
 
 ghost use Rattle.std.specs.Prelude.{◌≡◌, ◌<◌, ◌≤◌, ◌+◌, [], ◌∷◌, ◌++◌, length};
-ghost use Rattle.interface_state.specs.Bindings.{binds, floor_on, is_binding_on, without};
+ghost use Rattle.interface_state.specs.Bindings.{binds, floor_on, without};
 
 use arrayvec::ArrayVec;
+use ide_types::Binding;
 use std::marker::Model;
-
-/// A stream that an interface is bound to (TDISP, PCI Express Base 6.0 chapter 11, in this profile).
-#[derive(Clone, Copy, Default, PartialEq, Eq)]
-pub struct Binding {
-    /// Its ID.
-    pub stream: u8,
-    /// The least draw under which writes on it are admitted.
-    pub floor: u32,
-}
-
-impl Binding {
-    fn is_on(&self, stream: u8) -> bool
-        ensures { result ≡ is_binding_on stream self.now }
-    {
-        self.stream == stream
-    }
-}
 
 /// The streams that an interface is bound to: at most one of a link, and eight between its device and others.
 #[derive(Drop)]
@@ -31,7 +15,7 @@ pub struct Bindings {
 
 impl Model for Bindings {
     ghost use Rattle.std.specs.Prelude.{List};
-    ghost use Rattle.interface_state.specs.declared.bindings.Binding.{Binding};
+    ghost use Rattle.ide_types.specs.declared.binding.Binding.{Binding};
 
     ghost Value = { List Binding };
 

@@ -12,12 +12,12 @@ ghost use Rattle.interface_state.specs.Machine.{are_lock_flags, bindings_left, i
 ghost use Rattle.interface_state.specs.Held.{FitsTdi};
 
 use crate::bars::{any_overlap, bars_of, reported_bytes};
-use crate::bindings::{Binding, Bindings};
+use crate::bindings::Bindings;
 use crate::error_codes::ErrorCode;
 use crate::register_set::{Registers, has_bit};
 use crate::report_buffer::ReportBuffer;
 use crate::states::{Lock, TdiState};
-use ide_types::{BarPlan, Bytes, InterfacePlan, Items, OutOfMemory, Register};
+use ide_types::{BarPlan, Binding, Bytes, InterfacePlan, Items, OutOfMemory, Register};
 use std::alloc::Global;
 use std::marker::Model;
 use tdisp_codec::{Ranges, ReportView};
@@ -156,8 +156,9 @@ fn portion(report: &[u8], offset: u16, size: u16) -> Result<(&[u8], u16), u32>
 impl Interface {
     ghost use Rattle.interface_state.specs.declared.states.TdiState.TheVariants.{ConfigUnlocked, ConfigLocked};
     ghost use Rattle.interface_state.specs.Machine.{Tdi, new_tdi, with_state, lock_of, bound_link_stream, state_code};
-    ghost use Rattle.interface_state.specs.Machine.{KeepsListed, lock_answer, locked, new_lock, portion_answer};
-    ghost use Rattle.interface_state.specs.Machine.{all_bindings, bind_answer, bound, is_answered, is_locked};
+    ghost use Rattle.interface_state.specs.Machine.{KeepsListed, lock_answer, locked_interface, new_lock};
+    ghost use Rattle.interface_state.specs.Machine.{portion_answer};
+    ghost use Rattle.interface_state.specs.Machine.{all_bindings, bind_answer, bound_interface, is_answered, is_locked};
     ghost use Rattle.interface_state.specs.Machine.{unbind_answer, interface_after_unbind, start_answer, after_start};
     ghost use Rattle.interface_state.specs.Machine.{after_failure, after_write, level_reset, firmware_updated};
 
@@ -238,7 +239,8 @@ impl Interface {
         nonce: Option<&[u8; 32]>,
     ) -> Result<[u8; 32], u32>
         ensures answer { result ≡ lock_answer self.old flags offset secure (option_copied nonce.entry) }
-        ensures interface { self.new ≡ locked self.old flags stream offset secure (option_copied nonce.entry) }
+        ensures interface { self.new ≡ locked_interface self.old flags stream offset secure
+            (option_copied nonce.entry) }
     {
         match self.lock_answer(flags, offset, secure, nonce) {
             Ok(nonce) => {
@@ -320,7 +322,7 @@ impl Interface {
     /// has room for eight streams, as many as a topology has between devices. A refusal changes nothing.
     pub fn bind(&mut self, stream: u8, live: Option<u32>) -> Result<(), u32>
         ensures answer { result ≡ is_answered (bind_answer self.old stream live) }
-        ensures interface { self.new ≡ bound self.old stream live }
+        ensures interface { self.new ≡ bound_interface self.old stream live }
     {
         match self.bind_answer(stream, live) {
             Ok(floor) => {

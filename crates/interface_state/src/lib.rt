@@ -11,10 +11,10 @@ mod register_set;
 mod report_buffer;
 mod states;
 
-pub use bindings::{Binding, Bindings};
+pub use bindings::Bindings;
 pub use device_interface::Interface;
 pub use error_codes::ErrorCode;
-pub use ide_types::Register;
+pub use ide_types::{Binding, Register};
 pub use laws::{
     bindings_end, listed_changes, listed_is_kept, overlaps_are_shared, reports_are_spelled,
     states_are_entered, widths_are_kept,

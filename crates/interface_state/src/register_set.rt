@@ -2,7 +2,8 @@
 
 ghost use Rattle.std.specs.Prelude.{◌≡◌, ◌<◌, ◌^◌, ◌==◌, ◌&&◌, [], ◌∷◌};
 ghost use Rattle.ide_types.specs.RegisterNames.{width_of};
-ghost use Rattle.interface_state.specs.RegisterValues.{bit_at, has_bit, changes_listed, planned, planned_base};
+ghost use Rattle.interface_state.specs.RegisterValues.{bit_at, has_bit, changes_listed, planned_registers};
+ghost use Rattle.interface_state.specs.RegisterValues.{planned_base};
 ghost use Rattle.interface_state.specs.RegisterValues.{IsAmongSix};
 ghost use Rattle.interface_state.specs.RegisterValues.{value_in, with_value};
 
@@ -64,7 +65,7 @@ fn same_enables(command: u16, other: u16) -> bool
 impl Registers {
     /// The values that the topology gives.
     pub(crate) fn planned(plan: &InterfacePlan) -> Registers
-        ensures { result ≡ planned plan.now }
+        ensures { result ≡ planned_registers plan.now }
     {
         Registers {
             command: plan.command,

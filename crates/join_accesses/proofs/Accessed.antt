@@ -7,41 +7,37 @@ use Rattle.std.proofs.lemmas.Bool.{cases_lt, cases_Bool, eqb-true, eq-eqb, ne_eq
 use Rattle.std.proofs.lemmas.Bool.{le-leb, le-ltb}
 use Rattle.std.proofs.lemmas.Option.{none-some, same_Some, slice_get-map, slice_get_within, slice_get_past}
 use Rattle.std.specs.Option.{option_map, option_map_or, option_and_then}
-use Rattle.std.specs.Prelude.{◌*◌, drop, find, map, nat_lt, not, slice_get, slice_index, unwrap_or}
-use Rattle.std.specs.Prelude.{if◌then◌else◌, Ok, Err}
+use Rattle.std.specs.Prelude.{◌*◌, drop, find, map, slice_get, slice_index, unwrap_or, if◌then◌else◌, Err}
 use Rattle.ide_types.specs.Fits.{FitsPlan}
+use Rattle.ide_types.specs.declared.binding.Binding.{Binding}
 use Rattle.ide_types.specs.declared.interface.InterfacePlan.{InterfacePlan}
 use Rattle.ide_types.specs.declared.plan.LinkPlan.{LinkPlan}
 use Rattle.ide_types.specs.declared.plan.Plan.{Plan}
 use Rattle.link_verdicts.specs.declared.verdict.Verdict.{Verdict}
 use Rattle.link_verdicts.specs.declared.verdict.Verdict.TheVariants as v
-use Rattle.link_verdicts.specs.declared.verdict.BlockCause.TheVariants as cause
-use Rattle.link_verdicts.specs.declared.access.AccessVerdict.TheVariants as av
 use Rattle.interface_state.specs.Machine.{Tdi}
 use Rattle.interface_host.specs.Managers.{interface_of_requester}
 use Rattle.interface_host.specs.Views.{HostTdi, is_requester as is_reader}
 use Rattle.guarded_memory.specs.declared.standing.InterfaceStatus.{InterfaceStatus}
-use Rattle.guarded_memory.specs.Standings.{standing_of}
+use Rattle.guarded_memory.specs.Standings.{interface_status}
 use Rattle.guarded_memory.specs.Contents.{page_counts, fits_range, has_bytes}
 use Rattle.guarded_memory.specs.Happenings.{byte_shown}
 use Rattle.trusted_memory.specs.{MemoryContents, bytes_from}
-unfoldable use Rattle.trusted_memory.specs.{byte_after}
+unfoldable use Rattle.trusted_memory.specs.{byte_after, completion_bytes}
 use Rattle.trusted_memory.specs.declared.queue.WaitingRead.{WaitingRead}
-unfoldable use Rattle.trusted_memory.specs.{completion_bytes}
-use Rattle.association.specs.Outgoing.{outgoing_of, stream_taken}
+use Rattle.tlp_layout.specs.Outgoing.{outgoing_of, stream_taken}
 use Rattle.spec_interfaces.specs.Sites.{Site, sites, site_with, site_at}
 use Rattle.spec_interfaces.specs.Floors.{place_of, interfaces_before}
-use Rattle.machine_interfaces.specs.Machine.{Face, grant_of}
-use Rattle.spec_links.specs.Due.{is_stream}
+use Rattle.machine_whole.specs.Interfaces.{Face, grant_of}
 use Rattle.spec_links.specs.Guarded.{mmio_if, mmio_shown, mmio_by}
 use Rattle.machine_ports.specs.Replies.{completion_by, site_completion, completion_first}
 use Rattle.join_world.specs.{host_stream, interface_named, InterfacesView, IsLink, judged_bound}
 use Rattle.join_world.specs.{LinkEnds, mmio_at, reader_of, reads_at, completion_with_bytes, reply_at_ends}
-use Rattle.join_world.specs.{reply_numbered, reply_oldest, sizes_at, small_number, standings_of_ends}
+use Rattle.join_world.specs.{reply_numbered, reply_oldest, sizes_at, small_number, statuses_of_ends}
 use Rattle.link_stores.specs.declared.link.LinkAccesses.{LinkAccesses}
-use Rattle.link_stores.specs.{device_standings}
-use Rattle.link_stores.specs.Accesses.{numbered_standings}
-use Rattle.machine_whole.specs.Accesses.{face_standings}
+use Rattle.link_stores.specs.{device_statuses}
+use Rattle.link_stores.specs.Accesses.{numbered_statuses}
+use Rattle.machine_whole.specs.Accesses.{face_statuses}
 use Rattle.machine_whole.specs.Machine.{Whole, completion_from_memory, machine_completion}
 use Rattle.spec_interfaces.proofs.Floors.{planned_on}
 use Rattle.join_world.specs.Accesses.{AreAccesses, link_seen, on_link}
@@ -54,23 +50,23 @@ use Rattle.join_world.proofs.Sites.{held_before, site_at_place, interface_there,
 
 -- ---- how interfaces stand
 
-abbrev standings_both : List Face → List ℕ → List InterfaceStatus
-standings_both (f ∷ fs) (n ∷ ns) = standing_of f.tdi n ∷ standings_both fs ns
-standings_both _ _ = []
+abbrev statuses_both : List Face → List ℕ → List InterfaceStatus
+statuses_both (f ∷ fs) (n ∷ ns) = interface_status f.tdi n ∷ statuses_both fs ns
+statuses_both _ _ = []
 
 both_on : (link : ℕ) (xs : List Site) (fs : List Face) (ns : List ℕ) → length fs ≡ length xs → length ns ≡ length xs
-    → face_standings link xs fs ns ≡ standings_both (on_link link xs fs) (on_link link xs ns)
+    → face_statuses link xs fs ns ≡ statuses_both (on_link link xs fs) (on_link link xs ns)
 both_on link [] fs ns faced floored = refl
 both_on link (x ∷ xs) [] ns faced floored = absurd (omega (arith, faced))
 both_on link (x ∷ xs) (f ∷ fs) [] faced floored = absurd (omega (arith, floored))
 both_on link (x ∷ xs) (f ∷ fs) (n ∷ ns) faced floored =
     by (x.link == link) (both_on link xs fs ns (omega (arith, faced)) (omega (arith, floored)))
   where
-    by : (b : Bool) → face_standings link xs fs ns ≡ standings_both (on_link link xs fs) (on_link link xs ns)
-        → (if b then standing_of f.tdi n ∷ face_standings link xs fs ns else face_standings link xs fs ns)
-        ≡ standings_both (if b then f ∷ on_link link xs fs else on_link link xs fs)
+    by : (b : Bool) → face_statuses link xs fs ns ≡ statuses_both (on_link link xs fs) (on_link link xs ns)
+        → (if b then interface_status f.tdi n ∷ face_statuses link xs fs ns else face_statuses link xs fs ns)
+        ≡ statuses_both (if b then f ∷ on_link link xs fs else on_link link xs fs)
         (if b then n ∷ on_link link xs ns else on_link link xs ns)
-    by true rest = ap (λ zs. standing_of f.tdi n ∷ zs) rest
+    by true rest = ap (λ zs. interface_status f.tdi n ∷ zs) rest
     by false rest = rest
 
 drop_first : (n : ℕ) (xs : List ℕ) (y : ℕ) (ys : List ℕ) → drop n xs ≡ y ∷ ys
@@ -84,17 +80,16 @@ drop_first (suc n) (x ∷ xs) y ys is =
     (first.0, sym (ap (λ (k : ℕ). drop k (x ∷ xs)) next) ∙ first.1)
 
 from_both : (floors : List ℕ) (n : ℕ) (fs : List Face) (ns : List ℕ) → length ns ≡ length fs → drop n floors ≡ ns
-    → numbered_standings floors n (map (λ (f : Face). f.tdi) fs) ≡ standings_both fs ns
+    → numbered_statuses floors n (map (λ (f : Face). f.tdi) fs) ≡ statuses_both fs ns
 from_both floors n [] ns many is = refl
 from_both floors n (f ∷ fs) [] many is = absurd (omega (arith, many))
 from_both floors n (f ∷ fs) (y ∷ ns) many is =
     let first = drop_first n floors y ns is in
-    (λ i. standing_of f.tdi (first.0 i) ∷ from_both floors (n + 1) fs ns (omega (arith, many)) first.1 i)
+    (λ i. interface_status f.tdi (first.0 i) ∷ from_both floors (n + 1) fs ns (omega (arith, many)) first.1 i)
 
 held_interfaces_before : (ends : List LinkEnds) (ls : List LinkPlan) (link : ℕ) → length ends ≡ length ls
     → ((i : ℕ) (l : LinkEnds) (p : LinkPlan) → slice_get ends i ≡ Some l → slice_get ls i ≡ Some p
-    → length l.device.interfaces.interfaces ≡ length p.interfaces)
-    → held_before ends link ≡ interfaces_before ls link
+    → length l.device.interfaces.interfaces ≡ length p.interfaces) → held_before ends link ≡ interfaces_before ls link
 held_interfaces_before [] [] link many each = refl
 held_interfaces_before [] (p ∷ ls) link many each = absurd (omega (arith, many))
 held_interfaces_before (l ∷ ends) [] link many each = absurd (omega (arith, many))
@@ -247,19 +242,19 @@ module _ (plan : Plan) (ends : List LinkEnds) (m : InterfacesView) (memory : Mem
       (accesses : AreAccesses plan (link_seen xs) w.accesses) where
     standings_there : (link : ℕ) (l : LinkEnds) (a : LinkAccesses) → slice_get ends link ≡ Some l
         → slice_get xs link ≡ Some a
-        → device_standings a.floors l.device.interfaces ≡ face_standings link (sites plan) w.faces.list
+        → device_statuses a.floors l.device.interfaces ≡ face_statuses link (sites plan) w.faces.list
         w.accesses.floors
     standings_there link l a is at =
         let floors : a.floors ≡ on_link link (sites plan) w.accesses.floors =
         ap (λ (o : Option LinkAccesses). option_map_or (λ x. x.floors) o []) (sym at) ∙ accesses.floors link in
-        ap (numbered_standings a.floors 0) (tdis_are link l is)
+        ap (numbered_statuses a.floors 0) (tdis_are link l is)
         ∙ (from_both a.floors 0 (on_link link (sites plan) w.faces.list)
         (on_link link (sites plan) w.accesses.floors)
         (floors_many w.accesses.floors link l is accesses.floored ∙ sym (faces_many link l is)) floors
         ∙ sym (both_on link (sites plan) w.faces.list w.accesses.floors beside.faced accesses.floored))
 
     standings_nowhere : (link : ℕ) → length ends ≤ link
-        → [] ≡ face_standings link (sites plan) w.faces.list w.accesses.floors
+        → [] ≡ face_statuses link (sites plan) w.faces.list w.accesses.floors
     standings_nowhere link le =
         let none : on_link link (sites plan) w.faces.list ≡ [] =
         list_same (on_link link (sites plan) w.faces.list) [] (λ k.
@@ -270,16 +265,16 @@ module _ (plan : Plan) (ends : List LinkEnds) (m : InterfacesView) (memory : Mem
               (laid_past plan.links link (omega (arith, le, many))),
         ))) in
         sym (both_on link (sites plan) w.faces.list w.accesses.floors beside.faced accesses.floored
-        ∙ ap (λ fs. standings_both fs (on_link link (sites plan) w.accesses.floors)) none)
+        ∙ ap (λ fs. statuses_both fs (on_link link (sites plan) w.accesses.floors)) none)
 
-    pub standings_are : (link : ℕ) → standings_of_ends (slice_get ends link) (slice_get xs link)
-        ≡ face_standings link (sites plan) w.faces.list w.accesses.floors
+    pub standings_are : (link : ℕ) → statuses_of_ends (slice_get ends link) (slice_get xs link)
+        ≡ face_statuses link (sites plan) w.faces.list w.accesses.floors
     standings_are link = ⊎_elim
         (λ lt.
         let l = get_there ends link lt in
         let a = get_there xs link (omega (arith, lt, whole)) in
-        (λ i. standings_of_ends (l.1 i) (a.1 i)) ∙ standings_there link l.0 a.0 l.1 a.1)
-        (λ le. ap (λ (o : Option LinkEnds). standings_of_ends o (slice_get xs link)) (slice_get_past ends link le)
+        (λ i. statuses_of_ends (l.1 i) (a.1 i)) ∙ standings_there link l.0 a.0 l.1 a.1)
+        (λ le. ap (λ (o : Option LinkEnds). statuses_of_ends o (slice_get xs link)) (slice_get_past ends link le)
         ∙ standings_nowhere link le)
         (cases_lt link (length ends))
 
@@ -380,28 +375,14 @@ module _ (plan : Plan) (ends : List LinkEnds) (m : InterfacesView) (memory : Mem
             (λ not_so. not_so) cases
 
     module _ (each_link : (link : ℕ) (l : LinkEnds) → slice_get ends link ≡ Some l → IsLink plan link l) where
-      judged_is : (link : ℕ) (l : LinkEnds) (interface draw : ℕ) (bytes : List ℕ) (bound : Option (ℕ × ℕ))
+      judged_is : (link : ℕ) (l : LinkEnds) (interface draw : ℕ) (bytes : List ℕ) (bound : Option Binding)
           → slice_get ends link ≡ Some l
           → completion_with_bytes (judged_bound (host_stream l bytes) interface draw bound) bytes
           ≡ completion_by plan link interface draw bytes bound
-      judged_is link l interface draw bytes None is = refl
-      judged_is link l interface draw bytes (Some bound) is =
+      judged_is link l interface draw bytes bound is =
           let e = each_link link l is in
-          by (not (is_stream bound.0 (host_stream l bytes))) (nat_lt draw bound.1)
-          ∙ (λ i. if not (is_stream bound.0 (stream_taken (outgoing_of (e.host.plans i) (e.host.name i).side bytes)))
-          then Err (v.Access (av.Dropped interface cause.WrongStream))
-          else if nat_lt draw bound.1 then Err (v.Access (av.Dropped interface cause.Stale))
-          else Ok (record { stream = bound.0; floor = bound.1; bytes = bytes }))
-        where
-          by : (other older : Bool)
-              → completion_with_bytes (if other then Err (v.Access (av.Dropped interface cause.WrongStream))
-              else if older then Err (v.Access (av.Dropped interface cause.Stale)) else Ok bound) bytes
-              ≡ (if other then Err (v.Access (av.Dropped interface cause.WrongStream))
-              else if older then Err (v.Access (av.Dropped interface cause.Stale))
-              else Ok (record { stream = bound.0; floor = bound.1; bytes = bytes }))
-          by true older = refl
-          by false true = refl
-          by false false = refl
+          (λ i. completion_with_bytes (judged_bound
+          (stream_taken (outgoing_of (e.host.plans i) (e.host.name i).side bytes)) interface draw bound) bytes)
 
       numbered_is : (link : ℕ) (l : LinkEnds) (r : WaitingRead) (o : Option Site) → slice_get ends link ≡ Some l
           → reply_numbered m l link memory r (option_map (λ (x : Site). x.number) o)

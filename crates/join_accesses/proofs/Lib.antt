@@ -3,7 +3,9 @@ pub mod Accessed
 pub mod Said
 pub mod Rested
 pub mod Turned
-pub use Rattle.join_world.proofs.{StaysBound, asked_keeps, keeps_free}
+pub use Rattle.join_world.proofs.{StaysBound, asked_keeps, keeps_free, peer_line_is, closed_at, end_found, ends_there}
+pub use Rattle.join_world.proofs.{leaving_there, located_set, none_found, op_is, port_is, sealing_there, set_read}
+pub use Rattle.join_world.proofs.{unnamed}
 pub use Rattle.join_world.proofs.Asked.{PeerFits, joined_is, peer_fits}
 pub use Rattle.join_world.proofs.Besides.{grant_is, tdi_there}
 pub use Rattle.join_world.proofs.Faces.{each_at, each_many, none_of, used_kept}
@@ -14,14 +16,10 @@ pub use Rattle.join_world.proofs.Kept.{elsewhere_beside, forward_beside, interfa
 pub use Rattle.join_world.proofs.Kept.{memory_beside, mmio_beside, nothing_beside, send_beside, status_beside}
 pub use Rattle.join_world.proofs.Kept.{unasked_beside, view_beside, written_is, written_kept}
 pub use Rattle.join_world.proofs.Owners.{requester_found, requester_nowhere, requester_true}
-pub use Rattle.join_world.proofs.Places.{IsSomeSite, get_there, position_at, position_none, site_or_none}
-pub use Rattle.join_world.proofs.Places.{site_planned}
+pub use Rattle.join_world.proofs.Places.{IsSomeSite, get_there, position_at, position_none, site_or_none, site_planned}
 pub use Rattle.join_world.proofs.Statuses.{live_is}
-pub use Rattle.join_world.proofs.{peer_line_is}
 pub use Rattle.join_accesses.proofs.Accessed.{standings_are}
 pub use Rattle.join_world.proofs.Rests.{draw_of_packets, is_of_packets, is_of_peer, is_of_ports}
 pub use Rattle.join_world.proofs.Rests.{managed_of_packets, next_of_ports, none_of_ports, of_ports}
 pub use Rattle.join_world.proofs.Sites.{face_found, interface_absent, interface_there, located_apart, located_kept}
 pub use Rattle.join_world.proofs.Sites.{IsLocated, face_absent, located_read, site_apart, site_numbered}
-pub use Rattle.join_world.proofs.{closed_at, end_found, ends_there, leaving_there, none_found, op_is, port_is}
-pub use Rattle.join_world.proofs.{sealing_there, set_read, unnamed}

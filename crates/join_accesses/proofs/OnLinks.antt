@@ -12,7 +12,7 @@ use Rattle.ide_types.specs.declared.interface.InterfacePlan.{InterfacePlan}
 use Rattle.ide_types.specs.declared.plan.LinkPlan.{LinkPlan}
 use Rattle.ide_types.specs.declared.plan.Plan.{Plan}
 use Rattle.spec_interfaces.specs.Floors.{interfaces_before}
-use Rattle.spec_interfaces.specs.Sites.{Site, sites_on, sites_from}
+use Rattle.spec_interfaces.specs.Sites.{Site, sites_of_plans, sites_of_links}
 unfoldable use Rattle.spec_interfaces.specs.Sites.{sites}
 use Rattle.spec_interfaces.proofs.Floors.{planned_on}
 use Rattle.join_world.specs.Accesses.{on_link}
@@ -49,15 +49,14 @@ get_past (suc n) (x ∷ xs) (suc k) le = get_past n xs k (omega (arith, le))
 
 on_other : {A : Type 0} (number l link : ℕ) (ps : List InterfacePlan) (rest : List Site) (ys : List A)
     → (l == link) ≡ false → length ps ≤ length ys
-    → on_link link (sites_on number l ps ++ rest) ys ≡ on_link link rest (drop (length ps) ys)
+    → on_link link (sites_of_plans number l ps ++ rest) ys ≡ on_link link rest (drop (length ps) ys)
 on_other number l link [] rest ys other le = refl
 on_other number l link (p ∷ ps) rest [] other le = absurd (omega (arith, le))
 on_other number l link (p ∷ ps) rest (y ∷ ys) other le =
     rw other (on_other (number + 1) l link ps rest ys other (omega (arith, le)))
 
 on_mine : {A : Type 0} (number link : ℕ) (ps : List InterfacePlan) (rest : List Site) (ys : List A)
-    → (link == link) ≡ true → length ps ≤ length ys
-    → on_link link (sites_on number link ps ++ rest) ys
+    → (link == link) ≡ true → length ps ≤ length ys → on_link link (sites_of_plans number link ps ++ rest) ys
     ≡ take (length ps) ys ++ on_link link rest (drop (length ps) ys)
 on_mine number link [] rest ys mine le = refl
 on_mine number link (p ∷ ps) rest [] mine le = absurd (omega (arith, le))
@@ -75,10 +74,10 @@ length_drop (suc n) (x ∷ xs) = length_drop n xs ∙ omega arith
 
 -- of later links nothing is on it
 none_later : {A : Type 0} (number l link : ℕ) (ls : List LinkPlan) (ys : List A) → link < l
-    → laid_in_all ls ≤ length ys → on_link link (sites_from number l ls) ys ≡ []
+    → laid_in_all ls ≤ length ys → on_link link (sites_of_links number l ls) ys ≡ []
 none_later number l link [] ys less le = refl
 none_later number l link (x ∷ ls) ys less le =
-    on_other number l link x.interfaces (sites_from (number + length x.interfaces) (l + 1) ls) ys
+    on_other number l link x.interfaces (sites_of_links (number + length x.interfaces) (l + 1) ls) ys
     (ne_eqb l link (λ e. absurd (omega (arith, less, e)))) (omega (arith, le))
     ∙ none_later (number + length x.interfaces) (l + 1) link ls (drop (length x.interfaces) ys) (omega (arith, less))
     (omega (arith, le, length_drop (length x.interfaces) ys))
@@ -98,13 +97,13 @@ drop_drop (suc m) n (x ∷ xs) =
     let next : suc (m + n) ≡ suc m + n = omega arith in drop_drop m n xs ∙ ap (λ (k : ℕ). drop k (x ∷ xs)) next
 
 from_link : {A : Type 0} (number l on : ℕ) (ls : List LinkPlan) (ys : List A) → laid_in_all ls ≤ length ys
-    → on_link (l + on) (sites_from number l ls) ys
+    → on_link (l + on) (sites_of_links number l ls) ys
     ≡ take (length (planned_on ls on)) (drop (interfaces_before ls on) ys)
 from_link number l on [] ys le = refl
 from_link number l zero (x ∷ ls) ys le =
     let here : l + 0 ≡ l = omega arith in
-    ap (λ (k : ℕ). on_link k (sites_from number l (x ∷ ls)) ys) here
-    ∙ (on_mine number l x.interfaces (sites_from (number + length x.interfaces) (l + 1) ls) ys
+    ap (λ (k : ℕ). on_link k (sites_of_links number l (x ∷ ls)) ys) here
+    ∙ (on_mine number l x.interfaces (sites_of_links (number + length x.interfaces) (l + 1) ls) ys
     (eq-eqb l l refl) (omega (arith, le))
     ∙ (ap (λ zs. take (length x.interfaces) ys ++ zs)
     (none_later (number + length x.interfaces) (l + 1) l ls (drop (length x.interfaces) ys) (omega arith)
@@ -112,22 +111,22 @@ from_link number l zero (x ∷ ls) ys le =
     ∙ append_none (take (length x.interfaces) ys)))
 from_link number l (suc on) (x ∷ ls) ys le =
     let there : l + suc on ≡ (l + 1) + on = omega arith in
-    ap (λ (k : ℕ). on_link k (sites_from number l (x ∷ ls)) ys) there
-    ∙ (on_other number l ((l + 1) + on) x.interfaces (sites_from (number + length x.interfaces) (l + 1) ls) ys
+    ap (λ (k : ℕ). on_link k (sites_of_links number l (x ∷ ls)) ys) there
+    ∙ (on_other number l ((l + 1) + on) x.interfaces (sites_of_links (number + length x.interfaces) (l + 1) ls) ys
     (ne_eqb l ((l + 1) + on) (λ e. absurd (omega (arith, e)))) (omega (arith, le))
     ∙ (from_link (number + length x.interfaces) (l + 1) on ls (drop (length x.interfaces) ys)
     (omega (arith, le, length_drop (length x.interfaces) ys))
     ∙ ap (take (length (planned_on ls on))) (drop_drop (length x.interfaces) (interfaces_before ls on) ys)))
 
-sites_all : (number l : ℕ) (ls : List LinkPlan) → length (sites_from number l ls) ≡ laid_in_all ls
+sites_all : (number l : ℕ) (ls : List LinkPlan) → length (sites_of_links number l ls) ≡ laid_in_all ls
 sites_all number l [] = refl
 sites_all number l (x ∷ ls) =
     many number x.interfaces
     ∙ ap (λ (n : ℕ). length x.interfaces + n) (sites_all (number + length x.interfaces) (l + 1) ls)
   where
     many : (n : ℕ) (ps : List InterfacePlan)
-        → length (sites_on n l ps ++ sites_from (number + length x.interfaces) (l + 1) ls)
-        ≡ length ps + length (sites_from (number + length x.interfaces) (l + 1) ls)
+        → length (sites_of_plans n l ps ++ sites_of_links (number + length x.interfaces) (l + 1) ls)
+        ≡ length ps + length (sites_of_links (number + length x.interfaces) (l + 1) ls)
     many n [] = omega arith
     many n (p ∷ ps) = omega (arith, many (n + 1) ps)
 
@@ -137,7 +136,7 @@ pub on_link_is : {A : Type 0} (plan : Plan) (link : ℕ) (ys : List A) → lengt
 unfolding sites
 on_link_is plan link ys many =
     let same : link ≡ 0 + link = omega arith in
-    ap (λ (k : ℕ). on_link k (sites_from 0 0 plan.links) ys) same
+    ap (λ (k : ℕ). on_link k (sites_of_links 0 0 plan.links) ys) same
     ∙ from_link 0 0 link plan.links ys (omega (arith, many, sites_all 0 0 plan.links))
 
 -- the k-th of a link

@@ -5,7 +5,7 @@ use Rattle.std.proofs.Common.{refl, sym, ap, ◌∙◌, arith, Some}
 use Rattle.std.proofs.lemmas.Bool.Decides.{nat_tests}
 use Rattle.std.proofs.lemmas.List.{append-nil}
 use Rattle.std.proofs.lemmas.Option.{none-some, same_Some}
-use Rattle.std.specs.Prelude.{drop, not, slice_get, slice_set, if◌then◌else◌}
+use Rattle.std.specs.Prelude.{drop, not, slice_get, slice_set, if◌then◌else◌, Option}
 use Rattle.ide_types.specs.declared.direction.Direction.{Direction}
 use Rattle.ide_types.specs.declared.port.PortName.{PortName}
 use Rattle.ide_types.specs.declared.plan.Plan.{Plan}
@@ -14,7 +14,6 @@ use Rattle.link_events.specs.declared.event.Event.TheVariants as event
 use Rattle.link_events.specs.declared.event.AccessEvent.TheVariants as ae
 use Rattle.link_events.specs.declared.event.InterfaceEvent.TheVariants as ie
 use Rattle.link_events.specs.declared.event.Loss.{Loss}
-use Rattle.std.specs.Prelude.{Option}
 use Rattle.link_verdicts.specs.declared.verdict.Effect.{Effect}
 use Rattle.link_verdicts.specs.declared.verdict.Effect.TheVariants as effect
 use Rattle.link_verdicts.specs.declared.verdict.UnitName.{UnitName}
@@ -26,7 +25,7 @@ use Rattle.guarded_memory.specs.declared.standing.InterfaceStatus.{InterfaceStat
 use Rattle.spec_interfaces.specs.Devices.{is_run}
 use Rattle.spec_interfaces.specs.Floors.{floor_after}
 use Rattle.spec_interfaces.specs.Sites.{Site}
-use Rattle.machine_interfaces.specs.Machine.{Face}
+use Rattle.machine_whole.specs.Interfaces.{Face}
 unfoldable use Rattle.spec_links.specs.Ports.{port_of}
 use Rattle.spec_links.specs.Ports.{is_device_port}
 use Rattle.spec_links.specs.Guarded.{happens_by, stored_each}
@@ -157,8 +156,7 @@ fewer x xs f g fs gs n ns many = record {
 -- each floor stays
 pub floors_stay : (e : Event) (draw : Site → ℕ) (xs : List Site) (fs gs : List Face) (ns : List ℕ)
     → ((i : ℕ) (x : Site) (ran runs : Bool) (floor : ℕ) → slice_get xs i ≡ Some x
-    → floor_after e x ran runs (draw x) floor ≡ floor)
-    → AreMany xs fs gs ns → floors_after e draw xs fs gs ns ≡ ns
+    → floor_after e x ran runs (draw x) floor ≡ floor) → AreMany xs fs gs ns → floors_after e draw xs fs gs ns ≡ ns
 floors_stay e draw [] fs gs [] stay many = refl
 floors_stay e draw [] fs gs (n ∷ ns) stay many = absurd (omega (arith, many.floors))
 floors_stay e draw (x ∷ xs) [] gs ns stay many = absurd (omega (arith, many.before))

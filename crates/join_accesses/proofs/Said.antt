@@ -8,15 +8,14 @@ use Rattle.link_events.specs.declared.event.Event.{Event}
 use Rattle.link_events.specs.declared.event.InterfaceEvent.{InterfaceEvent}
 use Rattle.link_verdicts.specs.declared.verdict.Verdict.{Verdict}
 use Rattle.link_verdicts.specs.declared.verdict.Verdict.TheVariants as v
-use Rattle.join_world.specs.{InterfaceOperationsJoin}
-use Rattle.spec_links.specs.Memory.{effects_by}
+use Rattle.join_world.specs.{InterfaceOperationsJoin, answer_of_links, AreLinks, beside_whole, carried_on_link}
+use Rattle.join_world.specs.{IsAnswered, policy_in, HasAllAccesses as EachHasAccesses, WholeLinks}
+use Rattle.spec_links.specs.Memory.{effects_under_policy}
 use Rattle.spec_links.specs.Hops.{HopTlp}
 unfoldable use Rattle.spec_links.specs.Ports.{port_of}
 use Rattle.machine_ports.specs.Forwards.{forward_of}
 use Rattle.machine_whole.specs.Machine.{Whole, beside_of, policy_of}
-use Rattle.join_world.specs.{answer_of_links, AreLinks, beside_whole, carried_on_link, IsAnswered, policy_in}
-use Rattle.join_world.specs.{IsWhole as EachHasAccesses, WholeLinks}
-use Rattle.join_world.specs.Worlds.{IsWhole, world_of}
+use Rattle.join_world.specs.Worlds.{IsWholeState, world_of}
 use Rattle.join_world.proofs.Asked.{answer_is}
 use Rattle.join_world.proofs.Besides.{grant_is}
 use Rattle.join_world.proofs.Owners.{t_is}
@@ -24,7 +23,7 @@ use Rattle.join_accesses.proofs.Accessed.{reply_is, shows_is, standings_are}
 
 -- effects depend on the same
 policy_is : (plan : Plan) (s : WholeLinks) (w : Whole) → AreLinks plan s.links.ends s.links.keeper.keys
-    → EachHasAccesses s → IsWhole (world_of plan s) w
+    → EachHasAccesses s → IsWholeState (world_of plan s) w
     → policy_in s.links.keeper.interfaces s.links.ends s.accesses ≡ policy_of plan w
 policy_is plan s w links each whole =
     let m = s.links.keeper.interfaces in
@@ -49,7 +48,8 @@ forward_is plan link xs ys same =
     none zs le = rw (le-ltb link 8 le) refl
 
 pub beside_is : (plan : Plan) (s : WholeLinks) (w : Whole) → AreLinks plan s.links.ends s.links.keeper.keys
-    → EachHasAccesses s → IsWhole (world_of plan s) w → beside_whole plan s (beside_of plan w).answer ≡ beside_of plan w
+    → EachHasAccesses s → IsWholeState (world_of plan s) w → beside_whole plan s (beside_of plan w).answer
+    ≡ beside_of plan w
 beside_is plan s w links each whole =
     let m = s.links.keeper.interfaces in
     let memory = s.links.trusted.contents in
@@ -58,7 +58,7 @@ beside_is plan s w links each whole =
     λ i. record {
       t = λ end head stream trusted.
           t_is plan s.links.ends s.links.keeper.keys m memory w links b end head stream trusted i;
-      effects = λ port. effects_by plan (policy_is plan s w links each whole i) (port_of plan port);
+      effects = λ port. effects_under_policy plan (policy_is plan s w links each whole i) (port_of plan port);
       answer = (beside_of plan w).answer;
       reply = λ link.
           reply_is plan ends m memory w b links.fits links.many s.accesses each whole.accesses links.each_link link i;
@@ -74,7 +74,7 @@ beside_is plan s w links each whole =
 -- every event on an interface has the machine's answer
 pub answers_are : (plan : Plan) (s : WholeLinks) (w : Whole) → InterfaceOperationsJoin
     → AreLinks plan s.links.ends s.links.keeper.keys
-    → IsWhole (world_of plan s) w → (e : InterfaceEvent) → answer_of_links s.links e
+    → IsWholeState (world_of plan s) w → (e : InterfaceEvent) → answer_of_links s.links e
     ≡ Some ((beside_of plan w).answer e)
 answers_are plan s w joins links whole =
     answer_is plan s.links.ends s.links.keeper s.links.packets.packets s.links.trusted.contents w joins links
@@ -82,6 +82,6 @@ answers_are plan s w joins links whole =
 
 pub is_answered : (plan : Plan) (s : WholeLinks) (w : Whole) → InterfaceOperationsJoin
     → AreLinks plan s.links.ends s.links.keeper.keys
-    → IsWhole (world_of plan s) w → (event : Event) → IsAnswered s.links event
+    → IsWholeState (world_of plan s) w → (event : Event) → IsAnswered s.links event
 is_answered plan s w joins links whole event e on =
     subst (λ (o : Option Verdict). IsSome o) (sym (answers_are plan s w joins links whole e)) refl

@@ -32,24 +32,22 @@ use Rattle.spec_interfaces.specs.Exchanges.{carries, changes_device}
 use Rattle.spec_interfaces.specs.Floors.{interfaces_before, place_of}
 use Rattle.spec_interfaces.proofs.Floors.{planned_on}
 use Rattle.spec_interfaces.specs.Sites.{Site, site_at, sites}
-use Rattle.machine_interfaces.specs.Machine.{Face}
+use Rattle.machine_whole.specs.Interfaces.{Face}
 use Rattle.spec_links.specs.Guarded.{happens_by, happens_if, halted_at, reset_at}
 use Rattle.ide_port.specs.{receiving_draw_in}
 use Rattle.link_stores.specs.declared.link.LinkAccesses.{LinkAccesses}
 use Rattle.machine_ports.specs.Machine.{BesidePorts, LinkState, Stepped, reset_state}
 unfoldable use Rattle.machine_ports.specs.Machine.{step_of}
 use Rattle.machine_ports.specs.Stands.{PortsStandFor}
-use Rattle.join_world.specs.{AccessesAnswer, AccessesForward, AccessesReset}
-use Rattle.join_world.specs.{AccessesAfter, AccessesArrive, AccessesInterface, AccessesTurn, AreLeftBy, arrival_at}
-use Rattle.join_world.specs.{bars_named, carried_on_link, carried_after_event, device_draw, floors_at, floors_set}
-use Rattle.join_world.specs.{floors_started}
-use Rattle.join_world.specs.{flr_at, halted_in, happens_at, interface_named, LinkEnds, links_state, mmio_at}
-use Rattle.join_world.specs.{nothing_happens, reads_at, reset_happens, runs_in, same_carried, same_floors}
-use Rattle.join_world.specs.{same_reads, sizes_at, tdi_named, interface_of_ends, WholeLinks}
+use Rattle.join_world.specs.{AccessesAnswer, AccessesForward, AccessesReset, AccessesAfter, AccessesArrive}
+use Rattle.join_world.specs.{AccessesInterface, AccessesTurn, AreLeftBy, arrival_in_state, bars_named, carried_on_link}
+use Rattle.join_world.specs.{carried_after_event, device_draw, floors_at, floors_set, floors_started, flr_at, halted_in}
+use Rattle.join_world.specs.{happens_at, interface_named, LinkEnds, links_state, mmio_at, nothing_happens, reads_at}
+use Rattle.join_world.specs.{reset_happens, runs_in, same_carried, same_floors, same_reads, sizes_at, tdi_named}
+use Rattle.join_world.specs.{interface_of_ends, WholeLinks}
 use Rattle.spec_links.specs.Hops.{HopTlp}
 use Rattle.law_reads.specs.Waiting.{waiting_next}
-use Rattle.machine_whole.specs.Accesses.{device_draw_at, floors_after, face_standings}
-use Rattle.machine_whole.specs.Accesses.{unit_tlps, waiting_reads_after}
+use Rattle.machine_whole.specs.Accesses.{device_draw_at, floors_after, face_statuses, unit_tlps, waiting_reads_after}
 use Rattle.machine_whole.specs.Machine.{Whole, beside_of, ended_unit, arrival_of, unit_in, whole_after}
 use Rattle.machine_whole.specs.Machine.{whole_faces_after}
 use Rattle.join_world.specs.Accesses.{AreAccesses, link_seen, on_link}
@@ -66,8 +64,7 @@ use Rattle.join_accesses.proofs.Rested.{starts, reads_rest, memory_rests, none_s
 use Rattle.join_accesses.proofs.Rested.{floors_rest, floors_many, floors_started as started, floors_unnamed}
 
 -- nothing changes
-stays : (xs ys : List LinkAccesses) → ys ≡ xs
-    → AccessesTurn same_reads same_floors nothing_happens same_carried xs ys
+stays : (xs ys : List LinkAccesses) → ys ≡ xs → AccessesTurn same_reads same_floors nothing_happens same_carried xs ys
 stays xs ys same = record {
   many = ap length same;
   reads = λ link. ap (λ zs. reads_at zs link) same;
@@ -133,7 +130,7 @@ module _ (plan : Plan) (old new : WholeLinks) (w : Whole) (verdict : Verdict)
   AreAfter e = AreAccesses plan (link_seen new.accesses) (whole_after plan w e verdict links_now).accesses
 
   abbrev standings : ℕ → List InterfaceStatus
-  standings = λ link. face_standings link (sites plan) w.faces.list w.accesses.floors
+  standings = λ link. face_statuses link (sites plan) w.faces.list w.accesses.floors
 
   abbrev faces_now : Event → List Face
   faces_now e = (whole_faces_after plan w e verdict links_now).list
@@ -209,7 +206,7 @@ module _ (plan : Plan) (old new : WholeLinks) (w : Whole) (verdict : Verdict)
   -- ---- arrivals
 
   arrived : (e : Event) (h : History) → IsAfter e → starts e ≡ false → PortsStandFor plan (links_state plan old.links) h
-      → AccessesArrive plan (arrival_at plan e) e verdict old.links old.accesses new.accesses → AreAfter e
+      → AccessesArrive plan (arrival_in_state plan e) e verdict old.links old.accesses new.accesses → AreAfter e
   arrived e h after floors stands sides =
       let units : unit_in plan (links_state plan old.links) (arrival_of plan (links_state plan old.links) e)
       ≡ ended_unit plan w e =

@@ -1,20 +1,20 @@
 -- What stands at the links beside ports and interfaces: an arrival makes of it what the unit's packets do one after
 -- another, by their heads and by what the plan's key opens.
-pub use Rattle.join_stores.proofs.Turns.{TurnsHere, RestsAt, turn_at, stays_all}
-use Rattle.join_stores.proofs.Turns.{set_twice}
+pub use Rattle.join_ends.proofs.Turns.{TurnsHere, RestsAt, turn_at, stays_all}
+use Rattle.join_ends.proofs.Turns.{set_twice}
 use Rattle.join_arrivals.proofs.Arrivals.{effects_at, end_of}
 use Rattle.join_ends.specs.{InterfacesView, KeeperView, LinkEnds, EndsView, port_on, waiting_reads_after, unit_in}
-use Rattle.join_ends.specs.{AreLinks, state_of, Arrives, ArrivesAt, Comes, Leaves, link_standings, unit_tlps}
+use Rattle.join_ends.specs.{AreLinks, state_of, Arrives, ArrivesAt, Comes, Leaves, link_statuses, unit_tlps}
 use Rattle.join_ends.proofs.{set_there}
 use Rattle.ide_types.specs.declared.plan.Region.{Region}
 use Rattle.machine_ports.specs.Machine.{LinkPacket, LinkState}
 use Rattle.link_stores.specs.declared.link.LinkAccesses.{LinkAccesses}
-use Rattle.std.proofs.Common.{Bool, List, [], ap, arith, drop, false, length, refl, subst, suc, sym, take, true, zero}
+use Rattle.std.proofs.Common.{Bool, List, [], ap, arith, drop, false, length, refl, subst, sym, take, true}
 use Rattle.std.proofs.Common.{ℕ, ◌++◌, ◌+◌, ◌<◌, ◌≤◌, ◌==◌, ◌∙◌, ◌∷◌, ◌≡◌}
 use Rattle.std.proofs.lemmas.Bool.Decides.{nat_tests}
-use Rattle.std.specs.Prelude.{Err, None, Ok, OnErr, Option, Result, Some, if◌then◌else◌, map, nat_le, nat_lt, not, ◌&&◌}
+use Rattle.std.specs.Prelude.{Err, None, Ok, OnErr, Option, Result, Some, if◌then◌else◌, map, not, ◌&&◌}
 use Rattle.std.specs.Prelude.{is_some, slice_get, slice_set}
-use Rattle.std.proofs.lemmas.List.{append-nil, length-set}
+use Rattle.std.proofs.lemmas.List.{append-nil}
 use Rattle.std.proofs.lemmas.Option.{same_Some}
 use Rattle.ide_types.specs.declared.direction.Direction.{Direction}
 use Rattle.ide_types.specs.declared.direction.Direction.TheVariants.{Downstream, Upstream}
@@ -44,11 +44,11 @@ use Rattle.ide_port.specs.declared.answer.Arrival.{Arrival}
 use Rattle.ide_port.specs.declared.answer.Arrival.TheVariants as came
 use Rattle.arrival_verdicts.specs.Verdicts.{arrival_verdict, grants_in, of_unit, packet_stored}
 use Rattle.arrival_verdicts.proofs.Writes.{OpensAs, unit_agrees}
-use Rattle.join_arrivals.specs.Accesses.{AccessesStay, AccessesTurn, AreLeftBy, Brings, policy_in, standings_of_ends}
+use Rattle.join_arrivals.specs.Accesses.{AccessesStay, AccessesTurn, AreLeftBy, Brings, policy_in, statuses_of_ends}
 use Rattle.join_arrivals.specs.Accesses.{nothing_happens, same_carried, same_floors, same_reads}
-use Rattle.join_stores.specs.Turns.{carried_next}
+use Rattle.join_ends.specs.Turns.{carried_next}
 use Rattle.join_arrivals.specs.Ways.{way_of}
-use Rattle.join_stores.specs.{waiting_next}
+use Rattle.join_ends.specs.{waiting_next}
 use Rattle.hop_queues.specs.declared.queues.HopQueues.{HopQueues}
 use Rattle.spec_links.specs.Admission.{plain_of}
 use Rattle.std.proofs.Math.Seq.{drop-append_seam, take-append_seam}
@@ -60,7 +60,7 @@ use Rattle.trusted_memory.specs.declared.queue.WaitingRead.{WaitingRead}
 use Rattle.guarded_memory.specs.declared.standing.InterfaceStatus.{InterfaceStatus}
 use Rattle.guarded_memory.specs.Happenings.{Happened, newest_happened}
 use Rattle.guarded_memory.specs.Contents.{MmioLeads, mmio_byte}
-use Rattle.spec_links.specs.Plan.{has_link, is_same_port, key_of}
+use Rattle.spec_links.specs.Plan.{is_same_port, key_of}
 use Rattle.spec_links.specs.Ports.{at_switch, is_device_port, port_of}
 use Rattle.spec_links.specs.Packets.{received_in}
 use Rattle.spec_links.specs.Hops.{entering_end}
@@ -389,27 +389,27 @@ module _ (plan : Plan) (ends : EndsView) (k : KeeperView) (packets : List LinkPa
       agrees (λ unit ps. reads_by unit.draw (effects unit) ps) (λ unit ps. reads_by unit.draw (effects unit) ps)
       (λ unit ps. reads_opened unit.draw (effects unit) _ _ 0 ps)
 
-  standings_are : standings port.line ≡ link_standings l a
-  standings_are = (λ i. standings_of_ends (l_is i) (a_is i))
+  standings_are : standings port.line ≡ link_statuses l a
+  standings_are = (λ i. statuses_of_ends (l_is i) (a_is i))
 
   stores_agree : (older : List Happened)
-      → newest_happened (of_unit answer (λ unit. unit_happenings (link_standings l a) plan end unit ended)) older
-      ≡ newest_happened (of_unit answer (λ unit. map (packet_stored (link_standings l a) port unit) delivered)) older
+      → newest_happened (of_unit answer (λ unit. unit_happenings (link_statuses l a) plan end unit ended)) older
+      ≡ newest_happened (of_unit answer (λ unit. map (packet_stored (link_statuses l a) port unit) delivered)) older
   stores_agree older = by_side port.side refl
     where
       by_side : (s : Side) → port.side ≡ s
-          → newest_happened (of_unit answer (λ unit. unit_happenings (link_standings l a) plan end unit ended)) older
-          ≡ newest_happened (of_unit answer (λ unit. map (packet_stored (link_standings l a) port unit) delivered))
+          → newest_happened (of_unit answer (λ unit. unit_happenings (link_statuses l a) plan end unit ended)) older
+          ≡ newest_happened (of_unit answer (λ unit. map (packet_stored (link_statuses l a) port unit) delivered))
           older
       by_side Device device =
           ap (λ (hs : List (Option Happened)). newest_happened hs older)
-          (agrees (λ unit ps. unit_happenings (link_standings l a) plan end unit ps)
-          (λ unit ps. map (packet_stored (link_standings l a) port unit) ps)
-          (stores_open (link_standings l a) plan end port at apart device))
+          (agrees (λ unit ps. unit_happenings (link_statuses l a) plan end unit ps)
+          (λ unit ps. map (packet_stored (link_statuses l a) port unit) ps)
+          (stores_open (link_statuses l a) plan end port at apart device))
       by_side Host host =
           ap (λ (hs : List (Option Happened)). newest_happened hs older)
-          (host_admits (link_standings l a) plan end port at apart answer ended host)
-          ∙ sym (host_stores (link_standings l a) plan end port at apart answer delivered older host)
+          (host_admits (link_statuses l a) plan end port at apart answer ended host)
+          ∙ sym (host_stores (link_statuses l a) plan end port at apart answer delivered older host)
 
   abbrev says : Verdict
   says = arrival_verdict end port answer effects
@@ -417,7 +417,7 @@ module _ (plan : Plan) (ends : EndsView) (k : KeeperView) (packets : List LinkPa
   turns_here : (new : List HopTlp) (a' : LinkAccesses)
       → a'.reads ≡ a.reads ++ of_unit answer (λ unit. reads_by unit.draw (effects unit) delivered)
       → a'.floors ≡ a.floors → a'.guarded.sizes ≡ a.guarded.sizes
-      → MmioLeads a.guarded (of_unit answer (λ unit. map (packet_stored (link_standings l a) port unit) delivered))
+      → MmioLeads a.guarded (of_unit answer (λ unit. map (packet_stored (link_statuses l a) port unit) delivered))
       a'.guarded → a'.carried ≡ a.carried
       → TurnsHere (waiting_reads_after plan ended e says port.line) (same_floors port.line)
       (happens_by plan standings ended e says port.line) (carried_next new e says port.line) a a'

@@ -2,20 +2,17 @@
 -- packet, whose stream is found or not, and whose answer goes test by test. The hard case is an accepted unit: here its
 -- effects are read of decrypted packets, by the machine of encrypted ones, and decryption changes only bodies and tags.
 use Rattle.join_ends.specs.{InterfacesView, KeeperView, LinkEnds, EndsView, port_on, with_port_on, AreLinks}
-use Rattle.join_ends.specs.{IsPort, state_of, link_standings}
+use Rattle.join_ends.specs.{IsPort, state_of, link_statuses}
 use Rattle.join_ends.proofs.{found_id, Keeps, IsWired, closed_at, find_at, aggregation_at, port_is, put_at, state_kept}
 use Rattle.join_ends.proofs.{wired}
 use Rattle.ide_types.specs.declared.plan.Region.{Region}
 use Rattle.ide_types.specs.declared.plan.Plan.{Plan}
-use Rattle.machine_ports.specs.Machine.{BesidePorts, LinkPacket, LinkState, Stepped, packet_numbered}
-use Rattle.machine_ports.specs.Machine.{packet_verdict, stepped_cut, stepped_packet}
-use Rattle.machine_ports.specs.Machine.{verdict_of_taken}
-unfoldable use Rattle.machine_ports.specs.Machine.{put, step_of}
-use Rattle.spec_stream.specs.Stream.{unit_name}
-use Rattle.spec_stream.specs.Stream.{Accepted, LiveKey, StreamState, Taken, state_after, stream_outcome}
+use Rattle.machine_ports.specs.Machine.{BesidePorts, LinkPacket, LinkState, Stepped, packet_numbered, packet_verdict}
+use Rattle.machine_ports.specs.Machine.{stepped_cut, stepped_packet, verdict_of_taken}
+unfoldable use Rattle.machine_ports.specs.Machine.{with_stream_state, step_of}
+use Rattle.spec_stream.specs.Stream.{unit_name, Accepted, LiveKey, StreamState, Taken, state_after, stream_outcome}
 use Rattle.link_stores.specs.declared.link.LinkAccesses.{LinkAccesses}
-use Rattle.std.proofs.Common.{Bool, List, [], ap, arith, false, length, refl, sym, ℕ, ◌+◌, ◌==◌}
-use Rattle.std.proofs.Common.{◌∙◌, ◌∷◌, ◌≡◌}
+use Rattle.std.proofs.Common.{Bool, List, [], ap, arith, false, length, refl, sym, ℕ, ◌+◌, ◌==◌, ◌∙◌, ◌∷◌, ◌≡◌}
 use Rattle.std.specs.Prelude.{Err, None, Ok, Option, Result, Some, if◌then◌else◌, option_map}
 use Rattle.ide_types.specs.declared.port.PortName.{PortName}
 use Rattle.ide_prefix.specs.Packet.{Packet}
@@ -33,8 +30,7 @@ use Rattle.spec_links.specs.Ports.{at_switch, port_of}
 use Rattle.spec_links.specs.Memory.{Policy, device_effect, effect_by, effects_each, host_effect, waiting_then}
 use Rattle.spec_links.specs.Admission.{switch_effect}
 use Rattle.sub_stream.specs.{opened_from_byte, opened_unit}
-use Rattle.ide_stream.specs.{opened_if_accepted}
-use Rattle.ide_port.specs.{Found, PortEnd, TakeStep, changed_states, found_stream, take_step}
+use Rattle.ide_port.specs.{opened_if_accepted, Found, PortEnd, TakeStep, changed_states, found_stream, take_step}
 use Rattle.ide_port.specs.Arrivals.{packet_step, port_arrival}
 use Rattle.tlp_layout.specs.declared.head.HeadView.{HeadView}
 use Rattle.tlp_layout.specs.declared.fault.TlpFault.{TlpFault}
@@ -111,7 +107,7 @@ module _ (plan : Plan) (policy : Policy) (port : PortName) (unit : UnitName) (ap
 abbrev pub effects_at : List Region → InterfacesView → PortName → LinkEnds → LinkAccesses → UnitName → List Packet
     → List Effect
 effects_at regions m port l a unit ps =
-    effects_from regions (grants_in m) (link_standings l a) (length a.reads) port unit ps
+    effects_from regions (grants_in m) (link_statuses l a) (length a.reads) port unit ps
 
 module _ (b : BesidePorts) (plan : Plan) (end port : PortName) (at : port_of plan end ≡ port)
     (effects : UnitName → List Packet → List Effect) (opens : Opens b end effects) where
@@ -158,15 +154,16 @@ module _ (b : BesidePorts) (plan : Plan) (end port : PortName) (at : port_of pla
         let id : f.plan.id ≡ p.prefix.stream = found_id e.plans e.states p.prefix.stream f here in
         let t : Taken = stream_outcome f.plan.aggregation f.plan.closed f.state p in
         let one : stepped_packet plan b st end p (Some f.state)
-        ≡ (verdict_of_taken b end p t, put plan st end p.prefix.stream (state_after f.state p t)) =
+        ≡ (verdict_of_taken b end p t, with_stream_state plan st end p.prefix.stream (state_after f.state p t)) =
         (λ i. (
           verdict_of_taken b end p (stream_outcome (aggregation i) (closed i) f.state p),
-          put plan st end p.prefix.stream (state_after f.state p (stream_outcome (aggregation i) (closed i) f.state p)),
+          with_stream_state plan st end p.prefix.stream
+              (state_after f.state p (stream_outcome (aggregation i) (closed i) f.state p)),
         )) in
         let after = put_at plan ends k packets w end e is p.prefix.stream (state_after f.state p t)
         (packet_step e p (Some f)).port at_port
         (ap (λ (n : ℕ). changed_states e.plans e.states n (state_after f.state p t)) id) in
-        one ∙ ap (λ (y : Verdict). (y, put plan st end p.prefix.stream (state_after f.state p t)))
+        one ∙ ap (λ (y : Verdict). (y, with_stream_state plan st end p.prefix.stream (state_after f.state p t)))
         (taken_says p f.state t (taken_is f.state p f.plan.aggregation f.plan.closed))
         ∙ ap (λ (x : LinkState). (
           arrival_verdict end port (port_arrival p t) (λ unit. effects unit (opened_if_accepted f.state p t)),

@@ -1,8 +1,7 @@
 -- Each packet was sealed at an end of a line that the topology has.
-use Rattle.law_sealing.proofs.Terms.{◌≡◌, ◌∙◌, ℕ, ◌==◌, ◌∷◌, Bool, true, false, List, [], refl, ap, sym, arith}
-use Rattle.law_sealing.proofs.Terms.{Some, None, if◌then◌else◌, is_some, slice_get, map, length, nat_lt}
-use Rattle.law_sealing.proofs.Terms.{Plan, History, CauseLaw, Sealed, SealedPacket, Packet, PortName, sub_stream_of}
-use Rattle.law_sealing.proofs.Terms.{nat_tests}
+use Rattle.law_sealing.proofs.Terms.{◌≡◌, ◌∙◌, ℕ, ◌==◌, ◌∷◌, Bool, true, false, List, [], refl, ap, sym, arith, Some}
+use Rattle.law_sealing.proofs.Terms.{None, if◌then◌else◌, is_some, slice_get, map, length, nat_lt, Plan, History}
+use Rattle.law_sealing.proofs.Terms.{CauseLaw, Sealed, SealedPacket, Packet, PortName, sub_stream_of, nat_tests}
 use Rattle.law_sealing.proofs.Terms.{sent_bytes, sending_port, sealing_is, all_live, IsLive, ahead_of_packet, base}
 use Rattle.law_sealing.proofs.Terms.{stream_plan}
 unfoldable use Rattle.law_sealing.proofs.Terms.{sealed_packets}

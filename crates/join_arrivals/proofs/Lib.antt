@@ -8,28 +8,26 @@ pub mod Known
 pub mod Routes
 pub mod Switched
 -- what proofs above cite
-pub use Rattle.join_stores.proofs.Turns.{rests_all, turn_at}
+pub use Rattle.join_ends.proofs.Turns.{rests_all, turn_at}
 pub use Rattle.join_arrivals.proofs.Known.{sealed_there}
 pub use Rattle.join_arrivals.proofs.Routes.{Apart, Between, FarHop, IsApart, IsOnWay, LineIs, NearHop, OfLink, OnWay}
 pub use Rattle.join_arrivals.proofs.Routes.{StandsAt, between_port, far_port, hop_aggregation, line_of, near_port}
-pub use Rattle.join_arrivals.proofs.Routes.{port_own}
-pub use Rattle.join_arrivals.proofs.Routes.{reached_there, sealing_there, stands_at}
+pub use Rattle.join_arrivals.proofs.Routes.{port_own, reached_there, sealing_there, stands_at}
 pub use Rattle.join_arrivals.proofs.Switched.{few_queued, queued_behind, switched_few, switched_opens, switched_reads}
 pub use Rattle.join_ends.proofs.Located.{is_located}
 pub use Rattle.join_ends.proofs.Resets.{keeper_reset, links_reset, reset_grows, state_reset}
 pub use Rattle.join_ends.proofs.Sends.{at_port, cut_joined, lengths_join, sealed_on, send_joins, send_keeps, sends_as}
-pub use Rattle.join_ends.proofs.Sends.{sent, sent_at_port}
+pub use Rattle.join_ends.proofs.Sends.{state_after_send, sent_at_port}
 pub use Rattle.join_ends.proofs.Streams.{IsName, at_side, end_found, name_is, none_found, op_is, planned, some_op}
 pub use Rattle.join_ends.proofs.Streams.{unnamed}
 pub use Rattle.join_ends.proofs.{own_tlps, switch_admits_none, unit_agrees, waits_open, writes_agree, seen_same, there}
 pub use Rattle.join_ends.proofs.{closed_at, port_is, wired, Grows, Keeps, bounded_then, end_grows, end_kept, grows_then}
 pub use Rattle.join_ends.proofs.{settled_grows, settled_kept, settled_rows, stays_all, AreLinks, BesidePorts, Bool}
-pub use Rattle.join_ends.proofs.{Device}
-pub use Rattle.join_ends.proofs.{EndsView, Host, LinkEnds, LinkPacket, LinkState, List, None, Option, Packet, PairEnds}
-pub use Rattle.join_ends.proofs.{Plan, PortEnd, PortName, Side, Some, UnitName, [], ap, append-nil, arith, changed_at}
-pub use Rattle.join_ends.proofs.{false, if◌then◌else◌, length, length-set, line_place, peer_live, map, nat_tests}
-pub use Rattle.join_ends.proofs.{none-some, option_map, pair_port, port_at_place, port_in, port_on, refl, rows_of}
-pub use Rattle.join_ends.proofs.{same_Some, settled_ends, settled_link, slice_get, slice_set, state_of, subst, suc}
-pub use Rattle.join_ends.proofs.{sym, take_step, true, with_pair_port, with_port, with_port_at, with_port_on, zero, ℕ}
-pub use Rattle.join_ends.proofs.{◌++◌, ◌+◌, ◌-◌, ◌<◌, ◌==◌, ◌∙◌, ◌∷◌, ◌≡◌, ◌≤◌}
+pub use Rattle.join_ends.proofs.{Device, EndsView, Host, LinkEnds, LinkPacket, LinkState, List, None, Option, Packet}
+pub use Rattle.join_ends.proofs.{PairEnds, Plan, PortEnd, PortName, Side, Some, UnitName, [], ap, append-nil, arith}
+pub use Rattle.join_ends.proofs.{changed_at, false, if◌then◌else◌, length, length-set, line_place, peer_live, map}
+pub use Rattle.join_ends.proofs.{nat_tests, none-some, option_map, pair_port, port_at_place, port_in, port_on, refl}
+pub use Rattle.join_ends.proofs.{rows_of, same_Some, settled_ends, settled_link, slice_get, slice_set, state_of, subst}
+pub use Rattle.join_ends.proofs.{suc, sym, take_step, true, with_pair_port, with_port, with_port_at, with_port_on, zero}
+pub use Rattle.join_ends.proofs.{ℕ, ◌++◌, ◌+◌, ◌-◌, ◌<◌, ◌==◌, ◌∙◌, ◌∷◌, ◌≡◌, ◌≤◌}
 pub use Rattle.arrival_verdicts.proofs.Writes.{IsEndOf, IsTaken, OpensAs, taken_is}

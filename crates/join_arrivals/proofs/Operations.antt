@@ -4,22 +4,20 @@
 use Rattle.join_ends.specs.{AreLinks, IsLink, IsPair, StreamKept, KeptBy, name_of, rows_of, state_of, IsAtBothEnds}
 use Rattle.join_ends.specs.{IsOperated, IsWalked, KeeperView, Operates, ends_found, IsJoined, KeysKept, OperationsJoin}
 use Rattle.join_ends.specs.{host_of, pool_by, verdict_due, LinkEnds, PairEnds, StreamEnds, WalkedEnds, begun_ends}
-use Rattle.join_ends.specs.{event_walk, walk_on, EndsView, port_on, line_place, pair_port, port_at_place}
-use Rattle.join_ends.specs.{settled_place, OperatesAt, OperatesIn, OperatesOnLink, OperatesOnNear, OperatesOnPair}
-use Rattle.join_ends.specs.{LinePlace, Link, Near, Pair, port_in, IsAtBoth, IsPairOperated, IsPairWalked, PairOperates}
-use Rattle.join_ends.specs.{pair_found}
-use Rattle.join_ends.proofs.{IsNamed, named_stands, is_asked, by_place, changed_is, each_set, Grows, Keeps, KeepsEnds}
+use Rattle.join_ends.specs.{event_walk, walk_on, EndsView, port_on, line_place, pair_port, port_at_place, settled_place}
+use Rattle.join_ends.specs.{OperatesAt, OperatesIn, LinePlace, Link, OperatesOnLink, OperatesOnNear, OperatesOnPair}
+use Rattle.join_ends.specs.{Near, Pair, port_in, IsAtBoth, IsPairOperated, IsPairWalked, PairOperates, pair_found}
+use Rattle.join_ends.proofs.{IsNamed, named_stands, is_asked, changed_is, each_set, Grows, KeepsEnds, Keeps}
 use Rattle.join_ends.proofs.{KeepsPair, grows_then, keeper_kept, links_grow, links_kept, near_grow, near_kept}
 use Rattle.join_ends.proofs.{pairs_grow, pairs_kept, place_grows, place_kept, place_rows}
 use Rattle.join_ends.proofs.Operated.{BothHave, IsDone, both_at, names_set, pool_keys, port_operated, rows_link}
-use Rattle.join_ends.proofs.Operated.{rows_near}
-use Rattle.join_ends.proofs.Operated.{rows_pair, state_by, with_both}
+use Rattle.join_ends.proofs.Operated.{rows_near, rows_pair, state_by, with_both}
 use Rattle.join_ends.proofs.Streams.{op_is, planned, port_found}
 use Rattle.join_keys.specs.Paired.{IsPairJoined, PairKeysKeptIn, PairOperationsJoin, PairWalked, begun_pair, pair_event}
 use Rattle.join_keys.specs.Paired.{PairEnds as PairStreams, pair_walk}
-use Rattle.tsm_host.specs.Walk.{IsAsked}
+use Rattle.tsm_host.specs.Walk.{IsAsked, verdict_of}
 use Rattle.machine_ports.specs.Machine.{BesidePorts, LinkPacket, LinkState, Stepped, port_at, stepped_operation}
-use Rattle.std.proofs.Common.{Bool, List, ap, arith, refl, subst, sym, true, false, ℕ, ◌+◌, ◌-◌, ◌<◌, ◌≤◌, ◌∙◌, ◌≡◌}
+use Rattle.std.proofs.Common.{Bool, List, ap, arith, refl, subst, sym, true, false, ℕ, ◌+◌, ◌-◌, ◌∙◌, ◌≡◌}
 use Rattle.std.proofs.lemmas.Bool.Decides.{nat_tests}
 use Rattle.std.specs.Prelude.{IsSome, None, Option, Some, ◌≢◌, is_some, if◌then◌else◌, map, nat_lt, option_map}
 use Rattle.std.specs.Prelude.{slice_get, slice_set}
@@ -43,13 +41,12 @@ unfoldable use Rattle.machine_ports.specs.Machine.{find_op, step_of}
 use Rattle.machine_ports.specs.Stands.{PortsStandFor}
 use Rattle.machine_ports.specs.Machine as machine
 use Rattle.tsm_host.specs.Streams.{StreamView, asked_of_unfinished, refusal_of}
-use Rattle.tsm_host.specs.Managers.{ManagerView, Named, named, op_named, pool_begun}
+use Rattle.tsm_host.specs.Managers.{ManagerView, Named, named_stream, op_named, pool_begun}
 use Rattle.tsm_host.specs.declared.operation.NamedOperation.{NamedOperation as OpCall}
 use Rattle.tsm_host.specs.declared.operation.StreamOutcome.{StreamOutcome}
 use Rattle.tsm_host.specs.Operations.{OpName, op_name}
-use Rattle.tsm_host.specs.Exchanges.{WireKeys}
-use Rattle.tsm_host.specs.Walk.{verdict_of}
-use Rattle.ide_port.specs.{Found, PortEnd}
+use Rattle.key_slots.specs.Wires.{WireKeys}
+use Rattle.ide_port.specs.{Found, PortEnd, UnitsGrow}
 use Rattle.join_arrivals.specs.Events.{operation_event}
 use Rattle.join_arrivals.proofs.Told.{pair_told, pair_unless, pool_same, walk_told, walk_unless}
 
@@ -59,46 +56,45 @@ use Rattle.join_arrivals.proofs.Told.{pair_told, pair_unless, pool_same, walk_to
 abbrev pub WorksOn : Operation → ℕ → Type 0
 WorksOn operation line = operation ≡ op.Refresh → is_link_line line ≡ true
 
-step_is : (plan : Plan) (b : BesidePorts) (st : LinkState) (operation : Operation) (link id : ℕ) (loss : Option Loss)
-    (q : StreamStage) → WorksOn operation link → find_op plan st link id ≡ Some q
-    → step_of plan b st (operation_event operation link id loss)
-    ≡ stepped_operation plan st operation link id q (verdict_due plan st operation q link id loss)
+step_is : (plan : Plan) (b : BesidePorts) (st : LinkState) (operation : Operation) (line id : ℕ) (loss : Option Loss)
+    (q : StreamStage) → WorksOn operation line → find_op plan st line id ≡ Some q
+    → step_of plan b st (operation_event operation line id loss)
+    ≡ stepped_operation plan st operation line id q (verdict_due plan st operation q line id loss)
 unfolding step_of
-step_is plan b st op.Establish link id loss q works is = ap
-    (λ (o : Option StreamStage). machine.establish_found plan st link id loss o) is
-step_is plan b st op.Refresh link id loss q works is =
-    ap (λ (t : Bool). if t then machine.refresh_found plan st link id loss (find_op plan st link id)
+step_is plan b st op.Establish line id loss q works is = ap
+    (λ (o : Option StreamStage). machine.establish_found plan st line id loss o) is
+step_is plan b st op.Refresh line id loss q works is =
+    ap (λ (t : Bool). if t then machine.refresh_found plan st line id loss (find_op plan st line id)
     else (v.Nothing, st)) (works refl)
-    ∙ ap (λ (o : Option StreamStage). machine.refresh_found plan st link id loss o) is
-step_is plan b st op.Stop link id loss q works is = ap
-    (λ (o : Option StreamStage). machine.stop_found plan st link id loss o) is
+    ∙ ap (λ (o : Option StreamStage). machine.refresh_found plan st line id loss o) is
+step_is plan b st op.Stop line id loss q works is = ap
+    (λ (o : Option StreamStage). machine.stop_found plan st line id loss o) is
 
-pub step_none : (plan : Plan) (b : BesidePorts) (st : LinkState) (operation : Operation) (link id : ℕ)
+pub step_none : (plan : Plan) (b : BesidePorts) (st : LinkState) (operation : Operation) (line id : ℕ)
     (loss : Option Loss)
-    → find_op plan st link id ≡ None → step_of plan b st (operation_event operation link id loss) ≡ (v.Nothing, st)
+    → find_op plan st line id ≡ None → step_of plan b st (operation_event operation line id loss) ≡ (v.Nothing, st)
 unfolding step_of
-step_none plan b st operation link id loss is = grind (arith, is)
+step_none plan b st operation line id loss is = grind (arith, is)
 
 -- a refresh of another line's stream is none
-pub step_not : (plan : Plan) (b : BesidePorts) (st : LinkState) (link id : ℕ) (loss : Option Loss)
-    → is_link_line link ≡ false
-    → step_of plan b st (operation_event op.Refresh link id loss) ≡ (v.Nothing, st)
+pub step_not : (plan : Plan) (b : BesidePorts) (st : LinkState) (line id : ℕ) (loss : Option Loss)
+    → is_link_line line ≡ false → step_of plan b st (operation_event op.Refresh line id loss) ≡ (v.Nothing, st)
 unfolding step_of
-step_not plan b st link id loss none =
-    ap (λ (t : Bool). if t then machine.refresh_found plan st link id loss (find_op plan st link id)
+step_not plan b st line id loss none =
+    ap (λ (t : Bool). if t then machine.refresh_found plan st line id loss (find_op plan st line id)
     else (v.Nothing, st)) none
 
 -- ---- an operation on a stream
 
 -- a stream of this name at a place
 abbrev at_place : ℕ → ℕ → ℕ → StreamStage → WireKeys → Named
-at_place link id place q keys = record { place = place; stream = record { line = link; id = id; op = q; keys = keys } }
+at_place line id place q keys = record { place = place; stream = record { line = line; id = id; op = q; keys = keys } }
 
-named_as : (m : ManagerView) (link id : ℕ) (n : Named) → named m link id ≡ Some n → named m link id
-    ≡ Some (at_place link id n.place n.stream.op n.stream.keys)
-named_as m link id n is =
-    let s : IsNamed m link id n = named_stands m link id n is in
-    let same : n ≡ at_place link id n.place n.stream.op n.stream.keys =
+named_as : (m : ManagerView) (line id : ℕ) (n : Named) → named_stream m line id ≡ Some n → named_stream m line id
+    ≡ Some (at_place line id n.place n.stream.op n.stream.keys)
+named_as m line id n is =
+    let s : IsNamed m line id n = named_stands m line id n is in
+    let same : n ≡ at_place line id n.place n.stream.op n.stream.keys =
     (λ i. record n { stream = record n.stream { line = s.link_is i; id = s.id_is i } }) in
     is ∙ ap (λ (y : Named). Some y) same
 
@@ -176,7 +172,7 @@ module _ (plan : Plan) (ends : EndsView) (k : KeeperView) (packets : List LinkPa
 
   module _ (h : History) (k' : KeeperView) (call : OpCall) (operation : Operation) (line id : ℕ) (loss : Option Loss)
       (result : StreamOutcome) (n0 : Named) (links : AreLinks plan ends k) (stands : PortsStandFor plan st h)
-      (named_is : named k.manager line id ≡ Some n0)
+      (named_is : named_stream k.manager line id ≡ Some n0)
       (name : op_name call ≡ record { operation = operation; line = line; stream = id }) where
     abbrev q : StreamStage
     q = n0.stream.op
@@ -193,7 +189,7 @@ module _ (plan : Plan) (ends : EndsView) (k : KeeperView) (packets : List LinkPa
     abbrev due : Verdict
     due = verdict_due plan st operation q line id loss
 
-    is_named : named k.manager line id ≡ Some n
+    is_named : named_stream k.manager line id ≡ Some n
     is_named = named_as k.manager line id n0 named_is
 
     placed : IsNamed k.manager line id n
@@ -238,7 +234,7 @@ module _ (plan : Plan) (ends : EndsView) (k : KeeperView) (packets : List LinkPa
         let kept : KeysKept plan n.stream = subst (λ (b : Bool). KeptBy b plan n.stream) hosted
         (links.kept n.place n.stream placed.read) in
         let o : IsOperated k l call loss n host device result k' l' =
-        operates n host device (to_name (λ a. named k.manager a.line a.stream ≡ Some n) is_named) hosted
+        operates n host device (to_name (λ a. named_stream k.manager a.line a.stream ≡ Some n) is_named) hosted
         (to_name (λ a. IsAtBothEnds k.manager l n.place a.stream host device) on) (is_asked plan q keys kept) in
         let walk : WalkedEnds = event_walk operation (host_of host.state) k.pool loss l.device.requester e in
         let walked : IsWalked k.manager l n.place id walk result k'.manager l' =
@@ -321,7 +317,7 @@ module _ (plan : Plan) (ends : EndsView) (k : KeeperView) (packets : List LinkPa
         let kept : PairKeysKeptIn plan q keys = subst (λ (b : Bool). KeptBy b plan n.stream) paired
         (links.kept n.place n.stream placed.read) in
         let o : IsPairOperated k l call loss n near far result k' l' =
-        operates n near far (to_name (λ a. named k.manager a.line a.stream ≡ Some n) is_named) paired
+        operates n near far (to_name (λ a. named_stream k.manager a.line a.stream ≡ Some n) is_named) paired
         (to_name (λ a. IsAtBoth k.manager l n.place a.stream near far) on) (is_pair_asked plan q keys kept) in
         let walk : PairWalked = pair_event operation (host_of near.state) k.pool loss 0 e in
         let walked : IsPairWalked k.manager l n.place id walk result k'.manager l' =
@@ -407,54 +403,50 @@ mapped_from : {A : Type 0} (g : A → PortEnd) (o : Option A) → IsSome (option
 mapped_from g None is = absurd cc
 mapped_from g (Some x) is = (x, refl)
 
--- ---- how often ends were called
+-- ---- how many units there were
 
 module _ (ends : EndsView) (i : ℕ) where
-  link_calls : (l l' : LinkEnds) (s : Side) → l'.host.calls ≡ l.host.calls
-      → l'.device.port.calls ≡ l.device.port.calls → (port_in s l').calls ≤ (port_in s l).calls + 0
-  link_calls l l' Host host device = omega (arith, host)
-  link_calls l l' Device host device = omega (arith, device)
+  link_units : (l l' : LinkEnds) (s : Side) → UnitsGrow 0 l.host l'.host → UnitsGrow 0 l.device.port l'.device.port
+      → UnitsGrow 0 (port_in s l) (port_in s l')
+  link_units l l' Host host device = host
+  link_units l l' Device host device = device
 
-  pair_calls : (l l' : PairEnds) (s : Side) → l'.near.port.calls ≡ l.near.port.calls
-      → l'.far.port.calls ≡ l.far.port.calls → (pair_port s l').calls ≤ (pair_port s l).calls + 0
-  pair_calls l l' Host near far = omega (arith, near)
-  pair_calls l l' Device near far = omega (arith, far)
+  pair_units : (l l' : PairEnds) (s : Side) → UnitsGrow 0 l.near.port l'.near.port
+      → UnitsGrow 0 l.far.port l'.far.port → UnitsGrow 0 (pair_port s l) (pair_port s l')
+  pair_units l l' Host near far = near
+  pair_units l l' Device near far = far
 
-  grows_link : (l l' : LinkEnds) → slice_get ends.links i ≡ Some l → l'.host.calls ≡ l.host.calls
-      → l'.device.port.calls ≡ l.device.port.calls
-      → Grows 0 ends (record ends { links = slice_set ends.links i l' })
+  grows_link : (l l' : LinkEnds) → slice_get ends.links i ≡ Some l → UnitsGrow 0 l.host l'.host
+      → UnitsGrow 0 l.device.port l'.device.port → Grows 0 ends (record ends { links = slice_set ends.links i l' })
   grows_link l l' is host device =
       subst (λ (ls : List LinkEnds). Grows 0 ends (record ends { links = ls }))
       (changed_is ends.links i (λ (z : LinkEnds). l') l is)
       (links_grow 0 ends i (λ (z : LinkEnds). l')
-      (λ s z at. subst (λ (y : LinkEnds). (port_in s l').calls ≤ (port_in s y).calls + 0)
-      (same_Some l z (sym is ∙ at)) (link_calls l l' s host device)))
+      (λ s z at. subst (λ (y : LinkEnds). UnitsGrow 0 (port_in s y) (port_in s l'))
+      (same_Some l z (sym is ∙ at)) (link_units l l' s host device)))
 
-  grows_near : (l l' : LinkEnds) → slice_get ends.near i ≡ Some l → l'.host.calls ≡ l.host.calls
-      → l'.device.port.calls ≡ l.device.port.calls
-      → Grows 0 ends (record ends { near = slice_set ends.near i l' })
+  grows_near : (l l' : LinkEnds) → slice_get ends.near i ≡ Some l → UnitsGrow 0 l.host l'.host
+      → UnitsGrow 0 l.device.port l'.device.port → Grows 0 ends (record ends { near = slice_set ends.near i l' })
   grows_near l l' is host device =
       subst (λ (ls : List LinkEnds). Grows 0 ends (record ends { near = ls }))
       (changed_is ends.near i (λ (z : LinkEnds). l') l is)
       (near_grow 0 ends i (λ (z : LinkEnds). l')
-      (λ s z at. subst (λ (y : LinkEnds). (port_in s l').calls ≤ (port_in s y).calls + 0)
-      (same_Some l z (sym is ∙ at)) (link_calls l l' s host device)))
+      (λ s z at. subst (λ (y : LinkEnds). UnitsGrow 0 (port_in s y) (port_in s l'))
+      (same_Some l z (sym is ∙ at)) (link_units l l' s host device)))
 
-  grows_pair : (l l' : PairEnds) → slice_get ends.pairs i ≡ Some l → l'.near.port.calls ≡ l.near.port.calls
-      → l'.far.port.calls ≡ l.far.port.calls
-      → Grows 0 ends (record ends { pairs = slice_set ends.pairs i l' })
+  grows_pair : (l l' : PairEnds) → slice_get ends.pairs i ≡ Some l → UnitsGrow 0 l.near.port l'.near.port
+      → UnitsGrow 0 l.far.port l'.far.port → Grows 0 ends (record ends { pairs = slice_set ends.pairs i l' })
   grows_pair l l' is near far =
       subst (λ (ls : List PairEnds). Grows 0 ends (record ends { pairs = ls }))
       (changed_is ends.pairs i (λ (z : PairEnds). l') l is)
       (pairs_grow 0 ends i (λ (z : PairEnds). l')
-      (λ s z at. subst (λ (y : PairEnds). (pair_port s l').calls ≤ (pair_port s y).calls + 0)
-      (same_Some l z (sym is ∙ at)) (pair_calls l l' s near far)))
+      (λ s z at. subst (λ (y : PairEnds). UnitsGrow 0 (pair_port s y) (pair_port s l'))
+      (same_Some l z (sym is ∙ at)) (pair_units l l' s near far)))
 
--- no end is called by an operation
+-- an operation finishes and accepts no unit
 pub operates_grow : (ends ends' : EndsView) (line : ℕ) (k k' : KeeperView) (call : OpCall) (loss : Option Loss)
     (result : StreamOutcome) → IsSome (port_on ends (port_at Host line))
-    → OperatesAt ends line k call loss result ends' k'
-    → Grows 0 ends ends'
+    → OperatesAt ends line k call loss result ends' k' → Grows 0 ends ends'
 operates_grow ends ends' line k k' call loss result some operates = by (line_place line) some operates
   where
     by : (place : LinePlace) → IsSome (port_at_place ends Host place)
@@ -463,18 +455,18 @@ operates_grow ends ends' line k k' call loss result some operates = by (line_pla
         let f = mapped_from (λ (l : LinkEnds). port_in Host l) (slice_get ends.links i) some in
         let x = operates f.0 f.1 in
         subst (λ (v : EndsView). Grows 0 ends v) (sym x.new_is)
-        (grows_link ends i f.0 x.ends f.1 x.calls.host x.calls.device)
+        (grows_link ends i f.0 x.ends f.1 x.units.host x.units.device)
     by (Near i) some operates =
         let f = mapped_from (λ (l : LinkEnds). port_in Host l) (slice_get ends.near i) some in
         let x = operates f.0 f.1 in
         subst (λ (v : EndsView). Grows 0 ends v) (sym x.new_is)
-        (grows_near ends i f.0 x.ends f.1 x.calls.host x.calls.device)
+        (grows_near ends i f.0 x.ends f.1 x.units.host x.units.device)
     by (Pair i) some operates =
         let f = mapped_from (λ (l : PairEnds). pair_port Host l) (slice_get ends.pairs i) some in
         let x = operates f.0 f.1 in
         let v1 : EndsView = record ends { pairs = slice_set ends.pairs i x.ends } in
         subst (λ (v : EndsView). Grows 0 ends v) (sym x.new_is)
-        (grows_then 0 0 ends v1 (settled_place (Pair i) v1) (grows_pair ends i f.0 x.ends f.1 x.calls.near x.calls.far)
+        (grows_then 0 0 ends v1 (settled_place (Pair i) v1) (grows_pair ends i f.0 x.ends f.1 x.units.near x.units.far)
         (place_grows i v1))
 
 -- ---- an operation on a stream of any line
@@ -482,7 +474,7 @@ operates_grow ends ends' line k k' call loss result some operates = by (line_pla
 module _ (plan : Plan) (ends : EndsView) (k : KeeperView) (packets : List LinkPacket) (h : History) (k' : KeeperView)
     (call : OpCall) (operation : Operation) (line id : ℕ) (loss : Option Loss) (result : StreamOutcome) (n0 : Named)
     (links : AreLinks plan ends k) (stands : PortsStandFor plan (state_of plan ends k packets) h)
-    (named_is : named k.manager line id ≡ Some n0)
+    (named_is : named_stream k.manager line id ≡ Some n0)
     (name : op_name call ≡ record { operation = operation; line = line; stream = id })
     (works : WorksOn operation line) (ends' : EndsView) where
   abbrev Comes : EndsView → Type 0

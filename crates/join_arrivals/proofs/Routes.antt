@@ -21,16 +21,15 @@ use Rattle.ide_types.specs.declared.plan.HopPlan.{HopPlan}
 use Rattle.ide_types.specs.declared.plan.PeerPlan.{PeerPlan}
 use Rattle.ide_types.specs.declared.stream.StreamPlan.{StreamPlan}
 use Rattle.ide_types.specs.Plans.{hop_has_id}
-use Rattle.ide_types.specs.Ends.{own_has_id, link_hop, port_at, peer_link, hop_end, peer_end_at}
+use Rattle.ide_types.specs.Ends.{own_has_id, link_hop, port_beside_end, peer_link, hop_end, peer_end_at, end_on, end_at}
 unfoldable use Rattle.ide_types.specs.Ends.{peer_end}
-use Rattle.ide_types.specs.Ends.{end_on, end_at}
 use Rattle.ide_types.specs.Fits.{FitsPlan, FitsPeer}
 use Rattle.ide_types.proofs.EndsFound.{all_at}
 use Rattle.spec_links.specs.Hops.{entering_end}
 use Rattle.spec_links.specs.Plan.{has_link, has_line, has_port, hop_streams, lone_stream, aggregation_of, with_id}
 unfoldable use Rattle.spec_links.specs.Plan.{stream_plan}
 use Rattle.spec_links.specs.Ports.{at_switch, end_if, goes_to_hop, hop_lists, id_in, outgoing_at, takes_none}
-unfoldable use Rattle.spec_links.specs.Ports.{port_of, reached, sealing_end}
+unfoldable use Rattle.spec_links.specs.Ports.{port_of, end_reached, sealing_end}
 use Rattle.line_routes.specs.Rows.{has_line_by}
 use Rattle.line_routes.proofs.Rows.{line_is, row_near, row_far}
 use Rattle.join_arrivals.specs.Ways.{way_of}
@@ -131,7 +130,7 @@ module _ (plan : Plan) (fits : FitsPlan plan) where
     pub no_way : way_of end ≡ None
     pub port : IsLinkPort (port_of plan end)
     pub no_switch : at_switch plan (port_of plan end) ≡ false
-    pub at_is : port_at plan.peers end ≡ port_of plan end
+    pub at_is : port_beside_end plan.peers end ≡ port_of plan end
 
   -- it is at the switch of this link's hop
   pub record IsOnWay (end : PortName) (link : ℕ) (d : Direction) : Type 0 where
@@ -141,7 +140,7 @@ module _ (plan : Plan) (fits : FitsPlan plan) where
     pub port_is : port_of plan end ≡ end
     pub switch : at_switch plan end ≡ true
     pub line : (8 ≤ end.line) × (end.line < 24)
-    pub at_is : port_at plan.peers end ≡ port_of plan end
+    pub at_is : port_beside_end plan.peers end ≡ port_of plan end
 
   no_switch_low : (port : PortName) → IsLinkPort port → at_switch plan port ≡ false
   no_switch_low port is = rw (lt-ltb port.line (length plan.links) is.less) refl
@@ -157,7 +156,7 @@ module _ (plan : Plan) (fits : FitsPlan plan) where
   unfolding port_of
   port_own end is = rw is refl
 
-  port_else : (end : PortName) → has_link plan end.line ≡ false → port_of plan end ≡ port_at plan.peers end
+  port_else : (end : PortName) → has_link plan end.line ≡ false → port_of plan end ≡ port_beside_end plan.peers end
   unfolding port_of
   port_else end is = rw is refl
 
@@ -170,7 +169,8 @@ module _ (plan : Plan) (fits : FitsPlan plan) where
 
   -- at this port, by the place of the end on its line
   apart : (side : Side) (line : ℕ) (q : PortName) → way_of (end_of side line) ≡ None → q.line < length plan.links
-      → port_of plan (end_of side line) ≡ q → port_at plan.peers (end_of side line) ≡ q → StandsAt (end_of side line)
+      → port_of plan (end_of side line) ≡ q → port_beside_end plan.peers (end_of side line) ≡ q
+      → StandsAt (end_of side line)
   apart side line q none less of at =
       let port : IsLinkPort (port_of plan (end_of side line)) = subst IsLinkPort (sym of) (link_port q less) in
       Apart (record {
@@ -188,14 +188,14 @@ module _ (plan : Plan) (fits : FitsPlan plan) where
 
   -- the port of an end on a hop's segment towards the host that is no switch's, as it is looked up and as it is
   abbrev IsPortOf : PortName → PortName → Type 0
-  IsPortOf end q = (port_at plan.peers end ≡ q) × (port_of plan end ≡ q)
+  IsPortOf end q = (port_beside_end plan.peers end ≡ q) × (port_of plan end ≡ q)
 
   pub near_port : (i : ℕ) → i < 8 → IsPortOf (host_port (8 + i)) (host_port i)
   near_port i low =
       let a : nat_lt (8 + i) 8 ≡ false = grind (arith, nat_tests) in
       let b : nat_lt (8 + i) 16 ≡ true = grind (arith, nat_tests) in
       let back : 8 + i - 8 ≡ i = omega arith in
-      let at : port_at plan.peers (host_port (8 + i)) ≡ host_port i = rw (a, b, back) refl in
+      let at : port_beside_end plan.peers (host_port (8 + i)) ≡ host_port i = rw (a, b, back) refl in
       (at, port_else (host_port (8 + i)) (no_link (8 + i) (omega arith)) ∙ at)
 
   pub far_port : (i : ℕ) → i < 8 → IsPortOf (device_port (16 + i)) (device_port i)
@@ -204,7 +204,7 @@ module _ (plan : Plan) (fits : FitsPlan plan) where
       let b : nat_lt (16 + i) 16 ≡ false = grind (arith, nat_tests) in
       let c : nat_lt (16 + i) 24 ≡ true = grind (arith, nat_tests) in
       let back : 16 + i - 16 ≡ i = omega arith in
-      let at : port_at plan.peers (device_port (16 + i)) ≡ device_port i = rw (a, b, c, back) refl in
+      let at : port_beside_end plan.peers (device_port (16 + i)) ≡ device_port i = rw (a, b, c, back) refl in
       (at, port_else (device_port (16 + i)) (no_link (16 + i) (omega arith)) ∙ at)
 
   pub between_port : (side : Side) (n : ℕ) (p : PeerPlan) → slice_get plan.peers n ≡ Some p
@@ -214,7 +214,8 @@ module _ (plan : Plan) (fits : FitsPlan plan) where
       let b : nat_lt (24 + n) 16 ≡ false = grind (arith, nat_tests) in
       let c : nat_lt (24 + n) 24 ≡ false = grind (arith, nat_tests) in
       let back : 24 + n - 24 ≡ n = omega arith in
-      let at : port_at plan.peers (end_of side (24 + n)) ≡ device_port (peer_link side p) = rw (a, b, c, back, is) refl
+      let at : port_beside_end plan.peers (end_of side (24 + n)) ≡ device_port (peer_link side p) =
+      rw (a, b, c, back, is) refl
       in
       (at, port_else (end_of side (24 + n)) (no_link (24 + n) (omega arith)) ∙ at)
 
@@ -228,7 +229,7 @@ module _ (plan : Plan) (fits : FitsPlan plan) where
       let b : nat_lt (8 + i) 16 ≡ true = grind (arith, nat_tests) in
       let c : nat_le 8 (8 + i) ≡ true = grind (arith, nat_tests) in
       let back : 8 + i - 8 ≡ i = omega arith in
-      let at : port_at plan.peers (device_port (8 + i)) ≡ device_port (8 + i) = rw (a, b, back) refl in
+      let at : port_beside_end plan.peers (device_port (8 + i)) ≡ device_port (8 + i) = rw (a, b, back) refl in
       let none = no_link (8 + i) (omega arith) in
       let of = port_else (device_port (8 + i)) none ∙ at in
       OnWay i Downstream (record {
@@ -253,7 +254,7 @@ module _ (plan : Plan) (fits : FitsPlan plan) where
       let c : nat_lt (16 + i) 24 ≡ true = grind (arith, nat_tests) in
       let d : nat_le 16 (16 + i) ≡ true = grind (arith, nat_tests) in
       let back : 16 + i - 16 ≡ i = omega arith in
-      let at : port_at plan.peers (host_port (16 + i)) ≡ host_port (16 + i) = rw (a, b, c, back) refl in
+      let at : port_beside_end plan.peers (host_port (16 + i)) ≡ host_port (16 + i) = rw (a, b, c, back) refl in
       let none = no_link (16 + i) (omega arith) in
       let of = port_else (host_port (16 + i)) none ∙ at in
       OnWay i Upstream (record {
@@ -376,8 +377,8 @@ module _ (plan : Plan) (fits : FitsPlan plan) where
       (on_way_there end id at.line.0 is)
 
   pub reached_there : (end : PortName) (bytes : List ℕ) → has_port plan end ≡ true
-      → has_port plan (reached plan end bytes) ≡ true
-  unfolding reached
+      → has_port plan (end_reached plan end bytes) ≡ true
+  unfolding end_reached
   reached_there end bytes is = by (id_in bytes)
     where
       by : (o : Option ℕ) → has_port plan (end_if plan end o) ≡ true

@@ -29,13 +29,12 @@ use Rattle.spec_links.specs.Admission.{Policy, effect_by, effects_each, waiting_
 use Rattle.spec_links.specs.Sent.{reads_by}
 use Rattle.machine_ports.specs.Machine.{LinkState}
 unfoldable use Rattle.machine_ports.specs.Machine.{find}
-use Rattle.machine_ports.specs.Stands.{PortsStandFor, standing}
+use Rattle.machine_ports.specs.Stands.{PortsStandFor, stream_state_due}
 use Rattle.spec_stream.specs.Stream.{StreamState, LiveKey, Taken, Accepted, stream_outcome, unit_name, live_in}
-use Rattle.spec_stream.specs.Stream.{slot_in_set}
-use Rattle.spec_stream.specs.Stream.{at_sub}
+use Rattle.spec_stream.specs.Stream.{slot_in_set, at_sub}
 use Rattle.law_sealing.proofs.Below.{cut_fits}
 use Rattle.sub_stream.specs.{mark_of, opened_from_byte, opened_unit}
-use Rattle.ide_stream.specs.{opened_if_accepted}
+use Rattle.ide_port.specs.{opened_if_accepted}
 use Rattle.arrival_verdicts.specs.{PortEnd, Found, found_stream, take_step, TakeStep, port_arrival, packet_step}
 use Rattle.arrival_verdicts.specs.Verdicts.{of_unit}
 use Rattle.arrival_verdicts.specs.Switches.{switched_as, switched_each, unit_waits, queues_after_offer, all_offered}
@@ -96,8 +95,8 @@ module _ (plan : Plan) (now : LinkState) (h : History) (end : PortName) (here : 
       let id : ℕ = p.prefix.stream in
       let seen : find plan now end id ≡ Some x.state =
       is.finds id ∙ ap (λ (o : Option Found). option_map (λ (y : Found). y.state) o) at in
-      let state : standing plan h end id ≡ x.state =
-      where_it_stands (has_stream plan end id) x.state (standing plan h end id)
+      let state : stream_state_due plan h end id ≡ x.state =
+      where_it_stands (has_stream plan end id) x.state (stream_state_due plan h end id)
       (sym (stands.ports_stand.streams end id) ∙ seen) in
       unit_few p x.state (stream_outcome x.plan.aggregation x.plan.closed x.state p) fits
       (taken_is x.state p x.plan.aggregation x.plan.closed)

@@ -27,42 +27,42 @@ abbrev pub is_told : Operation → Option Verdict → Bool
 is_told o None = true
 is_told o (Some x) = is_some (reach_of o x)
 
-module _ (o : Operation) (link id : ℕ) (loss : Option Loss) where
+module _ (o : Operation) (line id : ℕ) (loss : Option Loss) where
   outcome_told : (hosted : Bool) (a : NextExchange) (j : Judged)
-      → is_told o (verdict_of o link id loss (outcome_of hosted a j)) ≡ true
+      → is_told o (verdict_of o line id loss (outcome_of hosted a j)) ≡ true
   outcome_told hosted a j = grind arith
 
   next_told : (requester : ℕ) (e : StreamEnds) (next : Option NextExchange)
-      → is_told o (verdict_of o link id loss (outcome_next loss requester e next)) ≡ true
+      → is_told o (verdict_of o line id loss (outcome_next loss requester e next)) ≡ true
   next_told requester e None = refl
   next_told requester e (Some a) = outcome_told true a (exchange_outcome loss requester a e).judged
 
-  goes_told : (q : StreamOutcome) (e : StreamEnds) (rest : WalkedEnds) → is_told o (verdict_of o link id loss q) ≡ true
-      → is_told o (verdict_of o link id loss rest.outcome) ≡ true
-      → is_told o (verdict_of o link id loss (goes_on q e rest).outcome) ≡ true
+  goes_told : (q : StreamOutcome) (e : StreamEnds) (rest : WalkedEnds) → is_told o (verdict_of o line id loss q) ≡ true
+      → is_told o (verdict_of o line id loss rest.outcome) ≡ true
+      → is_told o (verdict_of o line id loss (goes_on q e rest).outcome) ≡ true
   goes_told outcome.Next e rest told more = more
   goes_told q e rest told more = told
 
   pub walk_told : (more requester : ℕ) (e : StreamEnds) → is_told o
-      (verdict_of o link id loss (walk_on more loss requester e).outcome) ≡ true
+      (verdict_of o line id loss (walk_on more loss requester e).outcome) ≡ true
   walk_told zero requester e = refl
   walk_told (suc more) requester e = goes_told _ _ _ (next_told requester e (asked_of_unfinished e.keeper.op))
       (walk_told more requester _)
 
   pair_next_told : (requester : ℕ) (e : PairStreams) (next : Option NextExchange)
-      → is_told o (verdict_of o link id loss (pair_outcome loss requester e next)) ≡ true
+      → is_told o (verdict_of o line id loss (pair_outcome loss requester e next)) ≡ true
   pair_next_told requester e None = refl
   pair_next_told requester e (Some a) = outcome_told false a (pair_exchanged loss requester a e).judged
 
-  pair_goes_told : (q : StreamOutcome) (e : PairStreams) (rest : PairWalked) → is_told o (verdict_of o link id loss q)
+  pair_goes_told : (q : StreamOutcome) (e : PairStreams) (rest : PairWalked) → is_told o (verdict_of o line id loss q)
       ≡ true
-      → is_told o (verdict_of o link id loss rest.outcome) ≡ true
-      → is_told o (verdict_of o link id loss (pair_goes_on q e rest).outcome) ≡ true
+      → is_told o (verdict_of o line id loss rest.outcome) ≡ true
+      → is_told o (verdict_of o line id loss (pair_goes_on q e rest).outcome) ≡ true
   pair_goes_told outcome.Next e rest told more = more
   pair_goes_told q e rest told more = told
 
   pub pair_told : (more requester : ℕ) (e : PairStreams) → is_told o
-      (verdict_of o link id loss (pair_walk more loss requester e).outcome) ≡ true
+      (verdict_of o line id loss (pair_walk more loss requester e).outcome) ≡ true
   pair_told zero requester e = refl
   pair_told (suc more) requester e = pair_goes_told _ _ _ (pair_next_told requester e (asked_of_unfinished e.keeper.op))
       (pair_told more requester _)
@@ -78,15 +78,15 @@ abbrev pub outcome_unless : Option StreamRefusal → StreamOutcome → StreamOut
 outcome_unless (Some refusal) walked = outcome.Refused refusal
 outcome_unless None walked = walked
 
-pub pool_same : (o : Operation) (link id : ℕ) (q : StreamStage) (host : HostView) (pool : Pool) (loss : Option Loss)
+pub pool_same : (o : Operation) (line id : ℕ) (q : StreamStage) (host : HostView) (pool : Pool) (loss : Option Loss)
     (walked : StreamOutcome) (verdict : Verdict) (w : Work) (r : Option StreamRefusal) → refusal_of o q host pool ≡ r
-    → is_told o (verdict_of o link id loss walked) ≡ true
-    → verdict_of o link id loss (outcome_unless r walked) ≡ Some verdict
+    → is_told o (verdict_of o line id loss walked) ≡ true
+    → verdict_of o line id loss (outcome_unless r walked) ≡ Some verdict
     → unless r pool (begun_pool w pool) ≡ pool_by w (reach_of o verdict) pool
-pool_same o link id q host pool loss walked verdict w (Some r) refused told is =
-    let none : reach_of o verdict ≡ None = refused_reach link o q host pool loss r verdict refused is in
+pool_same o line id q host pool loss walked verdict w (Some r) refused told is =
+    let none : reach_of o verdict ≡ None = refused_reach line o q host pool loss r verdict refused is in
     sym (ap (λ (p : Option Reach). pool_by w p pool) none)
-pool_same o link id q host pool loss walked verdict w None refused told is = pool_told w (reach_of o verdict) pool
+pool_same o line id q host pool loss walked verdict w None refused told is = pool_told w (reach_of o verdict) pool
     (sym (ap (λ (y : Option Verdict). is_told o y) is) ∙ told)
 
 -- the outcomes of both kinds of events

@@ -3,7 +3,7 @@
 use Rattle.law_sealing.proofs.Terms.{◌≡◌, ◌∙◌, ℕ, ◌+◌, ◌<◌, ◌≤◌, ◌&&◌, Bool, true, false, List, [], ◌∷◌, ◌++◌}
 use Rattle.law_sealing.proofs.Terms.{length, refl, ap, subst, arith, nat_tests, inl, inr, not, Plan}
 use Rattle.law_sealing.proofs.Terms.{History, CauseLaw, SubStream, lane_in, PortName, SubKind, Packet, FitsPacket}
-use Rattle.law_sealing.proofs.Terms.{port_keys, failed, length-append}
+use Rattle.law_sealing.proofs.Terms.{port_keys, has_failed, length-append}
 use Rattle.std.proofs.lemmas.Option.{none-some, same_Some}
 use Rattle.std.specs.Prelude.{Option, Some, None, nat_le, if◌then◌else◌, ◌||◌}
 use Rattle.ide_types.specs.declared.sub.SubKind.TheVariants.{Pr, Npr, Cpl}
@@ -20,7 +20,7 @@ use Rattle.hop_queues.specs.{most_bytes}
 use Rattle.spec_links.specs.History.{pending_packets}
 use Rattle.spec_links.specs.Plan.{aggregation_of}
 use Rattle.machine_ports.specs.Stands.{rx_slot, rx_slots, receiving_key}
-unfoldable use Rattle.machine_ports.specs.Stands.{standing}
+unfoldable use Rattle.machine_ports.specs.Stands.{stream_state_due}
 use Rattle.join_arrivals.proofs.Held.{held_none}
 
 -- ---- nothing is held
@@ -31,7 +31,7 @@ HoldsNone y = y.packets ≡ []
 module _ (plan : Plan) (h : History) (cause : CauseLaw plan h) (port : PortName) where
   key_none : (s : SubStream) (j : ℕ) → aggregation_of plan s.line s.stream ≡ 1
       → HoldsNone (receiving_key plan h port s j)
-  key_none s j one = by (failed h port s.stream)
+  key_none s j one = by (has_failed h port s.stream)
     where
       by : (b : Bool) → (if b then [] else pending_packets plan h s j) ≡ []
       by true = refl
@@ -50,8 +50,8 @@ module _ (plan : Plan) (h : History) (cause : CauseLaw plan h) (port : PortName)
   slots_none s keys false y one is = slot_none s keys.first y one is
 
   pub standing_none : (stream : ℕ) (u : SubKind) (k : Bool) (y : LiveKey) → aggregation_of plan port.line stream ≡ 1
-      → live_in (slot_in_set (at_sub (standing plan h port stream).rx u).slots k) ≡ Some y → HoldsNone y
-  unfolding standing
+      → live_in (slot_in_set (at_sub (stream_state_due plan h port stream).rx u).slots k) ≡ Some y → HoldsNone y
+  unfolding stream_state_due
   standing_none stream Pr k y one is =
       slots_none (lane_in port stream Pr) (port_keys h port (lane_in port stream Pr)) k y one is
   standing_none stream Npr k y one is =

@@ -6,25 +6,24 @@ use Rattle.link_verdicts.specs.declared.verdict.Verdict.TheVariants.{Nothing}
 use Rattle.guarded_memory.specs.declared.standing.InterfaceStatus.{InterfaceStatus}
 use Rattle.trusted_memory.specs.{MemoryContents}
 use Rattle.spec_links.specs.Memory.{Policy}
-pub use Rattle.join_stores.specs.Turns.{reads_at, floors_at, sizes_at, mmio_at, carried_on_link, AreLeftBy}
-pub use Rattle.join_stores.specs.Turns.{AccessesTurn}
-pub use Rattle.join_stores.specs.Turns.{AccessesStay, same_reads, same_floors, same_carried, nothing_happens}
-use Rattle.join_ends.specs.{EndsView, LinkEnds, InterfacesView, port_on, link_standings, ArrivesAt}
+pub use Rattle.join_ends.specs.Turns.{reads_at, floors_at, sizes_at, mmio_at, carried_on_link, AreLeftBy, AccessesTurn}
+pub use Rattle.join_ends.specs.Turns.{AccessesStay, same_reads, same_floors, same_carried, nothing_happens}
+use Rattle.join_ends.specs.{EndsView, LinkEnds, InterfacesView, port_on, link_statuses, ArrivesAt}
 use Rattle.link_stores.specs.declared.link.LinkAccesses.{LinkAccesses}
 use Rattle.arrival_verdicts.specs.Verdicts.{grants_in}
 
 -- ---- what effects depend on
 
 -- how the interfaces of a link's device stand
-abbrev pub standings_of_ends : Option LinkEnds → Option LinkAccesses → List InterfaceStatus
-standings_of_ends (Some l) (Some a) = link_standings l a
-standings_of_ends l a = []
+abbrev pub statuses_of_ends : Option LinkEnds → Option LinkAccesses → List InterfaceStatus
+statuses_of_ends (Some l) (Some a) = link_statuses l a
+statuses_of_ends l a = []
 
 abbrev pub policy_in : InterfacesView → EndsView → List LinkAccesses → Policy
 policy_in m ends xs = record {
   grants = grants_in m;
   waiting = λ link. length (reads_at xs link);
-  standings = λ link. standings_of_ends (slice_get ends.links link) (slice_get xs link);
+  standings = λ link. statuses_of_ends (slice_get ends.links link) (slice_get xs link);
 }
 
 -- ---- arrivals

@@ -7,6 +7,6 @@ use Rattle.link_verdicts.specs.declared.verdict.Operation.{Operation}
 use Rattle.link_verdicts.specs.declared.verdict.Operation.TheVariants as op
 
 abbrev pub operation_event : Operation → ℕ → ℕ → Option Loss → Event
-operation_event op.Establish link stream loss = Establish link stream loss
-operation_event op.Refresh link stream loss = Refresh link stream loss
-operation_event op.Stop link stream loss = Stop link stream loss
+operation_event op.Establish line stream loss = Establish line stream loss
+operation_event op.Refresh line stream loss = Refresh line stream loss
+operation_event op.Stop line stream loss = Stop line stream loss

@@ -1,7 +1,7 @@
 //! Bytes that arrive at a port of one of the links.
 
 ghost use Rattle.std.specs.Prelude.{◌≡◌, ◌<◌, ◌^◌, IfOk, OnErr, length};
-ghost use Rattle.join_ends.specs.{CallsBelow};
+ghost use Rattle.join_ends.specs.{EndsUnitsAtMost};
 ghost use Rattle.join_arrivals.specs.Accesses.{AccessesStay, Brings};
 
 use ide_types::{OutOfMemory, PortName};
@@ -26,7 +26,7 @@ pub fn bytes_arrive(
     bytes: &[u8],
 ) -> Result<Verdict, OutOfMemory>
     requires link { port.line < length ends.old.links }
-    requires few { CallsBelow (2 ^ 40) ends.old }
+    requires few { EndsUnitsAtMost (2 ^ 40) ends.old }
     requires many { length accesses.old ≡ length ends.old.links }
     ensures brings { IfOk result (λ v. Brings keeper.now end port bytes.now v ends.old trusted.old.contents
         accesses.old ends.new trusted.new.contents accesses.new) }

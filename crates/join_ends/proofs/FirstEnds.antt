@@ -1,8 +1,7 @@
 -- The ends of all lines before the first event: their ports are those of the machine's first state, they are the
--- plan's, and no call was made of them.
+-- plan's, and no unit was finished at them.
 use Rattle.std.proofs.Common.{◌≡◌, ℕ, suc, zero, ◌+◌, ◌-◌, ◌<◌, ◌≤◌, List, [], ◌∷◌, ◌++◌, length, map, refl, ap, sym}
-use Rattle.std.proofs.Common.{◌∙◌}
-use Rattle.std.proofs.Common.{arith, subst, Option, Some, None, Bool, true, false}
+use Rattle.std.proofs.Common.{◌∙◌, arith, subst, Option, Some, None, Bool, true, false}
 use Rattle.std.specs.Prelude.{slice_get, All}
 use Rattle.std.specs.List.{slice_index_or}
 use Rattle.std.specs.Option.{option_map}
@@ -25,14 +24,14 @@ use Rattle.spec_links.specs.Plan.{streams_by_link, streams_of, hop_streams, hop_
 use Rattle.spec_links.specs.Plan.{in_eight, behind_near, behind_links}
 unfoldable use Rattle.spec_links.specs.Plan.{streams_by_line}
 use Rattle.spec_links.proofs.Ends.{link_row, behind_eight}
-use Rattle.machine_ports.specs.Machine.{first_ports, first_state}
-use Rattle.ide_port.specs.{PortEnd}
+use Rattle.machine_ports.specs.Machine.{first_ports, first_state, port_at}
+use Rattle.ide_port.specs.{PortEnd, PortUnitsAtMost}
+use Rattle.ide_port.proofs.Units.{new-units}
 use Rattle.link_ends.specs.declared.pair.PairEnds.{PairEnds}
 use Rattle.link_ends.specs.LineEnds.{new_pair}
 use Rattle.all_ends.specs.{LinkEnds, new_ends, port_in, KeeperView}
 use Rattle.all_ends.specs.Requester.{requester_of}
-use Rattle.all_ends.specs.Ends.{ends_from, near_from, pairs_from, new_all_ends, port_at_place}
-use Rattle.all_ends.specs.Ends.{pair_port, line_place}
+use Rattle.all_ends.specs.Ends.{ends_from, near_from, pairs_from, new_all_ends, port_at_place, pair_port, line_place}
 use Rattle.all_ends.specs.States.{ports_in, pair_ports, in_sixteen, rows_of, state_of, ops_in, IsLink, IsPair}
 use Rattle.all_ends.specs.States.{AreLinks, IsBounded, StreamKept, KeptBy, name_of}
 use Rattle.all_ends.specs.declared.places.LinePlace.{LinePlace}
@@ -259,35 +258,39 @@ module _ (plan : Plan) (fits : FitsPlan plan) where
               let peers = length-map plan.peers (λ (p : PeerPlan). lone_stream p.id p.aggregation ∷ []) in
               omega (arith, all, hops, peers)
 
-  -- ---- no call was made
+  -- ---- no unit was finished
 
-  new_calls : (side : Side) (line : ℕ) (ss : List StreamPlan) (l : LinkEnds) → IsMade limit line ss l
-      → (port_in side l).calls ≡ 0
-  new_calls Host line ss l m = ap (λ (x : LinkEnds). x.host.calls) m.ends
-  new_calls Device line ss l m = ap (λ (x : LinkEnds). x.device.port.calls) m.ends
+  new_ports : (side : Side) (line : ℕ) (ss : List StreamPlan) (l : LinkEnds) → IsMade limit line ss l
+      → PortUnitsAtMost 0 (port_in side l)
+  new_ports Host line ss l m = subst (λ (x : LinkEnds). PortUnitsAtMost 0 x.host) (sym m.ends)
+      (new-units (port_at Host line) ss limit)
+  new_ports Device line ss l m = subst (λ (x : LinkEnds). PortUnitsAtMost 0 x.device.port) (sym m.ends)
+      (new-units (port_at Device line) ss limit)
 
-  new_pair_calls : (side : Side) (line : ℕ) (ss : List StreamPlan) (l : PairEnds) → l ≡ new_pair line ss limit
-      → (pair_port side l).calls ≡ 0
-  new_pair_calls Host line ss l m = ap (λ (x : PairEnds). x.near.port.calls) m
-  new_pair_calls Device line ss l m = ap (λ (x : PairEnds). x.far.port.calls) m
+  new_pair_ports : (side : Side) (line : ℕ) (ss : List StreamPlan) (l : PairEnds) → l ≡ new_pair line ss limit
+      → PortUnitsAtMost 0 (pair_port side l)
+  new_pair_ports Host line ss l m = subst (λ (x : PairEnds). PortUnitsAtMost 0 x.near.port) (sym m)
+      (new-units (port_at Host line) ss limit)
+  new_pair_ports Device line ss l m = subst (λ (x : PairEnds). PortUnitsAtMost 0 x.far.port) (sym m)
+      (new-units (port_at Device line) ss limit)
 
-  mapped : {A : Type 0} (f : A → PortEnd) (o : Option A) (e : PortEnd) → ((x : A) → o ≡ Some x → (f x).calls ≡ 0)
-      → option_map f o ≡ Some e → e.calls ≡ 0
+  mapped : {A : Type 0} (f : A → PortEnd) (o : Option A) (e : PortEnd)
+      → ((x : A) → o ≡ Some x → PortUnitsAtMost 0 (f x)) → option_map f o ≡ Some e → PortUnitsAtMost 0 e
   mapped f None e each is = absurd (none-some e is)
-  mapped f (Some x) e each is = ap (λ (p : PortEnd). p.calls) (sym (same_Some (f x) e is)) ∙ each x refl
+  mapped f (Some x) e each is = subst (λ (p : PortEnd). PortUnitsAtMost 0 p) (same_Some (f x) e is) (each x refl)
 
-  calls_at : (side : Side) (p : LinePlace) (e : PortEnd) → port_at_place (new_all_ends plan) side p ≡ Some e
-      → e.calls ≡ 0
-  calls_at side (Link i) e is = mapped (port_in side) (slice_get (new_all_ends plan).links i) e
-      (λ l at. new_calls side i _ l (link_made limit 0 plan.links i i l (omega arith) fits.each_link at)) is
-  calls_at side (Near i) e is = mapped (port_in side) (slice_get (new_all_ends plan).near i) e
-      (λ l at. new_calls side (8 + i) _ l (near_made limit 8 (in_eight (hop_by_link plan)) i (8 + i) l refl at)) is
-  calls_at side (Pair i) e is = mapped (pair_port side) (slice_get (new_all_ends plan).pairs i) e
-      (λ l at. new_pair_calls side (16 + i) _ l (pair_made limit 16 (behind_near plan) i (16 + i) l refl at)) is
+  units_at : (side : Side) (p : LinePlace) (e : PortEnd) → port_at_place (new_all_ends plan) side p ≡ Some e
+      → PortUnitsAtMost 0 e
+  units_at side (Link i) e is = mapped (port_in side) (slice_get (new_all_ends plan).links i) e
+      (λ l at. new_ports side i _ l (link_made limit 0 plan.links i i l (omega arith) fits.each_link at)) is
+  units_at side (Near i) e is = mapped (port_in side) (slice_get (new_all_ends plan).near i) e
+      (λ l at. new_ports side (8 + i) _ l (near_made limit 8 (in_eight (hop_by_link plan)) i (8 + i) l refl at)) is
+  units_at side (Pair i) e is = mapped (pair_port side) (slice_get (new_all_ends plan).pairs i) e
+      (λ l at. new_pair_ports side (16 + i) _ l (pair_made limit 16 (behind_near plan) i (16 + i) l refl at)) is
 
   pub bounded_first : IsBounded (new_all_ends plan) [] 0
   bounded_first = record {
     few = omega (arith, many_links limit 0 plan.links, fits.links_most);
-    calls = λ end e is. let none = calls_at end.side (line_place end.line) e is in omega (arith, none);
+    units = λ end e is. units_at end.side (line_place end.line) e is;
     sealed_here = λ i p is. absurd (none-some p is);
   }

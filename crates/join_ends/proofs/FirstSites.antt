@@ -1,8 +1,7 @@
 -- Interface number `i` stands at the place of the same link at which the topology lists it, since the lists of sites,
 -- of the manager and of the devices are made link by link in one order.
-use Rattle.std.proofs.Common.{◌≡◌, ℕ, suc, zero, ◌+◌, ◌-◌, ◌<◌, ◌≤◌, List, [], ◌∷◌, ◌++◌, length}
-use Rattle.std.proofs.Common.{map}
-use Rattle.std.proofs.Common.{refl, ap, sym, ◌∙◌, arith, inl, inr, Some, Option, length-append}
+use Rattle.std.proofs.Common.{◌≡◌, ℕ, suc, zero, ◌+◌, ◌-◌, ◌<◌, ◌≤◌, List, [], ◌∷◌, ◌++◌, length, map, refl, ap, sym}
+use Rattle.std.proofs.Common.{◌∙◌, arith, inl, inr, Some, Option, length-append}
 use Rattle.std.specs.Prelude.{slice_get, nat_lt, if◌then◌else◌}
 use Rattle.std.specs.List.{slice_index_or}
 use Rattle.std.specs.Option.{option_map}
@@ -12,7 +11,7 @@ use Rattle.std.proofs.lemmas.Bool.Decides.{nat_tests}
 use Rattle.std.proofs.lemmas.Option.{none-some, same_Some, slice_get-map}
 use Rattle.ide_types.specs.declared.plan.LinkPlan.{LinkPlan}
 use Rattle.ide_types.specs.declared.interface.InterfacePlan.{InterfacePlan}
-use Rattle.spec_interfaces.specs.Sites.{Site, sites_on, sites_from}
+use Rattle.spec_interfaces.specs.Sites.{Site, sites_of_plans, sites_of_links}
 use Rattle.interface_state.specs.Machine.{new_tdi}
 use Rattle.interface_host.specs.Views.{new_interface}
 use Rattle.interface_host.specs.Managers.{new_interfaces, interfaces_from}
@@ -51,14 +50,14 @@ pub record IsListed (limit link : ℕ) (ls : List LinkPlan) (i : ℕ) (x : Site)
   pub plan_is : slice_get plan.interfaces place ≡ Some x.plan
   pub interface_is : slice_get (interfaces_from link ls) i ≡ Some (new_interface x.link x.plan)
 
-site_on : (number link : ℕ) (ps : List InterfacePlan) (i : ℕ) (x : Site) → slice_get (sites_on number link ps) i
+site_on : (number link : ℕ) (ps : List InterfacePlan) (i : ℕ) (x : Site) → slice_get (sites_of_plans number link ps) i
     ≡ Some x → (x.link ≡ link) × (slice_get ps i ≡ Some x.plan)
 site_on number link [] i x is = absurd (none-some x is)
 site_on number link (p ∷ ps) zero x is =
     let same = same_Some _ x is in (sym (ap (λ (y : Site). y.link) same), ap (λ (y : Site). Some y.plan) same)
 site_on number link (p ∷ ps) (suc i) x is = site_on (number + 1) link ps i x is
 
-pub many_on : (number link : ℕ) (ps : List InterfacePlan) → length (sites_on number link ps) ≡ length ps
+pub many_on : (number link : ℕ) (ps : List InterfacePlan) → length (sites_of_plans number link ps) ≡ length ps
 many_on number link [] = refl
 many_on number link (p ∷ ps) = ap suc (many_on (number + 1) link ps)
 
@@ -70,12 +69,13 @@ located_past : (n i : ℕ) (here rest : Option (ℕ × ℕ)) → n ≤ i → (if
 located_past n i here rest least = grind (arith, nat_tests)
 
 listed_here : (limit number link : ℕ) (l : LinkPlan) (ls : List LinkPlan) (i : ℕ) (x : Site) → i < length l.interfaces
-    → slice_get (sites_from number link (l ∷ ls)) i ≡ Some x → IsListed limit link (l ∷ ls) i x
+    → slice_get (sites_of_links number link (l ∷ ls)) i ≡ Some x → IsListed limit link (l ∷ ls) i x
 listed_here limit number link l ls i x less is =
     let many = length-map l.interfaces new_tdi in
     let managed = length-map l.interfaces (new_interface link) in
     let counted = many_on number link l.interfaces in
-    let at = site_on number link l.interfaces i x (sym (get_left (sites_on number link l.interfaces) _ i (omega arith))
+    let at = site_on number link l.interfaces i x
+    (sym (get_left (sites_of_plans number link l.interfaces) _ i (omega arith))
     ∙ is) in
     let there : i < length (map new_tdi l.interfaces) = omega arith in
     record {
@@ -118,17 +118,17 @@ listed_later limit number link l ls i x least r =
     }
 
 pub listed : (limit number link : ℕ) (ls : List LinkPlan) (i : ℕ) (x : Site)
-    → slice_get (sites_from number link ls) i ≡ Some x → IsListed limit link ls i x
+    → slice_get (sites_of_links number link ls) i ≡ Some x → IsListed limit link ls i x
 listed limit number link [] i x is = absurd (none-some x is)
 listed limit number link (l ∷ ls) i x is = elim (cases_lt i (length l.interfaces)) [
   | inl less ↦ listed_here limit number link l ls i x less is
   | inr least ↦
       let counted = many_on number link l.interfaces in
-      let left : i - length (sites_on number link l.interfaces) ≡ i - length l.interfaces = omega arith in
+      let left : i - length (sites_of_plans number link l.interfaces) ≡ i - length l.interfaces = omega arith in
       listed_later limit number link l ls i x least
       (listed limit (number + length l.interfaces) (link + 1) ls (i - length l.interfaces) x
-      (ap (slice_get (sites_from (number + length l.interfaces) (link + 1) ls)) (sym left)
-      ∙ (sym (get_right (sites_on number link l.interfaces) _ i (omega arith)) ∙ is)))
+      (ap (slice_get (sites_of_links (number + length l.interfaces) (link + 1) ls)) (sym left)
+      ∙ (sym (get_right (sites_of_plans number link l.interfaces) _ i (omega arith)) ∙ is)))
 ]
 
 -- ---- devices
@@ -159,12 +159,12 @@ nonces_at (l ∷ ls) zero p is = ap (λ (q : LinkPlan). q.nonces) (same_Some l p
 nonces_at (l ∷ ls) (suc k) p is = nonces_at ls k p is
 
 pub managed_many : (number link : ℕ) (ls : List LinkPlan) → length (interfaces_from link ls)
-    ≡ length (sites_from number link ls)
+    ≡ length (sites_of_links number link ls)
 managed_many number link [] = refl
 managed_many number link (l ∷ ls) =
     let left = length-append (new_interfaces link l.interfaces) (interfaces_from (link + 1) ls) in
-    let right = length-append (sites_on number link l.interfaces)
-    (sites_from (number + length l.interfaces) (link + 1) ls) in
+    let right = length-append (sites_of_plans number link l.interfaces)
+    (sites_of_links (number + length l.interfaces) (link + 1) ls) in
     let one = length-map l.interfaces (new_interface link) in
     let other = many_on number link l.interfaces in
     let rest = managed_many (number + length l.interfaces) (link + 1) ls in

@@ -8,6 +8,7 @@ pub mod FirstRows
 pub mod FirstStreams
 pub mod FirstEnds
 pub mod FirstSites
+pub mod Turns
 -- what proofs above cite
 pub use Rattle.all_ends.proofs.{IsNamed, found_id, is_asked, named_stands, own_tlps, switch_admits_none, unit_agrees}
 pub use Rattle.all_ends.proofs.{waits_open, writes_agree}
@@ -18,12 +19,10 @@ pub use Rattle.all_ends.proofs.Kept.{links_kept, near_grow, near_kept, pairs_gro
 pub use Rattle.all_ends.proofs.Kept.{place_rows, bounded_then, end_grows, end_kept, settled_grows, settled_kept}
 pub use Rattle.all_ends.proofs.Kept.{settled_rows, stays_all}
 pub use Rattle.all_ends.proofs.Terms.{AreLinks, BesidePorts, Bool, Device, EndsView, Host, LinkEnds, LinkPacket}
-pub use Rattle.all_ends.proofs.Terms.{LinkState}
-pub use Rattle.all_ends.proofs.Terms.{List, None, Option, Packet, PairEnds, Plan, PortEnd, PortName, Side, Some}
-pub use Rattle.all_ends.proofs.Terms.{UnitName, [], ap, append-nil, arith, changed_at, false, if◌then◌else◌, length}
-pub use Rattle.all_ends.proofs.Terms.{length-set, line_place, peer_live, map, nat_tests, none-some, option_map}
-pub use Rattle.all_ends.proofs.Terms.{pair_port}
-pub use Rattle.all_ends.proofs.Terms.{port_at_place, port_in, port_on, refl, rows_of, same_Some, settled_ends}
-pub use Rattle.all_ends.proofs.Terms.{settled_link, slice_get, slice_set, state_of, subst, suc, sym, take_step, true}
-pub use Rattle.all_ends.proofs.Terms.{with_pair_port, with_port, with_port_at, with_port_on, zero, ℕ, ◌++◌, ◌+◌, ◌-◌}
-pub use Rattle.all_ends.proofs.Terms.{◌<◌, ◌==◌, ◌∙◌, ◌∷◌, ◌≡◌, ◌≤◌}
+pub use Rattle.all_ends.proofs.Terms.{LinkState, List, None, Option, Packet, PairEnds, Plan, PortEnd, PortName, Side}
+pub use Rattle.all_ends.proofs.Terms.{Some, UnitName, [], ap, append-nil, arith, changed_at, false, if◌then◌else◌}
+pub use Rattle.all_ends.proofs.Terms.{length, length-set, line_place, peer_live, map, nat_tests, none-some, option_map}
+pub use Rattle.all_ends.proofs.Terms.{pair_port, port_at_place, port_in, port_on, refl, rows_of, same_Some}
+pub use Rattle.all_ends.proofs.Terms.{settled_ends, settled_link, slice_get, slice_set, state_of, subst, suc, sym}
+pub use Rattle.all_ends.proofs.Terms.{take_step, true, with_pair_port, with_port, with_port_at, with_port_on, zero, ℕ}
+pub use Rattle.all_ends.proofs.Terms.{◌++◌, ◌+◌, ◌-◌, ◌<◌, ◌==◌, ◌∙◌, ◌∷◌, ◌≡◌, ◌≤◌}

@@ -13,8 +13,7 @@ pub record IsLocated (ends : List LinkEnds) (link : ℕ) (at : ℕ × ℕ) : Typ
   pub within : at.1 < length ends_at.device.interfaces.interfaces
 
 first_located : (link n : ℕ) (l : LinkEnds) (ls : List LinkEnds) (at : ℕ × ℕ)
-    → nat_lt n (length l.device.interfaces.interfaces) ≡ true
-    → Some (link, n) ≡ Some at → IsLocated (l ∷ ls) link at
+    → nat_lt n (length l.device.interfaces.interfaces) ≡ true → Some (link, n) ≡ Some at → IsLocated (l ∷ ls) link at
 first_located link n l ls at lt is =
     let same : (link, n) ≡ at = same_Some (link, n) at is in
     let less : n < length l.device.interfaces.interfaces = grind (arith, nat_tests) in

@@ -2,111 +2,109 @@
 use Rattle.all_ends.proofs.Terms.{◌≡◌, ℕ, suc, zero, ◌+◌, ◌<◌, ◌==◌, false, List, [], ◌∷◌, ◌++◌, refl, ap, sym, ◌∙◌}
 use Rattle.all_ends.proofs.Terms.{subst, arith, Option, None, option_map, map, slice_set, slice_index_or, nat_tests}
 use Rattle.all_ends.proofs.Terms.{different-false, StreamStage, StreamPlan, StreamView, first_named, ops_of}
-use Rattle.all_ends.proofs.Terms.{views_after, ops_in}
-use Rattle.all_ends.proofs.Terms.{name_of, names_of, names_from}
+use Rattle.all_ends.proofs.Terms.{views_after, ops_in, name_of, names_of, names_from}
 use Rattle.machine_ports.specs.Machine as machine
 
 -- ---- names
 
 -- none of these names is of the link
 abbrev pub Apart : ℕ → List (ℕ × ℕ) → Type 0
-Apart link [] = Unit {0}
-Apart link (n ∷ ns) = ((n.0 == link) ≡ false) × Apart link ns
+Apart line [] = Unit {0}
+Apart line (n ∷ ns) = ((n.0 == line) ≡ false) × Apart line ns
 
-apart_names : (from link : ℕ) (ss : List StreamPlan) (rest : List (ℕ × ℕ)) → (from == link) ≡ false → Apart link rest
-    → Apart link (names_of from ss ++ rest)
-apart_names from link [] rest differs more = more
-apart_names from link (s ∷ ss) rest differs more = (differs, apart_names from link ss rest differs more)
+apart_names : (from line : ℕ) (ss : List StreamPlan) (rest : List (ℕ × ℕ)) → (from == line) ≡ false → Apart line rest
+    → Apart line (names_of from ss ++ rest)
+apart_names from line [] rest differs more = more
+apart_names from line (s ∷ ss) rest differs more = (differs, apart_names from line ss rest differs more)
 
 -- no later link has a stream of an earlier one
-apart_from : (links : List (List StreamPlan)) (from link : ℕ) → link < from → Apart link (names_from from links)
-apart_from [] from link lt = tt
-apart_from (ss ∷ links) from link lt =
-    apart_names from link ss (names_from (from + 1) links) (grind (arith, nat_tests, lt))
-    (apart_from links (from + 1) link (omega (arith, lt)))
+apart_from : (links : List (List StreamPlan)) (from line : ℕ) → line < from → Apart line (names_from from links)
+apart_from [] from line lt = tt
+apart_from (ss ∷ links) from line lt =
+    apart_names from line ss (names_from (from + 1) links) (grind (arith, nat_tests, lt))
+    (apart_from links (from + 1) line (omega (arith, lt)))
 
-pub behind_names : (link : ℕ) (ss : List StreamPlan) (vs : List StreamView) (rest : List (ℕ × ℕ)) → map name_of vs
-    ≡ names_of link ss ++ rest → map name_of (views_after ss vs) ≡ rest
-behind_names link [] vs rest names = names
-behind_names link (s ∷ ss) [] rest names = absurd cc
-behind_names link (s ∷ ss) (v ∷ vs) rest names = behind_names link ss vs rest cc
+pub behind_names : (line : ℕ) (ss : List StreamPlan) (vs : List StreamView) (rest : List (ℕ × ℕ)) → map name_of vs
+    ≡ names_of line ss ++ rest → map name_of (views_after ss vs) ≡ rest
+behind_names line [] vs rest names = names
+behind_names line (s ∷ ss) [] rest names = absurd cc
+behind_names line (s ∷ ss) (v ∷ vs) rest names = behind_names line ss vs rest cc
 
 -- ---- the operation on a stream of a link, by the machine
 
-none_named : (link id : ℕ) (vs : List StreamView) → Apart link (map name_of vs) → first_named link id vs ≡ None
-none_named link id [] apart = refl
-none_named link id (v ∷ vs) apart = rw apart.0 (none_named link id vs apart.1)
+none_named : (line id : ℕ) (vs : List StreamView) → Apart line (map name_of vs) → first_named line id vs ≡ None
+none_named line id [] apart = refl
+none_named line id (v ∷ vs) apart = rw apart.0 (none_named line id vs apart.1)
 
-first_other : (link other : ℕ) (ss : List StreamPlan) (vs : List StreamView) (rest : List (ℕ × ℕ)) (id : ℕ)
-    → (link == other) ≡ false → map name_of vs ≡ names_of link ss ++ rest
+first_other : (line other : ℕ) (ss : List StreamPlan) (vs : List StreamView) (rest : List (ℕ × ℕ)) (id : ℕ)
+    → (line == other) ≡ false → map name_of vs ≡ names_of line ss ++ rest
     → first_named other id vs ≡ first_named other id (views_after ss vs)
-first_other link other [] vs rest id apart names = refl
-first_other link other (s ∷ ss) [] rest id apart names = absurd cc
-first_other link other (s ∷ ss) (v ∷ vs) rest id apart names =
-    let name : name_of v ≡ (link, s.id) = cc in
-    let more : map name_of vs ≡ names_of link ss ++ rest = cc in
-    grind (arith, name, first_other link other ss vs rest id apart more)
+first_other line other [] vs rest id apart names = refl
+first_other line other (s ∷ ss) [] rest id apart names = absurd cc
+first_other line other (s ∷ ss) (v ∷ vs) rest id apart names =
+    let name : name_of v ≡ (line, s.id) = cc in
+    let more : map name_of vs ≡ names_of line ss ++ rest = cc in
+    grind (arith, name, first_other line other ss vs rest id apart more)
 
-first_here : (link : ℕ) (ss : List StreamPlan) (vs : List StreamView) (rest : List (ℕ × ℕ)) (id : ℕ) → map name_of vs
-    ≡ names_of link ss ++ rest
-    → Apart link rest
-    → option_map (λ (v : StreamView). v.op) (first_named link id vs) ≡ machine.found_by_id ss (ops_of ss vs) id
-first_here link [] vs rest id names apart =
+first_here : (line : ℕ) (ss : List StreamPlan) (vs : List StreamView) (rest : List (ℕ × ℕ)) (id : ℕ) → map name_of vs
+    ≡ names_of line ss ++ rest
+    → Apart line rest
+    → option_map (λ (v : StreamView). v.op) (first_named line id vs) ≡ machine.found_by_id ss (ops_of ss vs) id
+first_here line [] vs rest id names apart =
     ap (λ (o : Option StreamView). option_map (λ (v : StreamView). v.op) o)
-    (none_named link id vs (subst (λ (ns : List (ℕ × ℕ)). Apart link ns) (sym names) apart))
-first_here link (s ∷ ss) [] rest id names apart = absurd cc
-first_here link (s ∷ ss) (v ∷ vs) rest id names apart =
-    let name : name_of v ≡ (link, s.id) = cc in
-    let more : map name_of vs ≡ names_of link ss ++ rest = cc in
-    grind (arith, nat_tests, name, first_here link ss vs rest id more apart)
+    (none_named line id vs (subst (λ (ns : List (ℕ × ℕ)). Apart line ns) (sym names) apart))
+first_here line (s ∷ ss) [] rest id names apart = absurd cc
+first_here line (s ∷ ss) (v ∷ vs) rest id names apart =
+    let name : name_of v ≡ (line, s.id) = cc in
+    let more : map name_of vs ≡ names_of line ss ++ rest = cc in
+    grind (arith, nat_tests, name, first_here line ss vs rest id more apart)
 
-pub op_found : (links : List (List StreamPlan)) (from i link : ℕ) (vs : List StreamView) (id : ℕ) → from + i ≡ link
-    → map name_of vs ≡ names_from from links
-    → option_map (λ (v : StreamView). v.op) (first_named link id vs)
+pub op_found : (links : List (List StreamPlan)) (from i line : ℕ) (vs : List StreamView) (id : ℕ) → from + i ≡ line
+    → map name_of vs ≡ names_from from links → option_map (λ (v : StreamView). v.op) (first_named line id vs)
     ≡ machine.found_by_id (slice_index_or links i []) (slice_index_or (ops_in links vs) i []) id
-op_found [] from i link [] id at names = refl
-op_found [] from i link (v ∷ vs) id at names = absurd cc
-op_found (ss ∷ links) from zero link vs id at names =
-    let same : from ≡ link = omega arith in
-    first_here link ss vs (names_from (from + 1) links) id
+op_found [] from i line [] id at names = refl
+op_found [] from i line (v ∷ vs) id at names = absurd cc
+op_found (ss ∷ links) from zero line vs id at names =
+    let same : from ≡ line = omega arith in
+    first_here line ss vs (names_from (from + 1) links) id
     (subst (λ (n : ℕ). map name_of vs ≡ names_of n ss ++ names_from (from + 1) links) same names)
-    (apart_from links (from + 1) link (omega arith))
-op_found (ss ∷ links) from (suc i) link vs id at names =
+    (apart_from links (from + 1) line (omega arith))
+op_found (ss ∷ links) from (suc i) line vs id at names =
     ap (λ (o : Option StreamView). option_map (λ (v : StreamView). v.op) o)
-    (first_other from link ss vs (names_from (from + 1) links) id (different-false from link (omega arith)) names)
-    ∙ op_found links (from + 1) i link (views_after ss vs) id (omega arith)
+    (first_other from line ss vs (names_from (from + 1) links) id (different-false from line (omega arith)) names)
+    ∙ op_found links (from + 1) i line (views_after ss vs) id (omega arith)
     (behind_names from ss vs (names_from (from + 1) links) names)
 
 -- ---- the operations of all links, if the streams of one link change
 
 -- the change of a link's streams by `f` is that of its operations by `g`, and no other link sees it
-pub record ChangesLink (link : ℕ) (f : List StreamView → List StreamView)
+pub record ChangesLink (line : ℕ) (f : List StreamView → List StreamView)
     (g : List StreamPlan → List StreamStage → List StreamStage) :
     Type 0 where
-  pub here : (ss : List StreamPlan) (vs : List StreamView) (rest : List (ℕ × ℕ)) → map name_of vs ≡ names_of link ss
-      ++ rest → Apart link rest
+  pub here : (ss : List StreamPlan) (vs : List StreamView) (rest : List (ℕ × ℕ)) → map name_of vs ≡ names_of line ss
+      ++ rest → Apart line rest
       → (ops_of ss (f vs) ≡ g ss (ops_of ss vs)) × (views_after ss (f vs) ≡ views_after ss vs)
-  pub other : (from : ℕ) (ss : List StreamPlan) (vs : List StreamView) (rest : List (ℕ × ℕ)) → (from == link) ≡ false
+  pub other : (from : ℕ) (ss : List StreamPlan) (vs : List StreamView) (rest : List (ℕ × ℕ)) → (from == line) ≡ false
       → map name_of vs ≡ names_of from ss ++ rest
       → (ops_of ss (f vs) ≡ ops_of ss vs) × (views_after ss (f vs) ≡ f (views_after ss vs))
 
-pub ops_changed : (link : ℕ) (f : List StreamView → List StreamView)
+pub ops_changed : (line : ℕ) (f : List StreamView → List StreamView)
     (g : List StreamPlan → List StreamStage → List StreamStage)
-    → ChangesLink link f g
-    → (links : List (List StreamPlan)) (from i : ℕ) (vs : List StreamView) → from + i ≡ link → map name_of vs
+    → ChangesLink line f g
+    → (links : List (List StreamPlan)) (from i : ℕ) (vs : List StreamView) → from + i ≡ line → map name_of vs
     ≡ names_from from links
     → ops_in links (f vs) ≡ slice_set (ops_in links vs) i
     (g (slice_index_or links i []) (slice_index_or (ops_in links vs) i []))
-ops_changed link f g c [] from i vs at names = refl
-ops_changed link f g c (ss ∷ links) from zero vs at names =
-    let same : from ≡ link = omega arith in
+ops_changed line f g c [] from i vs at names = refl
+ops_changed line f g c (ss ∷ links) from zero vs at names =
+    let same : from ≡ line = omega arith in
     let h = c.here ss vs (names_from (from + 1) links)
     (subst (λ (n : ℕ). map name_of vs ≡ names_of n ss ++ names_from (from + 1) links) same names)
-    (apart_from links (from + 1) link (omega arith)) in
+    (apart_from links (from + 1) line (omega arith)) in
     (λ j. h.0 j ∷ ops_in links (h.1 j))
-ops_changed link f g c (ss ∷ links) from (suc i) vs at names =
-    let o = c.other from ss vs (names_from (from + 1) links) (different-false from link (omega arith)) names in
+ops_changed line f g c (ss ∷ links) from (suc i) vs at names =
+    let o = c.other from ss vs (names_from (from + 1) links) (different-false from line (omega arith)) names in
     (λ j. o.0 j ∷ ops_in links (o.1 j))
     ∙ ap (λ (os : List (List StreamStage)). ops_of ss vs ∷ os)
-    (ops_changed link f g c links (from + 1) i (views_after ss vs) (omega arith)
+    (ops_changed line f g c links (from + 1) i (views_after ss vs) (omega arith)
     (behind_names from ss vs (names_from (from + 1) links) names))

@@ -3,17 +3,15 @@
 -- machine says, since an operation that is not refused reached one of its exchanges.
 use Rattle.all_ends.specs.declared.places.LinePlace.{LinePlace}
 use Rattle.all_ends.specs.declared.places.LinePlace.TheVariants.{Link, Near, Pair}
-use Rattle.all_ends.proofs.Terms.{◌≡◌, ℕ, suc, zero, ◌==◌, true, false, List, [], ◌∷◌, ◌++◌, refl, ap, sym}
-use Rattle.all_ends.proofs.Terms.{◌∙◌, subst, arith, Option, Some, None, option_map, slice_get, slice_set}
-use Rattle.all_ends.proofs.Terms.{map, slice_index_or, same_Some, nat_tests, set-get_or, Side, Host, Device}
-use Rattle.all_ends.proofs.Terms.{PortName, Plan, StreamPlan, StreamStage, StreamState, streams_of, LinkState}
-use Rattle.all_ends.proofs.Terms.{LinkPacket, find_op, put, port_at, StreamView, Named, named, PortEnd, Found}
-use Rattle.all_ends.proofs.Terms.{found_stream}
-use Rattle.all_ends.proofs.Terms.{changed_states, LinkEnds, PairEnds, EndsView, with_port, with_pair_port, KeeperView}
-use Rattle.all_ends.proofs.Terms.{ops_in}
-use Rattle.all_ends.proofs.Terms.{ops_of, views_after, name_of, names_of, state_of, rows_of, ports_in, pair_ports}
-use Rattle.all_ends.proofs.Terms.{in_sixteen, AreLinks, port_in, pair_port, port_on, with_port_on, port_at_place}
-use Rattle.all_ends.proofs.Terms.{with_port_at, line_place, changed_at, changed_same}
+use Rattle.all_ends.proofs.Terms.{◌≡◌, ℕ, suc, zero, ◌==◌, true, false, List, [], ◌∷◌, ◌++◌, refl, ap, sym, ◌∙◌, subst}
+use Rattle.all_ends.proofs.Terms.{arith, Option, Some, None, option_map, slice_get, slice_set, map, slice_index_or}
+use Rattle.all_ends.proofs.Terms.{same_Some, nat_tests, set-get_or, Side, Host, Device, PortName, Plan, StreamPlan}
+use Rattle.all_ends.proofs.Terms.{StreamStage, StreamState, streams_of, LinkState, LinkPacket, find_op}
+use Rattle.all_ends.proofs.Terms.{with_stream_state, port_at, StreamView, Named, named_stream, PortEnd, Found}
+use Rattle.all_ends.proofs.Terms.{found_stream, changed_states, LinkEnds, PairEnds, EndsView, with_port, with_pair_port}
+use Rattle.all_ends.proofs.Terms.{KeeperView, ops_in, ops_of, views_after, name_of, names_of, state_of, rows_of}
+use Rattle.all_ends.proofs.Terms.{ports_in, pair_ports, in_sixteen, AreLinks, port_in, pair_port, port_on, with_port_on}
+use Rattle.all_ends.proofs.Terms.{port_at_place, with_port_at, line_place, changed_at, changed_same}
 unfoldable use Rattle.spec_links.specs.Plan.{streams_by_line}
 use Rattle.key_slots.specs.{Pool}
 use Rattle.spec_keys.specs.Operations.{Work, Reach}
@@ -35,34 +33,32 @@ use Rattle.machine_ports.specs.Machine as machine
 
 -- ---- the operations of all lines, with another stream in a place
 
-apart_set : (link id : ℕ) (w : StreamView) (vs : List StreamView) → Apart link (map name_of vs) → set_named link id w vs
+apart_set : (line id : ℕ) (w : StreamView) (vs : List StreamView) → Apart line (map name_of vs) → set_named line id w vs
     ≡ vs
-apart_set link id w [] apart = refl
-apart_set link id w (x ∷ vs) apart = rw (apart.0, apart_set link id w vs apart.1)
+apart_set line id w [] apart = refl
+apart_set line id w (x ∷ vs) apart = rw (apart.0, apart_set line id w vs apart.1)
 
-set_here : (link id : ℕ) (w : StreamView) (ss : List StreamPlan) (vs : List StreamView) (rest : List (ℕ × ℕ))
-    → map name_of vs ≡ names_of link ss ++ rest
-    → Apart link rest
-    → (ops_of ss (set_named link id w vs) ≡ machine.changed_by_id ss (ops_of ss vs) id w.op)
-    × (views_after ss (set_named link id w vs) ≡ views_after ss vs)
-set_here link id w [] vs rest names apart =
-    (refl, apart_set link id w vs (subst (λ (ns : List (ℕ × ℕ)). Apart link ns) (sym names) apart))
-set_here link id w (s ∷ ss) [] rest names apart = absurd cc
-set_here link id w (s ∷ ss) (x ∷ vs) rest names apart =
-    let name : name_of x ≡ (link, s.id) = cc in
-    let more = set_here link id w ss vs rest (cc) apart in
+set_here : (line id : ℕ) (w : StreamView) (ss : List StreamPlan) (vs : List StreamView) (rest : List (ℕ × ℕ))
+    → map name_of vs ≡ names_of line ss ++ rest → Apart line rest
+    → (ops_of ss (set_named line id w vs) ≡ machine.changed_by_id ss (ops_of ss vs) id w.op)
+    × (views_after ss (set_named line id w vs) ≡ views_after ss vs)
+set_here line id w [] vs rest names apart =
+    (refl, apart_set line id w vs (subst (λ (ns : List (ℕ × ℕ)). Apart line ns) (sym names) apart))
+set_here line id w (s ∷ ss) [] rest names apart = absurd cc
+set_here line id w (s ∷ ss) (x ∷ vs) rest names apart =
+    let name : name_of x ≡ (line, s.id) = cc in
+    let more = set_here line id w ss vs rest (cc) apart in
     (grind (arith, nat_tests, name, more.0), grind (arith, more.1))
 
-set_other : (link id : ℕ) (w : StreamView) (from : ℕ) (ss : List StreamPlan) (vs : List StreamView)
-    (rest : List (ℕ × ℕ)) → (from == link) ≡ false
-    → map name_of vs ≡ names_of from ss ++ rest
-    → (ops_of ss (set_named link id w vs) ≡ ops_of ss vs) ×
-    (views_after ss (set_named link id w vs) ≡ set_named link id w (views_after ss vs))
-set_other link id w from [] vs rest differs names = (refl, refl)
-set_other link id w from (s ∷ ss) [] rest differs names = absurd cc
-set_other link id w from (s ∷ ss) (x ∷ vs) rest differs names =
+set_other : (line id : ℕ) (w : StreamView) (from : ℕ) (ss : List StreamPlan) (vs : List StreamView)
+    (rest : List (ℕ × ℕ)) → (from == line) ≡ false
+    → map name_of vs ≡ names_of from ss ++ rest → (ops_of ss (set_named line id w vs) ≡ ops_of ss vs) ×
+    (views_after ss (set_named line id w vs) ≡ set_named line id w (views_after ss vs))
+set_other line id w from [] vs rest differs names = (refl, refl)
+set_other line id w from (s ∷ ss) [] rest differs names = absurd cc
+set_other line id w from (s ∷ ss) (x ∷ vs) rest differs names =
     let name : name_of x ≡ (from, s.id) = cc in
-    let more = set_other link id w from ss vs rest differs (cc) in
+    let more = set_other line id w from ss vs rest differs (cc) in
     (grind (arith, nat_tests, name, more.0), grind (arith, nat_tests, name, more.1))
 
 -- an operation put back
@@ -73,25 +69,25 @@ put_back [] os id q is = refl
 put_back (s ∷ ss) [] id q is = refl
 put_back (s ∷ ss) (o ∷ os) id q is = grind (arith, nat_tests, put_back ss os id q)
 
-put_op_back : (plan : Plan) (st : LinkState) (link id : ℕ) (q : StreamStage) → find_op plan st link id ≡ Some q
-    → put_op plan st link id q ≡ st
+put_op_back : (plan : Plan) (st : LinkState) (line id : ℕ) (q : StreamStage) → find_op plan st line id ≡ Some q
+    → put_op plan st line id q ≡ st
 unfolding find_op put_op
-put_op_back plan st link id q is =
+put_op_back plan st line id q is =
     ap (λ (os : List (List StreamStage)). record st { ops = os })
-    (ap (λ (xs : List StreamStage). slice_set st.ops link xs)
-    (put_back (streams_of plan link) (slice_index_or st.ops link []) id q is) ∙ set-get_or st.ops link [])
+    (ap (λ (xs : List StreamStage). slice_set st.ops line xs)
+    (put_back (streams_of plan line) (slice_index_or st.ops line []) id q is) ∙ set-get_or st.ops line [])
 
 -- the state with another stream of the manager
 state_ops : (plan : Plan) (v : EndsView) (k k' : KeeperView) (packets : List LinkPacket) (n : Named)
-    (link id : ℕ) (w : StreamView) → AreLinks plan v k → IsNamed k.manager link id n
+    (line id : ℕ) (w : StreamView) → AreLinks plan v k → IsNamed k.manager line id n
     → k'.manager.streams ≡ slice_set k.manager.streams n.place w → (es : EndsView)
-    → state_of plan es k' packets ≡ record (put_op plan (state_of plan es k packets) link id w.op)
+    → state_of plan es k' packets ≡ record (put_op plan (state_of plan es k packets) line id w.op)
     { draws = k'.pool.draws }
 unfolding put_op
-state_ops plan v k k' packets n link id w links named streams es =
-    let all = ops_changed link (set_named link id w) (λ ss os. machine.changed_by_id ss os id w.op)
-    (record { here = set_here link id w; other = set_other link id w })
-    (streams_by_line plan) 0 link k.manager.streams (omega arith) links.names in
+state_ops plan v k k' packets n line id w links named streams es =
+    let all = ops_changed line (set_named line id w) (λ ss os. machine.changed_by_id ss os id w.op)
+    (record { here = set_here line id w; other = set_other line id w })
+    (streams_by_line plan) 0 line k.manager.streams (omega arith) links.names in
     ap (λ (vs : List StreamView). record (state_of plan es k' packets) { ops = ops_in (streams_by_line plan) vs })
     (streams ∙ named.sets w)
     ∙ ap (λ (os : List (List StreamStage)). record (state_of plan es k' packets) { ops = os }) all
@@ -104,7 +100,6 @@ port_operated e e' id x has = record {
   name = ap (λ (p : PortEnd). p.name) has;
   plans = ap (λ (p : PortEnd). p.plans) has;
   limit = ap (λ (p : PortEnd). p.limit) has;
-  calls = omega (arith, ap (λ (p : PortEnd). p.calls) has);
 }
 
 -- the far end, after a change of the near one
@@ -144,7 +139,7 @@ module _ (plan : Plan) (k : KeeperView) (packets : List LinkPacket) (line id : �
       ∙ ap (λ (o : Option Found). option_map (λ (g : Found). g.state) o) at in
       ap (λ (o : Option StreamState). touched_found plan (state_of plan v k packets) end id (out side) (into side) o)
       seen
-      ∙ (ap (λ (z : StreamState). put plan (state_of plan v k packets) end id z) (sym x_is)
+      ∙ (ap (λ (z : StreamState). with_stream_state plan (state_of plan v k packets) end id z) (sym x_is)
       ∙ put_at plan v k packets w end e is id x e' at_end (ap (λ (p : PortEnd). p.states) has))
 
   kept_side : (v : EndsView) (side : Side) (e e' : PortEnd) (f : Found) (x : StreamState) → AreLinks plan v k
@@ -197,7 +192,7 @@ module _ (plan : Plan) (v v' : EndsView) (k k' : KeeperView) (packets : List Lin
     (links : AreLinks plan v k) (near far near' far' : PortEnd) (f g : Found) (x y : StreamState)
     (both : BothHave v line id near far f g x y near' far')
     (rows : rows_of v' ≡ rows_of (with_both v line near' far'))
-    (n : Named) (s : StreamView) (named : IsNamed k.manager line id n)
+    (n : Named) (s : StreamView) (named_stream : IsNamed k.manager line id n)
     (streams : k'.manager.streams ≡ slice_set k.manager.streams n.place s) where
   abbrev st : LinkState
   st = state_of plan v k packets
@@ -210,28 +205,26 @@ module _ (plan : Plan) (v v' : EndsView) (k k' : KeeperView) (packets : List Lin
       → state_of plan v' k' packets ≡ work_done plan st line id w r
   state_by w None here d =
       let kept = both_kept plan k packets line id v links near far near' far' f g x y both d.near_is d.far_is ∙ seen in
-      state_ops plan v k k' packets n line id s links named streams v'
+      state_ops plan v k k' packets n line id s links named_stream streams v'
       ∙ ((λ i. record (put_op plan (sym kept i) line id (d.op_is i)) { draws = d.draws_is i })
       ∙ ap (λ (new : LinkState). record new { draws = st.draws }) (put_op_back plan st line id n.stream.op here))
   state_by w (Some r) here d =
       let after = both_touched plan k packets line id v links near far near' far' f g x y both
       (λ side u. touches_at (ports_of plan st) w r (place_at_end line id true side u))
       (λ side u. touches_at (ports_of plan st) w r (place_at_end line id false side u)) d.near_is d.far_is ∙ seen in
-      state_ops plan v k k' packets n line id s links named streams v'
+      state_ops plan v k k' packets n line id s links named_stream streams v'
       ∙ (λ i. record (put_op plan (sym after i) line id (d.op_is i)) { draws = d.draws_is i })
 
 -- ---- rows, by where the ends are kept
 
-hosted_rows : (ls : List LinkEnds) (i : ℕ) (l l' : LinkEnds) → slice_get ls i ≡ Some l
-    → ports_in (slice_set ls i l')
+hosted_rows : (ls : List LinkEnds) (i : ℕ) (l l' : LinkEnds) → slice_get ls i ≡ Some l → ports_in (slice_set ls i l')
     ≡ ports_in (changed_at (changed_at ls i (with_port Host l'.host)) i (with_port Device l'.device.port))
 hosted_rows [] i l l' is = refl
 hosted_rows (z ∷ ls) zero l l' is = refl
 hosted_rows (z ∷ ls) (suc i) l l' is =
     ap (λ (rows : List (List StreamState)). z.host.states ∷ z.device.port.states ∷ rows) (hosted_rows ls i l l' is)
 
-paired_rows : (ls : List PairEnds) (i : ℕ) (l l' : PairEnds) → slice_get ls i ≡ Some l
-    → pair_ports (slice_set ls i l')
+paired_rows : (ls : List PairEnds) (i : ℕ) (l l' : PairEnds) → slice_get ls i ≡ Some l → pair_ports (slice_set ls i l')
     ≡ pair_ports (changed_at (changed_at ls i (with_pair_port Host l'.near.port)) i (with_pair_port Device l'.far.port))
 paired_rows [] i l l' is = refl
 paired_rows (z ∷ ls) zero l l' is = refl

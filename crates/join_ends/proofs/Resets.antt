@@ -2,18 +2,16 @@
 -- operations on them. A line that is not there has no stream.
 use Rattle.all_ends.specs.declared.places.LinePlace.{LinePlace}
 use Rattle.all_ends.specs.declared.places.LinePlace.TheVariants.{Link, Near, Pair}
-use Rattle.all_ends.proofs.Terms.{◌≡◌, ℕ, suc, zero, ◌+◌, ◌==◌, ◌≤◌, Bool, true, false, not, List, [], ◌∷◌}
-use Rattle.all_ends.proofs.Terms.{◌++◌, length, refl, ap, sym, ◌∙◌, subst, arith, Option, Some, None, option_map}
-use Rattle.all_ends.proofs.Terms.{slice_get, slice_set, map, if◌then◌else◌, nat_tests, none-some, set-get_or}
-use Rattle.all_ends.proofs.Terms.{same_Some, nat_lt, StreamStage, Idle, Side, Host, Device, PortName, Plan, StreamPlan}
-use Rattle.all_ends.proofs.Terms.{StreamState}
-use Rattle.all_ends.proofs.Terms.{LinkPacket, port_at, port_place, reset_state, StreamView}
-use Rattle.all_ends.proofs.Terms.{reset_stream, reset_manager, PortEnd, reset_port, EndsView, LinkEnds, PairEnds}
-use Rattle.all_ends.proofs.Terms.{KeeperView, ports_in, pair_ports, in_sixteen, rows_of, ops_in, ops_of, views_after}
-use Rattle.all_ends.proofs.Terms.{name_of, names_of, state_of, AreLinks, StreamKept, KeptBy, port_on}
-use Rattle.all_ends.proofs.Terms.{port_at_place, with_port_at, line_place, changed_at}
-use Rattle.all_ends.proofs.Terms.{port_in, pair_port, with_pair_port, cleared_on, cleared_ends, cleared_pair}
-use Rattle.all_ends.proofs.Terms.{unlocked_link, unlocked_ends, reset_all, reset_pair}
+use Rattle.all_ends.proofs.Terms.{◌≡◌, ℕ, suc, zero, ◌+◌, ◌==◌, ◌≤◌, Bool, true, false, not, List, [], ◌∷◌, ◌++◌}
+use Rattle.all_ends.proofs.Terms.{length, refl, ap, sym, ◌∙◌, subst, arith, Option, Some, None, option_map, slice_get}
+use Rattle.all_ends.proofs.Terms.{slice_set, map, if◌then◌else◌, nat_tests, none-some, set-get_or, same_Some, nat_lt}
+use Rattle.all_ends.proofs.Terms.{StreamStage, Idle, Side, Host, Device, PortName, Plan, StreamPlan, StreamState}
+use Rattle.all_ends.proofs.Terms.{LinkPacket, port_at, port_place, reset_state, StreamView, reset_stream, reset_manager}
+use Rattle.all_ends.proofs.Terms.{PortEnd, reset_port, EndsView, LinkEnds, PairEnds, KeeperView, ports_in, pair_ports}
+use Rattle.all_ends.proofs.Terms.{in_sixteen, rows_of, ops_in, ops_of, views_after, name_of, names_of, state_of}
+use Rattle.all_ends.proofs.Terms.{AreLinks, StreamKept, KeptBy, port_on, port_at_place, with_port_at, line_place}
+use Rattle.all_ends.proofs.Terms.{changed_at, port_in, pair_port, with_pair_port, cleared_on, cleared_ends}
+use Rattle.all_ends.proofs.Terms.{cleared_pair, unlocked_link, unlocked_ends, reset_all, reset_pair}
 use Rattle.all_ends.specs.Ends.{cleared_place, all_cleared}
 use Rattle.ide_types.specs.Lines.{is_hosted}
 use Rattle.spec_keys.specs.Operations.{Stopping}
@@ -29,11 +27,13 @@ use Rattle.all_ends.proofs.Kept.{end_kept, below_kept, below_rows, ports_seen, G
 use Rattle.all_ends.proofs.Kept.{pairs_grow, stays_all, below_grows}
 use Rattle.join_ends.proofs.Operated.{both_at, other_at, rows_link, rows_near, rows_pair}
 use Rattle.join_ends.proofs.Streams.{IsAbsent, absent}
+use Rattle.ide_port.specs.{UnitsGrow}
+use Rattle.ide_port.proofs.Units.{stays, reset-units}
 
 -- ---- the ends that are cleared keep their names, plans and limits
 
 port_cleared : (e : PortEnd) → Keeps e (reset_port e)
-port_cleared e = record { name = refl; plans = refl; limit = refl; calls = omega arith }
+port_cleared e = record { name = refl; plans = refl; limit = refl }
 
 ends_cleared : (l : LinkEnds) → KeepsEnds l (cleared_ends l)
 ends_cleared l = record { host = port_cleared l.host; device = port_cleared l.device.port; requester = refl }
@@ -74,31 +74,30 @@ reset_keeps plan link es v k links =
     below_kept plan (length (unlocked_link (all_cleared v es) link).links) (unlocked_link (all_cleared v es) link) k
     some
 
--- ---- and are called no more often
+-- ---- and no unit is there that was not
 
-cleared_calls : (s : Side) (l : LinkEnds) → (port_in s (cleared_ends l)).calls ≤ (port_in s l).calls + 0
-cleared_calls Host l = omega arith
-cleared_calls Device l = omega arith
+cleared_units : (s : Side) (l : LinkEnds) → UnitsGrow 0 (port_in s l) (port_in s (cleared_ends l))
+cleared_units Host l = reset-units 0 l.host
+cleared_units Device l = reset-units 0 l.device.port
 
-unlocked_calls : (s : Side) (l : LinkEnds) → (port_in s (unlocked_ends l)).calls ≤ (port_in s l).calls + 0
-unlocked_calls Host l = omega arith
-unlocked_calls Device l = omega arith
+unlocked_units : (s : Side) (l : LinkEnds) → UnitsGrow 0 (port_in s l) (port_in s (unlocked_ends l))
+unlocked_units Host l = stays 0 l.host
+unlocked_units Device l = stays 0 l.device.port
 
-pair_calls : (s side : Side) (b : Bool) (l : PairEnds)
-    → (pair_port s (if b then reset_pair Device (reset_pair Host l) else reset_pair side l)).calls
-    ≤ (pair_port s l).calls + 0
-pair_calls Host side true l = omega arith
-pair_calls Device side true l = omega arith
-pair_calls Host Host false l = omega arith
-pair_calls Device Host false l = omega arith
-pair_calls Host Device false l = omega arith
-pair_calls Device Device false l = omega arith
+pair_units : (s side : Side) (b : Bool) (l : PairEnds)
+    → UnitsGrow 0 (pair_port s l) (pair_port s (if b then reset_pair Device (reset_pair Host l) else reset_pair side l))
+pair_units Host side true l = reset-units 0 l.near.port
+pair_units Device side true l = reset-units 0 l.far.port
+pair_units Host Host false l = reset-units 0 l.near.port
+pair_units Device Host false l = stays 0 l.far.port
+pair_units Host Device false l = stays 0 l.near.port
+pair_units Device Device false l = reset-units 0 l.far.port
 
 place_cleared_grows : (v : EndsView) (side : Side) (place : LinePlace) → Grows 0 v (cleared_place side place v)
-place_cleared_grows v side (Link i) = links_grow 0 v i cleared_ends (λ s l at. cleared_calls s l)
-place_cleared_grows v side (Near i) = near_grow 0 v i cleared_ends (λ s l at. cleared_calls s l)
+place_cleared_grows v side (Link i) = links_grow 0 v i cleared_ends (λ s l at. cleared_units s l)
+place_cleared_grows v side (Near i) = near_grow 0 v i cleared_ends (λ s l at. cleared_units s l)
 place_cleared_grows v side (Pair i) = pairs_grow 0 v i (cleared_pair side i)
-    (λ s l at. pair_calls s side (nat_lt i 8) l)
+    (λ s l at. pair_units s side (nat_lt i 8) l)
 
 all_grows : (es : List PortName) (v : EndsView) → Grows 0 v (all_cleared v es)
 all_grows [] v = stays_all v
@@ -110,7 +109,7 @@ reset_grows link es v =
     let u : EndsView = unlocked_link (all_cleared v es) link in
     grows_then 0 0 v u (reset_all link es v)
     (grows_then 0 0 v (all_cleared v es) u (all_grows es v)
-    (links_grow 0 (all_cleared v es) link unlocked_ends (λ s l at. unlocked_calls s l)))
+    (links_grow 0 (all_cleared v es) link unlocked_ends (λ s l at. unlocked_units s l)))
     (below_grows (length u.links) u)
 
 -- ---- the rows of a line that is cleared
@@ -280,8 +279,7 @@ unlocked_rows v link =
 
 -- ---- the operations after a reset
 
-apart_kept : (e : PortName) (vs : List StreamView) → Apart e.line (map name_of vs)
-    → map (reset_stream (e ∷ [])) vs ≡ vs
+apart_kept : (e : PortName) (vs : List StreamView) → Apart e.line (map name_of vs) → map (reset_stream (e ∷ [])) vs ≡ vs
 apart_kept e [] is = refl
 apart_kept e (v ∷ vs) is = (λ i. one i ∷ apart_kept e vs is.1 i)
   where
@@ -333,8 +331,7 @@ reset_nothing [] = refl
 reset_nothing (v ∷ vs) = (λ i. v ∷ reset_nothing vs i)
 
 ops_cut : (plan : Plan) (es : List PortName) (vs : List StreamView) (v : EndsView) (k : KeeperView) → AreLinks plan v k
-    → map name_of vs ≡ map name_of k.manager.streams
-    → ops_in (streams_by_line plan) (map (reset_stream es) vs)
+    → map name_of vs ≡ map name_of k.manager.streams → ops_in (streams_by_line plan) (map (reset_stream es) vs)
     ≡ machine.all_cut plan es (ops_in (streams_by_line plan) vs)
 ops_cut plan [] vs v k links names = ap (λ (us : List StreamView). ops_in (streams_by_line plan) us) (reset_nothing vs)
 ops_cut plan (e ∷ es) vs v k links names =

@@ -2,42 +2,37 @@
 -- that is refused on its stream, and one that is sealed; aggregation, limit and closing are the port's as the plan's,
 -- and a chosen stream is at the port since the links stand for a history. The packets that are kept are cut from the
 -- port's joined bytes by their lengths, which by induction undoes the joining.
-use Rattle.all_ends.proofs.Terms.{◌≡◌, ℕ, suc, zero, ◌+◌, Bool, true, List, [], ◌∷◌, ◌++◌, length, refl, ap}
-use Rattle.all_ends.proofs.Terms.{sym, ◌∙◌, subst, arith, length-append, Option, Some, None}
-use Rattle.all_ends.proofs.Terms.{option_map, slice_get, map, sum_by, if◌then◌else◌, none-some, same_Some}
-use Rattle.all_ends.proofs.Terms.{append-nil, take-append_seam, drop-append_seam, sum_by-cons, PortName, Plan}
-use Rattle.all_ends.proofs.Terms.{Packet, packet_bytes, Verdict, MeasuredPacket, StreamState, TxSub, Three, lanes_of}
-use Rattle.all_ends.proofs.Terms.{sealed_all, aggregation_of, is_closed, has_stream, History, LinkPacket, LinkState}
-use Rattle.all_ends.proofs.Terms.{put}
-use Rattle.all_ends.proofs.Terms.{Stepped, kept_packet, stepped_answer, find, streams_of, PortsStandFor, standing}
-use Rattle.all_ends.proofs.Terms.{sending}
+use Rattle.all_ends.proofs.Terms.{◌≡◌, ℕ, suc, zero, ◌+◌, Bool, true, List, [], ◌∷◌, ◌++◌, length, refl, ap, sym, ◌∙◌}
+use Rattle.all_ends.proofs.Terms.{subst, arith, length-append, Option, Some, None, option_map, slice_get, map, sum_by}
+use Rattle.all_ends.proofs.Terms.{if◌then◌else◌, none-some, same_Some, append-nil, take-append_seam, drop-append_seam}
+use Rattle.all_ends.proofs.Terms.{sum_by-cons, PortName, Plan, Packet, packet_bytes, Verdict, MeasuredPacket}
+use Rattle.all_ends.proofs.Terms.{StreamState, TxSub, Three, lanes_of, sealed_all, aggregation_of, is_closed}
+use Rattle.all_ends.proofs.Terms.{has_stream, History, LinkPacket, LinkState, with_stream_state, Stepped, kept_packet}
+use Rattle.all_ends.proofs.Terms.{stepped_answer, find, streams_of, PortsStandFor, stream_state_due, new_sending}
 use Rattle.all_ends.proofs.Terms.{packet_lengths, joined_packets, PortEnd, Found, found_stream, changed_states}
-use Rattle.all_ends.proofs.Terms.{SendStep}
-use Rattle.all_ends.proofs.Terms.{KeeperView, EndsView, IsPort, state_of, found_id, changed_same, port_on, with_port_on}
-use Rattle.all_ends.proofs.Terms.{BesidePorts}
+use Rattle.all_ends.proofs.Terms.{SendStep, KeeperView, EndsView, IsPort, state_of, found_id, changed_same, port_on}
+use Rattle.all_ends.proofs.Terms.{with_port_on, BesidePorts}
 use Rattle.tlp_layout.specs.declared.tlp.Tlp.{Tlp}
 use Rattle.tlp_layout.specs.Class.{class_of}
 use Rattle.tlp_layout.specs.Faults.{place_in}
 use Rattle.tlp_layout.specs.Head.{head_bytes}
 use Rattle.tlp_layout.specs.Tlp.{header, body}
 use Rattle.ide_prefix.specs.FaultWords.{tlp_word}
-use Rattle.association.specs.Outgoing.{Outgoing, NoTlp, OnNone, OnStream, outgoing_of}
+use Rattle.tlp_layout.specs.Outgoing.{Outgoing, NoTlp, OnNone, OnStream, outgoing_of}
 use Rattle.link_verdicts.specs.declared.verdict.Verdict.TheVariants as v
 use Rattle.link_verdicts.specs.declared.verdict.SealedPacket.{SealedPacket as Described}
 use Rattle.spec_stream.specs.Sending.{Sending, Lanes, refusals, first_that_holds, sealed_with_syncs}
 use Rattle.spec_links.proofs.Choices.{stream_known}
 use Rattle.machine_ports.specs.Machine.{stepped_on_stream, stepped_send}
-use Rattle.ide_stream.specs.Sends.{ok_unless_verdict, unless_verdict}
-use Rattle.ide_port.specs.Sends.{unsealed, as_verdict, stream_step, send_step}
-use Rattle.ide_port.specs.{Trusting}
+use Rattle.ide_port.specs.StreamSends.{ok_unless_verdict, unless_verdict}
+use Rattle.ide_port.specs.Sends.{unsealed_step, as_verdict, stream_step, send_step}
+use Rattle.ide_port.specs.{Trusting, sent_verdict}
 use Rattle.all_ends.proofs.Finds.{IsWired, find_at, put_at, state_kept, aggregation_at, closed_at}
 use Rattle.all_ends.proofs.Kept.{Keeps}
 use Rattle.ide_port.specs.declared.answer.Sent.{Sent}
-use Rattle.ide_port.specs.{sent_verdict}
-use Rattle.all_ends.specs.{end_sent_verdict}
+use Rattle.all_ends.specs.{end_sent_verdict, cut_packets}
 unfoldable use Rattle.spec_links.specs.Ports.{port_of}
 use Rattle.ide_types.specs.declared.sub.SubKind.{SubKind}
-use Rattle.all_ends.specs.{cut_packets}
 
 -- ---- packets, cut from their bytes
 
@@ -84,8 +79,8 @@ pub sent_at_port : (end port : PortName) (number : ℕ) (answer : Sent)
 sent_at_port end port number answer = grind arith
 
 -- what a step of the port at an end makes of all ends
-abbrev pub sent : Plan → EndsView → KeeperView → List LinkPacket → PortName → SendStep → Stepped
-sent plan ends k packets end t = (
+abbrev pub state_after_send : Plan → EndsView → KeeperView → List LinkPacket → PortName → SendStep → Stepped
+state_after_send plan ends k packets end t = (
   at_port (port_of plan end) t.verdict,
   state_of plan (with_port_on ends end t.port) k (packets ++ map (kept_packet end) t.packets),
 )
@@ -103,7 +98,6 @@ on_stream e t f s n r =
             states = changed_states e.plans e.states f.plan.id
                 (unless_verdict r f.state (record f.state { tx = sealed.1 }));
             sealed = joined_packets (unless_verdict r [] sealed.0);
-            calls = e.calls + 1;
           };
     }
 
@@ -131,7 +125,7 @@ module _ (plan : Plan) (ends : EndsView) (k : KeeperView) (packets : List LinkPa
       let lanes = lanes_of f.plan.aggregation e.limit f.state in
       first_that_holds (refusals lanes s.class) ≡ r
       → stepped_answer plan st s t f.state r (sealed_with_syncs lanes s n)
-      ≡ sent plan ends k packets end (on_stream e t f s n r)
+      ≡ state_after_send plan ends k packets end (on_stream e t f s n r)
   answered_as t more trusted id f (Some w) at refuses =
       let s : Sending = send_of end id t more trusted in
       let name : f.plan.id ≡ id = found_id e.plans e.states id f at in
@@ -150,7 +144,7 @@ module _ (plan : Plan) (ends : EndsView) (k : KeeperView) (packets : List LinkPa
       let closed : is_closed plan end.line id ≡ f.plan.closed = closed_at plan end e id f at_end at in
       (λ i.
       let out : List Packet × Three TxSub = sealed_all (closed i) (head_bytes (header t)) (body t) ds f.state.tx in
-      let new : LinkState = put plan st end id (record f.state { tx = out.1 }) in
+      let new : LinkState = with_stream_state plan st end id (record f.state { tx = out.1 }) in
       (v.Sealed ds, record new { packets = packets ++ map (kept_packet end) out.0 }))
       ∙ ap (λ (new : LinkState). (v.Sealed ds, record new { packets = packets ++ map (kept_packet end) sealed.0 }))
       (put_at plan ends k packets wired_is end e is id (record f.state { tx = sealed.1 }) _ at_end
@@ -161,32 +155,32 @@ module _ (plan : Plan) (ends : EndsView) (k : KeeperView) (packets : List LinkPa
   outgoing_same bytes = (λ i. outgoing_of (sym at_end.plans i) (sym at_end.name i).side bytes)
 
   unsealed_as : (w : PortName → Verdict) → w (port_of plan end) ≡ at_port (port_of plan end) (w e.name)
-      → (w (port_of plan end), st) ≡ sent plan ends k packets end (unsealed e (w e.name))
+      → (w (port_of plan end), st) ≡ state_after_send plan ends k packets end (unsealed_step e (w e.name))
   unsealed_as w named =
       (λ i. (named i, st)) ∙ ap (λ (new : LinkState). (at_port (port_of plan end) (w e.name), new)) (state_same _ refl)
 
   -- of bytes that are sent there on its line, if the ends stand for some history
   pub sends_as : (b : BesidePorts) (h : History) (bytes : List ℕ) (more asked : Bool) → PortsStandFor plan st h
       → stepped_send plan b st end (outgoing_of (streams_of plan end.line) end.side bytes) more asked
-      ≡ sent plan ends k packets end (send_step e (outgoing_of e.plans e.name.side bytes) more
+      ≡ state_after_send plan ends k packets end (send_step e (outgoing_of e.plans e.name.side bytes) more
       (λ head stream. b.t end head stream asked) (length packets + 1))
   sends_as b h bytes more asked stands =
       by_outgoing (outgoing_of (streams_of plan end.line) end.side bytes) refl
-      ∙ ap (λ (o : Outgoing). sent plan ends k packets end
+      ∙ ap (λ (o : Outgoing). state_after_send plan ends k packets end
       (send_step e o more (λ head stream. b.t end head stream asked) (length packets + 1))) (outgoing_same bytes)
     where
       by_found : (t : Tlp) (id : ℕ) (o : Option Found) → let trusted = b.t end (header t) id asked in
           has_stream plan end id ≡ true → found_stream e.plans e.states id ≡ o
           → stepped_on_stream plan st (send_of end id t more trusted) t (option_map (λ (f : Found). f.state) o)
-          ≡ sent plan ends k packets end (stream_step e t more trusted (length packets + 1) o)
+          ≡ state_after_send plan ends k packets end (stream_step e t more trusted (length packets + 1) o)
       by_found t id None known at =
-          let one : find plan st end id ≡ Some (standing plan h end id) =
+          let one : find plan st end id ≡ Some (stream_state_due plan h end id) =
           stands.ports_stand.streams end id
-          ∙ ap (λ (y : Bool). if y then Some (standing plan h end id) else None) known in
-          let none : None ≡ Some (standing plan h end id) =
+          ∙ ap (λ (y : Bool). if y then Some (stream_state_due plan h end id) else None) known in
+          let none : None ≡ Some (stream_state_due plan h end id) =
           ap (λ (o : Option Found). option_map (λ (f : Found). f.state) o) (sym at)
           ∙ (sym (find_at plan ends k packets wired_is end e is id at_end) ∙ one) in
-          absurd (none-some (standing plan h end id) none)
+          absurd (none-some (stream_state_due plan h end id) none)
       by_found t id (Some f) known at =
           let trusted : Bool = b.t end (header t) id asked in
           let s : Sending = send_of end id t more trusted in
@@ -198,17 +192,18 @@ module _ (plan : Plan) (ends : EndsView) (k : KeeperView) (packets : List LinkPa
           let refusal = λ (y : Sending). first_that_holds
           (refusals (lanes_of f.plan.aggregation e.limit f.state) y.class) in
           let name : f.plan.id ≡ id = found_id e.plans e.states id f at in
-          let same : s ≡ sending e.name f.plan.id (class_of (header t)) more trusted =
+          let same : s ≡ new_sending e.name f.plan.id (class_of (header t)) more trusted =
           (λ i. send_of (sym at_end.name i) (sym name i) t more trusted) in
           ap (λ (ls : Lanes). stepped_answer plan st s t f.state (first_that_holds (refusals ls s.class))
           (sealed_with_syncs ls s (length packets + 1))) lanes
           ∙ (answered_as t more trusted id f (refusal s) at refl
-          ∙ ap (λ (y : Sending). sent plan ends k packets end (on_stream e t f y (length packets + 1) (refusal y)))
+          ∙ ap (λ (y : Sending). state_after_send plan ends k packets end
+          (on_stream e t f y (length packets + 1) (refusal y)))
           same)
 
       by_outgoing : (o : Outgoing) → outgoing_of (streams_of plan end.line) end.side bytes ≡ o
           → stepped_send plan b st end o more asked
-          ≡ sent plan ends k packets end (send_step e o more (λ head stream. b.t end head stream asked)
+          ≡ state_after_send plan ends k packets end (send_step e o more (λ head stream. b.t end head stream asked)
           (length packets + 1))
       by_outgoing (NoTlp fault) comes = unsealed_as (λ n. v.Malformed n (tlp_word fault) (place_in fault)) refl
       by_outgoing OnNone comes = unsealed_as (λ n. v.Plain n) refl

@@ -4,17 +4,15 @@
 use Rattle.all_ends.specs.declared.places.LinePlace.{LinePlace}
 use Rattle.all_ends.specs.declared.places.LinePlace.TheVariants.{Link, Near, Pair}
 use Rattle.all_ends.proofs.Terms.{◌≡◌, ℕ, suc, zero, ◌+◌, ◌-◌, ◌*◌, ◌<◌, ◌≤◌, Bool, true, false, List, [], ◌∷◌, ◌++◌}
-use Rattle.all_ends.proofs.Terms.{length, refl, ap, sym, ◌∙◌, arith, Option, Some, None}
-use Rattle.all_ends.proofs.Terms.{option_map, is_some, slice_get, if◌then◌else◌, slice_index_or, take}
-use Rattle.all_ends.proofs.Terms.{nat_tests, none-some, get_or_past, length-map, StreamStage, replicate}
-use Rattle.all_ends.proofs.Terms.{History, Side, Host, Device, PortName, Plan, LinkPlan, StreamPlan}
-use Rattle.all_ends.proofs.Terms.{StreamState, streams_of, stream_plan, LinkPacket, find, find_op, port_at, port_place}
-use Rattle.all_ends.proofs.Terms.{machine_status, PortsStandFor, standing, op_at, ManagerView, Named, named, op_named}
-use Rattle.all_ends.proofs.Terms.{PortEnd, Found, found_stream, port_stream_status, EndsView, KeeperView, ports_in}
-use Rattle.all_ends.proofs.Terms.{pair_ports}
-use Rattle.all_ends.proofs.Terms.{rows_of, ops_in, state_of, AreLinks, op_named_first, stream_named, port_on}
-use Rattle.all_ends.proofs.Terms.{port_at_place, sent_direction, PairEnds, LinkEnds}
-use Rattle.all_ends.proofs.Terms.{nat_lt, nat_le, ◌&&◌, with_id}
+use Rattle.all_ends.proofs.Terms.{length, refl, ap, sym, ◌∙◌, arith, Option, Some, None, option_map, is_some, slice_get}
+use Rattle.all_ends.proofs.Terms.{if◌then◌else◌, slice_index_or, take, nat_tests, none-some, get_or_past, length-map}
+use Rattle.all_ends.proofs.Terms.{StreamStage, replicate, History, Side, Host, Device, PortName, Plan, LinkPlan}
+use Rattle.all_ends.proofs.Terms.{StreamPlan, StreamState, streams_of, stream_plan, LinkPacket, find, find_op, port_at}
+use Rattle.all_ends.proofs.Terms.{port_place, machine_status, PortsStandFor, stream_state_due, op_at, ManagerView}
+use Rattle.all_ends.proofs.Terms.{Named, named_stream, op_named, PortEnd, Found, found_stream, port_stream_status}
+use Rattle.all_ends.proofs.Terms.{EndsView, KeeperView, ports_in, pair_ports, rows_of, ops_in, state_of, AreLinks}
+use Rattle.all_ends.proofs.Terms.{op_named_first, stream_named, port_on, port_at_place, sent_direction, PairEnds}
+use Rattle.all_ends.proofs.Terms.{LinkEnds, nat_lt, nat_le, ◌&&◌, with_id}
 use Rattle.ide_types.specs.Fits.{FitsPlan}
 use Rattle.law_sealing.proofs.OfPlans.{streams_fit}
 use Rattle.std.proofs.lemmas.Option.{slice_get_past}
@@ -32,7 +30,8 @@ use Rattle.all_ends.proofs.Finds.{IsWired, wired, port_is, find_at, first_at, pa
 -- ---- the operation on a stream
 
 pub op_is : (plan : Plan) (v : EndsView) (k : KeeperView) (packets : List LinkPacket) (line stream : ℕ)
-    → AreLinks plan v k → find_op plan (state_of plan v k packets) line stream ≡ op_named (named k.manager line stream)
+    → AreLinks plan v k → find_op plan (state_of plan v k packets) line stream
+    ≡ op_named (named_stream k.manager line stream)
 unfolding find_op
 op_is plan v k packets line stream links =
     sym (op_found (streams_by_line plan) 0 line line k.manager.streams stream (omega arith) links.names) ∙
@@ -147,14 +146,15 @@ pub record IsName (m : ManagerView) (v : EndsView) (line stream a b : ℕ) : Typ
   pub end_there : is_some (port_on v (host_port line)) ≡ true
   pub line_is : a ≡ line
   pub stream_is : b ≡ stream
-  pub there : is_some (named m line stream) ≡ true
+  pub there : is_some (named_stream m line stream) ≡ true
 
 pub name_is : (m : ManagerView) (v : EndsView) (line stream a b : ℕ) → Some (a, b) ≡ stream_named m v line stream
     → IsName m v line stream a b
-name_is m v line stream a b is = tested (is_some (port_on v (host_port line))) (is_some (named m line stream)) refl refl
+name_is m v line stream a b is = tested (is_some (port_on v (host_port line))) (is_some (named_stream m line stream))
+    refl refl
     is
   where
-    tested : (p q : Bool) → is_some (port_on v (host_port line)) ≡ p → is_some (named m line stream) ≡ q
+    tested : (p q : Bool) → is_some (port_on v (host_port line)) ≡ p → is_some (named_stream m line stream) ≡ q
         → Some (a, b) ≡ name_if (nat_lt line 32 && nat_le stream 255 && p && q) line stream
         → IsName m v line stream a b
     tested p q there names is = grind (arith, nat_tests)
@@ -209,7 +209,7 @@ pub unnamed : (plan : Plan) (v : EndsView) (k : KeeperView) (packets : List Link
 unfolding find_op
 unnamed plan v k packets line stream links is =
     by_tests (nat_lt line 32) (nat_le stream 255) (is_some (port_on v (host_port line)))
-    (is_some (named k.manager line stream)) refl refl refl refl is
+    (is_some (named_stream k.manager line stream)) refl refl refl refl is
   where
     os : List StreamStage
     os = slice_index_or (ops_in (streams_by_line plan) k.manager.streams) line []
@@ -219,7 +219,7 @@ unnamed plan v k packets line stream links is =
         (absent plan v k links Host line none).no_streams
 
     by_tests : (a b c d : Bool) → nat_lt line 32 ≡ a → nat_le stream 255 ≡ b
-        → is_some (port_on v (host_port line)) ≡ c → is_some (named k.manager line stream) ≡ d
+        → is_some (port_on v (host_port line)) ≡ c → is_some (named_stream k.manager line stream) ≡ d
         → None ≡ name_if (a && b && c && d) line stream
         → machine.found_by_id (streams_of plan line) os stream ≡ None
     by_tests false b c d late less there names none = gone (past_lines plan v k line links late)
@@ -228,7 +228,7 @@ unnamed plan v k packets line stream links is =
         (unplanned plan line stream links.fits (grind (arith, nat_tests, less)))
     by_tests true true false d late less there names none = gone (no_port (port_on v (host_port line)) there)
     by_tests true true true false late less there names none =
-        op_is plan v k packets line stream links ∙ no_op (named k.manager line stream) names
+        op_is plan v k packets line stream links ∙ no_op (named_stream k.manager line stream) names
     by_tests true true true true late less there names none = absurd (none-some (line, stream) none)
 
 -- ---- the states of a stream
@@ -255,9 +255,9 @@ pub port_found : (plan : Plan) (v : EndsView) (k : KeeperView) (packets : List L
 port_found plan v k packets h end stream e links stands known is =
     let seen = end_found plan v k packets end e stream links is in
     let one : find plan (state_of plan v k packets) end stream
-    ≡ Some (standing plan h end stream) = stands.ports_stand.streams end stream ∙ ap
-    (λ (b : Bool). if b then Some (standing plan h end stream) else None) known in
-    let f = found_some (found_stream e.plans e.states stream) (standing plan h end stream) (sym seen ∙ one) in
+    ≡ Some (stream_state_due plan h end stream) = stands.ports_stand.streams end stream ∙ ap
+    (λ (b : Bool). if b then Some (stream_state_due plan h end stream) else None) known in
+    let f = found_some (found_stream e.plans e.states stream) (stream_state_due plan h end stream) (sym seen ∙ one) in
     (f.0, f.1, seen ∙ ap (λ (o : Option Found). option_map (λ (f : Found). f.state) o) f.1)
 
 pub at_side : (plan : Plan) (v : EndsView) (k : KeeperView) (packets : List LinkPacket) (h : History)

@@ -21,7 +21,7 @@ use Rattle.spec_links.proofs.Ends.{stream_is_there}
 use Rattle.machine_ports.specs.Stream.{StreamState}
 use Rattle.machine_ports.specs.Machine.{LinkState, found_by_id, port_at, status_if_planned}
 unfoldable use Rattle.machine_ports.specs.Machine.{find}
-use Rattle.machine_whole.specs.Machine.{live_in}
+use Rattle.machine_whole.specs.Machine.{live_draw_at_end}
 use Rattle.std.specs.Option.{option_and_then}
 use Rattle.join_interfaces.specs.Says.{AreApart, says_in}
 
@@ -89,6 +89,6 @@ are_apart plan st link fits lt = record {
 }
   where
     there : (o : Option PortName) (id : ℕ)
-        → is_some (option_and_then (λ e. live_in plan st e id) o) ≡ true → is_some o ≡ true
+        → is_some (option_and_then (λ e. live_draw_at_end plan st e id) o) ≡ true → is_some o ≡ true
     there None id is = is
     there (Some e) id is = refl

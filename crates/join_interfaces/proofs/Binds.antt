@@ -17,8 +17,7 @@ use Rattle.spec_interfaces.specs.Views.{Managed, on_bind, peer_of}
 use Rattle.spec_interfaces.specs.Devices.{interface_if_called}
 use Rattle.spec_interfaces.specs.Exchanges.{carries}
 use Rattle.spec_interfaces.specs.Due.{AskedState, verdict_of_bind, unbound_as, bind_due, unbind_due, op_status}
-use Rattle.spec_interfaces.specs.Due.{if_fresh}
-use Rattle.spec_interfaces.specs.Due.{unless_lost as due_unless_lost}
+use Rattle.spec_interfaces.specs.Due.{if_fresh, unless_lost as due_unless_lost}
 use Rattle.interface_state.specs.Machine.{Tdi, Call, BindStream, UnbindStream, tdi_after, bind_answer, unbind_answer}
 use Rattle.interface_host.specs.declared.operation.InterfaceOperation.TheVariants as op
 use Rattle.interface_host.specs.declared.operation.PeerStream.{PeerStream}
@@ -30,10 +29,9 @@ use Rattle.interface_host.specs.Steps.{Read}
 use Rattle.interface_host.specs.Judging.{Judged}
 use Rattle.interface_host.specs.Views.{Seen, IsUnlocked, IsLocked, IsRunning, IsDoubt, IsBroken, nonce_of, bind_outcome}
 use Rattle.interface_host.specs.Views.{unbind_outcome, bind_refusal, report_refusal, taken_interface}
-use Rattle.interface_host.specs.Views.{interface_unless_secure}
-use Rattle.interface_host.specs.Views.{key_refusal, peer_number}
-use Rattle.interface_device.specs.declared.said.StreamSaid.{StreamSaid}
-use Rattle.interface_device.specs.Replies.{DeviceTdis, NamedTdi, next_nonce}
+use Rattle.interface_host.specs.Views.{interface_unless_secure, key_refusal, peer_number}
+use Rattle.interface_ends.specs.declared.said.StreamSaid.{StreamSaid}
+use Rattle.interface_ends.specs.Replies.{DeviceTdis, NamedTdi, next_nonce}
 use Rattle.interface_ends.specs.Exchanges.{bind_judged, unbind_judged}
 use Rattle.spec_keys.specs.Due.{lost_message, if_secure}
 use Rattle.interface_ends.specs.Operations.{judgment_if_carried, interfaces_after_request, stated_once, stated_alone}
@@ -41,7 +39,8 @@ use Rattle.interface_ends.specs.Operations.{at_step}
 use Rattle.join_interfaces.specs.Verdicts.{outcome_verdict}
 use Rattle.join_interfaces.specs.Faces.{SeenAs, IsManaged}
 use Rattle.join_interfaces.proofs.Losses.{by_loss, once_lost, cut}
-use Rattle.join_interfaces.proofs.Comes.{PeersRead, laid, host_of, told, told_seen, managed_of, stands, device_with}
+use Rattle.join_interfaces.proofs.Comes.{PeersRead, laid, host_of, managed_as_seen, told_seen, managed_of, stands}
+use Rattle.join_interfaces.proofs.Comes.{device_with}
 use Rattle.join_interfaces.proofs.Comes.{Comes, begun_walk, refused_walk, same_device, left_device, no_more, quiet}
 
 -- ---- the exchange of bind, by what the device answers
@@ -80,15 +79,15 @@ bound_told x draw line seen m is key =
 bind_managed : (x : Site) (draw draws : ℕ) (peer : PeerStream) (seen : Seen) (m : Managed) (j : Judged)
     (l : Option Lost) (r : Result ℕ ℕ) → IsKey (nonce_of seen)
     → IsManaged draw x (taken_interface (step.Bind peer) draws j (host_of x draw seen m))
-    (on_bind peer.line (told seen m) (by_loss l 1 (verdict_of_bind x peer.line r)))
+    (on_bind peer.line (managed_as_seen seen m) (by_loss l 1 (verdict_of_bind x peer.line r)))
 bind_managed x draw draws peer seen m j None (Ok k) key =
-    bound_told x draw peer.line seen (told seen m) (told_seen seen m) key
+    bound_told x draw peer.line seen (managed_as_seen seen m) (told_seen seen m) key
 bind_managed x draw draws peer seen m j None (Err code) key =
-    bound_told x draw peer.line seen (told seen m) (told_seen seen m) key
+    bound_told x draw peer.line seen (managed_as_seen seen m) (told_seen seen m) key
 bind_managed x draw draws peer seen m j (Some Request) r key =
-    bound_told x draw peer.line seen (told seen m) (told_seen seen m) key
+    bound_told x draw peer.line seen (managed_as_seen seen m) (told_seen seen m) key
 bind_managed x draw draws peer seen m j (Some Reply) r key =
-    bound_told x draw peer.line seen (told seen m) (told_seen seen m) key
+    bound_told x draw peer.line seen (managed_as_seen seen m) (told_seen seen m) key
 
 -- ---- bind
 
@@ -97,7 +96,7 @@ module _ (x : Site) (draw drawn portion place : ℕ) (said : StreamSaid) (ps : P
     (draw_is : peer.draw ≡ ps.draw peer.line peer.id) (live_is : said.live ≡ ps.live peer.id)
     (same : slice_set d.interfaces place tdi ≡ d.interfaces) where
   abbrev standing : Seen → AskedState
-  standing seen = stands x said ps (next_nonce d) tdi (told seen m) host draw drawn
+  standing seen = stands x said ps (next_nonce d) tdi (managed_as_seen seen m) host draw drawn
 
   abbrev there : NamedTdi
   there = record { place = place; tdi = tdi }
@@ -125,7 +124,7 @@ module _ (x : Site) (draw drawn portion place : ℕ) (said : StreamSaid) (ps : P
   }
 
   refused : (seen : Seen) (due : Verdict) (r : InterfaceRefusal) → IsKey (nonce_of seen) → carries due 1 ≡ false
-      → on_bind peer.line (told seen m) due ≡ told seen m
+      → on_bind peer.line (managed_as_seen seen m) due ≡ managed_as_seen seen m
       → outcome_verdict x.number loss [] (outcome.Refused r) ≡ Some due
       → Comes x (standing seen) place (op.Bind peer) loss d due (refused_walk r (host_of x draw seen m) read d)
   refused seen due r key none kept is =
@@ -136,10 +135,10 @@ module _ (x : Site) (draw drawn portion place : ℕ) (said : StreamSaid) (ps : P
   -- if the stream was keyed since
   fresh : (seen : Seen) (stale : Bool) → IsKey (nonce_of seen)
       → Comes x (standing seen) place (op.Bind peer) loss d
-      (if stale then v.Interface (iv.RefusedRefreshFirst (ps.draw peer.line peer.id) (told seen m).needs)
+      (if stale then v.Interface (iv.RefusedRefreshFirst (ps.draw peer.line peer.id) (managed_as_seen seen m).needs)
       else due_unless_lost loss 1 (verdict_of_bind x peer.line answered))
       (begun_walk (if stale then Some
-      (refusal.RefreshFirst (ps.draw peer.line peer.id) (told seen m).needs) else None)
+      (refusal.RefreshFirst (ps.draw peer.line peer.id) (managed_as_seen seen m).needs) else None)
       (host_of x draw seen m) read d
       (stated_alone (step.Bind peer) portion drawn said loss (host_of x draw seen m) d there))
   fresh seen true key = refused seen _ _ key refl refl refl
@@ -152,16 +151,16 @@ module _ (x : Site) (draw drawn portion place : ℕ) (said : StreamSaid) (ps : P
   abbrev Allowed : Seen → StreamStatus → Type 0
   Allowed seen up = Comes x (standing seen) place (op.Bind peer) loss d
       (if_secure up
-      (if_fresh (ps.draw peer.line peer.id) (told seen m).needs
+      (if_fresh (ps.draw peer.line peer.id) (managed_as_seen seen m).needs
       (due_unless_lost loss 1 (verdict_of_bind x peer.line answered))))
       (begun_walk (interface_unless_secure up
-      (key_refusal (ps.draw peer.line peer.id) (told seen m).needs))
+      (key_refusal (ps.draw peer.line peer.id) (managed_as_seen seen m).needs))
       (host_of x draw seen m) read d
       (stated_alone (step.Bind peer) portion drawn said loss (host_of x draw seen m) d there))
 
   allowed : (seen : Seen) (up : StreamStatus) → IsKey (nonce_of seen) → Allowed seen up
   allowed seen status.Secure key =
-      fresh seen (nat_lt (ps.draw peer.line peer.id) (told seen m).needs) key
+      fresh seen (nat_lt (ps.draw peer.line peer.id) (managed_as_seen seen m).needs) key
   allowed seen status.Idle key = refused seen _ _ key refl refl refl
   allowed seen status.Partial key = refused seen _ _ key refl refl refl
   allowed seen status.Insecure key = refused seen _ _ key refl refl refl
@@ -170,7 +169,7 @@ module _ (x : Site) (draw drawn portion place : ℕ) (said : StreamSaid) (ps : P
       → Comes x (standing seen) place (op.Bind peer) loss d
       (bind_due x (standing seen) peer.line peer.id loss)
       (begun_walk (bind_refusal (op_status (ps.op peer.line peer.id))
-      (ps.draw peer.line peer.id) (told seen m).needs seen) (host_of x draw seen m) read d
+      (ps.draw peer.line peer.id) (managed_as_seen seen m).needs seen) (host_of x draw seen m) read d
       (stated_alone (step.Bind peer) portion drawn said loss (host_of x draw seen m) d there))
   by_view (IsLocked nonce reported) key =
       allowed (IsLocked nonce reported) (op_status (ps.op peer.line peer.id)) key
@@ -183,13 +182,13 @@ module _ (x : Site) (draw drawn portion place : ℕ) (said : StreamSaid) (ps : P
   pub bind_comes : (seen : Seen) → IsKey (nonce_of seen)
       → Comes x (standing seen) place (op.Bind peer) loss d
       (bind_due x (standing seen) peer.line peer.id loss)
-      (begun_walk (bind_refusal (op_status (ps.op peer.line peer.id)) peer.draw (told seen m).needs seen)
+      (begun_walk (bind_refusal (op_status (ps.op peer.line peer.id)) peer.draw (managed_as_seen seen m).needs seen)
       (host_of x draw seen m) read d
       (stated_alone (step.Bind peer) portion drawn said loss (host_of x draw seen m) d there))
   bind_comes seen key =
       subst (λ (k : ℕ). Comes x (standing seen) place (op.Bind peer) loss d
       (bind_due x (standing seen) peer.line peer.id loss)
-      (begun_walk (bind_refusal (op_status (ps.op peer.line peer.id)) k (told seen m).needs seen)
+      (begun_walk (bind_refusal (op_status (ps.op peer.line peer.id)) k (managed_as_seen seen m).needs seen)
       (host_of x draw seen m) read d
       (stated_alone (step.Bind peer) portion drawn said loss (host_of x draw seen m) d there))) (sym draw_is)
       (by_view seen key)
@@ -217,7 +216,7 @@ module _ (x : Site) (draw drawn portion place : ℕ) (said : StreamSaid) (ps : P
     (d : DeviceTdis) (tdi : Tdi) (m : Managed) (read : Read) (host : StreamStatus) (peer : PeerStream)
     (same : slice_set d.interfaces place tdi ≡ d.interfaces) where
   abbrev standing_of : Seen → AskedState
-  standing_of seen = stands x said ps (next_nonce d) tdi (told seen m) host draw drawn
+  standing_of seen = stands x said ps (next_nonce d) tdi (managed_as_seen seen m) host draw drawn
 
   abbrev at_place : NamedTdi
   at_place = record { place = place; tdi = tdi }

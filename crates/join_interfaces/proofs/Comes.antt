@@ -18,7 +18,7 @@ use Rattle.spec_interfaces.specs.Devices.{interface_asked, accepts_lock, one_if}
 use Rattle.spec_interfaces.specs.Exchanges.{carries}
 use Rattle.spec_interfaces.specs.Due.{AskedState}
 use Rattle.spec_interfaces.specs.Terms.{StreamStage}
-use Rattle.interface_device.specs.declared.said.StreamSaid.{StreamSaid}
+use Rattle.interface_ends.specs.declared.said.StreamSaid.{StreamSaid}
 use Rattle.interface_state.specs.Machine.{Tdi}
 use Rattle.interface_host.specs.declared.operation.InterfaceOperation.{InterfaceOperation}
 use Rattle.interface_host.specs.declared.operation.InterfaceOperation.TheVariants as op
@@ -27,7 +27,7 @@ use Rattle.interface_host.specs.declared.operation.InterfaceOutcome.TheVariants 
 use Rattle.interface_host.specs.declared.operation.InterfaceRefusal.{InterfaceRefusal}
 use Rattle.interface_host.specs.Steps.{Read}
 use Rattle.interface_host.specs.Views.{HostTdi, Seen, IsUnlocked, IsLocked, IsRunning, IsDoubt, IsBroken, nonce_of}
-use Rattle.interface_device.specs.Replies.{DeviceTdis}
+use Rattle.interface_ends.specs.Replies.{DeviceTdis}
 use Rattle.interface_ends.specs.Operations.{WalkedInterface}
 use Rattle.join_interfaces.specs.Verdicts.{outcome_verdict, op_event}
 use Rattle.join_interfaces.specs.Faces.{SeenAs, IsManaged}
@@ -50,18 +50,19 @@ laid x draw needs started seen asked = record {
 }
 
 -- with what the manager's view keeps
-abbrev pub told : Seen → Managed → Managed
-told IsUnlocked m = record m { view = Unlocked }
-told (IsLocked nonce reported) m = record m { view = Locked; nonce = nonce; reported = reported }
-told (IsRunning floor) m = record m { view = Running; floor = floor }
-told IsDoubt m = record m { view = Doubt }
-told IsBroken m = record m { view = Broken }
+abbrev pub managed_as_seen : Seen → Managed → Managed
+managed_as_seen IsUnlocked m = record m { view = Unlocked }
+managed_as_seen (IsLocked nonce reported) m = record m { view = Locked; nonce = nonce; reported = reported }
+managed_as_seen (IsRunning floor) m = record m { view = Running; floor = floor }
+managed_as_seen IsDoubt m = record m { view = Doubt }
+managed_as_seen IsBroken m = record m { view = Broken }
 
 -- the manager's interface of this view, if the machine keeps the rest so
 abbrev pub host_of : Site → ℕ → Seen → Managed → HostTdi
-host_of x draw seen m = laid x draw (told seen m).needs (told seen m).started seen (told seen m).asked
+host_of x draw seen m = laid x draw (managed_as_seen seen m).needs (managed_as_seen seen m).started seen
+    (managed_as_seen seen m).asked
 
-pub told_seen : (seen : Seen) (m : Managed) → SeenAs seen (told seen m)
+pub told_seen : (seen : Seen) (m : Managed) → SeenAs seen (managed_as_seen seen m)
 told_seen IsUnlocked m = refl
 told_seen (IsLocked nonce reported) m = (refl, refl, refl)
 told_seen (IsRunning floor) m = (refl, refl)
@@ -69,7 +70,7 @@ told_seen IsDoubt m = refl
 told_seen IsBroken m = refl
 
 -- the machine keeps what the view says
-pub told_is : (seen : Seen) (m : Managed) → SeenAs seen m → told seen m ≡ m
+pub told_is : (seen : Seen) (m : Managed) → SeenAs seen m → managed_as_seen seen m ≡ m
 told_is IsUnlocked m e = λ k. record m { view = sym e k }
 told_is (IsLocked nonce reported) m e =
     λ k. record m { view = sym e.0 k; nonce = sym e.1 k; reported = sym e.2 k }
@@ -164,11 +165,9 @@ left_device d place tdi t given same is none =
 
 pub quiet : (x : Site) (st : AskedState) (place : ℕ) (o : InterfaceOperation) (loss : Option Loss) (d : DeviceTdis)
     (due : Verdict) (out : InterfaceOutcome) (i : HostTdi) (read : Read)
-    → slice_set d.interfaces place st.tdi ≡ d.interfaces
-    → interface_behind x st o loss due ≡ st.tdi
+    → slice_set d.interfaces place st.tdi ≡ d.interfaces → interface_behind x st o loss due ≡ st.tdi
     → accepts_lock st.around x (event.Interface (op_event o x.number loss)) due st.tdi ≡ false
-    → on_operation st.drawn (op_event o x.number loss) due st.managed ≡ st.managed
-    → IsManaged st.draw x i st.managed
+    → on_operation st.drawn (op_event o x.number loss) due st.managed ≡ st.managed → IsManaged st.draw x i st.managed
     → outcome_verdict x.number loss (read_in o read) out ≡ Some due
     → Comes x st place o loss d due (record { outcome = out; interface = i; read = read; device = d })
 quiet x st place o loss d due out i read same still none kept managed is = record {

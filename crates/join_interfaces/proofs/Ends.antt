@@ -13,8 +13,8 @@ use Rattle.interface_host.specs.Steps.{first_step}
 use Rattle.interface_host.specs.Views.{HostTdi, interface_unless}
 use Rattle.interface_host.specs.Managers.{InterfaceManagerView, CurrentInterface, current_interface, current_by}
 use Rattle.interface_host.specs.Managers.{nothing_read}
-use Rattle.interface_device.specs.declared.said.StreamSaid.{StreamSaid}
-use Rattle.interface_device.specs.Replies.{DeviceTdis}
+use Rattle.interface_ends.specs.declared.said.StreamSaid.{StreamSaid}
+use Rattle.interface_ends.specs.Replies.{DeviceTdis}
 use Rattle.interface_ends.specs.Operations.{WalkedInterface, interface_walk, begun_walking}
 use Rattle.interface_ends.specs.Keepers.{Ended, interface_exchanged, ended_if_over, by_current, unless_refused}
 use Rattle.interface_ends.specs.Keepers.{KeepersWalk}

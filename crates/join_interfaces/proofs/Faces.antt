@@ -1,7 +1,6 @@
 -- What the machine makes of an interface by an operation: it is the step of this interface alone, its layout stays, and
 -- a lock binds it to the topology's stream.
-use Rattle.std.proofs.Common.{◌≡◌, ℕ, Bool, true, false, List, Option, Result, Ok, Err, refl, ap}
-use Rattle.std.proofs.Common.{sym}
+use Rattle.std.proofs.Common.{◌≡◌, ℕ, Bool, true, false, List, Option, Result, Ok, Err, refl, ap, sym}
 use Rattle.std.specs.Prelude.{IfSome, if◌then◌else◌}
 use Rattle.std.specs.Str.{bytes_eq}
 use Rattle.spec_keys.proofs.Tests.{same-true}
@@ -14,16 +13,14 @@ use Rattle.interface_state.specs.declared.states.Lock.{Lock}
 use Rattle.interface_state.specs.declared.states.TdiState.{TdiState}
 use Rattle.interface_state.specs.declared.states.TdiState.TheVariants.{ConfigUnlocked, ConfigLocked, Run, Error}
 use Rattle.interface_state.specs.Machine.{Tdi, Call, StartInterface, StopInterface, bound_link_stream, after_start}
-use Rattle.interface_state.specs.Machine.{tdi_after}
-use Rattle.interface_state.specs.Machine.{interface_after_lock, new_lock, BindStream, UnbindStream, bind_answer}
-use Rattle.interface_state.specs.Machine.{interface_after_bind}
-use Rattle.interface_state.specs.Machine.{unbind_answer, unbound_with}
+use Rattle.interface_state.specs.Machine.{tdi_after, interface_after_lock, new_lock, BindStream, UnbindStream}
+use Rattle.interface_state.specs.Machine.{bind_answer, interface_after_bind, unbind_answer, unbound_with}
 use Rattle.spec_interfaces.specs.Sites.{Site}
 use Rattle.spec_interfaces.specs.Views.{is_number, number_in, on_operation}
 use Rattle.spec_interfaces.specs.Devices.{Around, interface_asked, interface_if_called, lock_call}
 use Rattle.spec_interfaces.specs.Exchanges.{carries}
 use Rattle.spec_interfaces.specs.Due.{lock_answer_at}
-use Rattle.machine_interfaces.specs.Machine.{Face, Streams, ends_of, around_of, face_after}
+use Rattle.machine_whole.specs.Interfaces.{Face, Streams, ends_of, around_of, face_after}
 use Rattle.interface_host.specs.declared.operation.InterfaceOperation.{InterfaceOperation}
 use Rattle.interface_host.specs.declared.operation.InterfaceOperation.TheVariants as op
 use Rattle.join_interfaces.specs.Verdicts.{op_event}
@@ -78,8 +75,7 @@ unbind_bound : (p : InterfacePlan) (tdi : Tdi) (stream : ℕ) (r : Result (Unit 
 unbind_bound p tdi stream (Ok done) before = record { layout = before.layout; bound = before.bound }
 unbind_bound p tdi stream (Err code) before = before
 
-held_bound : (p : InterfacePlan) (b : Bool) (lock : Lock) (held : List ℕ)
-    → lock.stream ≡ p.stream
+held_bound : (p : InterfacePlan) (b : Bool) (lock : Lock) (held : List ℕ) → lock.stream ≡ p.stream
     → IfSome (bound_link_stream (if b then Run lock else ConfigLocked lock held)) (λ stream. stream ≡ p.stream)
 held_bound p true lock held is = is
 held_bound p false lock held is = is

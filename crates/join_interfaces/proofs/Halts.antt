@@ -18,34 +18,33 @@ use Rattle.interface_host.specs.declared.operation.InterfaceOperation.TheVariant
 use Rattle.interface_host.specs.declared.step.Step.TheVariants as step
 use Rattle.interface_host.specs.Judging.{Passed}
 use Rattle.interface_host.specs.Views.{Seen, IsUnlocked, IsDoubt, halt_outcome, needs_after, taken_interface}
-use Rattle.interface_device.specs.declared.said.StreamSaid.{StreamSaid}
-use Rattle.interface_device.specs.Replies.{DeviceTdis, NamedTdi, next_nonce}
+use Rattle.interface_ends.specs.declared.said.StreamSaid.{StreamSaid}
+use Rattle.interface_ends.specs.Replies.{DeviceTdis, NamedTdi, next_nonce}
 use Rattle.spec_keys.specs.Due.{lost_message}
 use Rattle.interface_ends.specs.Operations.{judgment_if_carried, interfaces_after_request, stated_once, stated_alone}
 use Rattle.interface_ends.specs.Operations.{at_step}
 use Rattle.join_interfaces.specs.Verdicts.{outcome_verdict}
 use Rattle.join_interfaces.specs.Faces.{IsManaged}
 use Rattle.join_interfaces.proofs.Losses.{by_loss, once_lost, cut}
-use Rattle.join_interfaces.proofs.Comes.{PeersRead, host_of, told, managed_of, no_key, stands, device_with, Comes}
-use Rattle.join_interfaces.proofs.Comes.{same_device}
-use Rattle.join_interfaces.proofs.Comes.{left_device, no_more}
+use Rattle.join_interfaces.proofs.Comes.{PeersRead, host_of, managed_as_seen, managed_of, no_key, stands, device_with}
+use Rattle.join_interfaces.proofs.Comes.{Comes, same_device, left_device, no_more}
 
 -- the verdict if nothing is lost
-abbrev halted : Site → ℕ → Managed → Verdict
-halted x draws m = v.Interface (iv.Halted x.number (needs_then m draws))
+abbrev verdict_of_halt : Site → ℕ → Managed → Verdict
+verdict_of_halt x draws m = v.Interface (iv.Halted x.number (needs_then m draws))
 
 halt_verdict : (x : Site) (draws : ℕ) (m : Managed) (loss : Option Loss) (l : Option Lost) → lost_message loss 1 ≡ l
     → outcome_verdict x.number loss []
     (halt_outcome 1 (needs_after step.Halt draws (judgment_if_carried l Passed) m.started m.needs)
     (judgment_if_carried l Passed))
-    ≡ Some (by_loss l 1 (halted x draws m))
+    ≡ Some (by_loss l 1 (verdict_of_halt x draws m))
 halt_verdict x draws m loss None is = refl
 halt_verdict x draws m loss (Some k) is = cut loss 1 k is
 
 halt_device : (x : Site) (draws : ℕ) (m : Managed) (d : DeviceTdis) (place : ℕ) (tdi : Tdi) (l : Option Lost)
     → slice_set d.interfaces place tdi ≡ d.interfaces
     → interfaces_after_request l d (device_with d place (tdi_after tdi StopInterface) d.used)
-    ≡ device_with d place (interface_if_called (carries (by_loss l 1 (halted x draws m)) 1) StopInterface tdi)
+    ≡ device_with d place (interface_if_called (carries (by_loss l 1 (verdict_of_halt x draws m)) 1) StopInterface tdi)
     (d.used + 0)
 halt_device x draws m d place tdi None same = same_device d place _ _ _ _ refl (no_more d.used)
 halt_device x draws m d place tdi (Some Request) same = left_device d place tdi _ false same refl refl
@@ -53,7 +52,7 @@ halt_device x draws m d place tdi (Some Reply) same = same_device d place _ _ _ 
 
 halt_managed : (x : Site) (draw draws : ℕ) (seen : Seen) (m : Managed) (l : Option Lost)
     → IsManaged draw x (taken_interface step.Halt draws (judgment_if_carried l Passed) (host_of x draw seen m))
-    (on_halt draws (told seen m) (by_loss l 1 (halted x draws (told seen m))))
+    (on_halt draws (managed_as_seen seen m) (by_loss l 1 (verdict_of_halt x draws (managed_as_seen seen m))))
 halt_managed x draw draws seen m None = managed_of x draw IsUnlocked _ refl no_key
 halt_managed x draw draws seen m (Some Request) = managed_of x draw IsDoubt _ refl no_key
 halt_managed x draw draws seen m (Some Reply) = managed_of x draw IsDoubt _ refl no_key
@@ -62,17 +61,17 @@ module _ (x : Site) (draw drawn portion place : ℕ) (said : StreamSaid) (ps : P
     (d : DeviceTdis) (tdi : Tdi)
     (m : Managed) (seen : Seen) (host : StreamStatus) where
   abbrev standing : AskedState
-  standing = stands x said ps (next_nonce d) tdi (told seen m) host draw drawn
+  standing = stands x said ps (next_nonce d) tdi (managed_as_seen seen m) host draw drawn
 
   abbrev there : NamedTdi
   there = record { place = place; tdi = tdi }
 
   asked : (l : Option Lost) → lost_message loss 1 ≡ l → slice_set d.interfaces place tdi ≡ d.interfaces
-      → Comes x standing place op.Halt loss d (by_loss l 1 (halted x drawn (told seen m)))
+      → Comes x standing place op.Halt loss d (by_loss l 1 (verdict_of_halt x drawn (managed_as_seen seen m)))
       (stated_once portion drawn said l there (at_step step.Halt (host_of x draw seen m) d))
   asked l is same = record {
-    verdict = halt_verdict x drawn (told seen m) loss l is;
-    device = halt_device x drawn (told seen m) d place tdi l same;
+    verdict = halt_verdict x drawn (managed_as_seen seen m) loss l is;
+    device = halt_device x drawn (managed_as_seen seen m) d place tdi l same;
     managed = halt_managed x draw drawn seen m l;
   }
 
@@ -82,4 +81,4 @@ module _ (x : Site) (draw drawn portion place : ℕ) (said : StreamSaid) (ps : P
   halt_comes same =
       subst (λ w. Comes x standing place op.Halt loss d w
       (stated_alone step.Halt portion drawn said loss (host_of x draw seen m) d there))
-      (sym (once_lost loss (halted x drawn (told seen m)))) (asked (lost_message loss 1) refl same)
+      (sym (once_lost loss (verdict_of_halt x drawn (managed_as_seen seen m)))) (asked (lost_message loss 1) refl same)

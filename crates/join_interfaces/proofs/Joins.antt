@@ -1,7 +1,6 @@
 -- An operation on an interface is a step of the machine: the manager's walk is that of the one interface, its exchanges
 -- give the stated step, and this is case by case what the machine makes of both ends.
-use Rattle.std.proofs.Common.{◌≡◌, ℕ, suc, ◌-◌, ◌≤◌, Bool, length, Option, Some, None, refl, ap, sym, subst, ◌∙◌}
-use Rattle.std.proofs.Common.{arith}
+use Rattle.std.proofs.Common.{◌≡◌, ℕ, suc, ◌-◌, ◌≤◌, Bool, length, Option, Some, None, refl, ap, sym, subst, ◌∙◌, arith}
 use Rattle.std.specs.Prelude.{IfSome, if◌then◌else◌}
 use Rattle.std.specs.Option.{option_map}
 use Rattle.ide_types.specs.declared.status.StreamStatus.{StreamStatus}
@@ -14,14 +13,14 @@ use Rattle.spec_interfaces.specs.Sites.{Site, nonce_behind}
 use Rattle.spec_interfaces.specs.Views.{Managed}
 use Rattle.link_verdicts.specs.declared.verdict.Verdict.TheVariants as v
 use Rattle.spec_interfaces.specs.Due.{AskedState, asked_due, portions, bind_due, unbind_due}
-use Rattle.machine_interfaces.specs.Machine.{Face, Streams}
+use Rattle.machine_whole.specs.Interfaces.{Face, Streams}
 use Rattle.interface_host.specs.declared.operation.InterfaceOperation.{InterfaceOperation}
 use Rattle.interface_host.specs.declared.operation.InterfaceOperation.TheVariants as op
 use Rattle.interface_host.specs.Steps.{Read}
 use Rattle.interface_host.specs.Views.{HostTdi, Seen, interface_refusal_of, interface_unless}
 use Rattle.interface_host.specs.Managers.{InterfaceManagerView}
-use Rattle.interface_device.specs.declared.said.StreamSaid.{StreamSaid}
-use Rattle.interface_device.specs.Replies.{DeviceTdis, NamedTdi, next_nonce}
+use Rattle.interface_ends.specs.declared.said.StreamSaid.{StreamSaid}
+use Rattle.interface_ends.specs.Replies.{DeviceTdis, NamedTdi, next_nonce}
 use Rattle.interface_ends.proofs.Operations.{same_set}
 use Rattle.interface_ends.specs.Exchanges.{IsReport, Meets, ReportsFit}
 use Rattle.interface_ends.specs.Operations.{interface_walk, begun_walking, operation_walk, IsShortOp}
@@ -34,8 +33,8 @@ use Rattle.join_interfaces.specs.Verdicts.{outcome_verdict, report_of, op_event}
 use Rattle.join_interfaces.specs.Faces.{IsFace}
 use Rattle.join_interfaces.specs.Joined.{IsAt, IsInterfaceJoined, FitsNamedPeer, op_host, said_of}
 use Rattle.join_interfaces.specs.Joined.{InterfaceOperationsJoin}
-use Rattle.join_interfaces.proofs.Comes.{PeersRead, host_of, told, told_is, stands, read_in, interface_behind, Comes}
-use Rattle.join_interfaces.proofs.Comes.{begun_walk}
+use Rattle.join_interfaces.proofs.Comes.{PeersRead, host_of, managed_as_seen, told_is, stands, read_in}
+use Rattle.join_interfaces.proofs.Comes.{interface_behind, Comes, begun_walk}
 use Rattle.join_interfaces.proofs.Locks.{lock_comes}
 use Rattle.join_interfaces.proofs.Starts.{start_comes}
 use Rattle.join_interfaces.proofs.Halts.{halt_comes}
@@ -74,7 +73,7 @@ module _ (laws : Laws) (fuel : ℕ) (x : Site) (plan : Plan) (draw drawn portion
     (seen : Seen) (host : StreamStatus)
   where
     abbrev standing : AskedState
-    standing = stands x said ps (next_nonce d) tdi (told seen m) host draw drawn
+    standing = stands x said ps (next_nonce d) tdi (managed_as_seen seen m) host draw drawn
 
     abbrev there : NamedTdi
     there = record { place = place; tdi = tdi }
@@ -179,12 +178,10 @@ bytes_in (op.Unbind peer) e = refl
 
 -- the interface as the topology and the machine have it
 abbrev face_of : Tdi → Seen → Managed → Face
-face_of tdi seen m = record { tdi = tdi; managed = told seen m }
+face_of tdi seen m = record { tdi = tdi; managed = managed_as_seen seen m }
 
 abbrev ended_at : ℕ → ℕ → InterfaceOperation → StreamStatus → ℕ → StreamSaid → Option Loss → InterfaceManagerView
-    → DeviceTdis
-    → HostTdi
-    → Ended
+    → DeviceTdis → HostTdi → Ended
 ended_at fuel number o host draws said loss m d i =
     unless_refused (interface_refusal_of o host i) m d
     (manager_walk fuel said loss (interface_unless (interface_refusal_of o host i) m (asking_at m number o draws)) d)
@@ -211,11 +208,13 @@ joined_by laws fuel plan s used x place o loss m d tdi seen kept live enough fit
     a.at_manager in
     let w = begun_walk (interface_refusal_of o (op_host s.op host o) i) i m.read d
     (interface_walk fuel m.portion s.drawn said loss (begun_walking o i d)) in
-    let st = stands x said ps (nonce_behind plan x.link (used x.link)) tdi (told seen kept) host draw s.drawn in
+    let st = stands x said ps (nonce_behind plan x.link (used x.link)) tdi (managed_as_seen seen kept) host draw s.drawn
+    in
     let due = asked_due plan x st (op_event o x.number loss) in
     let step : Comes x st place o loss d due w = subst
-    (λ k. Comes x (stands x said ps k tdi (told seen kept) host draw s.drawn) place o loss d
-    (asked_due plan x (stands x said ps k tdi (told seen kept) host draw s.drawn) (op_event o x.number loss)) w)
+    (λ k. Comes x (stands x said ps k tdi (managed_as_seen seen kept) host draw s.drawn) place o loss d
+    (asked_due plan x (stands x said ps k tdi (managed_as_seen seen kept) host draw s.drawn) (op_event o x.number loss))
+    w)
     a.next_is
     (comes laws fuel x plan draw s.drawn m.portion place said ps loss d tdi kept m.read seen host o fits meet
     a.portion_is
@@ -242,8 +241,7 @@ joined_by laws fuel plan s used x place o loss m d tdi seen kept live enough fit
 joined_at : Laws → (plan : Plan) (s : Streams) (used : ℕ → ℕ) (x : Site) (f : Face) (place : ℕ) (o : InterfaceOperation)
     (loss : Option Loss) (m : InterfaceManagerView) (d : DeviceTdis) (i : HostTdi) (tdi : Tdi)
     (live : Option ℕ) → FitsNamedPeer (has_peer plan.peers x.link) s.draw (live_by_id s.live plan.peers x.link) live o
-    → IsAt plan s used x f x.number place m d i tdi
-    → IsInterfaceJoined plan s used x f x.number place o loss m d
+    → IsAt plan s used x f x.number place m d i tdi → IsInterfaceJoined plan s used x f x.number place o loss m d
     (interface_operated x.number o (op_host s.op (s.host x.link x.plan.stream) o) s.drawn (said_of s x live) loss m d i)
 joined_at laws plan s used x f place o loss m d i tdi live fits a =
     let b = a.face.managed in

@@ -1,8 +1,7 @@
 -- A lock: what is lost or refused before LOCK_INTERFACE changes nothing; the third exchange makes of both ends what the
 -- machine makes of them, case by case of the loss and of the device's answer.
-use Rattle.std.proofs.Common.{◌≡◌, ℕ, ◌+◌, ◌<◌, ◌==◌, ◌&&◌, Bool, true, false, List, [], Option, Some, None}
-use Rattle.std.proofs.Common.{Result, Ok, Err}
-use Rattle.std.proofs.Common.{refl, ap, sym, subst, arith}
+use Rattle.std.proofs.Common.{◌≡◌, ℕ, ◌+◌, ◌<◌, ◌==◌, ◌&&◌, Bool, true, false, List, [], Option, Some, None, Result, Ok}
+use Rattle.std.proofs.Common.{Err, refl, ap, sym, subst, arith}
 use Rattle.std.specs.Prelude.{slice_set, IfSome, not, if◌then◌else◌, is_ok}
 use Rattle.spec_keys.proofs.Tests.{same-true}
 use Rattle.ide_types.specs.declared.status.StreamStatus.{StreamStatus}
@@ -31,18 +30,17 @@ use Rattle.interface_host.specs.declared.step.Step.TheVariants as step
 use Rattle.interface_host.specs.Steps.{Read}
 use Rattle.interface_host.specs.Views.{Seen, IsUnlocked, IsLocked, IsRunning, IsDoubt, IsBroken, nonce_of}
 use Rattle.interface_host.specs.Views.{lock_outcome, lock_refusal, taken_interface}
-use Rattle.interface_device.specs.declared.said.StreamSaid.{StreamSaid}
-use Rattle.interface_device.specs.Replies.{DeviceTdis, NamedTdi, next_nonce, used_after}
+use Rattle.interface_ends.specs.declared.said.StreamSaid.{StreamSaid}
+use Rattle.interface_ends.specs.Replies.{DeviceTdis, NamedTdi, next_nonce, used_after}
 use Rattle.interface_ends.specs.Exchanges.{nonce_due}
 use Rattle.interface_ends.specs.Operations.{judgment_if_carried, interfaces_after_request, walked_unless_lost}
-use Rattle.interface_ends.specs.Operations.{lost_early, stated_once, at_step}
-use Rattle.interface_ends.specs.Operations.{stated_lock}
+use Rattle.interface_ends.specs.Operations.{lost_early, stated_once, at_step, stated_lock}
 use Rattle.join_interfaces.specs.Verdicts.{outcome_verdict}
 use Rattle.join_interfaces.specs.Faces.{IsManaged}
 use Rattle.join_interfaces.proofs.Losses.{by_loss, thrice_lost, cut, early_carries, early_kept}
-use Rattle.join_interfaces.proofs.Comes.{PeersRead, host_of, told, told_seen, managed_of, no_key, stands, device_with}
-use Rattle.join_interfaces.proofs.Comes.{Comes}
-use Rattle.join_interfaces.proofs.Comes.{begun_walk, refused_walk, same_device, left_device, quiet, no_lock}
+use Rattle.join_interfaces.proofs.Comes.{PeersRead, host_of, managed_as_seen, told_seen, managed_of, no_key, stands}
+use Rattle.join_interfaces.proofs.Comes.{device_with, Comes, begun_walk, refused_walk, same_device, left_device, quiet}
+use Rattle.join_interfaces.proofs.Comes.{no_lock}
 
 -- ---- the third exchange, by what the device answers
 
@@ -85,7 +83,7 @@ GivesKey (Err code) = Unit {0}
 lock_managed : (x : Site) (draw draws : ℕ) (m : Managed) (l : Option Lost) (r : Result (List ℕ) ℕ) → GivesKey r
     → IsManaged draw x
     (taken_interface step.Lock draws (judgment_if_carried l (nonce_due r)) (host_of x draw IsUnlocked m))
-    (on_lock (told IsUnlocked m) (by_loss l 3 (verdict_of_lock x r)))
+    (on_lock (managed_as_seen IsUnlocked m) (by_loss l 3 (verdict_of_lock x r)))
 lock_managed x draw draws m None (Ok nonce) key =
     managed_of x draw (IsLocked nonce false) _ (refl, refl, refl) key
 lock_managed x draw draws m None (Err code) key = managed_of x draw IsUnlocked _ refl no_key
@@ -118,7 +116,7 @@ module _ (x : Site) (draw drawn portion place : ℕ) (said : StreamSaid) (ps : P
     (d : DeviceTdis) (tdi : Tdi)
     (m : Managed) (read : Read) where
   abbrev standing : Seen → StreamStatus → AskedState
-  standing seen host = stands x said ps (next_nonce d) tdi (told seen m) host draw drawn
+  standing seen host = stands x said ps (next_nonce d) tdi (managed_as_seen seen m) host draw drawn
 
   abbrev there : NamedTdi
   there = record { place = place; tdi = tdi }
@@ -147,7 +145,7 @@ module _ (x : Site) (draw drawn portion place : ℕ) (said : StreamSaid) (ps : P
       quiet x (standing IsUnlocked status.Secure) place op.Lock loss d (lost_at k n) _ _ _ same
       (ap (λ b. interface_if_called b (lock_call (standing IsUnlocked status.Secure).around x) tdi) none)
       (no_lock x (standing IsUnlocked status.Secure) loss (lost_at k n) none)
-      (early_kept k n (told IsUnlocked m) lt) (managed_of x draw IsUnlocked _ refl no_key) (cut loss n k is)
+      (early_kept k n (managed_as_seen IsUnlocked m) lt) (managed_of x draw IsUnlocked _ refl no_key) (cut loss n k is)
 
   -- none is refused before them
   begun : (a b : Option Lost) → lost_message loss 1 ≡ a → lost_message loss 2 ≡ b
@@ -166,7 +164,7 @@ module _ (x : Site) (draw drawn portion place : ℕ) (said : StreamSaid) (ps : P
   refused : (seen : Seen) (host : StreamStatus) (due : Verdict) (r : InterfaceRefusal)
       → slice_set d.interfaces place tdi
       ≡ d.interfaces → IsKey (nonce_of seen)
-      → carries due 3 ≡ false → on_lock (told seen m) due ≡ told seen m
+      → carries due 3 ≡ false → on_lock (managed_as_seen seen m) due ≡ managed_as_seen seen m
       → outcome_verdict x.number loss [] (outcome.Refused r) ≡ Some due
       → Comes x (standing seen host) place op.Lock loss d due
       (refused_walk r (host_of x draw seen m) read d)

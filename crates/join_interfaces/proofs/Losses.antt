@@ -44,8 +44,7 @@ in_three e k w = by_loss (if e == 1 then Some k else None) 1
 abbrev InThree : Lost → Verdict → ℕ → Type 0
 InThree k w e = (if nat_le 1 e && nat_le e 3 then lost_at k e else w) ≡ in_three e k w
 
-thrice_by : (e : ℕ) (k : Lost) (w : Verdict) (a b c : Bool) → (e == 1) ≡ a → (e == 2) ≡ b → (e == 3) ≡ c
-    → InThree k w e
+thrice_by : (e : ℕ) (k : Lost) (w : Verdict) (a b c : Bool) → (e == 1) ≡ a → (e == 2) ≡ b → (e == 3) ≡ c → InThree k w e
 thrice_by e k w true b c first second third = subst (InThree k w) (sym (true-same e 1 first)) refl
 thrice_by e k w false true c first second third = subst (InThree k w) (sym (true-same e 2 second)) refl
 thrice_by e k w false false true first second third = subst (InThree k w) (sym (true-same e 3 third)) refl

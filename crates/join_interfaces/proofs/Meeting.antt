@@ -16,10 +16,10 @@ use Rattle.interface_state.specs.Held.{FitsTdi}
 use Rattle.interface_state.specs.Kept.{kept_report}
 use Rattle.interface_state.specs.Machine.{Tdi, lock_of}
 use Rattle.spec_interfaces.specs.Sites.{Site}
-use Rattle.machine_interfaces.specs.Machine.{Face, Streams}
+use Rattle.machine_whole.specs.Interfaces.{Face, Streams}
 use Rattle.interface_host.specs.Views.{HostTdi}
 use Rattle.interface_host.specs.Managers.{InterfaceManagerView}
-use Rattle.interface_device.specs.Replies.{DeviceTdis, next_nonce}
+use Rattle.interface_ends.specs.Replies.{DeviceTdis, next_nonce}
 use Rattle.interface_ends.specs.Exchanges.{ReportsFit, IsReport, Meets}
 use Rattle.join_interfaces.specs.Joined.{IsAt}
 

@@ -1,7 +1,6 @@
 -- A report: what is refused before its first portion, by the device, or is lost, changes nothing; a report that is read
 -- whole is the one that the lock kept.
-use Rattle.std.proofs.Common.{◌≡◌, ℕ, ◌+◌, true, false, List, length, Option, Some, None}
-use Rattle.std.proofs.Common.{refl, ap, sym, subst, ◌∙◌}
+use Rattle.std.proofs.Common.{◌≡◌, ℕ, ◌+◌, true, false, List, length, Option, Some, None, refl, ap, sym, subst, ◌∙◌}
 use Rattle.std.specs.Prelude.{slice_set}
 use Rattle.std.specs.Option.{option_map}
 use Rattle.std.proofs.lemmas.Option.{none-some, same_Some}
@@ -27,10 +26,10 @@ use Rattle.interface_host.specs.declared.step.Step.TheVariants as step
 use Rattle.interface_host.specs.Judging.{Refused}
 use Rattle.interface_host.specs.Steps.{Read}
 use Rattle.interface_host.specs.Managers.{nothing_read, report_after_reply}
-use Rattle.interface_host.specs.Views.{Seen, IsUnlocked, IsLocked, IsRunning, IsDoubt, IsBroken, nonce_of, reported}
-use Rattle.interface_host.specs.Views.{report_outcome, report_refusal, taken_interface}
-use Rattle.interface_device.specs.declared.said.StreamSaid.{StreamSaid}
-use Rattle.interface_device.specs.Replies.{DeviceTdis, NamedTdi, next_nonce}
+use Rattle.interface_host.specs.Views.{Seen, IsUnlocked, IsLocked, IsRunning, IsDoubt, IsBroken, nonce_of}
+use Rattle.interface_host.specs.Views.{reported_view, report_outcome, report_refusal, taken_interface}
+use Rattle.interface_ends.specs.declared.said.StreamSaid.{StreamSaid}
+use Rattle.interface_ends.specs.Replies.{DeviceTdis, NamedTdi, next_nonce}
 use Rattle.interface_ends.specs.Exchanges.{portion_due}
 use Rattle.interface_ends.specs.Operations.{WalkedInterface, judgment_if_carried, interfaces_after_request}
 use Rattle.interface_ends.specs.Operations.{stated_alone}
@@ -38,7 +37,8 @@ use Rattle.interface_ends.specs.Reports.{lost_exchange_within, read_outcome, rea
 use Rattle.join_interfaces.specs.Verdicts.{outcome_verdict}
 use Rattle.join_interfaces.specs.Faces.{SeenAs, IsManaged}
 use Rattle.join_interfaces.proofs.Losses.{by_loss, by_number, once_lost, number_lost, cut}
-use Rattle.join_interfaces.proofs.Comes.{PeersRead, host_of, told, told_seen, managed_of, stands, device_with, Comes}
+use Rattle.join_interfaces.proofs.Comes.{PeersRead, host_of, managed_as_seen, told_seen, managed_of, stands}
+use Rattle.join_interfaces.proofs.Comes.{device_with, Comes}
 use Rattle.join_interfaces.proofs.Comes.{begun_walk, refused_walk, same_device, left_device, no_more, quiet}
 
 -- ---- the device is in no lock
@@ -51,7 +51,7 @@ none_verdict x loss bytes (Some k) is = cut loss 1 k is
 
 none_managed : (x : Site) (draw draws : ℕ) (seen : Seen) (m : Managed) (l : Option Lost) → IsKey (nonce_of seen)
     → IsManaged draw x (taken_interface step.Report draws (judgment_if_carried l (Refused 4)) (host_of x draw seen m))
-    (on_report (told seen m) (by_loss l 1 (v.RefusedDevice 1 4)))
+    (on_report (managed_as_seen seen m) (by_loss l 1 (v.RefusedDevice 1 4)))
 none_managed x draw draws seen m None key = managed_of x draw seen _ (told_seen seen m) key
 none_managed x draw draws seen m (Some Request) key = managed_of x draw seen _ (told_seen seen m) key
 none_managed x draw draws seen m (Some Reply) key = managed_of x draw seen _ (told_seen seen m) key
@@ -66,14 +66,15 @@ none_device d place tdi (Some Reply) same = same_device d place _ _ _ _ refl (no
 -- ---- the device is in a lock
 
 -- what the manager keeps
-seen_reported : (seen : Seen) (m : Managed) → SeenAs (reported seen) (record (told seen m) { reported = true })
+seen_reported : (seen : Seen) (m : Managed)
+    → SeenAs (reported_view seen) (record (managed_as_seen seen m) { reported = true })
 seen_reported IsUnlocked m = refl
 seen_reported (IsLocked nonce is_reported) m = (refl, refl, refl)
 seen_reported (IsRunning floor) m = (refl, refl)
 seen_reported IsDoubt m = refl
 seen_reported IsBroken m = refl
 
-key_reported : (seen : Seen) → IsKey (nonce_of seen) → IsKey (nonce_of (reported seen))
+key_reported : (seen : Seen) → IsKey (nonce_of seen) → IsKey (nonce_of (reported_view seen))
 key_reported IsUnlocked key = key
 key_reported (IsLocked nonce is_reported) key = key
 key_reported (IsRunning floor) key = key
@@ -89,8 +90,7 @@ lost_kept (Some Reply) n m due is =
     subst (λ w. on_report m w ≡ m) (same_Some (v.LostReply n) due (sym is)) refl
 
 read_verdict : (x : Site) (loss : Option Loss) (report bytes : List ℕ) (lost : Option ℕ)
-    → (lost ≡ None → bytes ≡ report)
-    → outcome_verdict x.number loss bytes (read_outcome lost)
+    → (lost ≡ None → bytes ≡ report) → outcome_verdict x.number loss bytes (read_outcome lost)
     ≡ by_number loss lost (v.Interface (iv.Reported x.number report))
 read_verdict x loss report bytes None is = ap (λ k. Some (v.Interface (iv.Reported x.number k))) (is refl)
 read_verdict x loss report bytes (Some n) is = refl
@@ -98,14 +98,14 @@ read_verdict x loss report bytes (Some n) is = refl
 read_managed : (x : Site) (draw : ℕ) (seen : Seen) (m : Managed) (loss : Option Loss) (report : List ℕ)
     (lost : Option ℕ) (due : Verdict) → IsKey (nonce_of seen)
     → Some due ≡ by_number loss lost (v.Interface (iv.Reported x.number report))
-    → IsManaged draw x (read_interface lost (host_of x draw seen m)) (on_report (told seen m) due)
+    → IsManaged draw x (read_interface lost (host_of x draw seen m)) (on_report (managed_as_seen seen m) due)
 read_managed x draw seen m loss report None due key is =
-    subst (λ w. IsManaged draw x (read_interface None (host_of x draw seen m)) (on_report (told seen m) w))
+    subst (λ w. IsManaged draw x (read_interface None (host_of x draw seen m)) (on_report (managed_as_seen seen m) w))
     (same_Some (v.Interface (iv.Reported x.number report)) due (sym is))
-    (managed_of x draw (reported seen) _ (seen_reported seen m) (key_reported seen key))
+    (managed_of x draw (reported_view seen) _ (seen_reported seen m) (key_reported seen key))
 read_managed x draw seen m loss report (Some n) due key is =
     subst (λ k. IsManaged draw x (host_of x draw seen m) k)
-    (sym (lost_kept (lost_message loss n) n (told seen m) due is))
+    (sym (lost_kept (lost_message loss n) n (managed_as_seen seen m) due is))
     (managed_of x draw seen _ (told_seen seen m) key)
 
 -- ---- the operation
@@ -114,7 +114,7 @@ module _ (x : Site) (plan : Plan) (draw drawn portion place : ℕ) (said : Strea
     (loss : Option Loss) (d : DeviceTdis)
     (tdi : Tdi) (m : Managed) (read : Read) where
   abbrev standing : Seen → StreamStatus → AskedState
-  standing seen host = stands x said ps (next_nonce d) tdi (told seen m) host draw drawn
+  standing seen host = stands x said ps (next_nonce d) tdi (managed_as_seen seen m) host draw drawn
 
   abbrev there : NamedTdi
   there = record { place = place; tdi = tdi }
@@ -142,7 +142,7 @@ module _ (x : Site) (plan : Plan) (draw drawn portion place : ℕ) (said : Strea
         device = none_device d place tdi l same;
         managed = subst (λ j. IsManaged draw x
             (taken_interface step.Report drawn (judgment_if_carried l j) (host_of x draw seen m))
-            (on_report (told seen m) (by_loss l 1 (v.RefusedDevice 1 4)))) (sym judged)
+            (on_report (managed_as_seen seen m) (by_loss l 1 (v.RefusedDevice 1 4)))) (sym judged)
             (none_managed x draw drawn seen m l key);
       }
 
@@ -165,13 +165,14 @@ module _ (x : Site) (plan : Plan) (draw drawn portion place : ℕ) (said : Strea
         verdict = ap (outcome_verdict x.number loss w.read.bytes) walk.outcome_is
             ∙ read_verdict x loss report w.read.bytes lost walk.report_is ∙ sym due_is;
         device = walk.device_is ∙ left_device d place tdi _ false same refl refl;
-        managed = subst (λ j. IsManaged draw x j (on_report (told seen m) due))
+        managed = subst (λ j. IsManaged draw x j (on_report (managed_as_seen seen m) due))
             (sym walk.interface_is) (read_managed x draw seen m loss report lost due key due_is);
       }
 
   refused : (seen : Seen) (host : StreamStatus) (due : Verdict) (r : InterfaceRefusal)
       → slice_set d.interfaces place tdi ≡ d.interfaces → IsKey (nonce_of seen)
-      → on_report (told seen m) due ≡ told seen m → outcome_verdict x.number loss read.bytes (outcome.Refused r)
+      → on_report (managed_as_seen seen m) due ≡ managed_as_seen seen m
+      → outcome_verdict x.number loss read.bytes (outcome.Refused r)
       ≡ Some due
       → Comes x (standing seen host) place op.Report loss d due (refused_walk r (host_of x draw seen m) read d)
   refused seen host due r same key kept is =

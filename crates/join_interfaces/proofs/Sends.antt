@@ -15,7 +15,7 @@ use Rattle.tlp_layout.specs.declared.tlp.Tlp.{Tlp}
 use Rattle.tlp_layout.specs.Class.{class_of}
 use Rattle.tlp_layout.specs.Head.{head_bytes}
 use Rattle.tlp_layout.specs.Tlp.{header, body}
-use Rattle.association.specs.Outgoing.{Outgoing, NoTlp, OnNone, OnStream, outgoing_of}
+use Rattle.tlp_layout.specs.Outgoing.{Outgoing, NoTlp, OnNone, OnStream, outgoing_of}
 use Rattle.ide_prefix.specs.Packet.{Packet}
 use Rattle.link_events.specs.declared.event.Event.TheVariants.{Access, Forward, Send}
 use Rattle.link_events.specs.declared.event.AccessEvent.TheVariants as ae
@@ -28,22 +28,21 @@ use Rattle.spec_links.specs.Hops.{HopTlp, leaving_end}
 use Rattle.ide_types.specs.declared.direction.Direction.{Direction}
 use Rattle.spec_links.specs.Due.{Sending, refusals, sealed_with_syncs, first_that_holds}
 use Rattle.spec_stream.specs.Stream.{LaneSlot, LaneSlots, TxSub, Three, StreamState, Empty, Programmed, Armed, Live}
-use Rattle.spec_stream.specs.Stream.{gone_on}
-use Rattle.spec_stream.specs.Stream.{counted_unit, ended_slots, sealed_slots, sealed_sub, sealed_one, sealed_all}
-use Rattle.spec_stream.specs.Stream.{lanes_of}
+use Rattle.spec_stream.specs.Stream.{gone_on, counted_unit, ended_slots, sealed_slots, sealed_sub, sealed_one}
+use Rattle.spec_stream.specs.Stream.{sealed_all, lanes_of}
 use Rattle.spec_stream.specs.Slots.{is_live_slot, any_live, has_all_live, has_some_live}
 use Rattle.ide_types.specs.Ports.{keyed_status}
 use Rattle.spec_interfaces.specs.Devices.{is_secure}
 use Rattle.std.specs.Option.{option_and_then}
 use Rattle.machine_whole.specs.Accesses.{posted_draw_at}
-use Rattle.machine_whole.specs.Machine.{live_if, live_in}
+use Rattle.machine_whole.specs.Machine.{live_if, live_draw_at_end}
 unfoldable use Rattle.spec_interfaces.specs.Peers.{peer_end}
 use Rattle.join_interfaces.specs.Says.{AreSecureStill, says_in}
 use Rattle.machine_ports.specs.Machine.{BesidePorts, LinkState, LinkPacket, Stepped, port_at, status_if_planned}
 use Rattle.machine_ports.specs.Machine.{sealing_draw_at, stepped_answer, stepped_completion, stepped_on_stream}
 use Rattle.machine_ports.specs.Machine.{stepped_bytes, stepped_forward, stepped_reply, stepped_send}
 use Rattle.machine_ports.specs.Replies.{BoundCompletion}
-unfoldable use Rattle.machine_ports.specs.Machine.{find, put, step_of}
+unfoldable use Rattle.machine_ports.specs.Machine.{find, with_stream_state, step_of}
 use Rattle.machine_ports.proofs.Puts.{find-put, find-put_other}
 use Rattle.machine_ports.proofs.Changes.{at_place}
 
@@ -108,8 +107,7 @@ each_of : (failed a b c d e f : Bool) → (not failed && (a && b && c && d && e 
 each_of failed a b c d e f is = (grind arith, grind arith, grind arith)
 
 all_with : (failed a b c d e f x y z : Bool) → (not failed && (a && b && c && d && e && f)) ≡ true → x ≡ true
-    → y ≡ true → z ≡ true
-    → (not failed && (x && y && z && d && e && f)) ≡ true
+    → y ≡ true → z ≡ true → (not failed && (x && y && z && d && e && f)) ≡ true
 all_with failed a b c d e f x y z is one two three = grind arith
 
 secure_sealed : (x : StreamState) (closed : Bool) (head payload : List ℕ) (ds : List SealedPacket)
@@ -145,10 +143,10 @@ put_kept : (plan : Plan) (st : LinkState) (port : PortName) (stream : ℕ) (x y 
     → (is_secure (status_if_planned (Some x)) ≡ true → is_secure (status_if_planned (Some y)) ≡ true)
     → (q : PortName) (t : ℕ) (b : Bool) → (is_same_port port q && (stream == t)) ≡ b
     → is_secure (status_if_planned (find plan st q t)) ≡ true
-    → is_secure (status_if_planned (find plan (put plan st port stream y) q t)) ≡ true
+    → is_secure (status_if_planned (find plan (with_stream_state plan st port stream y) q t)) ≡ true
 put_kept plan st port stream x y found keeps q t true same is =
     at_place port q stream t (λ r n. is_secure (status_if_planned (find plan st r n)) ≡ true
-    → is_secure (status_if_planned (find plan (put plan st port stream y) r n)) ≡ true) same
+    → is_secure (status_if_planned (find plan (with_stream_state plan st port stream y) r n)) ≡ true) same
     (λ old. ap (λ o. is_secure (status_if_planned o)) (find-put plan st port stream y (ap is_some found))
     ∙ keeps (ap (λ o. is_secure (status_if_planned o)) (sym found) ∙ old)) is
 put_kept plan st port stream x y found keeps q t false other is =
@@ -161,7 +159,7 @@ sealed_kept plan st s t x (Some w) ds found q n is = is
 sealed_kept plan st s t x None ds found q n is =
     let sealed = sealed_all (is_closed plan s.port.line s.stream) (head_bytes (header t)) (body t) ds x.tx in
     let y = record x { tx = sealed.1 } in
-    ap (λ o. is_secure (status_if_planned o)) (find_packets plan (put plan st s.port s.stream y) _ q n)
+    ap (λ o. is_secure (status_if_planned o)) (find_packets plan (with_stream_state plan st s.port s.stream y) _ q n)
     ∙ put_kept plan st s.port s.stream x y found
     (secure_sealed x (is_closed plan s.port.line s.stream) (head_bytes (header t)) (body t) ds) q n
     (is_same_port s.port q && (s.stream == n)) refl is
@@ -209,7 +207,7 @@ sends_kept plan beside st port bytes more trusted =
 -- an answer to a read is a send, or leaves the ports as they are
 completion_kept : (plan : Plan) (beside : BesidePorts) (st : LinkState) (port : PortName) (r : BoundCompletion)
     (draw : Option ℕ) → StaySecure plan st (stepped_completion plan beside st port r draw).1
-completion_kept plan beside st port r draw = not_if plan st (is_below draw r.floor) _ _
+completion_kept plan beside st port r draw = not_if plan st (is_below draw r.bound.floor) _ _
     (send_kept plan beside st port (outgoing_of (streams_of plan port.line) port.side r.bytes) false true)
   where
     not_if : (p : Plan) (s : LinkState) (b : Bool) (w : Verdict) (x : Stepped) → StaySecure p s x.1
@@ -222,7 +220,7 @@ reply_kept : (plan : Plan) (beside : BesidePorts) (st : LinkState) (port : PortN
     → StaySecure plan st (stepped_reply plan beside st port o).1
 reply_kept plan beside st port (Err w) q n is = is
 reply_kept plan beside st port (Ok r) q n is =
-    completion_kept plan beside st port r (sealing_draw_at Cpl (find plan st port r.stream)) q n is
+    completion_kept plan beside st port r (sealing_draw_at Cpl (find plan st port r.bound.stream)) q n is
 
 pub answer_kept : (plan : Plan) (beside : BesidePorts) (st : LinkState) (answered : ℕ)
     → StaySecure plan st (step_of plan beside st (Access (ae.Answer answered))).1
@@ -247,8 +245,8 @@ secure_live true draw = refl
 secure_live false draw = refl
 
 live_kept : (plan : Plan) (old new : LinkState) (o : Option PortName) (stream : ℕ) → StaySecure plan old new
-    → is_some (option_and_then (λ e. live_in plan old e stream) o) ≡ true
-    → is_some (option_and_then (λ e. live_in plan new e stream) o) ≡ true
+    → is_some (option_and_then (λ e. live_draw_at_end plan old e stream) o) ≡ true
+    → is_some (option_and_then (λ e. live_draw_at_end plan new e stream) o) ≡ true
 live_kept plan old new None stream kept is = is
 live_kept plan old new (Some e) stream kept is =
     secure_live _ (posted_draw_at plan new e stream) ∙ kept e stream

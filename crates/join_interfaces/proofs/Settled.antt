@@ -6,13 +6,13 @@ use Rattle.std.specs.Prelude.{not, if◌then◌else◌, is_some, IfSome, Option,
 use Rattle.std.proofs.Common.{⊎_elim}
 use Rattle.std.proofs.lemmas.Bool.{true≢false, eq-eqb, eqb-true, cases_Bool, or_left, or_right, or_parts}
 use Rattle.ide_types.specs.declared.interface.InterfacePlan.{InterfacePlan}
-use Rattle.interface_state.specs.declared.bindings.Binding.{Binding}
+use Rattle.ide_types.specs.declared.binding.Binding.{Binding}
 use Rattle.interface_state.specs.declared.register_set.Registers.{Registers}
 use Rattle.interface_state.specs.declared.states.TdiState.{TdiState}
 use Rattle.interface_state.specs.declared.states.TdiState.TheVariants.{ConfigUnlocked, ConfigLocked, Run, Error}
 use Rattle.interface_state.specs.Bindings.{binds}
 use Rattle.interface_state.specs.Machine.{Tdi, StreamLeft, bound_link_stream, tdi_after}
-use Rattle.interface_device.specs.Replies.{settled_interface, any_left}
+use Rattle.interface_ends.specs.Replies.{settled_interface, any_left}
 use Rattle.spec_interfaces.specs.Devices.{interface_if_called}
 use Rattle.spec_interfaces.specs.Peers.{any_leaves}
 use Rattle.join_interfaces.specs.Says.{DeviceSays, AreApart, AreSecureStill, Keeps, is_said_secure, leaves_stream}
@@ -39,8 +39,7 @@ still a b one two = grind arith
 -- ---- streams between devices
 
 any_is : (is_peer : ℕ → Bool) (before after : DeviceSays) (bs : List Binding) → AreApart is_peer before
-    → AreApart is_peer after
-    → ((stream : ℕ) → binds stream bs ≡ true → is_some (before.live stream) ≡ true)
+    → AreApart is_peer after → ((stream : ℕ) → binds stream bs ≡ true → is_some (before.live stream) ≡ true)
     → any_left (is_said_secure after) bs ≡ any_leaves before.live after.live bs
 any_is is_peer before after [] first second bound = refl
 any_is is_peer before after (b ∷ bs) first second bound =

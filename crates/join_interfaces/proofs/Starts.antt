@@ -26,8 +26,8 @@ use Rattle.interface_host.specs.declared.step.Step.TheVariants as step
 use Rattle.interface_host.specs.Steps.{Read}
 use Rattle.interface_host.specs.Views.{Seen, IsUnlocked, IsLocked, IsRunning, IsDoubt, IsBroken, nonce_of}
 use Rattle.interface_host.specs.Views.{start_outcome, start_refusal, taken_interface}
-use Rattle.interface_device.specs.declared.said.StreamSaid.{StreamSaid}
-use Rattle.interface_device.specs.Replies.{DeviceTdis, NamedTdi, next_nonce}
+use Rattle.interface_ends.specs.declared.said.StreamSaid.{StreamSaid}
+use Rattle.interface_ends.specs.Replies.{DeviceTdis, NamedTdi, next_nonce}
 use Rattle.interface_ends.specs.Exchanges.{start_judged}
 use Rattle.spec_keys.specs.Due.{lost_message}
 use Rattle.interface_ends.specs.Operations.{judgment_if_carried, interfaces_after_request, stated_once, stated_alone}
@@ -35,9 +35,9 @@ use Rattle.interface_ends.specs.Operations.{at_step}
 use Rattle.join_interfaces.specs.Verdicts.{outcome_verdict}
 use Rattle.join_interfaces.specs.Faces.{IsManaged}
 use Rattle.join_interfaces.proofs.Losses.{by_loss, once_lost, cut}
-use Rattle.join_interfaces.proofs.Comes.{PeersRead, host_of, told, told_seen, managed_of, no_key, stands, device_with}
-use Rattle.join_interfaces.proofs.Comes.{Comes}
-use Rattle.join_interfaces.proofs.Comes.{begun_walk, refused_walk, same_device, left_device, no_more, quiet}
+use Rattle.join_interfaces.proofs.Comes.{PeersRead, host_of, managed_as_seen, told_seen, managed_of, no_key, stands}
+use Rattle.join_interfaces.proofs.Comes.{device_with, Comes, begun_walk, refused_walk, same_device, left_device}
+use Rattle.join_interfaces.proofs.Comes.{no_more, quiet}
 
 -- ---- the exchange, by what the device answers
 
@@ -61,7 +61,7 @@ start_device x draw d place tdi call (Some Reply) r same = same_device d place _
 start_managed : (x : Site) (draw draws : ℕ) (nonce : List ℕ) (m : Managed) (l : Option Lost) (r : Result (Unit {0}) ℕ)
     → IsManaged draw x
     (taken_interface step.Start draws (judgment_if_carried l (start_judged r)) (host_of x draw (IsLocked nonce true) m))
-    (on_start (told (IsLocked nonce true) m) (by_loss l 1 (started_as x draw r)))
+    (on_start (managed_as_seen (IsLocked nonce true) m) (by_loss l 1 (started_as x draw r)))
 start_managed x draw draws nonce m None (Ok done) = managed_of x draw (IsRunning draw) _ (refl, refl) no_key
 start_managed x draw draws nonce m None (Err code) = managed_of x draw IsBroken _ refl no_key
 start_managed x draw draws nonce m (Some Request) r = managed_of x draw IsDoubt _ refl no_key
@@ -73,7 +73,7 @@ module _ (x : Site) (draw drawn portion place : ℕ) (said : StreamSaid) (ps : P
     (d : DeviceTdis) (tdi : Tdi)
     (m : Managed) (read : Read) where
   abbrev standing : Seen → StreamStatus → AskedState
-  standing seen host = stands x said ps (next_nonce d) tdi (told seen m) host draw drawn
+  standing seen host = stands x said ps (next_nonce d) tdi (managed_as_seen seen m) host draw drawn
 
   abbrev there : NamedTdi
   there = record { place = place; tdi = tdi }
@@ -92,13 +92,13 @@ module _ (x : Site) (draw drawn portion place : ℕ) (said : StreamSaid) (ps : P
 
   refused : (seen : Seen) (host : StreamStatus) (due : Verdict) (r : InterfaceRefusal)
       → slice_set d.interfaces place tdi ≡ d.interfaces
-      → IsKey (nonce_of seen) → carries due 1 ≡ false → on_start (told seen m) due ≡ told seen m
+      → IsKey (nonce_of seen) → carries due 1 ≡ false → on_start (managed_as_seen seen m) due ≡ managed_as_seen seen m
       → outcome_verdict x.number loss [] (outcome.Refused r) ≡ Some due
       → Comes x (standing seen host) place op.Start loss d due
       (refused_walk r (host_of x draw seen m) read d)
   refused seen host due r same key none kept is =
       quiet x (standing seen host) place op.Start loss d due _ _ _ same
-      (ap (λ b. interface_if_called b (StartInterface (told seen m).nonce) tdi) none) refl kept
+      (ap (λ b. interface_if_called b (StartInterface (managed_as_seen seen m).nonce) tdi) none) refl kept
       (managed_of x draw seen _ (told_seen seen m) key) is
 
   -- if its stream was keyed since
@@ -119,7 +119,7 @@ module _ (x : Site) (draw drawn portion place : ℕ) (said : StreamSaid) (ps : P
   pub start_comes : (seen : Seen) (host : StreamStatus) → slice_set d.interfaces place tdi ≡ d.interfaces
       → IsKey (nonce_of seen)
       → Comes x (standing seen host) place op.Start loss d (start_due x (standing seen host) loss)
-      (begun_walk (start_refusal host draw (told seen m).needs seen) (host_of x draw seen m) read d
+      (begun_walk (start_refusal host draw (managed_as_seen seen m).needs seen) (host_of x draw seen m) read d
       (stated_alone step.Start portion drawn said loss (host_of x draw seen m) d there))
   start_comes (IsLocked nonce true) status.Secure same key = fresh nonce (nat_lt draw m.needs) same key
   start_comes (IsLocked nonce true) status.Idle same key =

@@ -18,19 +18,17 @@ use Rattle.interface_host.specs.declared.operation.InterfaceOperation.TheVariant
 use Rattle.interface_host.specs.declared.step.Step.TheVariants as step
 use Rattle.interface_host.specs.Judging.{State}
 use Rattle.interface_host.specs.Views.{Seen, IsUnlocked, IsLocked, IsRunning, IsDoubt, IsBroken, nonce_of}
-use Rattle.interface_host.specs.Views.{state_outcome}
-use Rattle.interface_host.specs.Views.{taken_interface}
-use Rattle.interface_device.specs.declared.said.StreamSaid.{StreamSaid}
-use Rattle.interface_device.specs.Replies.{DeviceTdis, NamedTdi, next_nonce}
+use Rattle.interface_host.specs.Views.{state_outcome, taken_interface}
+use Rattle.interface_ends.specs.declared.said.StreamSaid.{StreamSaid}
+use Rattle.interface_ends.specs.Replies.{DeviceTdis, NamedTdi, next_nonce}
 use Rattle.spec_keys.specs.Due.{lost_message}
 use Rattle.interface_ends.specs.Operations.{judgment_if_carried, interfaces_after_request, stated_once, stated_alone}
 use Rattle.interface_ends.specs.Operations.{at_step}
 use Rattle.join_interfaces.specs.Verdicts.{outcome_verdict}
 use Rattle.join_interfaces.specs.Faces.{IsManaged}
 use Rattle.join_interfaces.proofs.Losses.{by_loss, once_lost, cut}
-use Rattle.join_interfaces.proofs.Comes.{PeersRead, host_of, laid, told, told_seen, managed_of, no_key, stands}
-use Rattle.join_interfaces.proofs.Comes.{device_with, Comes}
-use Rattle.join_interfaces.proofs.Comes.{same_device, left_device, no_more}
+use Rattle.join_interfaces.proofs.Comes.{PeersRead, host_of, laid, managed_as_seen, told_seen, managed_of, no_key}
+use Rattle.join_interfaces.proofs.Comes.{stands, device_with, Comes, same_device, left_device, no_more}
 
 -- the verdict if nothing is lost
 abbrev told_state : Site → ℕ → Verdict
@@ -63,7 +61,7 @@ running_told x draw floor m false = managed_of x draw IsBroken _ refl no_key
 
 state_managed : (x : Site) (draw draws code : ℕ) (seen : Seen) (m : Managed) (l : Option Lost) → IsKey (nonce_of seen)
     → IsManaged draw x (taken_interface step.State draws (judgment_if_carried l (State code)) (host_of x draw seen m))
-    (on_state (told seen m) (by_loss l 1 (told_state x code)))
+    (on_state (managed_as_seen seen m) (by_loss l 1 (told_state x code)))
 state_managed x draw draws code seen m (Some Request) key = managed_of x draw seen _ (told_seen seen m) key
 state_managed x draw draws code seen m (Some Reply) key = managed_of x draw seen _ (told_seen seen m) key
 state_managed x draw draws code IsUnlocked m None key = managed_of x draw IsUnlocked _ refl no_key
@@ -77,7 +75,7 @@ module _ (x : Site) (draw drawn portion place : ℕ) (said : StreamSaid) (ps : P
     (d : DeviceTdis) (tdi : Tdi)
     (m : Managed) (seen : Seen) (host : StreamStatus) where
   abbrev standing : AskedState
-  standing = stands x said ps (next_nonce d) tdi (told seen m) host draw drawn
+  standing = stands x said ps (next_nonce d) tdi (managed_as_seen seen m) host draw drawn
 
   abbrev there : NamedTdi
   there = record { place = place; tdi = tdi }

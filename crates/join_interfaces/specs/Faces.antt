@@ -4,7 +4,7 @@ use Rattle.ide_types.specs.Fits.{IsKey}
 use Rattle.ide_types.specs.declared.view.View.TheVariants.{Unlocked, Locked, Running, Doubt, Broken}
 use Rattle.spec_interfaces.specs.Sites.{Site}
 use Rattle.spec_interfaces.specs.Views.{Managed}
-use Rattle.machine_interfaces.specs.Machine.{Face}
+use Rattle.machine_whole.specs.Interfaces.{Face}
 use Rattle.interface_state.specs.Machine.{Tdi, bound_link_stream}
 use Rattle.interface_host.specs.Views.{HostTdi, Seen, IsUnlocked, IsLocked, IsRunning, IsDoubt, IsBroken, nonce_of}
 

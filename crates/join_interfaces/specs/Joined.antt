@@ -12,14 +12,14 @@ use Rattle.spec_interfaces.specs.Due.{asked_due, op_status}
 use Rattle.spec_interfaces.specs.Peers.{has_peer, live_by_id}
 use Rattle.spec_interfaces.specs.Terms.{StreamStage}
 use Rattle.ide_types.specs.declared.status.StreamStatus.{StreamStatus}
-use Rattle.machine_interfaces.specs.Machine.{Face, Streams, ends_of, around_of, face_standing, face_after}
+use Rattle.machine_whole.specs.Interfaces.{Face, Streams, ends_of, around_of, asked_state_of_face, face_after}
 use Rattle.interface_state.specs.Machine.{Tdi}
 use Rattle.interface_host.specs.declared.operation.InterfaceOperation.{InterfaceOperation}
 use Rattle.interface_host.specs.declared.operation.InterfaceOperation.TheVariants as op
 use Rattle.interface_host.specs.Views.{HostTdi}
 use Rattle.interface_host.specs.Managers.{InterfaceManagerView}
-use Rattle.interface_device.specs.declared.said.StreamSaid.{StreamSaid}
-use Rattle.interface_device.specs.Replies.{DeviceTdis, named_interface, next_nonce}
+use Rattle.interface_ends.specs.declared.said.StreamSaid.{StreamSaid}
+use Rattle.interface_ends.specs.Replies.{DeviceTdis, named_interface, next_nonce}
 use Rattle.interface_ends.specs.Keepers.{Ended, interface_operated}
 use Rattle.join_interfaces.specs.Verdicts.{ended_verdict, op_event}
 use Rattle.join_interfaces.specs.Faces.{IsFace}
@@ -47,7 +47,7 @@ pub record IsAt (plan : Plan) (s : Streams) (used : ℕ → ℕ) (x : Site) (f :
 pub record IsInterfaceJoined (plan : Plan) (s : Streams) (used : ℕ → ℕ) (x : Site) (f : Face) (number place : ℕ)
     (o : InterfaceOperation) (loss : Option Loss) (m : InterfaceManagerView) (d : DeviceTdis) (e : Ended) : Type 0 where
   pub verdict : Verdict
-  pub verdict_is : verdict ≡ asked_due plan x (face_standing plan s used x f) (op_event o number loss)
+  pub verdict_is : verdict ≡ asked_due plan x (asked_state_of_face plan s used x f) (op_event o number loss)
   pub ended_is : ended_verdict number o loss e ≡ Some verdict
   pub interface : HostTdi
   pub tdi : Tdi
@@ -65,8 +65,7 @@ pub record IsInterfaceJoined (plan : Plan) (s : Streams) (used : ℕ → ℕ) (x
 -- of a stream between devices that an operation names: the device has it; its ID, its draw as the manager of keys has
 -- it, and what the device says of it
 abbrev pub FitsNamedPeer : (has : ℕ → ℕ → Bool) → (draws : ℕ → ℕ → ℕ) → (by_id : ℕ → Option ℕ) → Option ℕ
-    → InterfaceOperation
-    → Type 0
+    → InterfaceOperation → Type 0
 FitsNamedPeer has draws by_id live (op.Bind peer) =
     (has peer.line peer.id ≡ true) × (peer.id < 256)
     × (peer.draw ≡ draws peer.line peer.id) × (live ≡ by_id peer.id)

@@ -2,12 +2,12 @@
 use Rattle.std.specs.Prelude.{ℕ, ◌≡◌, ◌&&◌, ◌||◌, Bool, true, false, not, is_some, List, Option, IfSome}
 use Rattle.ide_types.specs.declared.interface.InterfacePlan.{InterfacePlan}
 use Rattle.ide_types.specs.declared.plan.Plan.{Plan}
-use Rattle.interface_state.specs.declared.bindings.Binding.{Binding}
+use Rattle.ide_types.specs.declared.binding.Binding.{Binding}
 use Rattle.interface_state.specs.Machine.{Tdi, bound_link_stream}
 use Rattle.interface_state.specs.Bindings.{binds}
 use Rattle.interface_state.specs.Held.{IsBound}
 use Rattle.spec_interfaces.specs.Peers.{live_by_id, any_leaves}
-use Rattle.machine_interfaces.specs.Machine.{EndsRead}
+use Rattle.machine_whole.specs.Interfaces.{EndsRead}
 use Rattle.machine_ports.specs.Machine.{LinkState}
 use Rattle.machine_whole.specs.Machine.{ends_in}
 

@@ -6,9 +6,8 @@ pub use Rattle.ide_types.specs.declared.sub.SubKind.{SubKind}
 pub use Rattle.ide_types.specs.declared.plan.Plan.{Plan}
 pub use Rattle.sub_stream.specs.Calls.{slots_called_out, slots_called_into, stream_after_call}
 pub use Rattle.spec_keys.specs.Operations.{Work, Reach, makes_draw, work, last_exchange_of}
-pub use Rattle.spec_keys.specs.History.{is_within, program_at, go_at, stop_at, when, work_touches, program_number}
-pub use Rattle.spec_keys.specs.History.{go_number}
-pub use Rattle.spec_keys.specs.History.{stop_number}
+pub use Rattle.spec_keys.specs.History.{is_within, program_exchange, go_exchange, stop_exchange, touches_if}
+pub use Rattle.spec_keys.specs.History.{work_touches, program_number, go_number, stop_number}
 pub use Rattle.ide_types.specs.Lines.{is_hosted}
 pub use Rattle.ide_types.specs.declared.port.Side.{Side}
 pub use Rattle.join_keys.specs.Calls.{lane_key, key_number, StreamCall, told_call, calls_from, exchange_call}

@@ -2,9 +2,8 @@
 use Rattle.join_keys.proofs.Terms.{◌≡◌, Bool, arith, true, ℕ, List, Plan, if◌then◌else◌, nat_tests, ◌≤◌, Reach}
 use Rattle.join_keys.proofs.Terms.{lane_key, Host, ◌+◌, [], ◌<◌, ◌∷◌, ◌/◌, Option, length, ◌*◌, is_some, All, reach_of}
 use Rattle.join_keys.proofs.Terms.{Manager, manager_after_operation, manager_after, IsKey, FitsPlan, FitsStream}
-use Rattle.join_keys.proofs.Terms.{Verdict, KeyPlan}
-use Rattle.join_keys.proofs.Terms.{History, draws, history_status, PortView, ports_at, operation_verdict, work_of}
-use Rattle.join_keys.proofs.Terms.{op_of}
+use Rattle.join_keys.proofs.Terms.{Verdict, KeyPlan, History, draws, history_status, PortView, ports_at}
+use Rattle.join_keys.proofs.Terms.{operation_verdict, work_of, op_of}
 use Rattle.spec_keys.specs.Due.{has_refresh, may_establish, may_refresh, unless_open, key_due}
 use Rattle.spec_links.specs.Plan.{streams_by_link, streams_of, with_id, hop_by_link, hop_streams, peer_streams}
 use Rattle.spec_links.specs.Plan.{lone_stream, in_eight, streams_by_line, stream_plan}
@@ -25,8 +24,7 @@ use Rattle.link_verdicts.specs.declared.verdict.Verdict.TheVariants as v
 
 -- ---- an event draws only if the pool has keys
 
-establish_fits : (plan : KeyPlan) (known : Bool) (m : Manager) (l s : ℕ) (done x : Verdict)
-    → length m.begun ≤ plan.pool
+establish_fits : (plan : KeyPlan) (known : Bool) (m : Manager) (l s : ℕ) (done x : Verdict) → length m.begun ≤ plan.pool
     → x ≡ (if known then may_establish plan l (length m.begun) (m.ops l s) done else v.Nothing)
     → length (manager_after_operation m op.Establish l s (reach_of op.Establish x)).begun ≤ plan.pool
 establish_fits plan known m l s done x le is = grind (arith, nat_tests)
@@ -148,7 +146,7 @@ id_below : (ss : List StreamPlan) (id : ℕ) → SmallIds ss → is_some (with_i
 id_below [] id small known = absurd cc
 id_below (s ∷ ss) id small known = grind (arith, nat_tests, id_below ss id small.1)
 
-pub id_fits : (plan : Plan) → FitsPlan plan → (link id : ℕ) → is_some (stream_plan plan link id) ≡ true → id ≤ 255
+pub id_fits : (plan : Plan) → FitsPlan plan → (line id : ℕ) → is_some (stream_plan plan line id) ≡ true → id ≤ 255
 unfolding stream_plan
-id_fits plan fits link id known = id_below (streams_of plan link) id
-    (rows_at (streams_by_line plan) link (small_rows plan fits)) known
+id_fits plan fits line id known = id_below (streams_of plan line) id
+    (rows_at (streams_by_line plan) line (small_rows plan fits)) known

@@ -1,13 +1,12 @@
 -- An event of an operation, walked at both ends, gives what the machine of ports says.
 use Rattle.join_keys.specs.Calls.{lane_sends}
-use Rattle.join_keys.proofs.Terms.{◌≡◌, arith, true, ℕ, List, ◌++◌, Work, Plan, if◌then◌else◌, Operation, ◌≤◌, ◌∙◌}
-use Rattle.join_keys.proofs.Terms.{sym, Device, Host, StreamState, ◌+◌, [], suc, refl, ◌-◌, ap, Some, subst, ◌∷◌}
+use Rattle.join_keys.proofs.Terms.{◌≡◌, arith, true, ℕ, List, ◌++◌, Work, Plan, if◌then◌else◌, Operation, ◌≤◌, ◌∙◌, sym}
+use Rattle.join_keys.proofs.Terms.{Device, Host, StreamState, ◌+◌, [], suc, refl, ◌-◌, ap, Some, subst, ◌∷◌}
 use Rattle.join_keys.proofs.Terms.{last_exchange_of, port_at, CallsAreTouches, ◌/◌, Option, ◌%◌, None, length, nat_lt}
 use Rattle.join_keys.proofs.Terms.{reach_of, work_of, sub_from, all_called_at, FitsPlan, Loss, Verdict, History}
 use Rattle.join_keys.proofs.Terms.{refusal_at, operation_verdict, stays, unwrap_or, key_plan, LinkState, find, find_op}
 use Rattle.join_keys.proofs.Terms.{ports_of, machine_status, AreTouches, Side, Pool, draws_in, true-lt, StreamRefusal}
-use Rattle.join_keys.proofs.Terms.{PlaceCall}
-use Rattle.join_keys.proofs.Terms.{StreamView, draws_now, refusal_of, begun_stream, begun_pool, begun_calls}
+use Rattle.join_keys.proofs.Terms.{PlaceCall, StreamView, draws_now, refusal_of, begun_stream, begun_pool, begun_calls}
 use Rattle.join_keys.proofs.Terms.{ManagerWalk, answers, walk, manager_walked, verdict_of, op_by, Comes, walk_comes}
 use Rattle.join_keys.proofs.Terms.{PortsStandFor, kept_is, StreamEnds, walk_on, begun_ends, walked_ends_unless}
 use Rattle.join_keys.proofs.Terms.{event_walk, host_of, KeysKept, verdict_due, IsJoined, OperationsJoin, first_from}
@@ -134,22 +133,22 @@ module _ (plan : Plan) (st : LinkState) (h : History) (operation : Operation) (l
   module _ (free : refusal_of operation e.keeper.op (host_of e.host) (pool_of plan st) ≡ None) where
     knows : Knows plan (ports_of plan st) w e.keeper.line e.keeper.id requester e.device
     knows =
-        let link = e.keeper.line in
+        let line = e.keeper.line in
         let id = e.keeper.id in
         record {
           hosted = found.hosted;
           fits = work_fits operation e.keeper.op st.draws;
-          small = id_fits plan found.fits link id
-              (kept_is plan st h (port_at Device link) id e.device found.stands.ports_stand found.device).known;
+          small = id_fits plan found.fits line id
+              (kept_is plan st h (port_at Device line) id e.device found.stands.ports_stand found.device).known;
           requester_most = found.requester_most;
           keys = λ makes. lane_keys plan found.fits w.draw
-              (draw_below plan st h found.stands link id e.keeper.op found.op_is operation
+              (draw_below plan st h found.stands line id e.keeper.op found.op_is operation
               (λ now. true-lt st.draws (length plan.pool / 6)
               (has_room operation e.keeper.op (host_of e.host) (pool_of plan st) free now)) makes);
-          reads = λ lane lt. reads_stream plan st Device link id e.device found.device
+          reads = λ lane lt. reads_stream plan st Device line id e.device found.device
               (lane_sends lane)
               (sub_from (lane % 3)) w.set;
-          apart = λ lane lt. (is_sound plan st h found.stands.ports_stand Device link id e.device found.device).apart
+          apart = λ lane lt. (is_sound plan st h found.stands.ports_stand Device line id e.device found.device).apart
               (lane_sends lane) (sub_from (lane % 3));
         }
 
@@ -181,7 +180,7 @@ module _ (plan : Plan) (st : LinkState) (h : History) (operation : Operation) (l
     joins : CallsAreTouches → (more : ℕ) → 12 ≤ more → IsJoined plan st operation loss (pool_of plan st) e
         (walk_on (suc more) loss requester (begun_from plan st operation e))
     joins calls more enough =
-        let link = e.keeper.line in
+        let line = e.keeper.line in
         let id = e.keeper.id in
         let same = same_operation operation e.keeper.op st.draws in
         let rest = rest_comes more enough in
@@ -189,18 +188,18 @@ module _ (plan : Plan) (st : LinkState) (h : History) (operation : Operation) (l
         let reached : reach_of operation verdict ≡ Some r = sym (λ i. reach_of (same i) (verdict_comes i)) ∙ rest.says
         in
         let stands = found.stands.ports_stand in
-        let same_touches : AreTouches plan (ports_of plan st) link id w r e.host e.device = calls plan
-        (ports_of plan st) link id
+        let same_touches : AreTouches plan (ports_of plan st) line id w r e.host e.device = calls plan
+        (ports_of plan st) line id
         w r e.host e.device found.hosted
         (operation, e.keeper.op, st.draws, refl)
         (assumption (within, rest.within, begins_first operation e.keeper.op st.draws))
-        (is_sound plan st h stands Host link id e.host found.host)
-        (is_sound plan st h stands Device link id e.device found.device)
-        (reads_stream plan st Host link id e.host found.host)
-        (reads_stream plan st Device link id e.device found.device) in
+        (is_sound plan st h stands Host line id e.host found.host)
+        (is_sound plan st h stands Device line id e.device found.device)
+        (reads_stream plan st Host line id e.host found.host)
+        (reads_stream plan st Device line id e.device found.device) in
         record {
-          verdict_is = ap (verdict_of operation link id loss) rest.outcome_is ∙
-              (sym (λ i. verdict_of (same i) link id loss (told w.operation).outcome)
+          verdict_is = ap (verdict_of operation line id loss) rest.outcome_is ∙
+              (sym (λ i. verdict_of (same i) line id loss (told w.operation).outcome)
               ∙ (comes_is.verdict_is ∙ ap Some verdict_comes));
           op_is = ap (λ (s : StreamView). s.op) rest.keeper_is ∙
               (comes_is.op_is ∙ (λ i. op_by (is_hosted e.keeper.line) e.keeper.op w

@@ -4,11 +4,9 @@ use Rattle.join_keys.specs.Calls.{lane_sends}
 use Rattle.join_keys.proofs.Terms.{◌≡◌, Bool, arith, true, SubKind, ℕ, List, Plan, nat_tests, Operation, place_at_end}
 use Rattle.join_keys.proofs.Terms.{◌≤◌, ◌∙◌, makes_draw, Device, StreamState, ◌+◌, ap, KeyPlace, ◌<◌, Some, port_at}
 use Rattle.join_keys.proofs.Terms.{slots_at, LaneSlot, key_of, ◌/◌, ◌%◌, length, option_map, work_of, StreamStage}
-use Rattle.join_keys.proofs.Terms.{sub_from}
-use Rattle.join_keys.proofs.Terms.{lane_number, History, draws, moments, op_of, key_plan, slot_in_set, LinkState, find}
-use Rattle.join_keys.proofs.Terms.{find_op, draws_now, PortsStandFor, key_in, draw_of_keyed, Touch, keys, Shape}
-use Rattle.join_keys.proofs.Terms.{keys_of}
-use Rattle.join_keys.proofs.Terms.{Marks, key_cause}
+use Rattle.join_keys.proofs.Terms.{sub_from, lane_number, History, draws, moments, op_of, key_plan, slot_in_set}
+use Rattle.join_keys.proofs.Terms.{LinkState, find, find_op, draws_now, PortsStandFor, key_in, draw_of_keyed, Touch}
+use Rattle.join_keys.proofs.Terms.{keys, Shape, keys_of, Marks, key_cause}
 use Rattle.spec_keys.proofs.Stages.{Rising}
 use Rattle.spec_keys.proofs.Fits.{FitsAt}
 use Rattle.law_keys.proofs.States.{in_state}
@@ -21,9 +19,8 @@ use Rattle.join_keys.proofs.Drawn.{draws_fit}
 -- ---- the state of the operation
 
 pub known_op : (plan : Plan) (st : LinkState) (h : History) → PortsStandFor plan st h
-    → (link stream : ℕ) (q : StreamStage)
-    → find_op plan st link stream ≡ Some q → op_of h link stream ≡ q
-known_op plan st h stands link stream q found = let is = stands.ops_is link stream in grind arith
+    → (line stream : ℕ) (q : StreamStage) → find_op plan st line stream ≡ Some q → op_of h line stream ≡ q
+known_op plan st h stands line stream q found = let is = stands.ops_is line stream in grind arith
 
 -- ---- a draw is kept after its KEY_PROG
 
@@ -31,37 +28,36 @@ pub kept_rising : (r k : Bool) (j a b n : ℕ) (u : Marks) (sh : Shape) → Risi
     → draw_of_keyed (key_in (keys_of sh) k) ≡ Some j
 kept_rising r k j a b n u sh rising lt = grind arith
 
-lane_is : (link stream lane : ℕ) → lane < 6 → lane_number (lane_place link stream lane) ≡ lane
-lane_is link stream lane lt = grind (arith, nat_tests)
+lane_is : (line stream lane : ℕ) → lane < 6 → lane_number (lane_place line stream lane) ≡ lane
+lane_is line stream lane lt = grind (arith, nat_tests)
 
 -- a lane whose KEY_PROG was acknowledged before the event keeps the draw of the operation
-kept_before : (q : StreamStage) (next top : ℕ) (link stream : ℕ) (sends : Bool) (u : SubKind) (ts : List Touch)
+kept_before : (q : StreamStage) (next top : ℕ) (line stream : ℕ) (sends : Bool) (u : SubKind) (ts : List Touch)
     (o : Operation)
-    → is_hosted link ≡ true → FitsAt q top (place_at_end link stream sends Device u) ts
+    → is_hosted line ≡ true → FitsAt q top (place_at_end line stream sends Device u) ts
     → let w = work_of o q next in makes_draw w.operation ≡ true
-    → first_program w.operation + lane_number (place_at_end link stream sends Device u) < w.first
+    → first_program w.operation + lane_number (place_at_end line stream sends Device u) < w.first
     → draw_of_keyed (key_in (keys sends ts) w.set) ≡ Some w.draw
-kept_before q next top link stream sends u ts o hosted at makes lt = grind (arith, kept_rising)
+kept_before q next top line stream sends u ts o hosted at makes lt = grind (arith, kept_rising)
 
 -- the draw of the operation is made as it begins, or was made before
 drawn_before : (q : StreamStage) (next made top : ℕ) (p : KeyPlace) (ts : List Touch) (o : Operation)
-    → FitsAt q made p ts
-    → made ≤ top
+    → FitsAt q made p ts → made ≤ top
     → let w = work_of o q next in (draws_now w ≡ true → next < top) → makes_draw w.operation ≡ true → w.draw < top
 drawn_before q next made top p ts o at le now makes = grind arith
 
 pub kept_is_full : (s : LaneSlot) (x : ℕ × List ℕ) → key_held s ≡ Some x → IsFull s
 kept_is_full s x is = grind arith
 
-module _ (plan : Plan) (st : LinkState) (h : History) (stands : PortsStandFor plan st h) (link id : ℕ) (q : StreamStage)
-    (found : find_op plan st link id ≡ Some q) where
-  place_fits : (lane : ℕ) → FitsAt q (draws h) (lane_place link id lane) (moments h (lane_place link id lane))
+module _ (plan : Plan) (st : LinkState) (h : History) (stands : PortsStandFor plan st h) (line id : ℕ) (q : StreamStage)
+    (found : find_op plan st line id ≡ Some q) where
+  place_fits : (lane : ℕ) → FitsAt q (draws h) (lane_place line id lane) (moments h (lane_place line id lane))
   place_fits lane =
-      in_state (key_plan plan) h (key_cause plan h stands.ports_stand.cause) (lane_place link id lane) q
-      (known_op plan st h stands link id q found)
+      in_state (key_plan plan) h (key_cause plan h stands.ports_stand.cause) (lane_place line id lane) q
+      (known_op plan st h stands line id q found)
 
   -- its slot at the device has a key
-  pub ready_before : is_hosted link ≡ true → (o : Operation) (x : StreamState) → find plan st (port_at Device link) id
+  pub ready_before : is_hosted line ≡ true → (o : Operation) (x : StreamState) → find plan st (port_at Device line) id
       ≡ Some x
       → let w = work_of o q st.draws in
       makes_draw w.operation ≡ true → (lane : ℕ) → lane < 6 → first_program w.operation + lane < w.first
@@ -70,11 +66,11 @@ module _ (plan : Plan) (st : LinkState) (h : History) (stands : PortsStandFor pl
       let w = work_of o q st.draws in
       let sends = lane_sends lane in
       let u = sub_from (lane % 3) in
-      let there = point_lane Device link id sends u in
-      let kept = kept_before q st.draws (draws h) link id sends u _ o hosted (place_fits lane) makes
-      (omega (arith, lane_is link id lane low, lt)) in
+      let there = point_lane Device line id sends u in
+      let kept = kept_before q st.draws (draws h) line id sends u _ o hosted (place_fits lane) makes
+      (omega (arith, lane_is line id lane low, lt)) in
       kept_is_full (slot_in_set (slots_at sends u x) w.set) (w.draw, key_of plan w.draw there)
-      ((points plan st h stands).kept Device link id x at sends u w.set ∙ ap
+      ((points plan st h stands).kept Device line id x at sends u w.set ∙ ap
       (option_map (λ (i : ℕ). (i, key_of plan i there))) kept)
 
   pub draw_below : (o : Operation) → let w = work_of o q st.draws in

@@ -1,10 +1,9 @@
 -- Exchanges by number: the lanes that they speak of, with their slots, and which of them the device refuses.
 use Rattle.join_keys.specs.Calls.{lane_sends}
-use Rattle.join_keys.proofs.Terms.{◌≡◌, Bool, arith, true, ℕ, false, nat_tests, Operation, place_at_end, LaneSlots}
-use Rattle.join_keys.proofs.Terms.{◌≤◌, makes_draw, Device, slot_pair, StreamState, ◌+◌, zero, suc, refl, ◌-◌}
-use Rattle.join_keys.proofs.Terms.{KeyPlace, ◌<◌, last_exchange_of, key_slot, LaneSlot, ◌%◌, inl, inr, sub_from}
-use Rattle.join_keys.proofs.Terms.{cases_lt, PortView, refusal_at, slot_in_set, None, is_empty, slots_at, exchange_of}
-use Rattle.join_keys.proofs.Terms.{KeySet}
+use Rattle.join_keys.proofs.Terms.{◌≡◌, Bool, arith, true, ℕ, false, nat_tests, Operation, place_at_end, LaneSlots, ◌≤◌}
+use Rattle.join_keys.proofs.Terms.{makes_draw, Device, slot_pair, StreamState, ◌+◌, zero, suc, refl, ◌-◌, KeyPlace, ◌<◌}
+use Rattle.join_keys.proofs.Terms.{last_exchange_of, key_slot, LaneSlot, ◌%◌, inl, inr, sub_from, cases_lt, PortView}
+use Rattle.join_keys.proofs.Terms.{refusal_at, slot_in_set, None, is_empty, slots_at, exchange_of, KeySet}
 use Rattle.ide_types.specs.declared.key_set.KeySet.TheVariants.{Zero, One}
 use Rattle.key_slots.specs as pair
 use Rattle.ide_types.specs.Lines.{is_hosted}
@@ -23,7 +22,7 @@ by_lane P a b c d e f (suc (suc (suc (suc (suc (suc n)))))) lt = absurd (omega a
 
 -- the place of a lane at the device's port
 abbrev pub lane_place : ℕ → ℕ → ℕ → KeyPlace
-lane_place link stream lane = place_at_end link stream (lane_sends lane) Device
+lane_place line stream lane = place_at_end line stream (lane_sends lane) Device
     (sub_from (lane % 3))
 
 -- the two slots of a lane
@@ -53,7 +52,7 @@ pub data Turn (o : Operation) (set : KeySet) (n : ℕ) : Type 0 where
       ≡ exchange.Program set lane → Turn o set n
   goes : (lane : ℕ) → lane < 6 → makes_draw o ≡ true → n ≡ first_program o + (6 + lane) → exchange_of true o set n
       ≡ exchange.Go set lane → Turn o set n
-  halts : (k : KeySet) (lane : ℕ) → lane < 6 → o ≡ op.Stop → exchange_of true o set n ≡ exchange.Stop k lane
+  stops_lane_keys : (k : KeySet) (lane : ℕ) → lane < 6 → o ≡ op.Stop → exchange_of true o set n ≡ exchange.Stop k lane
       → Turn o set n
 
 pub turn : (o : Operation) (set : KeySet) (n : ℕ) → 1 ≤ n → n ≤ last_exchange_of true o → Turn o set n
@@ -69,23 +68,23 @@ turn op.Refresh set n least most = elim (cases_lt n 7) [
   | inr above ↦ goes (n - 7) (omega (arith, most)) refl (omega (arith, above)) (grind (arith, nat_tests))
 ]
 turn op.Stop set n least most = elim (cases_lt n 7) [
-  | inl below ↦ halts Zero (n - 1) (omega (arith, below)) refl (grind (arith, nat_tests))
-  | inr above ↦ halts One (n - 7) (omega (arith, most)) refl (grind (arith, nat_tests))
+  | inl below ↦ stops_lane_keys Zero (n - 1) (omega (arith, below)) refl (grind (arith, nat_tests))
+  | inr above ↦ stops_lane_keys One (n - 7) (omega (arith, most)) refl (grind (arith, nat_tests))
 ]
 
 -- ---- refusals
 
 -- only a KEY_PROG may be refused, by its lane's place
-pub put_refused : (ports : PortView) (o : Operation) (set : Bool) (link stream : ℕ) → is_hosted link ≡ true
+pub put_refused : (ports : PortView) (o : Operation) (set : Bool) (line stream : ℕ) → is_hosted line ≡ true
     → makes_draw o ≡ true → (lane : ℕ) → lane < 6
-    → refusal_at ports o set link stream (first_program o + lane) ≡ ports.refusal (lane_place link stream lane) set
-put_refused ports o set link stream hosted draws lane lt = grind (arith, nat_tests)
+    → refusal_at ports o set line stream (first_program o + lane) ≡ ports.refusal (lane_place line stream lane) set
+put_refused ports o set line stream hosted draws lane lt = grind (arith, nat_tests)
 
-pub go_refused : (ports : PortView) (o : Operation) (set : Bool) (link stream : ℕ) → is_hosted link ≡ true
+pub go_refused : (ports : PortView) (o : Operation) (set : Bool) (line stream : ℕ) → is_hosted line ≡ true
     → makes_draw o ≡ true → (lane : ℕ) → lane < 6
-    → refusal_at ports o set link stream (first_program o + (6 + lane)) ≡ None
-go_refused ports o set link stream hosted draws lane lt = grind (arith, nat_tests)
+    → refusal_at ports o set line stream (first_program o + (6 + lane)) ≡ None
+go_refused ports o set line stream hosted draws lane lt = grind (arith, nat_tests)
 
-pub query_refused : (ports : PortView) (set : Bool) (link stream : ℕ) → is_hosted link ≡ true
-    → refusal_at ports op.Establish set link stream 1 ≡ None
-query_refused ports set link stream hosted = grind (arith, nat_tests)
+pub query_refused : (ports : PortView) (set : Bool) (line stream : ℕ) → is_hosted line ≡ true
+    → refusal_at ports op.Establish set line stream 1 ≡ None
+query_refused ports set line stream hosted = grind (arith, nat_tests)

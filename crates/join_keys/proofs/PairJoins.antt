@@ -8,10 +8,9 @@ use Rattle.join_keys.proofs.Terms.{Host, ◌+◌, suc, refl, ◌-◌, ap, Some, 
 use Rattle.join_keys.proofs.Terms.{◌%◌, None, length, reach_of, work_of, nat_tests, sub_from, FitsPlan, Loss, Verdict}
 use Rattle.join_keys.proofs.Terms.{History, refusal_at, operation_verdict, stays, unwrap_or, key_plan, LinkState, find}
 use Rattle.join_keys.proofs.Terms.{find_op, ports_of, machine_status, Side, Pool, true-lt, StreamRefusal, StreamView}
-use Rattle.join_keys.proofs.Terms.{HostView}
-use Rattle.join_keys.proofs.Terms.{refusal_of, begun_stream, ManagerWalk, answers, walk, manager_walked, verdict_of}
-use Rattle.join_keys.proofs.Terms.{op_by, Comes, walk_comes, PortsStandFor, kept_is, verdict_due, first_from, cut_at}
-use Rattle.join_keys.proofs.Terms.{lost_message}
+use Rattle.join_keys.proofs.Terms.{HostView, refusal_of, begun_stream, ManagerWalk, answers, walk, manager_walked}
+use Rattle.join_keys.proofs.Terms.{verdict_of, op_by, Comes, walk_comes, PortsStandFor, kept_is, verdict_due}
+use Rattle.join_keys.proofs.Terms.{first_from, cut_at, lost_message}
 use Rattle.link_verdicts.specs.declared.verdict.Operation.TheVariants as op
 use Rattle.tsm_host.specs.declared.operation.StreamOutcome.TheVariants as outcome
 use Rattle.tsm_host.specs.Walk.{WalkIsDue}
@@ -148,22 +147,22 @@ module _ (plan : Plan) (st : LinkState) (h : History) (operation : Operation) (l
   module _ (free : refusal_of operation e.keeper.op host (pool_of plan st) ≡ None) where
     knows : PairKnows plan (ports_of plan st) w e.keeper.line e.keeper.id requester e
     knows =
-        let link = e.keeper.line in
+        let line = e.keeper.line in
         let id = e.keeper.id in
         record {
           line = found.line;
           fits = work_fits operation e.keeper.op st.draws;
-          small = id_fits plan found.fits link id
-              (kept_is plan st h (port_at Device link) id e.far found.stands.ports_stand found.far).known;
+          small = id_fits plan found.fits line id
+              (kept_is plan st h (port_at Device line) id e.far found.stands.ports_stand found.far).known;
           requester_most = found.requester_most;
           keys = λ makes side lane lt. lane_keys plan found.fits w.draw
-              (draw_below plan st h found.stands link id e.keeper.op found.op_is operation
+              (draw_below plan st h found.stands line id e.keeper.op found.op_is operation
               (λ now. true-lt st.draws (length plan.pool / 6)
               (has_room operation e.keeper.op host (pool_of plan st) free now)) makes)
               (key_number side lane) (number_low side lane lt);
-          reads = λ side lane lt. reads_stream plan st side link id (state_at side e) (at_end side)
+          reads = λ side lane lt. reads_stream plan st side line id (state_at side e) (at_end side)
               (lane_sends lane) (sub_from (lane % 3)) w.set;
-          apart = λ side lane lt. (is_sound plan st h found.stands.ports_stand side link id (state_at side e)
+          apart = λ side lane lt. (is_sound plan st h found.stands.ports_stand side line id (state_at side e)
               (at_end side)).apart (lane_sends lane) (sub_from (lane % 3));
         }
 
@@ -195,7 +194,7 @@ module _ (plan : Plan) (st : LinkState) (h : History) (operation : Operation) (l
     joins : (more : ℕ) → 23 ≤ more → IsPairJoined plan st operation loss (pool_of plan st) e
         (pair_walk (suc more) loss requester (begun_from plan st operation e))
     joins more enough =
-        let link = e.keeper.line in
+        let line = e.keeper.line in
         let id = e.keeper.id in
         let same = same_operation operation e.keeper.op st.draws in
         let rest = rest_comes more enough in
@@ -203,17 +202,17 @@ module _ (plan : Plan) (st : LinkState) (h : History) (operation : Operation) (l
         let reached : reach_of operation verdict ≡ Some r = sym (λ i. reach_of (same i) (verdict_comes i)) ∙ rest.says
         in
         let stands = found.stands.ports_stand in
-        let same_touches : AreEndsTold plan (ports_of plan st) link id w r e.near e.far = are_told plan
-        (ports_of plan st) link id w r e.near e.far found.line
+        let same_touches : AreEndsTold plan (ports_of plan st) line id w r e.near e.far = are_told plan
+        (ports_of plan st) line id w r e.near e.far found.line
         (operation, e.keeper.op, st.draws, refl)
         (assumption (within, rest.within, begins_first operation e.keeper.op st.draws))
-        (is_sound plan st h stands Host link id e.near found.near)
-        (is_sound plan st h stands Device link id e.far found.far)
-        (reads_stream plan st Host link id e.near found.near)
-        (reads_stream plan st Device link id e.far found.far) in
+        (is_sound plan st h stands Host line id e.near found.near)
+        (is_sound plan st h stands Device line id e.far found.far)
+        (reads_stream plan st Host line id e.near found.near)
+        (reads_stream plan st Device line id e.far found.far) in
         record {
-          verdict_is = ap (verdict_of operation link id loss) rest.outcome_is ∙
-              (sym (λ i. verdict_of (same i) link id loss (told w.operation).outcome)
+          verdict_is = ap (verdict_of operation line id loss) rest.outcome_is ∙
+              (sym (λ i. verdict_of (same i) line id loss (told w.operation).outcome)
               ∙ (comes_is.verdict_is ∙ ap Some verdict_comes));
           op_is = ap (λ (s : StreamView). s.op) rest.keeper_is ∙
               (comes_is.op_is ∙ (λ i. op_by (is_hosted e.keeper.line) e.keeper.op w

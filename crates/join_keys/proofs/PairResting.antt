@@ -5,15 +5,14 @@ use Rattle.ide_types.specs.Lines.{is_hosted}
 use Rattle.join_keys.specs.Calls.{told_call, calls_from}
 use Rattle.join_keys.specs.Paired.{PairEnds, PairExchanged, PairWalked, pair_unless_lost, pair_after, pair_goes_on}
 use Rattle.join_keys.specs.Paired.{pair_walk, HasPairKeys, PairKeysKeptIn}
-use Rattle.join_keys.proofs.Terms.{◌≡◌, Bool, arith, true, false, ℕ, List, Work, Plan, nat_tests, work, Operation, ◌≤◌}
-use Rattle.join_keys.proofs.Terms.{◌∙◌, sym, Reach, makes_draw, StreamCall, Host, Device, StreamState, ◌+◌, ◌==◌, []}
+use Rattle.join_keys.proofs.Terms.{◌≡◌, Bool, arith, true, false, ℕ, Work, Plan, nat_tests, work, Operation, ◌≤◌, List}
+use Rattle.join_keys.proofs.Terms.{◌∙◌, sym, Reach, makes_draw, Host, Device, StreamState, ◌+◌, ◌==◌, [], StreamCall}
 use Rattle.join_keys.proofs.Terms.{zero, suc, refl, ◌-◌, ap, all_called, ◌<◌, Some, subst, last_exchange_of, Option}
-use Rattle.join_keys.proofs.Terms.{None, reach_of, StreamStage, op_standing, reach, op_after, Loss, Verdict, PortView}
-use Rattle.join_keys.proofs.Terms.{lost_message}
-use Rattle.join_keys.proofs.Terms.{cut_at, exchange_judged, option_or, first_from, done, different-false, StreamView}
-use Rattle.join_keys.proofs.Terms.{asked_of_unfinished, outcome_of, taken_stream, shown_at_end, ManagerWalk, answers}
-use Rattle.join_keys.proofs.Terms.{walk}
-use Rattle.join_keys.proofs.Terms.{walk_after_outcome, WireKeys, Judged, Expected, Refused, Lost, work_asked}
+use Rattle.join_keys.proofs.Terms.{None, reach_of, StreamStage, op_at_exchange, reach, op_after, Loss, Verdict}
+use Rattle.join_keys.proofs.Terms.{PortView, lost_message, cut_at, exchange_judged, option_or, first_from}
+use Rattle.join_keys.proofs.Terms.{finished_verdict, different-false, StreamView, asked_of_unfinished, outcome_of}
+use Rattle.join_keys.proofs.Terms.{taken_stream, shown_at_end, ManagerWalk, answers, walk, walk_after_outcome, WireKeys}
+use Rattle.join_keys.proofs.Terms.{Judged, Expected, Refused, Lost, work_asked}
 use Rattle.link_events.specs.declared.event.Lost.{Lost as Message}
 use Rattle.link_events.specs.declared.event.Lost.TheVariants.{Request, Reply}
 use Rattle.tsm_host.specs.declared.operation.StreamOutcome.{StreamOutcome}
@@ -29,7 +28,7 @@ use Rattle.join_keys.proofs.PairWalking.{PairKnows, IsPairNext, pair_came, pair_
 
 kept_as : (plan : Plan) (o : Operation) (set : Bool) (draw f : ℕ) (b : Bool) (n : ℕ) (keys : WireKeys) → 1 ≤ n
     → n ≤ last_exchange_of false o → (makes_draw o ≡ true → HasPairKeys plan draw n keys)
-    → PairKeysKeptIn plan (op_standing (work o set draw f b) n) keys
+    → PairKeysKeptIn plan (op_at_exchange (work o set draw f b) n) keys
 kept_as plan op.Establish set draw f b n keys least most has = (least, most, has refl)
 kept_as plan op.Refresh set draw f b n keys least most has = (least, most, has refl)
 kept_as plan op.Stop set draw f b n keys least most has = (least, most)
@@ -55,24 +54,24 @@ pub record PairRest (plan : Plan) (w : Work) (n : ℕ) (e : PairEnds) (verdict :
   pub keys_are : PairKeysKeptIn plan x.ends.keeper.op x.ends.keeper.keys
 
 -- what holds of an exchange that is lost on either way, of one that is refused, and of any other
-by_fate : (P : Verdict → Judged → PairExchanged → Type 0) (link id : ℕ) (w : Work) (n : ℕ)
+by_fate : (P : Verdict → Judged → PairExchanged → Type 0) (line id : ℕ) (w : Work) (n : ℕ)
     (rest : Option Verdict) (came : PairExchanged) (e : PairEnds) (lost : Option Message) (r : Option ℕ)
     → P (v.LostRequest n) Lost (record { judged = Lost; near = e.near; far = e.far })
     → P (v.LostReply n) Lost (record { judged = Lost; near = came.near; far = came.far })
     → ((status : ℕ) → r ≡ Some status → P (v.RefusedDevice n status) (Refused status) came)
-    → (r ≡ None → P (ends_as link id w rest) Expected came)
-    → P (ends_as link id w (option_or (cut_at lost r n) rest)) (exchange_judged lost r) (pair_unless_lost lost came e)
-by_fate P link id w n rest came e (Some Request) r request reply refused onward = request
-by_fate P link id w n rest came e (Some Reply) r request reply refused onward = reply
-by_fate P link id w n rest came e None (Some status) request reply refused onward = refused status refl
-by_fate P link id w n rest came e None None request reply refused onward = onward refl
+    → (r ≡ None → P (ends_as line id w rest) Expected came)
+    → P (ends_as line id w (option_or (cut_at lost r n) rest)) (exchange_judged lost r) (pair_unless_lost lost came e)
+by_fate P line id w n rest came e (Some Request) r request reply refused onward = request
+by_fate P line id w n rest came e (Some Reply) r request reply refused onward = reply
+by_fate P line id w n rest came e None (Some status) request reply refused onward = refused status refl
+by_fate P line id w n rest came e None None request reply refused onward = onward refl
 
-done_says : (link id : ℕ) (w : Work) (n : ℕ) → is_hosted link ≡ false → n ≡ last_exchange_of false w.operation
-    → reach_of w.operation (done link id w) ≡ Some (reach (n + 1) (n + 1))
-done_says link id w n line is = grind arith
+done_says : (line id : ℕ) (w : Work) (n : ℕ) → is_hosted line ≡ false → n ≡ last_exchange_of false w.operation
+    → reach_of w.operation (finished_verdict line id w) ≡ Some (reach (n + 1) (n + 1))
+done_says line id w n kind is = grind arith
 
-module _ (plan : Plan) (ports : PortView) (w : Work) (link id requester : ℕ) (before : PairEnds)
-    (knows : PairKnows plan ports w link id requester before)
+module _ (plan : Plan) (ports : PortView) (w : Work) (line id requester : ℕ) (before : PairEnds)
+    (knows : PairKnows plan ports w line id requester before)
     (loss : Option Loss) where
   -- it stays at the exchange
   stays : (n : ℕ) (e : PairEnds) → PairKeysKeptIn plan e.keeper.op e.keeper.keys → (verdict : Verdict) (carried : ℕ)
@@ -100,7 +99,7 @@ module _ (plan : Plan) (ports : PortView) (w : Work) (link id requester : ℕ) (
   told n j k s =
       let a = asked_of w n in
       walk_after_outcome (outcome_of false a j) (taken_stream false a j s)
-      (walk false k (answers loss (denial ports w link id)) (taken_stream false a j s))
+      (walk false k (answers loss (denial ports w line id)) (taken_stream false a j s))
 
   abbrev walked : ℕ → PairExchanged → ℕ → PairEnds → PairWalked
   walked n x more e = let a = asked_of w n in pair_goes_on (outcome_of false a x.judged) (pair_after a x e)
@@ -137,12 +136,13 @@ module _ (plan : Plan) (ports : PortView) (w : Work) (link id requester : ℕ) (
 
   -- after the last exchange
   ends : (n more k : ℕ) (e : PairEnds) → n ≡ last_exchange_of false w.operation
-      → PairRest plan w n e (done link id w) (told n Expected k e.keeper) (walked n (answered n None e) more e)
+      → PairRest plan w n e (finished_verdict line id w) (told n Expected k e.keeper)
+      (walked n (answered n None e) more e)
   ends n more k e same =
       let last : (n == last_exchange_of false w.operation) ≡ true = grind (arith, nat_tests) in
       let next = after n e in
-      let rest = stays (n + 1) next (kept_ended plan w n next.keeper.keys same) (done link id w) (n + 1)
-      (done_says link id w n knows.line same) (omega arith)
+      let rest = stays (n + 1) next (kept_ended plan w n next.keeper.keys same) (finished_verdict line id w) (n + 1)
+      (done_says line id w n knows.line same) (omega arith)
       (omega (arith, same)) next.near next.far (calls_none (told_call plan false Host w) (n + 1) next.near)
       (calls_none (told_call plan false Device w) (n + 1) next.far)
       (outcome.Done (shown_at_end (asked_of w n))) in
@@ -151,7 +151,7 @@ module _ (plan : Plan) (ports : PortView) (w : Work) (link id requester : ℕ) (
   -- after another one the walk goes on
   further : (n more k : ℕ) (e : PairEnds) → n < last_exchange_of false w.operation
       → (verdict : Verdict) → let next = after n e in
-      PairRest plan w (n + 1) next verdict (walk false k (answers loss (denial ports w link id)) next.keeper)
+      PairRest plan w (n + 1) next verdict (walk false k (answers loss (denial ports w line id)) next.keeper)
       (pair_walk more loss requester next)
       → PairRest plan w n e verdict (told n Expected k e.keeper) (walked n (answered n None e) more e)
   further n more k e less verdict rest =
@@ -161,14 +161,14 @@ module _ (plan : Plan) (ports : PortView) (w : Work) (link id requester : ℕ) (
   -- one exchange, if the rest is known
   steps : (n more k : ℕ) (e : PairEnds) → IsPairNext plan w id before n e → 1 ≤ n
       → n ≤ last_exchange_of false w.operation → (rest : Option Verdict)
-      → (denial ports w link id n ≡ None → PairRest plan w n e (ends_as link id w rest)
+      → (denial ports w line id n ≡ None → PairRest plan w n e (ends_as line id w rest)
       (told n Expected k e.keeper)
       (walked n (answered n None e) more e))
       → PairRest plan w n e
-      (ends_as link id w (option_or (cut_at (lost_message loss n) (denial ports w link id n) n) rest))
-      (walk false (suc k) (answers loss (denial ports w link id)) e.keeper) (pair_walk (suc more) loss requester e)
+      (ends_as line id w (option_or (cut_at (lost_message loss n) (denial ports w line id n) n) rest))
+      (walk false (suc k) (answers loss (denial ports w line id)) e.keeper) (pair_walk (suc more) loss requester e)
   steps n more k e at least most rest onward =
-      let r = denial ports w link id n in
+      let r = denial ports w line id n in
       let near = all_called (told_call plan false Host w n) e.near in
       let far = all_called (told_call plan false Device w n) e.far in
       let kept : PairKeysKeptIn plan e.keeper.op e.keeper.keys = subst
@@ -178,8 +178,8 @@ module _ (plan : Plan) (ports : PortView) (w : Work) (link id requester : ℕ) (
       standing_asked w n knows.fits in
       let one_near = calls_one (told_call plan false Host w) n e.near in
       let one_far = calls_one (told_call plan false Device w) n e.far in
-      rw (asked, pair_came plan ports w link id requester before knows n e at least most)
-      (by_fate (λ verdict j x. PairRest plan w n e verdict (told n j k e.keeper) (walked n x more e)) link id w n
+      rw (asked, pair_came plan ports w line id requester before knows n e at least most)
+      (by_fate (λ verdict j x. PairRest plan w n e verdict (told n j k e.keeper) (walked n x more e)) line id w n
       rest (answered n r e) e (lost_message loss n) r
       (stays n e kept (v.LostRequest n) n refl (omega arith) (omega arith) e.near e.far
       (calls_none (told_call plan false Host w) n e.near) (calls_none (told_call plan false Device w) n e.far) _)
@@ -191,16 +191,16 @@ module _ (plan : Plan) (ports : PortView) (w : Work) (link id requester : ℕ) (
   pub pair_rest_is : (k more n : ℕ) (e : PairEnds) → n + k ≡ last_exchange_of false w.operation → 1 ≤ n → k ≤ more
       → IsPairNext plan w id before n e
       → PairRest plan w n e
-      (ends_as link id w (first_from (λ x. cut_at (lost_message loss x) (denial ports w link id x) x) n (suc k)))
-      (walk false (suc k) (answers loss (denial ports w link id)) e.keeper) (pair_walk (suc more) loss requester e)
+      (ends_as line id w (first_from (λ x. cut_at (lost_message loss x) (denial ports w line id x) x) n (suc k)))
+      (walk false (suc k) (answers loss (denial ports w line id)) e.keeper) (pair_walk (suc more) loss requester e)
   pair_rest_is zero more n e count least le at =
       let same : n ≡ last_exchange_of false w.operation = omega (arith, count) in
       steps n more zero e at least (omega (arith, same)) None (λ free. ends n more zero e same)
   pair_rest_is (suc k) zero n e count least le at = absurd (omega (arith, le))
   pair_rest_is (suc k) (suc more) n e count least le at =
       let less : n < last_exchange_of false w.operation = omega (arith, count) in
-      let rest = first_from (λ x. cut_at (lost_message loss x) (denial ports w link id x) x) (n + 1) (suc k) in
+      let rest = first_from (λ x. cut_at (lost_message loss x) (denial ports w line id x) x) (n + 1) (suc k) in
       steps n (suc more) (suc k) e at least (omega (arith, less)) rest
-      (λ free. further n (suc more) (suc k) e less (ends_as link id w rest)
+      (λ free. further n (suc more) (suc k) e less (ends_as line id w rest)
       (pair_rest_is k more (n + 1) (after n e) (omega (arith, count)) (omega arith) (omega (arith, le))
-      (pair_next_is plan ports w link id requester before knows n e at least less free)))
+      (pair_next_is plan ports w line id requester before knows n e at least less free)))

@@ -2,7 +2,7 @@
 use Rattle.std.specs.Option.{option_or}
 use Rattle.ide_types.specs.Lines.{is_hosted}
 use Rattle.spec_keys.specs.Places.{is_host, lane as lane_number, places_of, told_places}
-use Rattle.spec_keys.specs.History.{program_at, program_number, go_number}
+use Rattle.spec_keys.specs.History.{program_exchange, program_number, go_number}
 use Rattle.spec_keys.specs.Due.{first_status}
 use Rattle.join_keys.specs.Calls.{lane_sends}
 use Rattle.join_keys.proofs.Terms.{◌≡◌, Bool, arith, true, ℕ, List, false, nat_tests, Operation, place_at_end, ◌≤◌}
@@ -17,7 +17,7 @@ use Rattle.join_keys.proofs.Lanes.{by_lane}
 
 -- the place of a lane at an end
 abbrev pub pair_place : ℕ → ℕ → Side → ℕ → KeyPlace
-pair_place link stream side lane = place_at_end link stream (lane_sends lane) side (sub_from (lane % 3))
+pair_place line stream side lane = place_at_end line stream (lane_sends lane) side (sub_from (lane % 3))
 
 -- the exchanges that program a lane at an end, and that make its key On
 abbrev pub put_at : Side → ℕ → ℕ
@@ -92,26 +92,26 @@ or_none x = grind arith
 
 -- the status of the places of both ends whose KEY_PROG this is
 abbrev pair_status : PortView → Bool → ℕ → ℕ → ℕ → Option ℕ
-pair_status ports set link stream n =
+pair_status ports set line stream n =
     first_status (λ p. if program_number false (is_host p.side) op.Establish (lane_number p) == n
-    then ports.refusal p set else None) (places_of Host link stream ++ places_of Device link stream)
+    then ports.refusal p set else None) (places_of Host line stream ++ places_of Device line stream)
 
 -- places of one line
 abbrev AllOn : ℕ → List KeyPlace → Type 0
-AllOn link [] = Unit {0}
-AllOn link (p ∷ ps) = (p.line ≡ link) × AllOn link ps
+AllOn line [] = Unit {0}
+AllOn line (p ∷ ps) = (p.line ≡ line) × AllOn line ps
 
-first_same : (f g : KeyPlace → Option ℕ) (link : ℕ) (ps : List KeyPlace)
-    → ((p : KeyPlace) → p.line ≡ link → f p ≡ g p) → AllOn link ps → first_status f ps ≡ first_status g ps
-first_same f g link [] each all = refl
-first_same f g link (p ∷ ps) each all = λ i. option_or (each p all.0 i) (first_same f g link ps each all.1 i)
+first_same : (f g : KeyPlace → Option ℕ) (line : ℕ) (ps : List KeyPlace)
+    → ((p : KeyPlace) → p.line ≡ line → f p ≡ g p) → AllOn line ps → first_status f ps ≡ first_status g ps
+first_same f g line [] each all = refl
+first_same f g line (p ∷ ps) each all = λ i. option_or (each p all.0 i) (first_same f g line ps each all.1 i)
 
-told_all : (link stream : ℕ) → AllOn link (places_of Host link stream ++ places_of Device link stream)
-told_all link stream =
+told_all : (line stream : ℕ) → AllOn line (places_of Host line stream ++ places_of Device line stream)
+told_all line stream =
     (refl, (refl, (refl, (refl, (refl, (refl, (refl, (refl, (refl, (refl, (refl, (refl, tt))))))))))))
 
-abbrev stated : PortView → Operation → Bool → ℕ → KeyPlace → Option ℕ
-stated ports o set n p = if program_at o p == n then ports.refusal p set else None
+abbrev refusal_at_program : PortView → Operation → Bool → ℕ → KeyPlace → Option ℕ
+refusal_at_program ports o set n p = if program_exchange o p == n then ports.refusal p set else None
 
 abbrev stated_pair : PortView → Bool → ℕ → KeyPlace → Option ℕ
 stated_pair ports set n p =
@@ -122,51 +122,51 @@ number_same : (near : Bool) (o : Operation) (l : ℕ) → program_number false n
 number_same true o l = refl
 number_same false o l = refl
 
-same_stated : (ports : PortView) (o : Operation) (set : Bool) (link n : ℕ) → is_hosted link ≡ false → (p : KeyPlace)
-    → p.line ≡ link → stated ports o set n p ≡ stated_pair ports set n p
-same_stated ports o set link n line p same =
-    let there : is_hosted p.line ≡ false = ap is_hosted same ∙ line in
+same_stated : (ports : PortView) (o : Operation) (set : Bool) (line n : ℕ) → is_hosted line ≡ false → (p : KeyPlace)
+    → p.line ≡ line → refusal_at_program ports o set n p ≡ stated_pair ports set n p
+same_stated ports o set line n kind p same =
+    let there : is_hosted p.line ≡ false = ap is_hosted same ∙ kind in
     rw (there, number_same (is_host p.side) o (lane_number p)) refl
 
-pair_status_is : (ports : PortView) (o : Operation) (set : Bool) (link stream n : ℕ) → is_hosted link ≡ false
-    → makes_draw o ≡ true → refusal_at ports o set link stream n ≡ pair_status ports set link stream n
-pair_status_is ports op.Establish set link stream n line draws =
-    ap (λ (b : Bool). first_status (stated ports op.Establish set n) (told_places b link stream)) line
-    ∙ first_same (stated ports op.Establish set n) (stated_pair ports set n) link
-    (places_of Host link stream ++ places_of Device link stream) (same_stated ports op.Establish set link n line)
-    (told_all link stream)
-pair_status_is ports op.Refresh set link stream n line draws =
-    ap (λ (b : Bool). first_status (stated ports op.Refresh set n) (told_places b link stream)) line
-    ∙ first_same (stated ports op.Refresh set n) (stated_pair ports set n) link
-    (places_of Host link stream ++ places_of Device link stream) (same_stated ports op.Refresh set link n line)
-    (told_all link stream)
-pair_status_is ports op.Stop set link stream n line draws = absurd cc
+pair_status_is : (ports : PortView) (o : Operation) (set : Bool) (line stream n : ℕ) → is_hosted line ≡ false
+    → makes_draw o ≡ true → refusal_at ports o set line stream n ≡ pair_status ports set line stream n
+pair_status_is ports op.Establish set line stream n kind draws =
+    ap (λ (b : Bool). first_status (refusal_at_program ports op.Establish set n) (told_places b line stream)) kind
+    ∙ first_same (refusal_at_program ports op.Establish set n) (stated_pair ports set n) line
+    (places_of Host line stream ++ places_of Device line stream) (same_stated ports op.Establish set line n kind)
+    (told_all line stream)
+pair_status_is ports op.Refresh set line stream n kind draws =
+    ap (λ (b : Bool). first_status (refusal_at_program ports op.Refresh set n) (told_places b line stream)) kind
+    ∙ first_same (refusal_at_program ports op.Refresh set n) (stated_pair ports set n) line
+    (places_of Host line stream ++ places_of Device line stream) (same_stated ports op.Refresh set line n kind)
+    (told_all line stream)
+pair_status_is ports op.Stop set line stream n kind draws = absurd cc
 
-put_status : (ports : PortView) (set : Bool) (link stream : ℕ) (side : Side) (lane : ℕ) → lane < 6
-    → pair_status ports set link stream (put_at side lane) ≡ ports.refusal (pair_place link stream side lane) set
-put_status ports set link stream Host lane lt = by_lane
-    (λ l. pair_status ports set link stream (put_at Host l) ≡ ports.refusal (pair_place link stream Host l) set)
+put_status : (ports : PortView) (set : Bool) (line stream : ℕ) (side : Side) (lane : ℕ) → lane < 6
+    → pair_status ports set line stream (put_at side lane) ≡ ports.refusal (pair_place line stream side lane) set
+put_status ports set line stream Host lane lt = by_lane
+    (λ l. pair_status ports set line stream (put_at Host l) ≡ ports.refusal (pair_place line stream Host l) set)
     (or_none _) (or_none _) (or_none _) (or_none _) (or_none _) (or_none _) lane lt
-put_status ports set link stream Device lane lt = by_lane
-    (λ l. pair_status ports set link stream (put_at Device l) ≡ ports.refusal (pair_place link stream Device l) set)
+put_status ports set line stream Device lane lt = by_lane
+    (λ l. pair_status ports set line stream (put_at Device l) ≡ ports.refusal (pair_place line stream Device l) set)
     (or_none _) (or_none _) (or_none _) (or_none _) (or_none _) (or_none _) lane lt
 
-go_status : (ports : PortView) (set : Bool) (link stream : ℕ) (side : Side) (lane : ℕ) → lane < 6
-    → pair_status ports set link stream (goes_at side lane) ≡ None
-go_status ports set link stream Host lane lt = by_lane
-    (λ l. pair_status ports set link stream (goes_at Host l) ≡ None) refl refl refl refl refl refl lane lt
-go_status ports set link stream Device lane lt = by_lane
-    (λ l. pair_status ports set link stream (goes_at Device l) ≡ None) refl refl refl refl refl refl lane lt
+go_status : (ports : PortView) (set : Bool) (line stream : ℕ) (side : Side) (lane : ℕ) → lane < 6
+    → pair_status ports set line stream (goes_at side lane) ≡ None
+go_status ports set line stream Host lane lt = by_lane
+    (λ l. pair_status ports set line stream (goes_at Host l) ≡ None) refl refl refl refl refl refl lane lt
+go_status ports set line stream Device lane lt = by_lane
+    (λ l. pair_status ports set line stream (goes_at Device l) ≡ None) refl refl refl refl refl refl lane lt
 
 -- only a KEY_PROG may be refused, by its lane's place
-pub pair_put_refused : (ports : PortView) (o : Operation) (set : Bool) (link stream : ℕ) → is_hosted link ≡ false
+pub pair_put_refused : (ports : PortView) (o : Operation) (set : Bool) (line stream : ℕ) → is_hosted line ≡ false
     → makes_draw o ≡ true → (side : Side) (lane : ℕ) → lane < 6
-    → refusal_at ports o set link stream (put_at side lane) ≡ ports.refusal (pair_place link stream side lane) set
-pair_put_refused ports o set link stream line draws side lane lt =
-    pair_status_is ports o set link stream (put_at side lane) line draws ∙ put_status ports set link stream side lane lt
+    → refusal_at ports o set line stream (put_at side lane) ≡ ports.refusal (pair_place line stream side lane) set
+pair_put_refused ports o set line stream kind draws side lane lt =
+    pair_status_is ports o set line stream (put_at side lane) kind draws ∙ put_status ports set line stream side lane lt
 
-pub pair_go_refused : (ports : PortView) (o : Operation) (set : Bool) (link stream : ℕ) → is_hosted link ≡ false
+pub pair_go_refused : (ports : PortView) (o : Operation) (set : Bool) (line stream : ℕ) → is_hosted line ≡ false
     → makes_draw o ≡ true → (side : Side) (lane : ℕ) → lane < 6
-    → refusal_at ports o set link stream (goes_at side lane) ≡ None
-pair_go_refused ports o set link stream line draws side lane lt =
-    pair_status_is ports o set link stream (goes_at side lane) line draws ∙ go_status ports set link stream side lane lt
+    → refusal_at ports o set line stream (goes_at side lane) ≡ None
+pair_go_refused ports o set line stream kind draws side lane lt =
+    pair_status_is ports o set line stream (goes_at side lane) kind draws ∙ go_status ports set line stream side lane lt

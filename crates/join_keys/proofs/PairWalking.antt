@@ -7,12 +7,11 @@ use Rattle.join_keys.specs.Paired.{PairEnds, PairExchanged, came_to_end, pair_af
 use Rattle.join_keys.proofs.Terms.{◌≡◌, ◌≢◌, Bool, arith, true, ℕ, List, Work, Plan, false, nat_tests, Operation, ◌≤◌}
 use Rattle.join_keys.proofs.Terms.{◌∙◌, makes_draw, is_only_live, StreamState, ◌+◌, ap, refl, Host, Device, Side, []}
 use Rattle.join_keys.proofs.Terms.{◌∷◌, if◌then◌else◌, all_called, ◌<◌, last_exchange_of, refuses_in, DrawsApart}
-use Rattle.join_keys.proofs.Terms.{Option, op_standing, reach, op_after, get_or-set_other, IsKey, PortView, refusal_at}
-use Rattle.join_keys.proofs.Terms.{refusal_if, exchange_judged, is_some, None, sym, slot_in_set, is_empty, subst}
-use Rattle.join_keys.proofs.Terms.{cases_lt}
-use Rattle.join_keys.proofs.Terms.{inl, inr, pair_slot, different-false, request_asked, wire_keys_after, acknowledged}
-use Rattle.join_keys.proofs.Terms.{WorkFits, exchange_of, WireKeys, kept_key, one_of_set, work_asked, request_of}
-use Rattle.join_keys.proofs.Terms.{KeySet, key_set}
+use Rattle.join_keys.proofs.Terms.{Option, op_at_exchange, reach, op_after, get_or-set_other, IsKey, PortView}
+use Rattle.join_keys.proofs.Terms.{refusal_at, refusal_if, exchange_judged, is_some, None, sym, slot_in_set, is_empty}
+use Rattle.join_keys.proofs.Terms.{subst, cases_lt, inl, inr, pair_slot, different-false, request_asked}
+use Rattle.join_keys.proofs.Terms.{wire_keys_after, stream_acknowledged, WorkFits, exchange_of, WireKeys, kept_key}
+use Rattle.join_keys.proofs.Terms.{one_of_set, work_asked, request_of, KeySet, key_set}
 use Rattle.tsm_host.specs.Exchanges.{end_of, exchange_lane, wire_number}
 use Rattle.tsm_host.specs.Streams.{end_asked}
 use Rattle.key_slots.specs.{KeyCall, Program}
@@ -20,7 +19,7 @@ use Rattle.join_keys.proofs.Slots.{only_live_is, is_refusal}
 use Rattle.join_keys.proofs.Lanes.{lane_slots, slot_seen, IsFull}
 use Rattle.join_keys.proofs.PairTurns.{pair_place, put_at, goes_at, PairTurn, pair_puts, pair_goes, pair_stops}
 use Rattle.join_keys.proofs.PairTurns.{pair_turn, pair_put_refused, pair_go_refused}
-use Rattle.join_keys.proofs.Replies.{lane_pair, lane_called, program_comes, go_comes, halt_comes}
+use Rattle.join_keys.proofs.Replies.{lane_pair, lane_called, program_comes, go_comes, stop_comes_there}
 use Rattle.join_keys.proofs.Walking.{asked_of, denial}
 
 -- the stream at an end
@@ -43,7 +42,7 @@ pub record PairKnows (plan : Plan) (ports : PortView) (w : Work) (link id reques
 
 -- before exchange n: lanes whose KEY_PROG comes later are as they were, and those behind it that had no GO have a key
 pub record IsPairNext (plan : Plan) (w : Work) (id : ℕ) (before : PairEnds) (n : ℕ) (e : PairEnds) : Type 0 where
-  pub op_is : e.keeper.op ≡ op_standing w n
+  pub op_is : e.keeper.op ≡ op_at_exchange w n
   pub id_is : e.keeper.id ≡ id
   pub keys : makes_draw w.operation ≡ true → HasPairKeys plan w.draw n e.keeper.keys
   pub fresh : makes_draw w.operation ≡ true → (side : Side) (lane : ℕ) → lane < 6 → n ≤ put_at side lane
@@ -71,8 +70,7 @@ told_other Device Host lane l call x lt low other = refl
 
 -- ---- lanes by the exchanges that program them
 
-lane_apart : (at : Side → ℕ → ℕ) (s side : Side) (l lane n : ℕ) → n ≡ at s l → n ≢ at side lane → s ≡ side
-    → l ≢ lane
+lane_apart : (at : Side → ℕ → ℕ) (s side : Side) (l lane n : ℕ) → n ≡ at s l → n ≢ at side lane → s ≡ side → l ≢ lane
 lane_apart at Host Host l lane n is other same e = other (is ∙ ap (at Host) e)
 lane_apart at Device Device l lane n is other same e = other (is ∙ ap (at Device) e)
 lane_apart at Host Device l lane n is other same e = absurd cc
@@ -110,8 +108,7 @@ wire_apart Device Host l lane n low lt is le e = absurd (omega (arith, is, le, e
 wire_apart Device Device l lane n low lt is le e = absurd (omega (arith, is, le, e))
 
 kept_turn : (o : Operation) (set : KeySet) (n : ℕ) (side : Side) (lane : ℕ) (keys : WireKeys) → lane < 6
-    → n + 1 ≤ put_at side lane → PairTurn o set n
-    → kept_key (wire_keys_after (exchange_of false o set n)
+    → n + 1 ≤ put_at side lane → PairTurn o set n → kept_key (wire_keys_after (exchange_of false o set n)
     (wire_number false (end_of false o n) (exchange_lane (exchange_of false o set n))) keys)
     (wire_number false side lane)
     ≡ kept_key keys (wire_number false side lane)
@@ -181,22 +178,22 @@ module _ (plan : Plan) (w : Work) (n : ℕ) (least : 1 ≤ n) (most : n ≤ last
 
 -- the operation after an exchange that is not its last
 pair_standing : (w : Work) (n : ℕ) → n < last_exchange_of false w.operation
-    → op_after false (work_asked (asked_of w n)) (reach (n + 1) (n + 1)) ≡ op_standing w (n + 1)
+    → op_after false (work_asked (asked_of w n)) (reach (n + 1) (n + 1)) ≡ op_at_exchange w (n + 1)
 pair_standing w n less = grind (arith, nat_tests, one_of_set)
 
 -- ---- exchange by exchange
 
-module _ (plan : Plan) (ports : PortView) (w : Work) (link id requester : ℕ) (before : PairEnds)
-    (knows : PairKnows plan ports w link id requester before) where
+module _ (plan : Plan) (ports : PortView) (w : Work) (line id requester : ℕ) (before : PairEnds)
+    (knows : PairKnows plan ports w line id requester before) where
   -- the KEY_PROG of a lane is refused as before the event
   lane_refused : (n : ℕ) (e : PairEnds) → IsPairNext plan w id before n e → makes_draw w.operation ≡ true
       → (side : Side) (lane : ℕ) → lane < 6 → n ≡ put_at side lane
-      → refusal_if (is_only_live (lane_pair lane (state_at side e)) w.set) ≡ denial ports w link id n
+      → refusal_if (is_only_live (lane_pair lane (state_at side e)) w.set) ≡ denial ports w line id n
   lane_refused n e at makes side lane lt is_n =
       rw (
         at.fresh makes side lane lt (omega (arith, is_n)),
         is_n,
-        pair_put_refused ports w.operation w.set link id knows.line makes side lane lt,
+        pair_put_refused ports w.operation w.set line id knows.line makes side lane lt,
         knows.reads side lane lt,
       )
       (ap refusal_if (only_live_is (lane_sends lane) (lane_slots lane (state_at side before)) w.set
@@ -214,7 +211,7 @@ module _ (plan : Plan) (ports : PortView) (w : Work) (link id requester : ℕ) (
   pub pair_came : (n : ℕ) (e : PairEnds) → IsPairNext plan w id before n e → 1 ≤ n
       → n ≤ last_exchange_of false w.operation
       → came_to_end (end_asked false (asked_of w n)) requester (request_asked false (asked_of w n) e.keeper) w.draw e
-      ≡ carried_both n (denial ports w link id n) e
+      ≡ carried_both n (denial ports w line id n) e
   pair_came n e at least most = by_turn (pair_turn w.operation (key_set w.set) n least most)
     where
       small : e.keeper.id ≤ 255
@@ -226,7 +223,7 @@ module _ (plan : Plan) (ports : PortView) (w : Work) (link id requester : ℕ) (
           (wire_number false (end_of false w.operation n)
           (exchange_lane (exchange_of false w.operation (key_set w.set) n)))
           (exchange_of false w.operation (key_set w.set) n)) w.draw e
-          ≡ carried_both n (denial ports w link id n) e
+          ≡ carried_both n (denial ports w line id n) e
       by_turn (pair_puts Host lane lt makes is_n ends is) =
           let key = at.keys makes Host lane lt (omega (arith, is_n)) in
           rw (ends, is, key, ← (lane_refused n e at makes Host lane lt is_n), one_of_set w.set)
@@ -240,8 +237,8 @@ module _ (plan : Plan) (ports : PortView) (w : Work) (link id requester : ℕ) (
           (rw (one_of_set w.set) at (program_comes requester w.draw e.keeper.id (key_set w.set) lane
           (lane_key plan w.draw (key_number Device lane)) e.far small lt (knows.keys makes Device lane lt))))
       by_turn (pair_goes Host lane lt makes is_n ends is) =
-          let free : denial ports w link id n ≡ None = rw is_n
-          (pair_go_refused ports w.operation w.set link id knows.line makes Host lane lt) in
+          let free : denial ports w line id n ≡ None = rw is_n
+          (pair_go_refused ports w.operation w.set line id knows.line makes Host lane lt) in
           let low = put_below Host Host lane lane lt in
           let full : is_empty (pair_slot (lane_pair lane e.near) w.set) ≡ false =
           ap is_empty (slot_seen (lane_sends lane) (lane_slots lane e.near) w.set)
@@ -249,8 +246,8 @@ module _ (plan : Plan) (ports : PortView) (w : Work) (link id requester : ℕ) (
           rw (ends, is, free) (ap (λ x. record { judged = x.judged; near = x.device; far = e.far })
           (go_comes requester w.draw e.keeper.id (key_set w.set) lane e.near small lt (rw (one_of_set w.set) full)))
       by_turn (pair_goes Device lane lt makes is_n ends is) =
-          let free : denial ports w link id n ≡ None = rw is_n
-          (pair_go_refused ports w.operation w.set link id knows.line makes Device lane lt) in
+          let free : denial ports w line id n ≡ None = rw is_n
+          (pair_go_refused ports w.operation w.set line id knows.line makes Device lane lt) in
           let low = put_below Device Device lane lane lt in
           let full : is_empty (pair_slot (lane_pair lane e.far) w.set) ≡ false =
           ap is_empty (slot_seen (lane_sends lane) (lane_slots lane e.far) w.set)
@@ -258,13 +255,13 @@ module _ (plan : Plan) (ports : PortView) (w : Work) (link id requester : ℕ) (
           rw (ends, is, free) (ap (λ x. record { judged = x.judged; near = e.near; far = x.device })
           (go_comes requester w.draw e.keeper.id (key_set w.set) lane e.far small lt (rw (one_of_set w.set) full)))
       by_turn (pair_stops Host k lane lt is_o ends is) =
-          let free : denial ports w link id n ≡ None = λ i. refusal_at ports (is_o i) w.set link id n in
+          let free : denial ports w line id n ≡ None = λ i. refusal_at ports (is_o i) w.set line id n in
           rw (ends, is, free) (ap (λ x. record { judged = x.judged; near = x.device; far = e.far })
-          (halt_comes requester w.draw e.keeper.id k lane e.near small lt))
+          (stop_comes_there requester w.draw e.keeper.id k lane e.near small lt))
       by_turn (pair_stops Device k lane lt is_o ends is) =
-          let free : denial ports w link id n ≡ None = λ i. refusal_at ports (is_o i) w.set link id n in
+          let free : denial ports w line id n ≡ None = λ i. refusal_at ports (is_o i) w.set line id n in
           rw (ends, is, free) (ap (λ x. record { judged = x.judged; near = e.near; far = x.device })
-          (halt_comes requester w.draw e.keeper.id k lane e.far small lt))
+          (stop_comes_there requester w.draw e.keeper.id k lane e.far small lt))
 
   -- ---- the exchange was acknowledged
 
@@ -278,7 +275,7 @@ module _ (plan : Plan) (ports : PortView) (w : Work) (link id requester : ℕ) (
       ∙ at.fresh makes side lane lt (omega (arith, le))
 
   next_ready : (n : ℕ) (e : PairEnds) → IsPairNext plan w id before n e → 1 ≤ n
-      → n ≤ last_exchange_of false w.operation → denial ports w link id n ≡ None → makes_draw w.operation ≡ true
+      → n ≤ last_exchange_of false w.operation → denial ports w line id n ≡ None → makes_draw w.operation ≡ true
       → (side : Side) (lane : ℕ) → lane < 6 → put_at side lane < n + 1 → n + 1 ≤ goes_at side lane
       → IsFull (slot_in_set (lane_slots lane (all_called (told_call plan false side w n) (state_at side e))) w.set)
   next_ready n e at least most free makes side lane lt past le =
@@ -289,7 +286,7 @@ module _ (plan : Plan) (ports : PortView) (w : Work) (link id requester : ℕ) (
 
   next_keys : (n : ℕ) (e : PairEnds) → IsPairNext plan w id before n e → 1 ≤ n → n < last_exchange_of false w.operation
       → makes_draw w.operation ≡ true
-      → HasPairKeys plan w.draw (n + 1) (acknowledged false (asked_of w n) e.keeper).keys
+      → HasPairKeys plan w.draw (n + 1) (stream_acknowledged false (asked_of w n) e.keeper).keys
   next_keys n e at least less makes side lane lt le =
       rw (different-false n (last_exchange_of false w.operation) less)
       (kept_turn w.operation (key_set w.set) n side lane e.keeper.keys lt le
@@ -303,7 +300,7 @@ module _ (plan : Plan) (ports : PortView) (w : Work) (link id requester : ℕ) (
   end_after n e Device = refl
 
   pub pair_next_is : (n : ℕ) (e : PairEnds) → IsPairNext plan w id before n e → 1 ≤ n
-      → n < last_exchange_of false w.operation → denial ports w link id n ≡ None
+      → n < last_exchange_of false w.operation → denial ports w line id n ≡ None
       → IsPairNext plan w id before (n + 1) (pair_after (asked_of w n) (carried_both n None e) e)
   pair_next_is n e at least less free =
       let most : n ≤ last_exchange_of false w.operation = omega (arith, less) in

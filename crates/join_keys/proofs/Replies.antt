@@ -2,19 +2,18 @@
 use Rattle.join_keys.specs.Calls.{lane_sends}
 use Rattle.join_keys.proofs.Terms.{◌≡◌, Bool, arith, true, ℕ, List, if◌then◌else◌, false, nat_tests, ◌≤◌, ◌∙◌, Device}
 use Rattle.join_keys.proofs.Terms.{is_only_live, StreamState, [], refl, ap, ◌<◌, Some, ◌∷◌, stream_after_call, Option}
-use Rattle.join_keys.proofs.Terms.{◌%◌, None}
-use Rattle.join_keys.proofs.Terms.{Ok, Err, sub_from, IsKey, KeySet, is_one, is_empty, SlotPair, same-true, sends_in}
-use Rattle.join_keys.proofs.Terms.{pair_at, came_to, shown_stream, port_called, judged_bytes, selector_of, Judged}
-use Rattle.join_keys.proofs.Terms.{Expected, exchange_judged, refusal_if}
+use Rattle.join_keys.proofs.Terms.{◌%◌, None, Ok, Err, sub_from, IsKey, KeySet, is_one, is_empty, SlotPair, same-true}
+use Rattle.join_keys.proofs.Terms.{sends_in, pair_at, came_to, shown_stream, port_called, judged_bytes, selector_of}
+use Rattle.join_keys.proofs.Terms.{Judged, Expected, exchange_judged, refusal_if}
 use Rattle.std.specs.Prelude.{Result, is_ok, not}
 use Rattle.key_slots.specs.{slot_in, KeyCall, Program, Go, Stop}
 use Rattle.key_messages.specs.declared.object.KmView.{KmView}
 use Rattle.key_messages.specs.declared.object.KmView.TheVariants.{Query, KeyProg, KpAck, SetGo, SetStop, GoStopAck}
 use Rattle.key_messages.specs.declared.port.ProgramFault.TheVariants.{OnlyLive}
 use Rattle.key_messages.specs.declared.port.ProgramFault.{ProgramFault}
-use Rattle.key_messages.specs.{PlaceCall, place_call, shown_pair, is_done, spelling, FitsObject, set_of, direction_of}
-use Rattle.key_messages.specs.{sub_of}
-use Rattle.key_messages.specs.{selected_place, call_for, object_reply, object_bytes, object_reading, description}
+use Rattle.key_messages.specs.{PlaceCall, place_call, shown_pair, is_done, object_spelling, FitsObject, set_of}
+use Rattle.key_messages.specs.{direction_of, sub_of, selected_place, call_for, object_reply, object_bytes}
+use Rattle.key_messages.specs.{object_reading, description}
 use Rattle.key_messages.proofs.Objects.{spells_read, written_spells}
 use Rattle.tsm_host.specs.Judging.{judged_reply}
 
@@ -22,23 +21,28 @@ use Rattle.tsm_host.specs.Judging.{judged_reply}
 
 -- if a request makes this call, which is taken or not, and its reply is judged so
 comes_as : (requester draw id : ℕ) (request : KmView) (x : StreamState) → FitsObject request
-    → (call : Option PlaceCall) → call_for draw request ≡ call
-    → (done : Bool) → is_done (shown_stream id x) call ≡ done
+    → (call : Option PlaceCall) → call_for draw request ≡ call → (done : Bool) → is_done (shown_stream id x) call ≡ done
     → (judged : Judged) → judged_bytes request (object_bytes (object_reply requester request done)) ≡ judged
     → (device : StreamState) → port_called call x ≡ device
     → came_to requester request id draw x ≡ record { judged = judged; device = device }
 comes_as requester draw id request x fits call call_is done done_is judged judged_is device device_is =
-    rw (spells_read request (spelling request) (written_spells request fits), call_is, done_is, judged_is, device_is)
+    rw (
+      spells_read request (object_spelling request) (written_spells request fits),
+      call_is,
+      done_is,
+      judged_is,
+      device_is,
+    )
 
 -- a reply is judged as it was written
 as_read : (request : KmView) (bytes : List ℕ) → judged_bytes request bytes ≡ judged_reply request (object_reading bytes)
 as_read request [] = refl
 as_read request (b ∷ bytes) = refl
 
-replied : (request reply : KmView) → FitsObject reply → judged_bytes request (spelling reply)
+replied : (request reply : KmView) → FitsObject reply → judged_bytes request (object_spelling reply)
     ≡ judged_reply request (Ok reply)
-replied request reply fits = as_read request (spelling reply) ∙ ap (judged_reply request)
-    (spells_read reply (spelling reply) (written_spells reply fits))
+replied request reply fits = as_read request (object_spelling reply) ∙ ap (judged_reply request)
+    (spells_read reply (object_spelling reply) (written_spells reply fits))
 
 pub query_comes : (requester draw id : ℕ) (x : StreamState) → requester ≤ 65535 → came_to requester (Query 0) id draw x
     ≡ record { judged = Expected; device = x }
@@ -81,8 +85,7 @@ answers requester id sel key small low false = rw
     (replied (KeyProg id sel 0 key 1) (KpAck id 0 sel 0) (omega arith), same-true id, same-true sel)
 
 pub program_comes : (requester draw id : ℕ) (set : KeySet) (lane : ℕ) (key : List ℕ) (x : StreamState) → id ≤ 255
-    → lane < 6 → IsKey key
-    → came_to requester (KeyProg id (selector_of set lane) 0 key 1) id draw x
+    → lane < 6 → IsKey key → came_to requester (KeyProg id (selector_of set lane) 0 key 1) id draw x
     ≡ record {
       judged = exchange_judged None (refusal_if (is_only_live (lane_pair lane x) (is_one set)));
       device = lane_called lane (Program (is_one set) key draw) x;
@@ -111,10 +114,10 @@ go_comes requester draw id set lane x small lt full =
     _ (rw (replied (SetGo id sel 0) (GoStopAck id sel 0) (omega arith), same-true id, same-true sel)) _
     (rw (s.sends_is, s.sub_is, s.set_is))
 
-pub halt_comes : (requester draw id : ℕ) (set : KeySet) (lane : ℕ) (x : StreamState) → id ≤ 255 → lane < 6
+pub stop_comes_there : (requester draw id : ℕ) (set : KeySet) (lane : ℕ) (x : StreamState) → id ≤ 255 → lane < 6
     → came_to requester (SetStop id (selector_of set lane) 0) id draw x
     ≡ record { judged = Expected; device = lane_called lane (Stop (is_one set)) x }
-halt_comes requester draw id set lane x small lt =
+stop_comes_there requester draw id set lane x small lt =
     let s = selects id set lane x lt in
     let sel = selector_of set lane in
     comes_as requester draw id (SetStop id sel 0) x (omega arith)

@@ -5,17 +5,15 @@
 use Rattle.join_keys.proofs.Terms.{◌≡◌, Bool, arith, true, ℕ, List, ◌++◌, Work, Plan, if◌then◌else◌, nat_tests}
 use Rattle.join_keys.proofs.Terms.{Operation, ◌≤◌, ◌∙◌, sym, Reach, makes_draw, is_within, StreamCall, Host}
 use Rattle.join_keys.proofs.Terms.{StreamState, ◌+◌, ◌==◌, [], zero, suc, refl, ◌-◌, ap, exchange_call}
-use Rattle.join_keys.proofs.Terms.{exchanges_called, all_called, host_go, ◌&&◌, ◌<◌, Some, subst, ◌∷◌}
-use Rattle.join_keys.proofs.Terms.{last_exchange_of, Option, None, reach_of, StreamStage, op_standing, reach, op_after}
-use Rattle.join_keys.proofs.Terms.{all_called_at, Loss, Verdict, PortView, lost_message, cut_at, exchange_judged}
-use Rattle.join_keys.proofs.Terms.{option_or}
-use Rattle.join_keys.proofs.Terms.{first_from, done, different-false, PlaceCall, host_goes, StreamView}
-use Rattle.join_keys.proofs.Terms.{asked_of_unfinished}
-use Rattle.join_keys.proofs.Terms.{outcome_of, taken_stream, taken_calls, shown_at_end, ManagerWalk, answers, walk}
-use Rattle.join_keys.proofs.Terms.{walk_after_outcome, StreamEnds, walk_on, ends_after_exchange, Exchanged}
-use Rattle.join_keys.proofs.Terms.{exchanged_unless_lost, WalkedEnds, goes_on, HasKeys, KeysKept, KeysKeptIn}
-use Rattle.join_keys.proofs.Terms.{exchange_of, WireKeys, is_last_receiver_go, Judged, Expected, Refused, Lost, KeySet}
-use Rattle.join_keys.proofs.Terms.{key_set, one_of_set, work_asked}
+use Rattle.join_keys.proofs.Terms.{exchanges_called, all_called, host_go, ◌&&◌, ◌<◌, Some, subst, ◌∷◌, last_exchange_of}
+use Rattle.join_keys.proofs.Terms.{Option, None, reach_of, StreamStage, op_at_exchange, reach, op_after, all_called_at}
+use Rattle.join_keys.proofs.Terms.{Loss, Verdict, PortView, lost_message, cut_at, exchange_judged, option_or}
+use Rattle.join_keys.proofs.Terms.{first_from, finished_verdict, different-false, PlaceCall, host_goes, StreamView}
+use Rattle.join_keys.proofs.Terms.{asked_of_unfinished, outcome_of, taken_stream, taken_calls, shown_at_end}
+use Rattle.join_keys.proofs.Terms.{ManagerWalk, answers, walk, walk_after_outcome, StreamEnds, walk_on}
+use Rattle.join_keys.proofs.Terms.{ends_after_exchange, Exchanged, exchanged_unless_lost, WalkedEnds, goes_on, HasKeys}
+use Rattle.join_keys.proofs.Terms.{KeysKept, KeysKeptIn, exchange_of, WireKeys, is_last_receiver_go, Judged, Expected}
+use Rattle.join_keys.proofs.Terms.{Refused, Lost, KeySet, key_set, one_of_set, work_asked}
 use Rattle.tsm_host.specs.declared.operation.StreamOutcome.{StreamOutcome}
 use Rattle.tsm_host.proofs.Walks.{WorkFits, ends_as}
 use Rattle.link_verdicts.specs.declared.verdict.Verdict.TheVariants as v
@@ -81,7 +79,7 @@ host_step w id n below host least most lt =
 
 kept_standing : (plan : Plan) (w : Work) (n : ℕ) (keys : WireKeys) → 1 ≤ n → n ≤ last_exchange_of true w.operation
     → (makes_draw w.operation ≡ true → HasKeys plan w.draw (first_program w.operation) n keys)
-    → KeysKeptIn plan (op_standing w n) keys
+    → KeysKeptIn plan (op_at_exchange w n) keys
 kept_standing plan w n keys least most has = grind arith
 
 kept_ended : (plan : Plan) (w : Work) (n : ℕ) (keys : WireKeys) → n ≡ last_exchange_of true w.operation
@@ -105,30 +103,30 @@ pub record Rest (plan : Plan) (w : Work) (id n : ℕ) (e : StreamEnds) (verdict 
   pub keys_are : KeysKept plan x.ends.keeper
 
 -- what holds of an exchange that is lost on either way, of one that is refused, and of any other
-by_fate : (P : Verdict → Judged → Exchanged → Type 0) (link id : ℕ) (w : Work) (loss : Option Loss) (n : ℕ)
+by_fate : (P : Verdict → Judged → Exchanged → Type 0) (line id : ℕ) (w : Work) (loss : Option Loss) (n : ℕ)
     (rest : Option Verdict) (r : Option ℕ) (came : Exchanged)
     (x : StreamState)
     → P (v.LostRequest n) Lost (record { judged = Lost; device = x })
     → P (v.LostReply n) Lost (record { judged = Lost; device = came.device })
     → ((status : ℕ) → r ≡ Some status → P (v.RefusedDevice n status) (Refused status) came)
-    → (r ≡ None → P (ends_as link id w rest) Expected came)
-    → P (ends_as link id w (option_or (cut_at (lost_message loss n) r n) rest))
+    → (r ≡ None → P (ends_as line id w rest) Expected came)
+    → P (ends_as line id w (option_or (cut_at (lost_message loss n) r n) rest))
     (exchange_judged (lost_message loss n) r)
     (exchanged_unless_lost loss n came x)
-by_fate P link id w loss n rest r came x request reply refused onward = grind arith
+by_fate P line id w loss n rest r came x request reply refused onward = grind arith
 
-pub standing_asked : (w : Work) (n : ℕ) → WorkFits w.operation w.set w.draw → asked_of_unfinished (op_standing w n)
+pub standing_asked : (w : Work) (n : ℕ) → WorkFits w.operation w.set w.draw → asked_of_unfinished (op_at_exchange w n)
     ≡ Some (asked_of w n)
 unfolding WorkFits
 standing_asked w n fits = grind arith
 
-done_says : (link id : ℕ) (w : Work) (n : ℕ) → is_hosted link ≡ true → n ≡ last_exchange_of true w.operation
-    → reach_of w.operation (done link id w)
+done_says : (line id : ℕ) (w : Work) (n : ℕ) → is_hosted line ≡ true → n ≡ last_exchange_of true w.operation
+    → reach_of w.operation (finished_verdict line id w)
     ≡ Some (reach (n + 1) (n + 1))
-done_says link id w n hosted is = grind arith
+done_says line id w n hosted is = grind arith
 
-module _ (plan : Plan) (ports : PortView) (w : Work) (link id requester : ℕ) (before : StreamState)
-    (knows : Knows plan ports w link id requester before)
+module _ (plan : Plan) (ports : PortView) (w : Work) (line id requester : ℕ) (before : StreamState)
+    (knows : Knows plan ports w line id requester before)
     (loss : Option Loss) where
   -- it stays at the exchange
   stays : (n : ℕ) (e : StreamEnds) → KeysKept plan e.keeper → (verdict : Verdict) (carried : ℕ)
@@ -155,7 +153,7 @@ module _ (plan : Plan) (ports : PortView) (w : Work) (link id requester : ℕ) (
   told n j k s =
       let a = asked_of w n in
       walk_after_outcome (outcome_of true a j) (taken_stream true a j s)
-      (walk true k (answers loss (denial ports w link id)) (taken_stream true a j s))
+      (walk true k (answers loss (denial ports w line id)) (taken_stream true a j s))
 
   abbrev walked : ℕ → Exchanged → ℕ → StreamEnds → WalkedEnds
   walked n x more e = let a = asked_of w n in goes_on (outcome_of true a x.judged) (ends_after_exchange a x e)
@@ -191,12 +189,13 @@ module _ (plan : Plan) (ports : PortView) (w : Work) (link id requester : ℕ) (
 
   -- after the last exchange
   ends : (n more k : ℕ) (e : StreamEnds) → IsNext plan w id before n e → 1 ≤ n → n ≡ last_exchange_of true w.operation
-      → Rest plan w id n e (done link id w) (told n Expected k e.keeper) (walked n (answered n None e) more e)
+      → Rest plan w id n e (finished_verdict line id w) (told n Expected k e.keeper)
+      (walked n (answered n None e) more e)
   ends n more k e at least same =
       let last : (n == last_exchange_of true w.operation) ≡ true = grind (arith, nat_tests) in
       let next = after n e in
-      let rest = stays (n + 1) next (kept_ended plan w n next.keeper.keys same) (done link id w) (n + 1)
-      (done_says link id w n knows.hosted same) (omega arith)
+      let rest = stays (n + 1) next (kept_ended plan w n next.keeper.keys same) (finished_verdict line id w) (n + 1)
+      (done_says line id w n knows.hosted same) (omega arith)
       (omega (arith, same)) next.device (calls_none (exchange_call plan w) (n + 1) next.device)
       (outcome.Done (shown_at_end (asked_of w n))) in
       rw last (rw last at (back n e at least (omega (arith, same)) _ _ _ rest))
@@ -205,7 +204,7 @@ module _ (plan : Plan) (ports : PortView) (w : Work) (link id requester : ℕ) (
   further : (n more k : ℕ) (e : StreamEnds) → IsNext plan w id before n e → 1 ≤ n
       → n < last_exchange_of true w.operation
       → (verdict : Verdict) → let next = after n e in
-      Rest plan w id (n + 1) next verdict (walk true k (answers loss (denial ports w link id)) next.keeper)
+      Rest plan w id (n + 1) next verdict (walk true k (answers loss (denial ports w line id)) next.keeper)
       (walk_on more loss requester next)
       → Rest plan w id n e verdict (told n Expected k e.keeper) (walked n (answered n None e) more e)
   further n more k e at least less verdict rest =
@@ -215,21 +214,21 @@ module _ (plan : Plan) (ports : PortView) (w : Work) (link id requester : ℕ) (
   -- one exchange, if the rest is known
   steps : (n more k : ℕ) (e : StreamEnds) → IsNext plan w id before n e → 1 ≤ n → n ≤ last_exchange_of true w.operation
       → (rest : Option Verdict)
-      → (denial ports w link id n ≡ None → Rest plan w id n e (ends_as link id w rest)
+      → (denial ports w line id n ≡ None → Rest plan w id n e (ends_as line id w rest)
       (told n Expected k e.keeper)
       (walked n (answered n None e) more e))
       → Rest plan w id n e
-      (ends_as link id w (option_or (cut_at (lost_message loss n) (denial ports w link id n) n) rest))
-      (walk true (suc k) (answers loss (denial ports w link id)) e.keeper) (walk_on (suc more) loss requester e)
+      (ends_as line id w (option_or (cut_at (lost_message loss n) (denial ports w line id n) n) rest))
+      (walk true (suc k) (answers loss (denial ports w line id)) e.keeper) (walk_on (suc more) loss requester e)
   steps n more k e at least most rest onward =
-      let r = denial ports w link id n in
+      let r = denial ports w line id n in
       let came = all_called (exchange_call plan w n) e.device in
       let kept : KeysKept plan e.keeper = subst (λ (q : StreamStage). KeysKeptIn plan q e.keeper.keys) (sym at.op_is)
       (kept_standing plan w n e.keeper.keys least most at.keys) in
       let asked : asked_of_unfinished e.keeper.op ≡ Some (asked_of w n) = ap asked_of_unfinished at.op_is ∙
       standing_asked w n knows.fits in
-      rw (asked, came_is plan ports w link id requester before knows n e at least most)
-      (by_fate (λ verdict j x. Rest plan w id n e verdict (told n j k e.keeper) (walked n x more e)) link id w loss n
+      rw (asked, came_is plan ports w line id requester before knows n e at least most)
+      (by_fate (λ verdict j x. Rest plan w id n e verdict (told n j k e.keeper) (walked n x more e)) line id w loss n
       rest r (answered n r e) e.device
       (stays n e kept (v.LostRequest n) n refl (omega arith) (omega arith) e.device
       (calls_none (exchange_call plan w) n e.device) _)
@@ -243,16 +242,16 @@ module _ (plan : Plan) (ports : PortView) (w : Work) (link id requester : ℕ) (
   pub rest_is : (k more n : ℕ) (e : StreamEnds) → n + k ≡ last_exchange_of true w.operation → 1 ≤ n → k ≤ more
       → IsNext plan w id before n e
       → Rest plan w id n e
-      (ends_as link id w (first_from (λ x. cut_at (lost_message loss x) (denial ports w link id x) x) n (suc k)))
-      (walk true (suc k) (answers loss (denial ports w link id)) e.keeper) (walk_on (suc more) loss requester e)
+      (ends_as line id w (first_from (λ x. cut_at (lost_message loss x) (denial ports w line id x) x) n (suc k)))
+      (walk true (suc k) (answers loss (denial ports w line id)) e.keeper) (walk_on (suc more) loss requester e)
   rest_is zero more n e count least le at =
       let same : n ≡ last_exchange_of true w.operation = omega (arith, count) in
       steps n more zero e at least (omega (arith, same)) None (λ free. ends n more zero e at least same)
   rest_is (suc k) zero n e count least le at = absurd (omega (arith, le))
   rest_is (suc k) (suc more) n e count least le at =
       let less : n < last_exchange_of true w.operation = omega (arith, count) in
-      let rest = first_from (λ x. cut_at (lost_message loss x) (denial ports w link id x) x) (n + 1) (suc k) in
+      let rest = first_from (λ x. cut_at (lost_message loss x) (denial ports w line id x) x) (n + 1) (suc k) in
       steps n (suc more) (suc k) e at least (omega (arith, less)) rest
-      (λ free. further n (suc more) (suc k) e at least less (ends_as link id w rest)
+      (λ free. further n (suc more) (suc k) e at least less (ends_as line id w rest)
       (rest_is k more (n + 1) (after n e) (omega (arith, count)) (omega arith) (omega (arith, le))
-      (next_is plan ports w link id requester before knows n e at least less free)))
+      (next_is plan ports w line id requester before knows n e at least less free)))

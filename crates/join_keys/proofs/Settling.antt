@@ -45,13 +45,11 @@ settle x = rested_by (any_of (outs x)) (any_of (ins x)) x
 
 -- if no direction begins to have a Live slot, the last settling alone is enough
 pub settled_again : (f g : SubKind → LaneSlots) (x : StreamState) (o i p q : Bool) → (p ≡ true → o ≡ true)
-    → (q ≡ true → i ≡ true)
-    → rested_by p q (with_slots f g (rested_by o i x)) ≡ rested_by p q (with_slots f g x)
+    → (q ≡ true → i ≡ true) → rested_by p q (with_slots f g (rested_by o i x)) ≡ rested_by p q (with_slots f g x)
 settled_again f g x o i p q out into = grind arith
 
 settled_before : (f g : SubKind → LaneSlots) (x : StreamState) (o i p q : Bool) → (o ≡ true → p ≡ true)
-    → (i ≡ true → q ≡ true)
-    → rested_by p q (with_slots f g (rested_by o i x)) ≡ with_slots f g (rested_by o i x)
+    → (i ≡ true → q ≡ true) → rested_by p q (with_slots f g (rested_by o i x)) ≡ with_slots f g (rested_by o i x)
 settled_before f g x o i p q out into = grind arith
 
 -- if each direction keeps its Live slots, a settled stream stays settled

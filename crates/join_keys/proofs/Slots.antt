@@ -54,8 +54,7 @@ slots_keep sends call s kept some = grind arith
 -- ---- STOP: no place without a Live slot gets one
 
 pub slots_stop : (sends : Bool) (call : KeyCall) (s : LaneSlots) → is_stop call ≡ true
-    → (sends ≡ true → WaitsBesideLive s)
-    → any_live (slots_by sends call s) ≡ true → any_live s ≡ true
+    → (sends ≡ true → WaitsBesideLive s) → any_live (slots_by sends call s) ≡ true → any_live s ≡ true
 slots_stop sends call s is waits some = grind arith
 
 -- after it no key waits

@@ -1,13 +1,12 @@
 -- What is known of a stream that stands for a history.
 use Rattle.join_keys.proofs.Terms.{◌≡◌, Bool, arith, true, SubKind, ℕ, List, Plan, false, nat_tests, place_at_end}
 use Rattle.join_keys.proofs.Terms.{LaneSlots, ◌∙◌, sym, Host, slot_pair, StreamState, refl, ap, SubStream}
-use Rattle.join_keys.proofs.Terms.{WaitsBesideLive, Pr, Npr, Cpl, Some, subst, ◌≢◌, port_at, slots_at, at_sub}
-use Rattle.join_keys.proofs.Terms.{LaneSlot, Live, lane_out, lane_in, IsSound, ReadsStream, DrawsApart, ◌||◌, History}
-use Rattle.join_keys.proofs.Terms.{moments, key_plan, slot_in_set, Armed, LinkState, find, ports_of, machine_status}
-use Rattle.join_keys.proofs.Terms.{refuses_at, refusal_if, Option, is_live_at, status_there, Side, live_set, is_set}
-use Rattle.join_keys.proofs.Terms.{Reads, tx_slots, rx_slots, PortsStand, kept_is, host_of, Keys, Shape, keys_of}
-use Rattle.join_keys.proofs.Terms.{key_cause}
-use Rattle.machine_operations.specs.{standing}
+use Rattle.join_keys.proofs.Terms.{WaitsBesideLive, Pr, Npr, Cpl, Some, subst, ◌≢◌, port_at, slots_at, at_sub, LaneSlot}
+use Rattle.join_keys.proofs.Terms.{Live, lane_out, lane_in, IsSound, ReadsStream, DrawsApart, ◌||◌, History, moments}
+use Rattle.join_keys.proofs.Terms.{key_plan, slot_in_set, Armed, LinkState, find, ports_of, machine_status, refuses_at}
+use Rattle.join_keys.proofs.Terms.{refusal_if, Option, is_live_at, status_there, Side, live_set, is_set, Reads}
+use Rattle.join_keys.proofs.Terms.{tx_slots, rx_slots, PortsStand, kept_is, host_of, Keys, Shape, keys_of, key_cause}
+use Rattle.machine_operations.specs.{stream_state_due}
 use Rattle.ide_types.specs.declared.port.PortName.{PortName}
 use Rattle.spec_keys.proofs.Whole.{fits}
 use Rattle.spec_links.specs.History.{SealedList, sealed_packets, port_keys, has_live_out, has_live_in}
@@ -50,23 +49,26 @@ rx_apart plan h law port s x y e f same =
 
 -- ---- a stream
 
-module _ (plan : Plan) (h : History) (law : CauseLaw plan h) (side : Side) (link stream : ℕ) where
-  tx_slots_are : (u : SubKind) → let port = port_at side link in (at_sub (standing plan h port stream).tx u).slots
+module _ (plan : Plan) (h : History) (law : CauseLaw plan h) (side : Side) (line stream : ℕ) where
+  tx_slots_are : (u : SubKind) → let port = port_at side line in
+      (at_sub (stream_state_due plan h port stream).tx u).slots
       ≡ tx_slots plan (sealed_packets plan h) (lane_out port stream u) (port_keys h port (lane_out port stream u))
-  unfolding standing
+  unfolding stream_state_due
   tx_slots_are u = grind arith
 
-  rx_slots_are : (u : SubKind) → let port = port_at side link in (at_sub (standing plan h port stream).rx u).slots
+  rx_slots_are : (u : SubKind) → let port = port_at side line in
+      (at_sub (stream_state_due plan h port stream).rx u).slots
       ≡ rx_slots plan h port (lane_in port stream u) (port_keys h port (lane_in port stream u))
-  unfolding standing
+  unfolding stream_state_due
   rx_slots_are u = grind arith
 
-  sender_may : (u : SubKind) → let s = (at_sub (standing plan h (port_at side link) stream).tx u).slots in may_stand
+  sender_may : (u : SubKind) → let s = (at_sub (stream_state_due plan h (port_at side line) stream).tx u).slots in
+      may_stand
       s.first s.second ≡ true
   sender_may u =
-      let port = port_at side link in
+      let port = port_at side line in
       let s = lane_out port stream u in
-      let place = place_at_end link stream true side u in
+      let place = place_at_end line stream true side u in
       let at = fits (key_plan plan) h (key_cause plan h law) place in
       let are : port_keys h port s ≡ keys_of at.shape = keys_out h port stream u ∙ at.is.are in
       subst (λ (x : LaneSlots). may_stand x.first x.second ≡ true)
@@ -74,58 +76,61 @@ module _ (plan : Plan) (h : History) (law : CauseLaw plan h) (side : Side) (link
       (tx_may plan (sealed_packets plan h) s at.shape (in_order true (moments h place) at.shape at.is.sound))
 
   draws_apart : (sends : Bool) (u : SubKind) → DrawsApart
-      (slots_at sends u (standing plan h (port_at side link) stream))
-  draws_apart true u = apart_of (at_sub (standing plan h (port_at side link) stream).tx u).slots (sender_may u)
+      (slots_at sends u (stream_state_due plan h (port_at side line) stream))
+  draws_apart true u = apart_of (at_sub (stream_state_due plan h (port_at side line) stream).tx u).slots (sender_may u)
   draws_apart false u = subst DrawsApart (sym (rx_slots_are u))
-      (rx_apart plan h law (port_at side link) (lane_in (port_at side link) stream u))
+      (rx_apart plan h law (port_at side line) (lane_in (port_at side line) stream u))
 
   never_armed : (u : SubKind) (k : Bool) (draw : ℕ) (key : List ℕ)
-      → slot_in_set (at_sub (standing plan h (port_at side link) stream).rx u).slots k ≢ Armed draw key
+      → slot_in_set (at_sub (stream_state_due plan h (port_at side line) stream).rx u).slots k ≢ Armed draw key
   never_armed u k draw key = rw (rx_slots_are u)
-      (rx_never plan h (port_at side link) (lane_in (port_at side link) stream u) _ k draw key)
+      (rx_never plan h (port_at side line) (lane_in (port_at side line) stream u) _ k draw key)
 
 -- counts are those of directions with a Live key
-out_is : (plan : Plan) (h : History) (port : PortName) (stream : ℕ) → any_of (outs (standing plan h port stream))
+out_is : (plan : Plan) (h : History) (port : PortName) (stream : ℕ)
+    → any_of (outs (stream_state_due plan h port stream))
     ≡ has_live_out h port stream
-unfolding standing has_live_out
+unfolding stream_state_due has_live_out
 out_is plan h port stream =
     let live = λ (u : SubKind). live_out_is plan (sealed_packets plan h) (lane_out port stream u)
     (port_keys h port (lane_out port stream u)) in
     λ i. live Pr i || live Npr i || live Cpl i
 
-into_is : (plan : Plan) (h : History) (port : PortName) (stream : ℕ) → any_of (ins (standing plan h port stream))
+into_is : (plan : Plan) (h : History) (port : PortName) (stream : ℕ)
+    → any_of (ins (stream_state_due plan h port stream))
     ≡ has_live_in h port stream
-unfolding standing has_live_in
+unfolding stream_state_due has_live_in
 into_is plan h port stream =
     let live = λ (u : SubKind). live_in_is plan h port (lane_in port stream u)
     (port_keys h port (lane_in port stream u))
     in
     λ i. live Pr i || live Npr i || live Cpl i
 
-settled_standing : (plan : Plan) (h : History) (port : PortName) (stream : ℕ) → settle (standing plan h port stream)
-    ≡ standing plan h port stream
-unfolding standing
+settled_standing : (plan : Plan) (h : History) (port : PortName) (stream : ℕ)
+    → settle (stream_state_due plan h port stream)
+    ≡ stream_state_due plan h port stream
+unfolding stream_state_due
 settled_standing plan h port stream = rw (out_is plan h port stream, into_is plan h port stream)
     (let live = failed_live plan h port stream in grind arith)
 
 pub is_sound : (plan : Plan) (st : LinkState) (h : History) → PortsStand plan st h
-    → (side : Side) (link stream : ℕ) (x : StreamState) → find plan st (port_at side link) stream ≡ Some x → IsSound x
-is_sound plan st h stands side link stream x found =
-    let port = port_at side link in
+    → (side : Side) (line stream : ℕ) (x : StreamState) → find plan st (port_at side line) stream ≡ Some x → IsSound x
+is_sound plan st h stands side line stream x found =
+    let port = port_at side line in
     let is = kept_is plan st h port stream x stands found in
     subst IsSound (sym is.same) (record {
       settled = settled_standing plan h port stream;
-      apart = draws_apart plan h stands.cause side link stream;
-      waits = λ u. waits_of (at_sub (standing plan h port stream).tx u).slots
-          (sender_may plan h stands.cause side link stream u);
-      none_waits = never_armed plan h stands.cause side link stream;
+      apart = draws_apart plan h stands.cause side line stream;
+      waits = λ u. waits_of (at_sub (stream_state_due plan h port stream).tx u).slots
+          (sender_may plan h stands.cause side line stream u);
+      none_waits = never_armed plan h stands.cause side line stream;
     })
 
 -- ---- what operations read of it
 
-pub reads_stream : (plan : Plan) (st : LinkState) (side : Side) (link stream : ℕ) (x : StreamState)
-    → find plan st (port_at side link) stream ≡ Some x → ReadsStream (ports_of plan st) side link stream x
-reads_stream plan st side link stream x found sends u k = ap
+pub reads_stream : (plan : Plan) (st : LinkState) (side : Side) (line stream : ℕ) (x : StreamState)
+    → find plan st (port_at side line) stream ≡ Some x → ReadsStream (ports_of plan st) side line stream x
+reads_stream plan st side line stream x found sends u k = ap
     (λ (y : Option StreamState). refusal_if (refuses_at sends u k y))
     found
 
@@ -135,16 +140,16 @@ by_first : (set : Bool) (s : LaneSlots) → may_stand s.first s.second ≡ true 
 by_first set s may = grind arith
 
 pub host_read : (plan : Plan) (st : LinkState) (h : History) → PortsStand plan st h
-    → (link stream : ℕ) (x : StreamState) → find plan st (port_at Host link) stream ≡ Some x → (draws : ℕ)
-    → Reads (key_plan plan) (ports_of plan st) link stream (machine_status plan st Host link stream) (host_of x)
+    → (line stream : ℕ) (x : StreamState) → find plan st (port_at Host line) stream ≡ Some x → (draws : ℕ)
+    → Reads (key_plan plan) (ports_of plan st) line stream (machine_status plan st Host line stream) (host_of x)
     (record { keys = plan.pool; draws = draws })
-host_read plan st h stands link stream x found draws =
-    let is = kept_is plan st h (port_at Host link) stream x stands found in
+host_read plan st h stands line stream x found draws =
+    let is = kept_is plan st h (port_at Host line) stream x stands found in
     record {
       pool_is = refl;
       status_is = ap Some (sym (ap status_there found));
       live_is = λ set u.
           let may = subst (λ (y : StreamState). may_stand (at_sub y.tx u).slots.first (at_sub y.tx u).slots.second
-          ≡ true) (sym is.same) (sender_may plan h stands.cause Host link stream u) in
+          ≡ true) (sym is.same) (sender_may plan h stands.cause Host line stream u) in
           by_first set (at_sub x.tx u).slots may ∙ sym (ap (is_live_at true u set) found);
     }

@@ -65,10 +65,9 @@ keeps_at : (sends : Bool) (u : SubKind) (c : StreamCall) (s : LaneSlots) → is_
 keeps_at sends u c s kept some = chosen (λ a. any_live a ≡ true) (is_at sends u c) _ _
     (slots_keep sends c.call s kept some) some
 
-halts_at : (sends : Bool) (u : SubKind) (c : StreamCall) (s : LaneSlots) → is_stop c.call ≡ true
-    → (sends ≡ true → WaitsBesideLive s)
-    → any_live (place_called sends u c s) ≡ true → any_live s ≡ true
-halts_at sends u c s is waits = chosen (λ a. any_live a ≡ true → any_live s ≡ true) (is_at sends u c) _ _
+stops_lane_at : (sends : Bool) (u : SubKind) (c : StreamCall) (s : LaneSlots) → is_stop c.call ≡ true
+    → (sends ≡ true → WaitsBesideLive s) → any_live (place_called sends u c s) ≡ true → any_live s ≡ true
+stops_lane_at sends u c s is waits = chosen (λ a. any_live a ≡ true → any_live s ≡ true) (is_at sends u c) _ _
     (slots_stop sends c.call s is waits) (λ some. some)
 
 still_waits : (u : SubKind) (c : StreamCall) (s : LaneSlots) → is_stop c.call ≡ true → WaitsBesideLive s
@@ -119,8 +118,8 @@ stopped_from (c ∷ cs) x all waits =
     let each = both-true (is_stop c.call) (all_by is_stop cs) all in
     let f = λ (u : SubKind). place_called true u c (outs x u) in
     let g = λ (u : SubKind). place_called false u c (ins x u) in
-    let out = any_each f (outs x) (λ u. halts_at true u c (outs x u) each.0 (λ same. waits u)) in
-    let into = any_each g (ins x) (λ u. halts_at false u c (ins x u) each.0 (λ never. absurd cc)) in
+    let out = any_each f (outs x) (λ u. stops_lane_at true u c (outs x u) each.0 (λ same. waits u)) in
+    let into = any_each g (ins x) (λ u. stops_lane_at false u c (ins x u) each.0 (λ never. absurd cc)) in
     ap (all_called cs) (called_is c.sends c.sub c.call (settle x) ∙ settled_again f g x _ _ _ _ out into)
     ∙ stopped_from cs (with_slots f g x) each.1 (waits_each f g x (λ u. still_waits u c (outs x u) each.0 (waits u)))
 

@@ -5,16 +5,14 @@ pub use Rattle.join_keys.proofs.CallTerms.{makes_draw, is_within, lane_key, Stre
 pub use Rattle.join_keys.proofs.CallTerms.{slot_pair, StreamState, ◌+◌, ◌==◌, [], zero, suc, refl, ◌-◌, ap, work}
 pub use Rattle.join_keys.proofs.CallTerms.{exchange_call, exchanges_called, all_called, KeyPlace, SubStream, host_go}
 pub use Rattle.join_keys.proofs.CallTerms.{WaitsBesideLive, ◌&&◌, Pr, Npr, Cpl, ◌<◌, Some, subst, ◌≢◌, ◌∷◌}
-pub use Rattle.join_keys.proofs.CallTerms.{stream_after_call}
-pub use Rattle.join_keys.proofs.CallTerms.{last_exchange_of, port_at, slots_at, refuses_in, key_slot, at_sub, LaneSlot}
-pub use Rattle.join_keys.proofs.CallTerms.{Live, lane_out, lane_in, key_of, IsSound, ReadsStream, CallsAreTouches}
-pub use Rattle.join_keys.proofs.CallTerms.{DrawsApart, ◌||◌}
+pub use Rattle.join_keys.proofs.CallTerms.{stream_after_call, last_exchange_of, port_at, slots_at, refuses_in, key_slot}
+pub use Rattle.join_keys.proofs.CallTerms.{at_sub, LaneSlot, Live, lane_out, lane_in, key_of, IsSound, ReadsStream}
+pub use Rattle.join_keys.proofs.CallTerms.{CallsAreTouches, DrawsApart, ◌||◌}
 pub use Rattle.std.proofs.Common.{◌/◌, Option, ◌%◌, None, length, inl, inr, ◌*◌, option_map, Ok, Err}
 pub use Rattle.std.specs.Prelude.{nat_lt, is_some, unwrap_or, All}
 pub use Rattle.std.specs.Option.{option_or}
-pub use Rattle.spec_keys.specs.Operations.{reach_of, work_of, StreamStage, op_standing, reach, op_after, Manager}
-pub use Rattle.spec_keys.specs.Operations.{manager_after_operation}
-pub use Rattle.spec_keys.specs.Operations.{manager_after}
+pub use Rattle.spec_keys.specs.Operations.{reach_of, work_of, StreamStage, op_at_exchange, reach, op_after, Manager}
+pub use Rattle.spec_keys.specs.Operations.{manager_after_operation, manager_after}
 pub use Rattle.join_keys.specs.Calls.{all_called_at, call_of_exchange}
 pub use Rattle.ide_prefix.specs.{sub_from}
 pub use Rattle.key_messages.specs.{PlaceCall}
@@ -27,7 +25,7 @@ pub use Rattle.spec_keys.specs.Places.{KeyPlan, lane as lane_number}
 pub use Rattle.spec_keys.specs.History.{History, draws, moments, history_status, op_of}
 pub use Rattle.ide_types.specs.Ports.{keyed_status}
 pub use Rattle.spec_keys.specs.Due.{PortView, refusal_at, ports_at, operation_verdict, stays, lost_message, cut_at}
-pub use Rattle.spec_keys.specs.Due.{first_from, done}
+pub use Rattle.spec_keys.specs.Due.{first_from, finished_verdict}
 pub use Rattle.spec_keys.specs.Keys.{refusal_if, key_in, draw_of_keyed, Touch, keys, Keys}
 pub use Rattle.spec_links.specs.Plan.{key_plan, streams_by_link, streams_of, with_id}
 pub use Rattle.spec_stream.specs.Stream.{slot_in_set, Armed}
@@ -38,14 +36,13 @@ pub use Rattle.join_keys.specs.Touches.{AreTouches}
 pub use Rattle.ide_types.specs.declared.port.Side.{Side}
 pub use Rattle.ide_types.proofs.KeySets.{one_of_set}
 pub use Rattle.key_slots.specs.{is_empty, Pool, draws_in, SlotPair, live_set, slot_in as pair_slot, six_keys}
-pub use Rattle.key_slots.specs.{unspent_keys}
-pub use Rattle.key_slots.specs.{KeySet, is_one, key_set}
+pub use Rattle.key_slots.specs.{unspent_keys, KeySet, is_one, key_set}
 pub use Rattle.spec_keys.proofs.Tests.{different-false, true-lt, same-true}
 pub use Rattle.tsm_host.specs.declared.operation.StreamRefusal.{StreamRefusal}
 pub use Rattle.tsm_host.specs.Local.{goes as host_goes}
 pub use Rattle.tsm_host.specs.Streams.{StreamView, draws_now, refusal_of, begun_stream, asked_of_unfinished, begun_pool}
 pub use Rattle.tsm_host.specs.Streams.{begun_calls, outcome_of, taken_stream, taken_calls, shown_at_end, is_set}
-pub use Rattle.tsm_host.specs.Streams.{request_asked, wire_keys_after, acknowledged, work_asked, HostView}
+pub use Rattle.tsm_host.specs.Streams.{request_asked, wire_keys_after, stream_acknowledged, work_asked, HostView}
 pub use Rattle.tsm_host.specs.Walk.{Walked as ManagerWalk, answers, walk, walked_unless as manager_walked, verdict_of}
 pub use Rattle.tsm_host.specs.Walk.{op_by, exchange_judged, walk_after_outcome, Reads, key_refusal_verdict, IsAsked}
 pub use Rattle.tsm_host.proofs.Walks.{Comes, walk_comes, WorkFits}
@@ -56,6 +53,7 @@ pub use Rattle.join_keys.specs.Walks.{walked_ends_unless, event_walk, shown_stre
 pub use Rattle.join_keys.specs.Walks.{Exchanged, exchanged_unless_lost, WalkedEnds, goes_on}
 pub use Rattle.join_keys.specs.Joined.{HasKeys, host_of, KeysKept, KeysKeptIn, verdict_due, IsJoined, OperationsJoin}
 pub use Rattle.spec_keys.proofs.Shapes.{Shape, keys_of, Marks}
-pub use Rattle.tsm_host.specs.Exchanges.{exchange_of, WireKeys, kept_key, selector_of, is_last_receiver_go, request_of}
+pub use Rattle.tsm_host.specs.Exchanges.{exchange_of, kept_key, selector_of, is_last_receiver_go, request_of}
+pub use Rattle.key_slots.specs.Wires.{WireKeys}
 pub use Rattle.tsm_host.specs.declared.judge.Judged.{Judged}
 pub use Rattle.tsm_host.specs.declared.judge.Judged.TheVariants.{Expected, Refused, Lost}

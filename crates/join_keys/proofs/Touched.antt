@@ -25,11 +25,11 @@ abbrev place_lane : Bool → PortName → ℕ → SubKind → SubStream
 place_lane true port stream u = lane_out port stream u
 place_lane false port stream u = lane_in port stream u
 
-same_key : (plan : Plan) (side : Side) (link stream draw : ℕ) (sends : Bool) (u : SubKind)
-    → lane_key plan draw (key_number side (lane (place_at_end link stream sends side u)))
-    ≡ key_of plan draw (place_lane sends (port_at side link) stream u)
+same_key : (plan : Plan) (side : Side) (line stream draw : ℕ) (sends : Bool) (u : SubKind)
+    → lane_key plan draw (key_number side (lane (place_at_end line stream sends side u)))
+    ≡ key_of plan draw (place_lane sends (port_at side line) stream u)
 unfolding key_of
-same_key plan side link stream draw sends u = grind arith
+same_key plan side line stream draw sends u = grind arith
 
 -- ---- all places
 
@@ -40,12 +40,12 @@ once op.Establish cs x sound all = keyed_once cs x all sound.settled
 once op.Refresh cs x sound all = keyed_once cs x all sound.settled
 once op.Stop cs x sound all = stopped_once cs x all sound.settled sound.waits
 
-module _ (plan : Plan) (ports : PortView) (link stream : ℕ) (w : Work) (r : Reach) (side : Side) (x : StreamState)
+module _ (plan : Plan) (ports : PortView) (line stream : ℕ) (w : Work) (r : Reach) (side : Side) (x : StreamState)
     (sound : IsSound x)
-    (reads : ReadsStream ports side link stream x) where
+    (reads : ReadsStream ports side line stream x) where
   -- a place at this end, and what it refuses
   abbrev at : Bool → SubKind → KeyPlace
-  at sends u = place_at_end link stream sends side u
+  at sends u = place_at_end line stream sends side u
 
   refused_is : (sends : Bool) (u : SubKind) → is_some (ports.refusal (at sends u) w.set)
       ≡ is_only_live (slot_pair sends (slots_at sends u x)) w.set
@@ -60,16 +60,16 @@ module _ (plan : Plan) (ports : PortView) (link stream : ℕ) (w : Work) (r : Re
       ≡ one_if (first sends u) (first_call w (lane_key plan w.draw (key_number side (lane (at sends u)))))
       ++ one_if (second sends u) (second_call w))
       → ((sends : Bool) (u : SubKind)
-      → AreTouched plan w r (at sends u) (place_lane sends (port_at side link) stream u)
+      → AreTouched plan w r (at sends u) (place_lane sends (port_at side line) stream u)
       (λ k. is_some (ports.refusal (at sends u) k))
       (first sends u)
       (second sends u) (slots_at sends u x))
-      → all_called cs x ≡ touched_stream plan (port_at side link) stream (λ u. touches_at ports w r (at true u))
+      → all_called cs x ≡ touched_stream plan (port_at side line) stream (λ u. touches_at ports w r (at true u))
       (λ u. touches_at ports w r (at false u)) x
   all_touched cs first second all calls touches =
       let keyed = λ (sends : Bool) (u : SubKind). ap
       (λ (key : List ℕ). one_if (first sends u) (first_call w key) ++ one_if (second sends u) (second_call w))
-      (same_key plan side link stream w.draw sends u) in
+      (same_key plan side line stream w.draw sends u) in
       let after = λ (sends : Bool) (u : SubKind).
       ap (λ (calls : List KeyCall). called_by sends calls (slots_at sends u x)) (calls sends u ∙ keyed sends u) ∙
       touches
@@ -79,43 +79,43 @@ module _ (plan : Plan) (ports : PortView) (link stream : ℕ) (w : Work) (r : Re
       (λ u. (places_are false u cs (ins x u) ∙ after false u) i) x))
 
 -- the calls of the exchanges that were carried to an end
-module _ (plan : Plan) (ports : PortView) (link stream : ℕ) (w : Work) (r : Reach) (hosted : Bool)
-    (line : is_hosted link ≡ hosted) (reached : IsReached hosted w r) (side : Side)
+module _ (plan : Plan) (ports : PortView) (line stream : ℕ) (w : Work) (r : Reach) (hosted : Bool)
+    (kind : is_hosted line ≡ hosted) (reached : IsReached hosted w r) (side : Side)
     (told : (is_host side && hosted) ≡ false) (x : StreamState) (sound : IsSound x)
-    (reads : ReadsStream ports side link stream x) where
-  told_is : is_local (place_at_end link stream true side Pr) ≡ false
-  told_is = rw line told
+    (reads : ReadsStream ports side line stream x) where
+  told_is : is_local (place_at_end line stream true side Pr) ≡ false
+  told_is = rw kind told
 
   told_touched : all_called (calls_from (told_call plan hosted side w) w.first (r.carried - w.first)) x
-      ≡ touched_stream plan (port_at side link) stream
-      (λ u. touches_at ports w r (place_at_end link stream true side u))
-      (λ u. touches_at ports w r (place_at_end link stream false side u)) x
+      ≡ touched_stream plan (port_at side line) stream
+      (λ u. touches_at ports w r (place_at_end line stream true side u))
+      (λ u. touches_at ports w r (place_at_end line stream false side u)) x
   told_touched =
-      all_touched plan ports link stream w r side x sound reads
+      all_touched plan ports line stream w r side x sound reads
       (calls_from (told_call plan hosted side w) w.first (r.carried - w.first)) _ _
       (kind_carried plan hosted side w (r.carried - w.first) w.first)
       (λ sends u. calls_carried plan hosted side w sends u r.carried told reached.first
       (omega (arith, reached.goes_on, reached.carried)) reached.last)
       (λ sends u. touches_told plan w.operation w.set w.draw w.first w.begins hosted
-      (place_at_end link stream sends side u) r _ _ _ line told_is
-      (refused_is plan ports link stream w r side x sound reads sends u))
+      (place_at_end line stream sends side u) r _ _ _ kind told_is
+      (refused_is plan ports line stream w r side x sound reads sends u))
 
 pub are_touches : CallsAreTouches
-are_touches plan ports link stream w r host device line is reached host_sound device_sound host_reads device_reads =
+are_touches plan ports line stream w r host device kind is reached host_sound device_sound host_reads device_reads =
     record {
       host_touched =
-          all_touched plan ports link stream w r Host host host_sound host_reads (host_stream_calls plan stream w r) _
+          all_touched plan ports line stream w r Host host host_sound host_reads (host_stream_calls plan stream w r) _
           _ (kind_asked plan w stream r)
-          (λ sends u. calls_asked plan w link stream sends u r)
-          (λ sends u. touches_asked plan w link stream sends u r _ _ _ line
-          (refused_is plan ports link stream w r Host host host_sound host_reads sends u) reached.first reached.goes_on
+          (λ sends u. calls_asked plan w line stream sends u r)
+          (λ sends u. touches_asked plan w line stream sends u r _ _ _ kind
+          (refused_is plan ports line stream w r Host host host_sound host_reads sends u) reached.first reached.goes_on
           reached.begins);
-      device_touched = told_touched plan ports link stream w r true line reached Device refl device device_sound
+      device_touched = told_touched plan ports line stream w r true kind reached Device refl device device_sound
           device_reads;
     }
 
 pub are_told : CallsAreTold
-are_told plan ports link stream w r near far line is reached near_sound far_sound near_reads far_reads = record {
-  near_touched = told_touched plan ports link stream w r false line reached Host refl near near_sound near_reads;
-  far_touched = told_touched plan ports link stream w r false line reached Device refl far far_sound far_reads;
+are_told plan ports line stream w r near far kind is reached near_sound far_sound near_reads far_reads = record {
+  near_touched = told_touched plan ports line stream w r false kind reached Host refl near near_sound near_reads;
+  far_touched = told_touched plan ports line stream w r false kind reached Device refl far far_sound far_reads;
 }

@@ -1,11 +1,10 @@
 -- The calls of a place leave its slots as the touches of its event do. The host's port stops both sets where it loses
 -- all keys, which is the same.
 use Rattle.join_keys.proofs.CallTerms.{◌≡◌, Bool, arith, true, ℕ, ◌++◌, false, ◌≤◌, Some, nat_tests, SubKind, Plan}
-use Rattle.join_keys.proofs.CallTerms.{Program, Go, Stop, Work, Reach, makes_draw, work, is_within, when, work_touches}
-use Rattle.join_keys.proofs.CallTerms.{Host}
-use Rattle.join_keys.proofs.CallTerms.{Operation, KeyPlace, place_at_end, taken_touches, is_only_live, slot_pair}
-use Rattle.join_keys.proofs.CallTerms.{LaneSlots, SubStream, key_of, slots_touched, host_go, if◌then◌else◌, is_hosted}
-use Rattle.join_keys.proofs.CallTerms.{is_local, is_host, lane}
+use Rattle.join_keys.proofs.CallTerms.{Program, Go, Stop, Work, Reach, makes_draw, work, is_within, touches_if}
+use Rattle.join_keys.proofs.CallTerms.{work_touches, Host, Operation, KeyPlace, place_at_end, taken_touches}
+use Rattle.join_keys.proofs.CallTerms.{is_only_live, slot_pair, LaneSlots, SubStream, key_of, slots_touched, host_go}
+use Rattle.join_keys.proofs.CallTerms.{if◌then◌else◌, is_hosted, is_local, is_host, lane}
 use Rattle.spec_keys.specs.Keys.{Program as ProgramTouch, Go as GoTouch, Stop as StopTouch}
 use Rattle.link_verdicts.specs.declared.verdict.Operation.TheVariants as op
 use Rattle.join_keys.proofs.Slots.{first_call, second_call}
@@ -22,12 +21,14 @@ keyed_touches : (plan : Plan) (s : SubStream) (sends : Bool) (refuses : Bool →
     (x : LaneSlots)
     → refuses k ≡ is_only_live (slot_pair sends x) k
     → (a b : Bool) → called_by sends (one_if a (Program k (key_of plan draw s) draw) ++ one_if b (Go k)) x
-    ≡ slots_touched sends plan s (taken_touches refuses (when a (ProgramTouch k draw) ++ when b (GoTouch k draw))) x
+    ≡ slots_touched sends plan s (taken_touches refuses
+    (touches_if a (ProgramTouch k draw) ++ touches_if b (GoTouch k draw))) x
 keyed_touches plan s sends refuses k draw x same a b = grind arith
 
 stopped_touches : (plan : Plan) (s : SubStream) (sends : Bool) (refuses : Bool → Bool) (x : LaneSlots) (a b : Bool)
     → called_by sends (one_if a (Stop false) ++ one_if b (Stop true)) x
-    ≡ slots_touched sends plan s (taken_touches refuses (when a (StopTouch false) ++ when b (StopTouch true))) x
+    ≡ slots_touched sends plan s (taken_touches refuses
+    (touches_if a (StopTouch false) ++ touches_if b (StopTouch true))) x
 stopped_touches plan s sends refuses x a b = grind arith
 
 -- at a place whose keys are given by messages
@@ -45,11 +46,10 @@ touches_told plan op.Stop set draw first begins hosted p r s x refuses line told
     rw (told, ← line) (stopped_touches plan s p.sends refuses x _ _)
 
 -- at the host's port
-pub touches_asked : (plan : Plan) (w : Work) (link stream : ℕ) (sends : Bool) (u : SubKind) (r : Reach) (s : SubStream)
+pub touches_asked : (plan : Plan) (w : Work) (line stream : ℕ) (sends : Bool) (u : SubKind) (r : Reach) (s : SubStream)
     (x : LaneSlots) (refuses : Bool → Bool)
-    → is_hosted link ≡ true → refuses w.set ≡ is_only_live (slot_pair sends x) w.set → 1 ≤ w.first
-    → w.first ≤ r.acknowledged
-    → (w.begins ≡ true → w.first ≡ 1)
-    → AreTouched plan w r (place_at_end link stream sends Host u) s refuses w.begins
+    → is_hosted line ≡ true → refuses w.set ≡ is_only_live (slot_pair sends x) w.set → 1 ≤ w.first
+    → w.first ≤ r.acknowledged → (w.begins ≡ true → w.first ≡ 1)
+    → AreTouched plan w r (place_at_end line stream sends Host u) s refuses w.begins
     (if makes_draw w.operation then is_within w.first (host_go w.operation) r.acknowledged else w.begins) x
-touches_asked plan w link stream sends u r s x refuses hosted same low from one = grind (arith, nat_tests)
+touches_asked plan w line stream sends u r s x refuses hosted same low from one = grind (arith, nat_tests)

@@ -1,13 +1,9 @@
 -- An event of an operation as it begins, or goes on.
 use Rattle.join_keys.proofs.Terms.{◌≡◌, Bool, arith, true, ℕ, Work, Plan, Operation, ◌≤◌, makes_draw, lane_key, refl}
-use Rattle.join_keys.proofs.Terms.{Some}
-use Rattle.join_keys.proofs.Terms.{last_exchange_of, Option, None, nat_lt, reach_of, work_of, StreamStage, op_standing}
-use Rattle.join_keys.proofs.Terms.{Loss}
-use Rattle.join_keys.proofs.Terms.{Pool, draws_in, six_keys, unspent_keys, StreamRefusal, Verdict, StreamView}
-use Rattle.join_keys.proofs.Terms.{draws_now}
-use Rattle.join_keys.proofs.Terms.{refusal_of, begun_stream, asked_of_unfinished, HostView, key_refusal_verdict}
-use Rattle.join_keys.proofs.Terms.{IsAsked, HasKeys}
-use Rattle.join_keys.proofs.Terms.{KeysKeptIn, WireKeys, kept_key}
+use Rattle.join_keys.proofs.Terms.{Some, last_exchange_of, Option, None, nat_lt, reach_of, work_of, StreamStage}
+use Rattle.join_keys.proofs.Terms.{op_at_exchange, Loss, Pool, draws_in, six_keys, unspent_keys, StreamRefusal, Verdict}
+use Rattle.join_keys.proofs.Terms.{StreamView, draws_now, refusal_of, begun_stream, asked_of_unfinished, HostView}
+use Rattle.join_keys.proofs.Terms.{key_refusal_verdict, IsAsked, HasKeys, KeysKeptIn, WireKeys, kept_key}
 use Rattle.tsm_host.proofs.Walks.{WorkFits}
 use Rattle.join_keys.proofs.Lanes.{by_lane, first_program}
 
@@ -37,7 +33,7 @@ is_asked plan q keys kept = grind arith
 -- ---- the stream as it begins, or goes on
 
 pub begun_op : (hosted : Bool) (o : Operation) (q : StreamStage) (next : ℕ) (pool : Pool) (s : StreamView) → s.op ≡ q
-    → let w = work_of o q next in (begun_stream hosted w pool s).op ≡ op_standing w w.first
+    → let w = work_of o q next in (begun_stream hosted w pool s).op ≡ op_at_exchange w w.first
 begun_op hosted o q next pool s is = grind arith
 
 pub begun_link : (hosted : Bool) (w : Work) (pool : Pool) (s : StreamView) → (begun_stream hosted w pool s).line

@@ -13,15 +13,15 @@ use Rattle.spec_keys.specs.Operations.{StreamStage, Establishing, Refreshing, St
 use Rattle.spec_keys.specs.History.{History}
 use Rattle.ide_types.specs.Lines.{is_hosted}
 use Rattle.spec_links.specs.Plan.{key_plan}
-use Rattle.tsm_host.specs.Exchanges.{WireKeys, kept_key}
+use Rattle.tsm_host.specs.Exchanges.{kept_key}
+use Rattle.key_slots.specs.Wires.{WireKeys}
 use Rattle.tsm_host.specs.Streams.{StreamView, HostView, begun_pool}
 use Rattle.tsm_host.specs.Walk.{verdict_of, due_on, op_by}
 use Rattle.spec_stream.specs.Stream.{StreamState}
 use Rattle.sub_stream.specs.Calls.{pair_at, stream_status}
 use Rattle.join_keys.specs.Calls.{lane_key}
 use Rattle.machine_operations.specs.{LinkState, find, find_op, port_at, place_at_end, ports_of, machine_status}
-use Rattle.machine_operations.specs.{touches_at}
-use Rattle.machine_operations.specs.{draws_after, touched_stream, PortsStandFor}
+use Rattle.machine_operations.specs.{touches_at, draws_after, touched_stream, PortsStandFor}
 use Rattle.join_keys.specs.Walks.{StreamEnds, WalkedEnds, event_walk}
 
 -- what the manager reads of the host's port
@@ -49,11 +49,11 @@ KeysKept plan s = KeysKeptIn plan s.op s.keys
 
 -- the stream at a port after an event that came so far; as before if it was refused
 abbrev pub touched_by : Plan → LinkState → ℕ → ℕ → Work → Side → Option Reach → StreamState → StreamState
-touched_by plan st link stream w side None x = x
-touched_by plan st link stream w side (Some r) x =
-    touched_stream plan (port_at side link) stream
-    (λ u. touches_at (ports_of plan st) w r (place_at_end link stream true side u))
-    (λ u. touches_at (ports_of plan st) w r (place_at_end link stream false side u)) x
+touched_by plan st line stream w side None x = x
+touched_by plan st line stream w side (Some r) x =
+    touched_stream plan (port_at side line) stream
+    (λ u. touches_at (ports_of plan st) w r (place_at_end line stream true side u))
+    (λ u. touches_at (ports_of plan st) w r (place_at_end line stream false side u)) x
 
 abbrev pub draws_by : ℕ → Work → Option Reach → ℕ
 draws_by next w None = next
@@ -61,8 +61,8 @@ draws_by next w (Some r) = draws_after next w
 
 -- the machine's verdict of an operation on the stream
 abbrev pub verdict_due : Plan → LinkState → Operation → StreamStage → ℕ → ℕ → Option Loss → Verdict
-verdict_due plan st operation o link stream loss =
-    due_on operation (key_plan plan) o st.draws (ports_of plan st) (machine_status plan st Host link stream) link stream
+verdict_due plan st operation o line stream loss =
+    due_on operation (key_plan plan) o st.draws (ports_of plan st) (machine_status plan st Host line stream) line stream
     loss
 
 -- the pool after the beginning; a refusal draws nothing
@@ -103,6 +103,5 @@ OperationsJoin =
     → find plan st (port_at Host e.keeper.line) e.keeper.id ≡ Some e.host
     → find plan st (port_at Device e.keeper.line) e.keeper.id ≡ Some e.device
     → find_op plan st e.keeper.line e.keeper.id ≡ Some e.keeper.op
-    → pool ≡ record { keys = plan.pool; draws = st.draws }
-    → KeysKept plan e.keeper
+    → pool ≡ record { keys = plan.pool; draws = st.draws } → KeysKept plan e.keeper
     → IsJoined plan st operation loss pool e (event_walk operation (host_of e.host) pool loss requester e)

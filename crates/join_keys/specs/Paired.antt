@@ -23,10 +23,10 @@ use Rattle.tsm_host.specs.declared.operation.StreamOutcome.{StreamOutcome}
 use Rattle.tsm_host.specs.declared.operation.StreamOutcome.TheVariants as outcome
 use Rattle.tsm_host.specs.declared.operation.StreamRefusal.{StreamRefusal}
 use Rattle.tsm_host.specs.declared.stage.NextExchange.{NextExchange}
-use Rattle.tsm_host.specs.Exchanges.{WireKeys, kept_key, wire_number}
+use Rattle.tsm_host.specs.Exchanges.{kept_key, wire_number}
+use Rattle.key_slots.specs.Wires.{WireKeys}
 use Rattle.tsm_host.specs.Streams.{StreamView, HostView, asked_of_unfinished, end_asked, request_asked, refusal_of}
-use Rattle.tsm_host.specs.Streams.{begun_stream}
-use Rattle.tsm_host.specs.Streams.{outcome_of, taken_stream}
+use Rattle.tsm_host.specs.Streams.{begun_stream, outcome_of, taken_stream}
 use Rattle.tsm_host.specs.Walk.{verdict_of, op_by}
 use Rattle.spec_stream.specs.Stream.{StreamState}
 use Rattle.machine_operations.specs.{LinkState, find, find_op, port_at, PortsStandFor}
@@ -165,6 +165,5 @@ PairOperationsJoin =
     → find plan st (port_at Host e.keeper.line) e.keeper.id ≡ Some e.near
     → find plan st (port_at Device e.keeper.line) e.keeper.id ≡ Some e.far
     → find_op plan st e.keeper.line e.keeper.id ≡ Some e.keeper.op
-    → pool ≡ record { keys = plan.pool; draws = st.draws }
-    → PairKeysKeptIn plan e.keeper.op e.keeper.keys
+    → pool ≡ record { keys = plan.pool; draws = st.draws } → PairKeysKeptIn plan e.keeper.op e.keeper.keys
     → IsPairJoined plan st operation loss pool e (pair_event operation host pool loss requester e)

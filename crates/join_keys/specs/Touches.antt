@@ -9,7 +9,7 @@ use Rattle.key_slots.specs.{new_pool}
 use Rattle.key_messages.specs.{PlaceCall}
 use Rattle.spec_keys.specs.Operations.{StreamStage, Work, Reach, work_of, last_exchange_of, makes_draw}
 use Rattle.link_verdicts.specs.declared.verdict.Operation.{Operation}
-use Rattle.spec_keys.specs.History.{is_within, go_at}
+use Rattle.spec_keys.specs.History.{is_within, go_exchange}
 use Rattle.spec_keys.specs.Places.{key_place_at}
 use Rattle.spec_keys.specs.Keys.{refusal_if}
 use Rattle.ide_types.specs.Lines.{is_hosted}
@@ -43,15 +43,15 @@ pub record IsSound (x : StreamState) : Type 0 where
 
 -- what an operation reads of the ports is what this stream says
 abbrev pub ReadsStream : PortView → Side → ℕ → ℕ → StreamState → Type 0
-ReadsStream ports side link stream x =
-    (sends : Bool) (u : SubKind) (k : Bool) → ports.refusal (place_at_end link stream sends side u) k
+ReadsStream ports side line stream x =
+    (sends : Bool) (u : SubKind) (k : Bool) → ports.refusal (place_at_end line stream sends side u) k
     ≡ refusal_if (refuses_in (slots_at sends u x) k)
 
 -- ---- the calls of an event
 
 -- the exchange after which the host's port gets its GOs
 abbrev pub host_go : Operation → ℕ
-host_go o = go_at o (key_place_at Host 0 0 false Pr)
+host_go o = go_exchange o (key_place_at Host 0 0 false Pr)
 
 -- the host's local calls: those with which the operation begins, and its GOs after the last of the device's receivers
 abbrev pub host_calls : Plan → ℕ → Work → Reach → List PlaceCall
@@ -83,39 +83,39 @@ IsWork w = (o : Operation) × (q : StreamStage) × (next : ℕ) × (w ≡ work_o
 -- ---- the law
 
 -- The calls at a port, one after another, leave the stream as the touches of the event do.
-pub record AreTouches (plan : Plan) (ports : PortView) (link stream : ℕ) (w : Work) (r : Reach) (host device :
+pub record AreTouches (plan : Plan) (ports : PortView) (line stream : ℕ) (w : Work) (r : Reach) (host device :
     StreamState) : Type 0 where
   pub host_touched : all_called_at Host (host_calls plan stream w r) host
-      ≡ touched_stream plan (port_at Host link) stream
-      (λ u. touches_at ports w r (place_at_end link stream true Host u))
-      (λ u. touches_at ports w r (place_at_end link stream false Host u)) host
+      ≡ touched_stream plan (port_at Host line) stream
+      (λ u. touches_at ports w r (place_at_end line stream true Host u))
+      (λ u. touches_at ports w r (place_at_end line stream false Host u)) host
   pub device_touched : all_called (device_calls plan w r) device
-      ≡ touched_stream plan (port_at Device link) stream
-      (λ u. touches_at ports w r (place_at_end link stream true Device u))
-      (λ u. touches_at ports w r (place_at_end link stream false Device u)) device
+      ≡ touched_stream plan (port_at Device line) stream
+      (λ u. touches_at ports w r (place_at_end line stream true Device u))
+      (λ u. touches_at ports w r (place_at_end line stream false Device u)) device
 
 abbrev pub CallsAreTouches : Type 0
 CallsAreTouches =
-    (plan : Plan) (ports : PortView) (link stream : ℕ) (w : Work) (r : Reach) (host device : StreamState)
-    → is_hosted link ≡ true → IsWork w → IsReached true w r → IsSound host → IsSound device
-    → ReadsStream ports Host link stream host → ReadsStream ports Device link stream device
-    → AreTouches plan ports link stream w r host device
+    (plan : Plan) (ports : PortView) (line stream : ℕ) (w : Work) (r : Reach) (host device : StreamState)
+    → is_hosted line ≡ true → IsWork w → IsReached true w r → IsSound host → IsSound device
+    → ReadsStream ports Host line stream host → ReadsStream ports Device line stream device
+    → AreTouches plan ports line stream w r host device
 
 -- The same of a line that is keyed by messages at both ends: no call is made but those of the exchanges.
-pub record AreEndsTold (plan : Plan) (ports : PortView) (link stream : ℕ) (w : Work) (r : Reach) (near far :
+pub record AreEndsTold (plan : Plan) (ports : PortView) (line stream : ℕ) (w : Work) (r : Reach) (near far :
     StreamState) : Type 0 where
   pub near_touched : all_called (told_calls plan Host w r) near
-      ≡ touched_stream plan (port_at Host link) stream
-      (λ u. touches_at ports w r (place_at_end link stream true Host u))
-      (λ u. touches_at ports w r (place_at_end link stream false Host u)) near
+      ≡ touched_stream plan (port_at Host line) stream
+      (λ u. touches_at ports w r (place_at_end line stream true Host u))
+      (λ u. touches_at ports w r (place_at_end line stream false Host u)) near
   pub far_touched : all_called (told_calls plan Device w r) far
-      ≡ touched_stream plan (port_at Device link) stream
-      (λ u. touches_at ports w r (place_at_end link stream true Device u))
-      (λ u. touches_at ports w r (place_at_end link stream false Device u)) far
+      ≡ touched_stream plan (port_at Device line) stream
+      (λ u. touches_at ports w r (place_at_end line stream true Device u))
+      (λ u. touches_at ports w r (place_at_end line stream false Device u)) far
 
 abbrev pub CallsAreTold : Type 0
 CallsAreTold =
-    (plan : Plan) (ports : PortView) (link stream : ℕ) (w : Work) (r : Reach) (near far : StreamState)
-    → is_hosted link ≡ false → IsWork w → IsReached false w r → IsSound near → IsSound far
-    → ReadsStream ports Host link stream near → ReadsStream ports Device link stream far
-    → AreEndsTold plan ports link stream w r near far
+    (plan : Plan) (ports : PortView) (line stream : ℕ) (w : Work) (r : Reach) (near far : StreamState)
+    → is_hosted line ≡ false → IsWork w → IsReached false w r → IsSound near → IsSound far
+    → ReadsStream ports Host line stream near → ReadsStream ports Device line stream far
+    → AreEndsTold plan ports line stream w r near far

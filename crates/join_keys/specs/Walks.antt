@@ -10,7 +10,7 @@ use Rattle.key_slots.specs.{Pool}
 use Rattle.spec_keys.specs.Operations.{Work, work_of}
 use Rattle.key_messages.specs.declared.object.KmView.{KmView}
 use Rattle.key_messages.specs.declared.place.Place.{Place}
-use Rattle.key_messages.specs.{PlaceCall, SlotsShown, is_done, call_of, reply_bytes, spelling, object_reading}
+use Rattle.key_messages.specs.{PlaceCall, SlotsShown, is_done, call_of, reply_bytes, object_spelling, object_reading}
 use Rattle.ide_prefix.specs.{sub_from}
 use Rattle.tsm_host.specs.declared.judge.Judged.{Judged}
 use Rattle.tsm_host.specs.declared.judge.Judged.TheVariants.{Lost as NotCarried, Bad}
@@ -20,8 +20,7 @@ use Rattle.tsm_host.specs.declared.operation.StreamRefusal.{StreamRefusal}
 use Rattle.tsm_host.specs.declared.stage.NextExchange.{NextExchange}
 use Rattle.tsm_host.specs.Judging.{judged_reply}
 use Rattle.tsm_host.specs.Streams.{StreamView, HostView, asked_of_unfinished, request_asked, refusal_of, begun_stream}
-use Rattle.tsm_host.specs.Streams.{begun_calls}
-use Rattle.tsm_host.specs.Streams.{outcome_of, taken_stream, taken_calls}
+use Rattle.tsm_host.specs.Streams.{begun_calls, outcome_of, taken_stream, taken_calls}
 use Rattle.spec_stream.specs.Stream.{StreamState}
 use Rattle.sub_stream.specs.Calls.{sends_in, pair_at, stream_after_call}
 use Rattle.join_keys.specs.Calls.{all_called_at}
@@ -62,10 +61,10 @@ pub record Exchanged : Type 0 where
 -- the request reached the device
 abbrev pub came_to : ℕ → KmView → ℕ → ℕ → StreamState → Exchanged
 came_to requester request id draw x =
-    let call = call_of (spelling request) draw in
+    let call = call_of (object_spelling request) draw in
     let done = is_done (shown_stream id x) call in
     record {
-      judged = judged_bytes request (reply_bytes requester (spelling request) done);
+      judged = judged_bytes request (reply_bytes requester (object_spelling request) done);
       device = port_called call x;
     }
 

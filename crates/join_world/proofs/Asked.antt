@@ -1,14 +1,13 @@
 -- An operation on an interface is carried out by the manager and the device as it is by the machine: exchange by
 -- exchange it is the machine's step (`joined_is`), with what the ends show of the streams that it names. So every event
 -- on an interface has the machine's answer (`answer_is`).
-use Rattle.std.proofs.Common.{◌≡◌, ℕ, ◌+◌, ◌<◌, ◌==◌, Bool, true, false, List, length, refl, sym, ap, ◌∙◌, subst}
+use Rattle.std.proofs.Common.{◌≡◌, ℕ, ◌+◌, ◌<◌, ◌==◌, Bool, true, false, List, refl, sym, ap, ◌∙◌, subst}
 use Rattle.std.proofs.Common.{arith, Option, Some, None, ⊎_elim, ◌⊎◌}
 use Rattle.std.proofs.lemmas.Bool.{cases_Bool, true≢false}
 use Rattle.std.specs.List.{slice_index_or}
 use Rattle.std.specs.Option.{option_and_then}
 use Rattle.std.specs.Prelude.{slice_get, if◌then◌else◌}
 use Rattle.ide_types.specs.declared.port.Side.TheVariants.{Host}
-use Rattle.ide_types.specs.declared.status.StreamStatus.{StreamStatus}
 use Rattle.ide_types.specs.declared.plan.PeerPlan.{PeerPlan}
 use Rattle.ide_types.specs.declared.plan.Plan.{Plan}
 use Rattle.link_events.specs.declared.event.InterfaceEvent.{InterfaceEvent}
@@ -17,37 +16,36 @@ use Rattle.link_events.specs.declared.event.Loss.{Loss}
 use Rattle.link_verdicts.specs.declared.verdict.Verdict.{Verdict}
 use Rattle.link_verdicts.specs.declared.verdict.Verdict.TheVariants as said
 use Rattle.spec_keys.specs.Operations.{StreamStage, Idle, Up, Stopping}
-use Rattle.tsm_host.specs.Managers.{Named, named, op_named, status_named}
+use Rattle.tsm_host.specs.Managers.{Named, named_stream, op_named, status_named}
 use Rattle.tsm_host.specs.Streams.{key_status, status_or_idle}
 use Rattle.interface_host.specs.declared.operation.InterfaceOperation.{InterfaceOperation}
 use Rattle.interface_host.specs.declared.operation.InterfaceOperation.TheVariants as op
-use Rattle.interface_host.specs.declared.operation.PeerStream.{PeerStream}
 use Rattle.interface_ends.specs.Keepers.{Ended, interface_operated}
-use Rattle.interface_device.specs.declared.said.StreamSaid.{StreamSaid}
 use Rattle.trusted_memory.specs.{MemoryContents}
 use Rattle.spec_interfaces.specs.Due.{asked_due, op_status}
 use Rattle.spec_interfaces.specs.Peers.{has_peer, live_by_id}
 use Rattle.spec_interfaces.specs.Sites.{Site, sites}
 use Rattle.spec_interfaces.specs.Views.{peer_of}
-use Rattle.machine_interfaces.specs.Machine.{face_standing, interface_answer}
+use Rattle.machine_whole.specs.Interfaces.{asked_state_of_face, interface_answer}
 use Rattle.join_interfaces.specs.Joined.{FitsNamedPeer, InterfaceOperationsJoin, IsInterfaceJoined, op_host, said_of}
-use Rattle.join_interfaces.specs.Verdicts.{ended_verdict, op_event}
+use Rattle.join_interfaces.specs.Verdicts.{op_event}
 use Rattle.link_ends.specs.DeviceEnds.{secure_at}
 use Rattle.ide_port.specs.{port_stream_status}
 use Rattle.machine_ports.specs.Machine.{LinkPacket, LinkState, find_op, machine_status}
-use Rattle.whole_links.specs.{EndsView, peer_live}
-use Rattle.whole_links.proofs.{op_is}
-use Rattle.whole_links.specs.{live_for, operated_on, status_for}
-use Rattle.whole_links.specs.{AreLinks, ended_at, ended_in, ended_on, flr_as, firmware_as, has_peer_at, HostKeeper}
-use Rattle.whole_links.specs.{managed_peer_stream, peer_verdict_in, state_of, interface_of_ends, interface_seen_at}
-use Rattle.whole_links.specs.{verdict_at_ends}
+use Rattle.whole_links.specs.{EndsView, peer_live, live_for, operated_on, status_for, AreLinks, ended_at, ended_in}
+use Rattle.whole_links.specs.{ended_on, flr_as, firmware_as, has_peer_at, HostKeeper, managed_peer_stream}
+use Rattle.whole_links.specs.{peer_verdict_in, state_of, interface_of_ends, interface_seen_at, verdict_at_ends}
 use Rattle.whole_links.specs.{verdict_in, viewed_as, written_as}
-use Rattle.machine_whole.specs.Machine.{Whole, live_in, memory_shown, op_or_idle, secure_in, whole_streams}
+use Rattle.whole_links.proofs.{op_is}
+use Rattle.machine_whole.specs.Machine.{Whole, live_draw_at_end, memory_shown, op_or_idle, secure_in, whole_streams}
 use Rattle.join_interfaces.proofs.PeerEnds.{peer_line_is}
 use Rattle.join_world.specs.Whole.{AreDrawn, IsPlaced, IsBeside}
 use Rattle.join_world.proofs.Besides.{answered, due_at, view_is, write_is, flr_is, firmware_is, memory_is}
 use Rattle.join_world.proofs.Sites.{is_at}
 use Rattle.join_world.proofs.Statuses.{host_status_is, live_is, secure_is}
+use Rattle.ide_types.specs.declared.status.StreamStatus.{StreamStatus}
+use Rattle.interface_host.specs.declared.operation.PeerStream.{PeerStream}
+use Rattle.interface_ends.specs.declared.said.StreamSaid.{StreamSaid}
 
 -- ---- what the manager of keys says of a stream
 
@@ -68,13 +66,13 @@ module _ (plan : Plan) (v : EndsView) (k : HostKeeper) (packets : List LinkPacke
   -- machine has
   abbrev pub PeerFits : Site → InterfaceOperation → Type 0
   PeerFits x o =
-      FitsNamedPeer (has_peer plan.peers x.link) w.draw (live_by_id (live_in plan w.links) plan.peers x.link)
+      FitsNamedPeer (has_peer plan.peers x.link) w.draw (live_by_id (live_draw_at_end plan w.links) plan.peers x.link)
       (live_for (peer_live v x.link) o) o
 
   peer_status : (line stream : ℕ)
-      → status_named (named k.keys.manager line stream) ≡ op_status ((whole_streams plan w).op line stream)
+      → status_named (named_stream k.keys.manager line stream) ≡ op_status ((whole_streams plan w).op line stream)
   peer_status line stream =
-      named_is (named k.keys.manager line stream)
+      named_is (named_stream k.keys.manager line stream)
       ∙ ap (λ (o : Option StreamStage). op_status (op_or_idle o))
       (sym (op_is plan v k.keys packets line stream links)
       ∙ ap (λ (st : LinkState). find_op plan st line stream) (sym state_is))
@@ -137,9 +135,9 @@ module _ (plan : Plan) (v : EndsView) (k : HostKeeper) (packets : List LinkPacke
       let draw : slice_index_or k.peer_draws (peer_of line) 0 ≡ w.draw line stream =
       ap (λ (n : ℕ). slice_index_or k.peer_draws n 0) r.number_is ∙ drawn.each r.number r.peer r.peer_is
       ∙ (λ n. w.draw (r.line_is n) (r.id_is n)) in
-      let live : peer_live v x.link stream ≡ live_by_id (live_in plan w.links) plan.peers x.link stream =
+      let live : peer_live v x.link stream ≡ live_by_id (live_draw_at_end plan w.links) plan.peers x.link stream =
       sym (live_is plan v k.keys packets links x.link stream)
-      ∙ ap (λ (st : LinkState). live_by_id (live_in plan st) plan.peers x.link stream) (sym state_is) in
+      ∙ ap (λ (st : LinkState). live_by_id (live_draw_at_end plan st) plan.peers x.link stream) (sym state_is) in
       ((has, r.id_most, draw, live), (has, r.id_most))
 
   -- ---- answers
@@ -148,7 +146,8 @@ module _ (plan : Plan) (v : EndsView) (k : HostKeeper) (packets : List LinkPacke
   verdict_is : (i : ℕ) (o : InterfaceOperation) (loss : Option Loss) (x : Site)
       (p : IsPlaced plan v.links k.interfaces w i x) → slice_get (sites plan) i ≡ Some x → PeerFits x o
       → verdict_in i o loss (ended_at k v i o loss (Some (x.link, p.place)))
-      ≡ Some (asked_due plan x (face_standing plan (whole_streams plan w) w.faces.used x p.face) (op_event o i loss))
+      ≡ Some (asked_due plan x (asked_state_of_face plan (whole_streams plan w) w.faces.used x p.face)
+      (op_event o i loss))
   verdict_is i o loss x p is peer =
       let j = joined_is i o loss x p is peer in
       (λ n. verdict_in i o loss (ended_on k v i o loss x.link (p.ends_are n) (p.interface_is n)))
@@ -168,11 +167,12 @@ module _ (plan : Plan) (v : EndsView) (k : HostKeeper) (packets : List LinkPacke
       (p : IsPlaced plan v.links k.interfaces w i x) → slice_get (sites plan) i ≡ Some x
       → (has_peer plan.peers x.link line stream ≡ true → PeerFits x o)
       → (has_peer plan.peers x.link line stream ≡ false → said.Nothing
-      ≡ asked_due plan x (face_standing plan (whole_streams plan w) w.faces.used x p.face) (op_event o i loss))
+      ≡ asked_due plan x (asked_state_of_face plan (whole_streams plan w) w.faces.used x p.face) (op_event o i loss))
       → (if has_peer v.peers x.link line stream then verdict_in i o loss
       (ended_at k v i o loss (Some (x.link, p.place)))
       else Some said.Nothing)
-      ≡ Some (asked_due plan x (face_standing plan (whole_streams plan w) w.faces.used x p.face) (op_event o i loss))
+      ≡ Some (asked_due plan x (asked_state_of_face plan (whole_streams plan w) w.faces.used x p.face)
+      (op_event o i loss))
   peer_if i o loss line stream x p is there absent =
       let with_peer = λ (b : Bool). if b then verdict_in i o loss (ended_at k v i o loss (Some (x.link, p.place)))
       else Some said.Nothing in

@@ -18,7 +18,7 @@ use Rattle.link_events.specs.declared.event.InterfaceEvent.TheVariants as ie
 use Rattle.link_verdicts.specs.declared.verdict.Verdict.{Verdict}
 use Rattle.link_verdicts.specs.declared.verdict.Verdict.TheVariants as v
 use Rattle.interface_state.specs.Machine.{WriteRegister, LevelReset, FirmwareUpdate}
-use Rattle.interface_host.specs.Managers.{granted, granted_at}
+use Rattle.interface_host.specs.Managers.{running_grant, granted_at}
 use Rattle.interface_host.specs.Views.{HostTdi, Seen, IsUnlocked, IsLocked, IsRunning, IsDoubt, IsBroken, is_granted}
 use Rattle.interface_host.specs.Views.{is_running, interface_grant as host_grant, grant_by, floor_of, view_of}
 use Rattle.trusted_memory.specs.{MemoryContents, Write, IsLeftBy, byte_at, bytes_from, in_one_region}
@@ -26,7 +26,7 @@ unfoldable use Rattle.trusted_memory.specs.{byte_after}
 use Rattle.spec_interfaces.specs.Due.{asked_due, code_after, write_due}
 use Rattle.spec_interfaces.specs.Sites.{Site, sites}
 use Rattle.spec_interfaces.specs.Views.{Managed, bound_if}
-use Rattle.machine_interfaces.specs.Machine.{Face, find_face, face_standing, asked_due_of, grant_of}
+use Rattle.machine_whole.specs.Interfaces.{Face, find_face, asked_state_of_face, asked_due_of, grant_of}
 use Rattle.join_interfaces.specs.Faces.{SeenAs}
 use Rattle.spec_links.specs.Memory.{shown_if}
 use Rattle.whole_links.specs.{code_behind, device_interfaces, firmware_as, flr_as, interface_named, InterfacesView}
@@ -98,7 +98,7 @@ module _ (plan : Plan) (ends : List LinkEnds) (m : InterfacesView) (memory : Mem
       )
 
   grant_found : (link requester : ℕ) → IsSomeSite (is_requester link requester) (sites plan)
-      → granted m link requester ≡ grant_of plan w.faces link requester
+      → running_grant m link requester ≡ grant_of plan w.faces link requester
   grant_found link requester s =
       let p = beside.placed s.place s.site s.site_is in
       ⊎_elim (runs p) (stands p) (cases_Bool (is_running p.interface.seen)) ∙ kept p
@@ -129,7 +129,7 @@ module _ (plan : Plan) (ends : List LinkEnds) (m : InterfacesView) (memory : Mem
           (and_left ((y.link == link) && (y.requester == requester)) (is_running y.seen)) cases
 
       runs : (p : IsPlaced plan ends m w s.place s.site) → is_running p.interface.seen ≡ true
-          → granted m link requester ≡ host_grant p.interface
+          → running_grant m link requester ≡ host_grant p.interface
       runs p running =
           let mine = requester_true link requester s.site s.passes in
           let passes : is_granted link requester p.interface ≡ true =
@@ -156,7 +156,7 @@ module _ (plan : Plan) (ends : List LinkEnds) (m : InterfacesView) (memory : Mem
           (and_left ((y.link == link) && (y.requester == requester)) (is_running y.seen)) cases
 
       stands : (p : IsPlaced plan ends m w s.place s.site) → is_running p.interface.seen ≡ false
-          → granted m link requester ≡ host_grant p.interface
+          → running_grant m link requester ≡ host_grant p.interface
       stands p not_so =
           ap (granted_at m.interfaces) (position_none (is_granted link requester) m.interfaces
           (λ k y there. idle p not_so k y there (cases_Bool ((y.link == link) && (y.requester == requester)))))
@@ -164,7 +164,7 @@ module _ (plan : Plan) (ends : List LinkEnds) (m : InterfacesView) (memory : Mem
 
   grant_nowhere : (link requester : ℕ)
       → ((k : ℕ) (y : Site) → slice_get (sites plan) k ≡ Some y → is_requester link requester y ≡ false)
-      → granted m link requester ≡ grant_of plan w.faces link requester
+      → running_grant m link requester ≡ grant_of plan w.faces link requester
   grant_nowhere link requester fails =
       ap (granted_at m.interfaces) (position_none (is_granted link requester) m.interfaces
       (λ k y there. none k y there (cases_Bool ((y.link == link) && (y.requester == requester)))))
@@ -183,7 +183,7 @@ module _ (plan : Plan) (ends : List LinkEnds) (m : InterfacesView) (memory : Mem
           (x.3 ∙ eqb-true y.requester requester its.1)) (fails k x.0 x.1)))
           (and_left ((y.link == link) && (y.requester == requester)) (is_running y.seen)) cases
 
-  pub grant_is : (link requester : ℕ) → granted m link requester ≡ grant_of plan w.faces link requester
+  pub grant_is : (link requester : ℕ) → running_grant m link requester ≡ grant_of plan w.faces link requester
   grant_is link requester =
       ⊎_elim (grant_found link requester) (grant_nowhere link requester)
       (site_or_none (is_requester link requester) (sites plan))
@@ -200,7 +200,7 @@ module _ (plan : Plan) (ends : List LinkEnds) (m : InterfacesView) (memory : Mem
   pub answered : (i : ℕ) (e : InterfaceEvent) (given : Option (ℕ × ℕ) → Option Verdict) → given None ≡ Some v.Nothing
       → ((x : Site) (p : IsPlaced plan ends m w i x) → slice_get (sites plan) i ≡ Some x
       → given (Some (x.link, p.place))
-      ≡ Some (asked_due plan x (face_standing plan (whole_streams plan w) w.faces.used x p.face) e))
+      ≡ Some (asked_due plan x (asked_state_of_face plan (whole_streams plan w) w.faces.used x p.face) e))
       → given (interface_named m ends i) ≡ due_at i e
   answered i e given absent there = ⊎_elim here nowhere (cases_lt i (length (sites plan)))
     where

@@ -10,8 +10,8 @@ use Rattle.link_events.specs.declared.event.Event.{Event}
 use Rattle.link_verdicts.specs.declared.verdict.Verdict.{Verdict}
 use Rattle.spec_interfaces.specs.Sites.{Site, sites}
 use Rattle.spec_interfaces.specs.Devices.{accepts_lock, one_if}
-use Rattle.machine_interfaces.specs.Machine.{EndsRead, Face, Faces, Streams, with_each, around_of, gives_nonce, is_true}
-use Rattle.machine_interfaces.specs.Machine.{faces_after}
+use Rattle.machine_whole.specs.Interfaces.{Face, Streams, with_each, around_of, gives_nonce, is_true, EndsRead, Faces}
+use Rattle.machine_whole.specs.Interfaces.{faces_after}
 
 pub each_at : {A : Type 0} (g : Site → Face → A) (xs : List Site) (fs : List Face) (i : ℕ) (x : Site) (f : Face)
     → slice_get xs i ≡ Some x → slice_get fs i ≡ Some f → slice_get (with_each g xs fs) i ≡ Some (g x f)

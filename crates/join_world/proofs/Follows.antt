@@ -1,8 +1,8 @@
 -- What stands beside the ports after an event that makes no more of an interface than that a stream of its own leaves
 -- Secure. The interfaces of a device are settled by the ends of its streams, or no stream left Secure there. Either way
 -- each is the machine's, which leaves its lock if a stream that it is bound to left Secure (`placed_led`).
-use Rattle.std.proofs.Common.{◌≡◌, ◌⊎◌, ⊎_elim, ℕ, ◌<◌, ◌≤◌, ◌||◌, true, false, List, Bool}
-use Rattle.std.proofs.Common.{length, Option, Some, option_map, inl, inr, ap, sym, ◌∙◌, arith}
+use Rattle.std.proofs.Common.{◌≡◌, ◌⊎◌, ⊎_elim, ℕ, ◌<◌, ◌≤◌, ◌||◌, false, List, Bool, Option}
+use Rattle.std.proofs.Common.{length, Some, option_map, inl, inr, ap, sym, ◌∙◌, arith}
 use Rattle.std.specs.Prelude.{slice_get, is_some}
 use Rattle.std.proofs.lemmas.List.{length-map}
 use Rattle.std.proofs.lemmas.Option.{slice_get-map, slice_get_within}
@@ -11,7 +11,7 @@ use Rattle.ide_types.specs.declared.plan.Plan.{Plan}
 use Rattle.link_events.specs.declared.event.Event.{Event}
 use Rattle.link_verdicts.specs.declared.verdict.Verdict.{Verdict}
 use Rattle.interface_state.specs.Machine.{Tdi, StreamLeft}
-use Rattle.interface_device.specs.Replies.{DeviceTdis, settled_interfaces, settled_interface}
+use Rattle.interface_ends.specs.Replies.{DeviceTdis, settled_interfaces, settled_interface}
 use Rattle.interface_host.specs.Views.{HostTdi}
 use Rattle.link_ends.specs.DeviceEnds.{secure_at}
 use Rattle.trusted_memory.specs.{MemoryContents, IsLeftBy}
@@ -19,12 +19,12 @@ use Rattle.spec_interfaces.specs.Peers.{live_by_id}
 use Rattle.spec_interfaces.specs.Sites.{Site, sites}
 use Rattle.spec_interfaces.specs.Devices.{interface_if_called, accepts_lock}
 use Rattle.spec_interfaces.specs.Views.{managed_after}
-use Rattle.machine_interfaces.specs.Machine.{Face, around_of, face_after}
+use Rattle.machine_whole.specs.Interfaces.{Face, around_of, face_after}
 use Rattle.join_interfaces.specs.Faces.{IsManaged}
-use Rattle.machine_whole.specs.Machine.{Whole, secure_in, live_in, ends_in, whole_streams, draw_after, written_after}
-use Rattle.machine_whole.specs.Machine.{whole_after}
+use Rattle.machine_whole.specs.Machine.{Whole, secure_in, live_draw_at_end, ends_in, whole_streams, draw_after}
+use Rattle.machine_whole.specs.Machine.{written_after, whole_after}
 use Rattle.machine_ports.specs.Machine.{LinkPacket, LinkState}
-use Rattle.join_interfaces.specs.Says.{DeviceSays, AreApart, AreSecureStill, Keeps, says_in, is_said_secure}
+use Rattle.join_interfaces.specs.Says.{AreSecureStill, Keeps, says_in, is_said_secure, DeviceSays, AreApart}
 use Rattle.join_interfaces.specs.Says.{leaves_stream}
 use Rattle.join_interfaces.proofs.Settled.{settled_is, stays_is, keeps_after}
 use Rattle.join_interfaces.proofs.Apart.{are_apart}
@@ -41,7 +41,7 @@ use Rattle.join_world.proofs.Statuses.{live_is, secure_is}
 -- the ends at the device of a link show what the machine has of its streams
 pub record ShowsState (plan : Plan) (st : LinkState) (v : EndsView) (link : ℕ) (l : LinkEnds) : Type 0 where
   pub secure : (stream : ℕ) → secure_in plan st link stream ≡ secure_at l.device.port stream
-  pub live : (stream : ℕ) → live_by_id (live_in plan st) plan.peers link stream ≡ peer_live v link stream
+  pub live : (stream : ℕ) → live_by_id (live_draw_at_end plan st) plan.peers link stream ≡ peer_live v link stream
 
 -- its interfaces are settled by what is Secure after the event, or are as before, and no stream left Secure
 abbrev pub IsLed : Plan → LinkState → LinkState → ℕ → LinkEnds → LinkEnds → Type 0
@@ -108,8 +108,7 @@ led_same plan old new link l l' led = ⊎_elim
 
 pub led_interface : (plan : Plan) (old new : LinkState) (x : Site) (l l' : LinkEnds) (place : ℕ) (tdi : Tdi)
     → FitsPlan plan → x.link < 8 → IsLed plan old new x.link l l'
-    → slice_get l.device.interfaces.interfaces place ≡ Some tdi
-    → Keeps (says_in plan old x.link) x.plan tdi
+    → slice_get l.device.interfaces.interfaces place ≡ Some tdi → Keeps (says_in plan old x.link) x.plan tdi
     → slice_get l'.device.interfaces.interfaces place
     ≡ Some (interface_if_called (leaves_stream (says_in plan old x.link) (says_in plan new x.link) x.plan tdi.bindings)
     StreamLeft
@@ -230,8 +229,7 @@ pub record LedBeside (plan : Plan) (w : Whole) (e : Event) (verdict : Verdict) (
 
 pub beside_led : (plan : Plan) (w : Whole) (e : Event) (verdict : Verdict) (new : LinkState)
     (ends ends' : List LinkEnds) (m m' : InterfacesView) (memory memory' : MemoryContents)
-    → FitsPlan plan → IsBeside plan ends m memory w
-    → LedBeside plan w e verdict new ends ends' m m' memory'
+    → FitsPlan plan → IsBeside plan ends m memory w → LedBeside plan w e verdict new ends ends' m m' memory'
     → IsBeside plan ends' m' memory' (whole_after plan w e verdict new)
 beside_led plan w e verdict new ends ends' m m' memory memory' fits b s =
     let within : (link : ℕ) (l' : LinkEnds) → slice_get ends' link ≡ Some l' → link < length ends

@@ -2,7 +2,7 @@
 -- rest, and so do the draws, and memory, to which no arrival brings a write.
 use Rattle.std.proofs.Common.{◌≡◌, ℕ, ◌≤◌, ◌&&◌, Bool, true, false, List, [], length, Option, Some, None, refl, ap, sym}
 use Rattle.std.proofs.Common.{◌∙◌, subst, arith, inr}
-use Rattle.std.specs.Prelude.{not, if◌then◌else◌, nat_lt, slice_get, is_some}
+use Rattle.std.specs.Prelude.{not, if◌then◌else◌, nat_lt, slice_get}
 use Rattle.ide_types.specs.declared.direction.Direction.{Direction}
 use Rattle.ide_types.specs.declared.port.PortName.{PortName}
 use Rattle.ide_types.specs.Fits.{FitsPlan}
@@ -21,7 +21,7 @@ use Rattle.trusted_memory.specs.{Write, IsLeftBy, newest_first}
 use Rattle.spec_interfaces.specs.Sites.{Site, sites}
 use Rattle.spec_interfaces.specs.Devices.{next_interface}
 use Rattle.spec_interfaces.specs.Views.{managed_after, is_number, number_in}
-use Rattle.machine_interfaces.specs.Machine.{Face, around_of, grant_of}
+use Rattle.machine_whole.specs.Interfaces.{Face, around_of, grant_of}
 use Rattle.join_interfaces.specs.Faces.{IsManaged}
 use Rattle.spec_links.specs.History.{Arrival}
 use Rattle.spec_links.specs.Memory.{Grants}
@@ -144,17 +144,17 @@ interface_step plan w st e verdict is = (ap (λ (s : Stepped). s.0) is, ap (λ (
 
 abbrev leaves_ports : Plan → Event → Bool
 leaves_ports plan (Dump n) = true
-leaves_ports plan (Status link stream) = true
+leaves_ports plan (Status line stream) = true
 leaves_ports plan (Interface e) = true
 leaves_ports plan (Access (ae.Mmio interface bar offset len)) = true
 leaves_ports plan (Reset link ends) = not (nat_lt link (length plan.links))
 leaves_ports plan Absent = true
 leaves_ports plan e = false
 
-status_kept : (plan : Plan) (st : LinkState) (link stream : ℕ) (o : Option StreamStage)
-    → (status_found plan st link stream o).1 ≡ st
-status_kept plan st link stream None = refl
-status_kept plan st link stream (Some q) = refl
+status_kept : (plan : Plan) (st : LinkState) (line stream : ℕ) (o : Option StreamStage)
+    → (status_found plan st line stream o).1 ≡ st
+status_kept plan st line stream None = refl
+status_kept plan st line stream (Some q) = refl
 
 past_kept : (b : Bool) (r : Stepped) (w : Verdict) (st : LinkState) → not b ≡ true → (if b then r else (w, st)).1 ≡ st
 past_kept true r w st is = absurd cc
@@ -164,7 +164,7 @@ ports_kept : (plan : Plan) (beside : BesidePorts) (st : LinkState) (e : Event) �
     → (step_of plan beside st e).1 ≡ st
 unfolding step_of
 ports_kept plan beside st (Dump n) is = refl
-ports_kept plan beside st (Status link stream) is = status_kept plan st link stream (find_op plan st link stream)
+ports_kept plan beside st (Status line stream) is = status_kept plan st line stream (find_op plan st line stream)
 ports_kept plan beside st (Interface e) is = refl
 ports_kept plan beside st (Access (ae.Mmio interface bar offset len)) is = refl
 ports_kept plan beside st (Reset link ends) is = past_kept (nat_lt link (length plan.links)) _ _ st is

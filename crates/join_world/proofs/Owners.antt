@@ -2,34 +2,33 @@
 -- as requesters of a link differ: at a device's port by the stream that the interface is locked with, at an end of a
 -- stream between devices by what it is bound to (`t_is`).
 use Rattle.std.proofs.Common.{◌≡◌, ℕ, ◌+◌, ◌-◌, ◌<◌, ◌≤◌, ◌==◌, ◌&&◌, Bool, true, false, List, length, refl, sym, ap}
-use Rattle.std.proofs.Common.{◌∙◌}
-use Rattle.std.proofs.Common.{arith, Option, Some, None, ⊎_elim, ◌⊎◌}
+use Rattle.std.proofs.Common.{◌∙◌, arith, Option, Some, None, ⊎_elim, ◌⊎◌}
 use Rattle.std.proofs.lemmas.Bool.{cases_lt, cases_Bool, and_parts, eqb-true, eq-eqb, ne_eqb, and_from, and_left}
 use Rattle.std.proofs.lemmas.Bool.{and_right, lt-ltb, le-ltb}
 use Rattle.std.proofs.lemmas.Bool.Decides.{nat_tests}
-use Rattle.std.proofs.lemmas.Option.{none-some, same_Some, slice_get_within, slice_get_past}
+use Rattle.std.proofs.lemmas.Option.{none-some, same_Some, slice_get_past}
 use Rattle.std.specs.Option.{option_and_then, option_map_or, option_map}
 use Rattle.std.specs.Prelude.{slice_get, is_some, if◌then◌else◌, IfSome, nat_lt, position}
 use Rattle.ide_types.specs.declared.port.PortName.{PortName}
 use Rattle.ide_types.specs.declared.port.Side.{Side}
 use Rattle.ide_types.specs.declared.port.Side.TheVariants.{Host, Device}
-use Rattle.ide_types.specs.Ends.{peer_link, peer_port, port_at as port_of_end}
+use Rattle.ide_types.specs.Ends.{peer_link, peer_port}
 use Rattle.ide_types.specs.Fits.{FitsPlan}
 use Rattle.ide_types.specs.declared.interface.InterfacePlan.{InterfacePlan}
 use Rattle.ide_types.specs.declared.plan.PeerPlan.{PeerPlan}
 use Rattle.ide_types.specs.declared.plan.Plan.{Plan}
 use Rattle.tlp_layout.specs.declared.head.HeadView.{HeadView}
-use Rattle.interface_state.specs.declared.bindings.Binding.{Binding}
+use Rattle.ide_types.specs.declared.binding.Binding.{Binding}
 use Rattle.interface_state.specs.declared.states.TdiState.{TdiState}
 use Rattle.interface_state.specs.declared.states.TdiState.TheVariants.{ConfigUnlocked, ConfigLocked, Run, Error}
 use Rattle.interface_state.specs.Bindings.{binds}
 use Rattle.interface_state.specs.Machine.{Tdi, bound_link_stream}
-use Rattle.interface_device.specs.Replies.{DeviceTdis, is_owner, is_bound_owner, runs_on, runs_bound}
+use Rattle.interface_ends.specs.Replies.{runs_on, runs_bound, DeviceTdis}
 use Rattle.trusted_memory.specs.{MemoryContents}
-use Rattle.spec_interfaces.specs.Cause.{is_peer, owner_of, owners_link}
+use Rattle.spec_interfaces.specs.Cause.{is_peer, owner_id, owners_link}
 use Rattle.spec_interfaces.specs.Devices.{is_run}
 use Rattle.spec_interfaces.specs.Sites.{Site, sites}
-use Rattle.machine_interfaces.specs.Machine.{Face, Faces, t_of, peer_t_of, with_requester}
+use Rattle.machine_whole.specs.Interfaces.{Face, Faces, t_of, peer_t_of, with_requester}
 use Rattle.link_ends.specs.DeviceEnds.{owner_sets, bound_owner_sets}
 use Rattle.spec_links.specs.Ports.{at_switch}
 use Rattle.machine_ports.specs.Machine.{port_at}
@@ -299,18 +298,18 @@ module _ (plan : Plan) (fs : Faces) (end : PortName) (head : HeadView) (stream :
       → t_by plan fs end end.side head stream trusted ≡ t_kept plan fs end head stream trusted
   kept_own =
       as_own (at_switch plan end) (is_peer plan end) trusted
-      (peer_t_of plan fs (owners_link plan end) stream (owner_of head)) (t_by plan fs end end.side head stream trusted)
+      (peer_t_of plan fs (owners_link plan end) stream (owner_id head)) (t_by plan fs end end.side head stream trusted)
 
   kept_bound : at_switch plan end ≡ false → is_peer plan end ≡ true
-      → peer_t_of plan fs (owners_link plan end) stream (owner_of head) ≡ t_kept plan fs end head stream trusted
+      → peer_t_of plan fs (owners_link plan end) stream (owner_id head) ≡ t_kept plan fs end head stream trusted
   kept_bound =
       as_bound (at_switch plan end) (is_peer plan end) trusted
-      (peer_t_of plan fs (owners_link plan end) stream (owner_of head)) (t_by plan fs end end.side head stream trusted)
+      (peer_t_of plan fs (owners_link plan end) stream (owner_id head)) (t_by plan fs end end.side head stream trusted)
 
   kept_sent : at_switch plan end ≡ true → trusted ≡ t_kept plan fs end head stream trusted
   kept_sent =
       as_sent (at_switch plan end) (is_peer plan end) trusted
-      (peer_t_of plan fs (owners_link plan end) stream (owner_of head)) (t_by plan fs end end.side head stream trusted)
+      (peer_t_of plan fs (owners_link plan end) stream (owner_id head)) (t_by plan fs end end.side head stream trusted)
 
 -- ---- where the code looks
 
@@ -354,8 +353,7 @@ peer_not_switch : (plan : Plan) (s : Side) (line : ℕ) → 24 ≤ line → at_s
 peer_not_switch plan Host line le = grind (arith, nat_tests)
 peer_not_switch plan Device line le = grind (arith, nat_tests)
 
-peer_is : (plan : Plan) (s : Side) (line : ℕ) → length plan.links ≤ 8 → 24 ≤ line
-    → is_peer plan (port_at s line) ≡ true
+peer_is : (plan : Plan) (s : Side) (line : ℕ) → length plan.links ≤ 8 → 24 ≤ line → is_peer plan (port_at s line) ≡ true
 peer_is plan s line few le = grind (arith, nat_tests)
 
 owners_are : (plan : Plan) (s : Side) (line : ℕ) (p : PeerPlan) → length plan.links ≤ 8 → 24 ≤ line
@@ -391,9 +389,9 @@ module _ (plan : Plan) (v : EndsView) (k : KeeperView) (m : InterfacesView) (mem
       → link_trust s trusted o head stream ≡ t_by plan w.faces (port_at s line) s head stream trusted
   link_is Host line o head stream trusted is = refl
   link_is Device line None head stream trusted is =
-      owner_nowhere plan v.links m memory w beside links.fits links.many line stream (owner_of head) is
+      owner_nowhere plan v.links m memory w beside links.fits links.many line stream (owner_id head) is
   link_is Device line (Some l) head stream trusted is =
-      owner_is plan v.links m memory w beside links.fits links.many line stream l (owner_of head) is
+      owner_is plan v.links m memory w beside links.fits links.many line stream l (owner_id head) is
 
   on_link : (s : Side) (line : ℕ) (head : HeadView) (stream : ℕ) (trusted : Bool) → line < 8
       → trusting_on v (port_at s line) trusted head stream
@@ -423,7 +421,7 @@ module _ (plan : Plan) (v : EndsView) (k : KeeperView) (m : InterfacesView) (mem
       ∙ kept_sent plan w.faces (port_at Host line) head stream trusted (far_switch plan line few le lt)
   on_far Device line head stream trusted le lt =
       trusts_far v Device line head stream trusted le lt
-      ∙ owner_nowhere plan v.links m memory w beside links.fits links.many line stream (owner_of head)
+      ∙ owner_nowhere plan v.links m memory w beside links.fits links.many line stream (owner_id head)
       (past line (omega (arith, le)))
       ∙ kept_own plan w.faces (port_at Device line) head stream trusted (far_device plan line le)
       (below_not_peer plan Device line lt)
@@ -432,24 +430,24 @@ module _ (plan : Plan) (v : EndsView) (k : KeeperView) (m : InterfacesView) (mem
   bound_by : (s : Side) (line : ℕ) (o : Option LinkEnds) (link : ℕ) (head : HeadView) (stream : ℕ)
       → slice_get v.links link ≡ o
       → bound_trust (option_map (λ (l : LinkEnds). l.device.interfaces) o) head stream
-      ≡ peer_t_of plan w.faces link stream (owner_of head)
+      ≡ peer_t_of plan w.faces link stream (owner_id head)
   bound_by s line None link head stream is =
-      bound_nowhere plan v.links m memory w beside links.fits links.many link stream (owner_of head) is
+      bound_nowhere plan v.links m memory w beside links.fits links.many link stream (owner_id head) is
   bound_by s line (Some l) link head stream is =
-      bound_is plan v.links m memory w beside links.fits links.many link stream l (owner_of head) is
+      bound_is plan v.links m memory w beside links.fits links.many link stream l (owner_id head) is
 
   bound_there : (s : Side) (line : ℕ) (o : Option PeerPlan) (head : HeadView) (stream : ℕ) → 24 ≤ line
       → slice_get plan.peers (line - 24) ≡ o
       → bound_trust (option_and_then (λ (p : PeerPlan). option_map (λ (l : LinkEnds). l.device.interfaces)
       (slice_get v.links (peer_link s p))) o) head stream
-      ≡ peer_t_of plan w.faces (owners_link plan (port_at s line)) stream (owner_of head)
+      ≡ peer_t_of plan w.faces (owners_link plan (port_at s line)) stream (owner_id head)
   bound_there s line None head stream le is =
-      bound_nowhere plan v.links m memory w beside links.fits links.many line stream (owner_of head)
+      bound_nowhere plan v.links m memory w beside links.fits links.many line stream (owner_id head)
       (past line (omega (arith, le)))
-      ∙ ap (λ n. peer_t_of plan w.faces n stream (owner_of head)) (sym (owners_beyond plan s line few le is))
+      ∙ ap (λ n. peer_t_of plan w.faces n stream (owner_id head)) (sym (owners_beyond plan s line few le is))
   bound_there s line (Some p) head stream le is =
       bound_by s line (slice_get v.links (peer_link s p)) (peer_link s p) head stream refl
-      ∙ ap (λ n. peer_t_of plan w.faces n stream (owner_of head)) (sym (owners_are plan s line p few le is))
+      ∙ ap (λ n. peer_t_of plan w.faces n stream (owner_id head)) (sym (owners_are plan s line p few le is))
 
   on_peer : (s : Side) (line : ℕ) (head : HeadView) (stream : ℕ) (trusted : Bool) → 24 ≤ line
       → trusting_on v (port_at s line) trusted head stream

@@ -15,9 +15,9 @@ use Rattle.ide_types.specs.declared.interface.InterfacePlan.{InterfacePlan}
 use Rattle.ide_types.specs.declared.plan.LinkPlan.{LinkPlan}
 use Rattle.ide_types.specs.declared.plan.Plan.{Plan}
 use Rattle.spec_interfaces.specs.Floors.{interfaces_before}
-use Rattle.spec_interfaces.specs.Sites.{Site, sites_on, sites_from}
+use Rattle.spec_interfaces.specs.Sites.{Site, sites_of_plans, sites_of_links}
 unfoldable use Rattle.spec_interfaces.specs.Sites.{sites}
-use Rattle.machine_interfaces.specs.Machine.{Face, find_face}
+use Rattle.machine_whole.specs.Interfaces.{Face, find_face}
 
 -- ---- lists
 
@@ -77,7 +77,7 @@ record IsOn (number link i : ℕ) (ps : List InterfacePlan) (x : Site) : Type 0 
   plan_is : slice_get ps i ≡ Some x.plan
 
 on_read : (number link : ℕ) (ps : List InterfacePlan) (i : ℕ) (x : Site)
-    → slice_get (sites_on number link ps) i ≡ Some x → IsOn number link i ps x
+    → slice_get (sites_of_plans number link ps) i ≡ Some x → IsOn number link i ps x
 on_read number link [] i x is = absurd (none-some x is)
 on_read number link (p ∷ ps) zero x is =
     let same = same_Some (record { number = number; link = link; plan = p }) x is in record {
@@ -89,7 +89,7 @@ on_read number link (p ∷ ps) (suc i) x is =
     let r = on_read (number + 1) link ps i x is in
     record { number_is = omega (arith, r.number_is); link_is = r.link_is; plan_is = r.plan_is }
 
-on_many : (number link : ℕ) (ps : List InterfacePlan) → length (sites_on number link ps) ≡ length ps
+on_many : (number link : ℕ) (ps : List InterfacePlan) → length (sites_of_plans number link ps) ≡ length ps
 on_many number link [] = refl
 on_many number link (p ∷ ps) = ap suc (on_many (number + 1) link ps)
 
@@ -106,7 +106,7 @@ record IsFrom (number link i : ℕ) (ls : List LinkPlan) (x : Site) : Type 0 whe
   place_is : i ≡ interfaces_before ls on + place
 
 from_read : (number link : ℕ) (ls : List LinkPlan) (i : ℕ) (x : Site)
-    → slice_get (sites_from number link ls) i ≡ Some x → IsFrom number link i ls x
+    → slice_get (sites_of_links number link ls) i ≡ Some x → IsFrom number link i ls x
 from_read number link [] i x is = absurd (none-some x is)
 from_read number link (l ∷ ls) i x is =
     ⊎_elim here (λ le. later le (from_read (number + length l.interfaces) (link + 1) ls (i - length l.interfaces) x
@@ -115,7 +115,8 @@ from_read number link (l ∷ ls) i x is =
     here : i < length l.interfaces → IsFrom number link i (l ∷ ls) x
     here lt =
         let r = on_read number link l.interfaces i x
-        (sym (get_ahead (sites_on number link l.interfaces) _ i (omega (arith, lt, on_many number link l.interfaces)))
+        (sym (get_ahead (sites_of_plans number link l.interfaces) _ i
+        (omega (arith, lt, on_many number link l.interfaces)))
         ∙ is) in record {
           number_is = r.number_is;
           on = 0;
@@ -128,9 +129,9 @@ from_read number link (l ∷ ls) i x is =
         }
 
     behind : length l.interfaces ≤ i
-        → slice_get (sites_from (number + length l.interfaces) (link + 1) ls) (i - length l.interfaces) ≡ Some x
+        → slice_get (sites_of_links (number + length l.interfaces) (link + 1) ls) (i - length l.interfaces) ≡ Some x
     behind le =
-        sym (get_behind (sites_on number link l.interfaces) _ i (i - length l.interfaces)
+        sym (get_behind (sites_of_plans number link l.interfaces) _ i (i - length l.interfaces)
         (omega (arith, le, on_many number link l.interfaces))) ∙ is
 
     later : length l.interfaces ≤ i
@@ -147,11 +148,12 @@ from_read number link (l ∷ ls) i x is =
       place_is = omega (arith, r.place_is, le);
     }
 
-from_many : (number link : ℕ) (ls : List LinkPlan) → length (sites_from number link ls)
+from_many : (number link : ℕ) (ls : List LinkPlan) → length (sites_of_links number link ls)
     ≡ sum_by (λ l. length l.interfaces) ls
 from_many number link [] = refl
 from_many number link (l ∷ ls) =
-    length-append (sites_on number link l.interfaces) (sites_from (number + length l.interfaces) (link + 1) ls)
+    length-append (sites_of_plans number link l.interfaces)
+    (sites_of_links (number + length l.interfaces) (link + 1) ls)
     ∙ (λ i. on_many number link l.interfaces i + from_many (number + length l.interfaces) (link + 1) ls i)
     ∙ sym (sum_by-cons (λ (k : LinkPlan). length k.interfaces) l ls)
 

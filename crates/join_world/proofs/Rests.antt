@@ -43,9 +43,9 @@ pub record Rests (e : Event) (w : Verdict) (x : Site) : Type 0 where
 abbrev pub is_of_packets : Event → Verdict → Bool
 is_of_packets (event.Interface e) w = false
 is_of_packets (event.Reset link ends) (v.Reset l) = false
-is_of_packets (event.Establish link stream loss) w = false
-is_of_packets (event.Refresh link stream loss) w = false
-is_of_packets (event.Stop link stream loss) w = false
+is_of_packets (event.Establish line stream loss) w = false
+is_of_packets (event.Refresh line stream loss) w = false
+is_of_packets (event.Stop line stream loss) w = false
 is_of_packets e w = true
 
 pub of_ports : (e : Event) (w : Verdict) → is_of_packets e w ≡ true → is_of_ports e w ≡ true

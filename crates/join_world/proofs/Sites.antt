@@ -15,9 +15,8 @@ use Rattle.ide_types.specs.declared.plan.LinkPlan.{LinkPlan}
 use Rattle.ide_types.specs.declared.plan.Plan.{Plan}
 use Rattle.spec_interfaces.specs.Sites.{Site, sites}
 use Rattle.interface_state.specs.Machine.{Tdi}
-use Rattle.interface_device.specs.Replies.{DeviceTdis, named_interface, named_interface_in, named_interface_at}
-use Rattle.interface_device.specs.Replies.{is_elsewhere, requester_in}
-use Rattle.interface_device.specs.Replies.{has_requester}
+use Rattle.interface_ends.specs.Replies.{DeviceTdis, named_interface, named_interface_in, named_interface_at}
+use Rattle.interface_ends.specs.Replies.{is_elsewhere, requester_in, has_requester}
 use Rattle.trusted_memory.specs.{MemoryContents}
 use Rattle.whole_links.specs.{interface_named, InterfacesView, LinkEnds, place_on_links}
 use Rattle.machine_whole.specs.Machine.{Whole, whole_streams}

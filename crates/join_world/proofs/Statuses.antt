@@ -1,14 +1,12 @@
 -- What an end shows of a stream is what the machine has of it, as it keeps the states of each end (`end_found`). So a
 -- device says of its streams what the machine reads of them: of its link's at its port (`secure_is`), of those between
 -- devices at its ends of these (`shows_state`).
-use Rattle.std.proofs.Common.{◌≡◌, ℕ, ◌+◌, ◌-◌, ◌*◌, ◌<◌, ◌≤◌, Bool, true, false, List, [], ◌∷◌, length, refl, ap, sym}
-use Rattle.std.proofs.Common.{◌∙◌}
-use Rattle.std.proofs.Common.{arith, Option, Some, None}
+use Rattle.std.proofs.Common.{◌≡◌, ℕ, ◌+◌, ◌-◌, ◌*◌, ◌<◌, ◌≤◌, false, List, [], ◌∷◌, refl, ap, sym, Bool}
+use Rattle.std.proofs.Common.{◌∙◌, arith, Option, Some, None}
 use Rattle.std.proofs.lemmas.Bool.{lt-ltb, le-ltb}
 use Rattle.std.proofs.lemmas.Option.{slice_get_within}
 use Rattle.std.specs.Option.{option_and_then}
 use Rattle.std.specs.Prelude.{slice_get, option_map, unwrap_or, if◌then◌else◌, nat_lt}
-use Rattle.ide_types.specs.Lines.{peer_line}
 use Rattle.ide_types.specs.declared.port.PortName.{PortName}
 use Rattle.ide_types.specs.declared.port.Side.{Side}
 use Rattle.ide_types.specs.declared.port.Side.TheVariants.{Host, Device}
@@ -30,9 +28,8 @@ use Rattle.machine_ports.specs.Machine as machine
 use Rattle.spec_interfaces.specs.Devices.{is_secure}
 unfoldable use Rattle.spec_interfaces.specs.Peers.{peer_end}
 use Rattle.spec_interfaces.specs.Peers.{live_by_id}
-use Rattle.machine_whole.specs.Accesses.{posted_draw_at}
-use Rattle.machine_whole.specs.Machine.{live_if, live_in, secure_in}
-use Rattle.join_interfaces.proofs.PeerEnds.{IsPeerEnd, peer_end_is}
+use Rattle.machine_whole.specs.Machine.{live_if, live_draw_at_end, secure_in}
+use Rattle.join_interfaces.proofs.PeerEnds.{peer_end_is, IsPeerEnd}
 use Rattle.whole_links.specs.{EndsView, PairEnds, live_at_port, live_of, peer_live, pair_port, port_on}
 use Rattle.whole_links.proofs.{end_found}
 use Rattle.whole_links.specs.{AreLinks, KeeperView, LinkEnds, port_in, state_of}
@@ -112,7 +109,7 @@ module _ (plan : Plan) (v : EndsView) (k : KeeperView) (packets : List LinkPacke
   -- ---- what is Live
 
   live_there : (end : PortName) (e : PortEnd) (stream : ℕ) → port_on v end ≡ Some e
-      → live_in plan (state_of plan v k packets) end stream ≡ live_at_port e stream
+      → live_draw_at_end plan (state_of plan v k packets) end stream ≡ live_at_port e stream
   live_there end e stream is =
       let secure = secure_says (port_stream_status e stream) ∙ ap is_secure (status_is end e stream is) in
       let draw = end_draw_is end e stream Pr is in
@@ -120,13 +117,13 @@ module _ (plan : Plan) (v : EndsView) (k : KeeperView) (packets : List LinkPacke
 
   pair_live : (end : PortName) (l : PairEnds) (stream : ℕ) → 16 ≤ end.line
       → slice_get v.pairs (end.line - 16) ≡ Some l
-      → live_in plan (state_of plan v k packets) end stream ≡ live_of v.pairs end stream
+      → live_draw_at_end plan (state_of plan v k packets) end stream ≡ live_of v.pairs end stream
   pair_live end l stream le is =
       live_there end (pair_port end.side l) stream (pair_there v end.side end.line l le is)
       ∙ sym (ap (option_and_then (λ (x : PairEnds). live_at_port (pair_port end.side x) stream)) is)
 
   live_found : (link stream : ℕ) (o : Option PortName) → peer_end plan.peers 0 link stream ≡ o
-      → option_and_then (λ e. live_in plan (state_of plan v k packets) e stream) o
+      → option_and_then (λ e. live_draw_at_end plan (state_of plan v k packets) e stream) o
       ≡ option_and_then (λ e. live_of v.pairs e stream) o
   live_found link stream None is = refl
   live_found link stream (Some e) is =
@@ -138,7 +135,7 @@ module _ (plan : Plan) (v : EndsView) (k : KeeperView) (packets : List LinkPacke
 
   -- the device says of streams to others what the machine reads of them
   pub live_is : (link stream : ℕ)
-      → live_by_id (live_in plan (state_of plan v k packets)) plan.peers link stream ≡ peer_live v link stream
+      → live_by_id (live_draw_at_end plan (state_of plan v k packets)) plan.peers link stream ≡ peer_live v link stream
   live_is link stream =
       live_found link stream (peer_end plan.peers 0 link stream) refl
       ∙ ap (λ (ps : List PeerPlan). live_by_id (live_of v.pairs) ps link stream) (sym links.peers_are)

@@ -32,7 +32,7 @@ pub record WorldView : Type 0 where
 
 -- The world is a state of the whole machine: of its ports that state itself; of interfaces, memory and accesses what
 -- the machine keeps of them.
-pub record IsWhole (s : WorldView) (w : Whole) : Type 0 where
+pub record IsWholeState (s : WorldView) (w : Whole) : Type 0 where
   pub links : w.links ≡ s.state
   pub beside : IsBeside s.plan s.ends.links s.interfaces s.memory w
   pub drawn : AreDrawn s.plan s.peer_draws w.draw
@@ -41,7 +41,7 @@ pub record IsWhole (s : WorldView) (w : Whole) : Type 0 where
 -- It stands for a history: it is a state of the whole machine that does.
 pub record WorldStandsFor (s : WorldView) (h : History) : Type 0 where
   pub whole : Whole
-  pub is : IsWhole s whole
+  pub is : IsWholeState s whole
   pub stands : StandsFor s.plan whole h
 
 -- before the first event

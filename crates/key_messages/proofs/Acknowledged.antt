@@ -4,7 +4,7 @@ use Rattle.std.proofs.Common.{refl, ◌∙◌, inl, inr, arith, slice_index}
 use Rattle.std.proofs.lemmas.Bool.{cases_Bool, and_from, eqb-true, eq-eqb}
 use Rattle.ide_types.specs.{direction_number}
 use Rattle.key_slots.specs.declared.slot.Slot.{Slot}
-use Rattle.key_slots.specs.Slots.{SlotPair, slot_in, with_both, is_only_live, programmed}
+use Rattle.key_slots.specs.Slots.{SlotPair, slot_in, with_both, is_only_live, programmed_pair}
 use Rattle.key_slots.specs.{Program}
 use Rattle.key_messages.specs.declared.object.KmView.{KmView}
 use Rattle.key_messages.specs.declared.object.KmView.TheVariants.{Query, QueryResp, KeyProg, KpAck, SetGo, SetStop}
@@ -46,15 +46,14 @@ here place = and_from _ _
 key_at : (shown after : SlotsShown) (unfinished : Place → Bool) (place : Place) (set : Bool) (key : List ℕ) (draw : ℕ)
     (o : Option SlotPair) → shown_pair shown place ≡ o
     → SlotsAfter shown unfinished (place_call place (Program set key draw)) after
-    → status_code (key_status_of 0 (is_taken_at o (Program set key draw))) ≡ 0
-    → HoldsKey (after place) set key draw
+    → status_code (key_status_of 0 (is_taken_at o (Program set key draw))) ≡ 0 → HoldsKey (after place) set key draw
 key_at shown after unfinished place set key draw None is h e = absurd (omega (arith, e))
 key_at shown after unfinished place set key draw (Some slots) is h e = elim
     (cases_Bool (is_only_live slots set)) [
       | inl r ↦ let wrong : ◌≡◌ {A = ℕ} 3 0 = rw r at e in absurd (omega (arith, wrong))
       | inr r ↦
           let t = some_there (ltb place.sub 3) (shown place) slots is in
-          let moved : after place ≡ Some (programmed slots set (record { key = key; draw = draw })) = h place ∙
+          let moved : after place ≡ Some (programmed_pair slots set (record { key = key; draw = draw })) = h place ∙
           rw
           (here place, t.0, t.1) refl in
           rw moved (rw r (slot_with slots.sender set _ _))

@@ -18,8 +18,8 @@ use Rattle.key_messages.specs.declared.object.KmView.{KmView}
 use Rattle.key_messages.specs.declared.object.KmView.TheVariants.{Query, QueryResp, KeyProg, KpAck, SetGo, SetStop}
 use Rattle.key_messages.specs.declared.object.KmView.TheVariants.{GoStopAck}
 use Rattle.key_messages.specs.declared.object.KmFault.{KmFault}
-use Rattle.key_messages.specs.Objects.{spelling, FitsObject, SpellsObject, size_of, fault_of, object_of, object_or}
-use Rattle.key_messages.specs.Objects.{object_reading}
+use Rattle.key_messages.specs.Objects.{object_spelling, FitsObject, SpellsObject, size_of, fault_of, object_of}
+use Rattle.key_messages.specs.Objects.{object_or, object_reading}
 
 abbrev IsByte : ℕ → Type 0
 IsByte b = b < 256
@@ -347,7 +347,7 @@ counter_bytes n = All-from_recursion IsByte (to_le_bytes w64 n)
 none : All IsByte []
 none = All-from_recursion IsByte [] tt
 
-spelling_bytes : (object : KmView) → FitsObject object → All IsByte (spelling object)
+spelling_bytes : (object : KmView) → FitsObject object → All IsByte (object_spelling object)
 spelling_bytes (Query port) f = four_bytes 0 0 0 port (omega arith) (omega arith) (omega arith) f [] none
 spelling_bytes (QueryResp port device_function bus segment highest) f = four_bytes 0 1 0 port (omega arith)
     (omega arith) (omega arith) f.0 (device_function ∷ bus ∷ segment ∷ highest ∷ [])
@@ -371,5 +371,5 @@ spelling_bytes (GoStopAck stream selector port) f = four_bytes 0 6 0 0 (omega ar
     (omega arith) (stream ∷ 0 ∷ selector ∷ port ∷ [])
     (four_bytes stream 0 selector port f.0 (omega arith) f.1 f.2 [] none)
 
-pub written_spells : (object : KmView) → FitsObject object → SpellsObject object (spelling object)
+pub written_spells : (object : KmView) → FitsObject object → SpellsObject object (object_spelling object)
 written_spells object f = record { fits = f; octets = spelling_bytes object f; long = refl; same = λ i r. refl }

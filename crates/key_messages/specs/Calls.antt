@@ -4,7 +4,7 @@ use Rattle.std.specs.Prelude.{Err, is_ok, if◌then◌else◌}
 use Rattle.std.specs.Option.{option_map}
 use Rattle.ide_types.specs.{direction_number}
 use Rattle.ide_types.specs.declared.direction.Direction.{Direction}
-use Rattle.key_slots.specs.{SlotPair, slot_in, is_empty, is_only_live, programmed, armed_pair, stopped_pair}
+use Rattle.key_slots.specs.{SlotPair, slot_in, is_empty, is_only_live, programmed_pair, armed_pair, stopped_pair}
 use Rattle.key_slots.specs.{KeyCall, Program, Go, Stop}
 use Rattle.key_messages.specs.declared.place.Place.{Place}
 use Rattle.key_messages.specs.declared.port.ProgramFault.{ProgramFault}
@@ -66,7 +66,7 @@ is_taken shown c = is_taken_at (shown_pair shown c.place) c.call
 
 -- the two slots of the place that is called
 abbrev pub slots_by : KeyCall → Bool → SlotPair → SlotPair
-slots_by (Program set key draw) unfinished slots = programmed slots set (record { key = key; draw = draw })
+slots_by (Program set key draw) unfinished slots = programmed_pair slots set (record { key = key; draw = draw })
 slots_by (Go set) unfinished slots = armed_pair slots set unfinished
 slots_by (Stop set) unfinished slots = stopped_pair slots set
 

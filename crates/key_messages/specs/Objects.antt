@@ -11,16 +11,16 @@ use Rattle.key_messages.specs.declared.object.KmFault.TheVariants.{Length, Proto
 -- ---- writing
 
 -- 00h, the object's number, and its fields, with 0 in the reserved bytes
-abbrev pub spelling : KmView → List ℕ
-spelling (Query port) = 0x00 ∷ 0x00 ∷ 0 ∷ port ∷ []
-spelling (QueryResp port device_function bus segment highest) =
+abbrev pub object_spelling : KmView → List ℕ
+object_spelling (Query port) = 0x00 ∷ 0x00 ∷ 0 ∷ port ∷ []
+object_spelling (QueryResp port device_function bus segment highest) =
     0x00 ∷ 0x01 ∷ 0 ∷ port ∷ device_function ∷ bus ∷ segment ∷ highest ∷ []
-spelling (KeyProg stream selector port key counter) =
+object_spelling (KeyProg stream selector port key counter) =
     (0x00 ∷ 0x02 ∷ 0 ∷ 0 ∷ stream ∷ 0 ∷ selector ∷ port ∷ []) ++ key ++ to_le_bytes w64 counter
-spelling (KpAck stream status selector port) = 0x00 ∷ 0x03 ∷ 0 ∷ 0 ∷ stream ∷ status ∷ selector ∷ port ∷ []
-spelling (SetGo stream selector port) = 0x00 ∷ 0x04 ∷ 0 ∷ 0 ∷ stream ∷ 0 ∷ selector ∷ port ∷ []
-spelling (SetStop stream selector port) = 0x00 ∷ 0x05 ∷ 0 ∷ 0 ∷ stream ∷ 0 ∷ selector ∷ port ∷ []
-spelling (GoStopAck stream selector port) = 0x00 ∷ 0x06 ∷ 0 ∷ 0 ∷ stream ∷ 0 ∷ selector ∷ port ∷ []
+object_spelling (KpAck stream status selector port) = 0x00 ∷ 0x03 ∷ 0 ∷ 0 ∷ stream ∷ status ∷ selector ∷ port ∷ []
+object_spelling (SetGo stream selector port) = 0x00 ∷ 0x04 ∷ 0 ∷ 0 ∷ stream ∷ 0 ∷ selector ∷ port ∷ []
+object_spelling (SetStop stream selector port) = 0x00 ∷ 0x05 ∷ 0 ∷ 0 ∷ stream ∷ 0 ∷ selector ∷ port ∷ []
+object_spelling (GoStopAck stream selector port) = 0x00 ∷ 0x06 ∷ 0 ∷ 0 ∷ stream ∷ 0 ∷ selector ∷ port ∷ []
 
 -- ---- what bytes spell
 
@@ -47,8 +47,8 @@ FitsObject (GoStopAck stream selector port) = (stream < 256) × (selector < 256)
 pub record SpellsObject (object : KmView) (bytes : List ℕ) : Type 0 where
   pub fits : FitsObject object
   pub octets : All (λ b. b < 256) bytes
-  pub long : length bytes ≡ length (spelling object)
-  pub same : (i : ℕ) → is_reserved object i ≡ false → slice_index bytes i ≡ slice_index (spelling object) i
+  pub long : length bytes ≡ length (object_spelling object)
+  pub same : (i : ℕ) → is_reserved object i ≡ false → slice_index bytes i ≡ slice_index (object_spelling object) i
 
 -- ---- reading
 

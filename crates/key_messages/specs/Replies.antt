@@ -11,7 +11,7 @@ use Rattle.key_messages.specs.declared.object.KmView.TheVariants.{GoStopAck}
 use Rattle.key_messages.specs.declared.object.KmFault.{KmFault}
 use Rattle.key_messages.specs.declared.status.KeyStatus.{KeyStatus}
 use Rattle.key_messages.specs.declared.status.KeyStatus.TheVariants as status
-use Rattle.key_messages.specs.Objects.{spelling, object_reading}
+use Rattle.key_messages.specs.Objects.{object_spelling, object_reading}
 use Rattle.key_messages.specs.declared.place.Place.{Place}
 use Rattle.key_messages.specs.Calls.{place_at, PlaceCall, place_call, SlotsShown, is_taken, SlotsAfter}
 
@@ -107,7 +107,7 @@ reply_object rid request done = reading_reply rid request (object_reading reques
 
 abbrev pub object_bytes : Option KmView → List ℕ
 object_bytes None = []
-object_bytes (Some object) = spelling object
+object_bytes (Some object) = object_spelling object
 
 -- no bytes if there is no reply
 abbrev pub reply_bytes : ℕ → List ℕ → Bool → List ℕ

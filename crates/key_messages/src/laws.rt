@@ -2,7 +2,7 @@
 
 ghost use Rattle.std.specs.Prelude.{◌≡◌, ◌<◌, ◌↔◌, ℕ, Bool, List, Ok, Some, All};
 ghost use Rattle.key_messages.specs.declared.object.KmView.{KmView};
-ghost use Rattle.key_messages.specs.Objects.{FitsObject, SpellsObject, spelling, object_reading};
+ghost use Rattle.key_messages.specs.Objects.{FitsObject, SpellsObject, object_spelling, object_reading};
 ghost use Rattle.key_messages.specs.declared.place.Place.{Place};
 ghost use Rattle.key_messages.specs.Calls.{SlotsShown};
 ghost use Rattle.key_messages.specs.Replies.{call_of, Kept, is_done, reply_object, Acknowledged};
@@ -16,8 +16,8 @@ pub fn reading_is_grammar()
 
 /// What is written spells the object, and is read as it.
 pub fn written_is_read()
-    ensures spells { (object : KmView) → FitsObject object → SpellsObject object (spelling object) }
-    ensures reads { (object : KmView) → FitsObject object → object_reading (spelling object) ≡ Ok object }
+    ensures spells { (object : KmView) → FitsObject object → SpellsObject object (object_spelling object) }
+    ensures reads { (object : KmView) → FitsObject object → object_reading (object_spelling object) ≡ Ok object }
 {}
 
 /// A key that is acknowledged with status 0 is the one of the request, and stands in its slot under the draw given,

@@ -2,7 +2,7 @@
 
 ghost use Rattle.std.specs.Prelude.{◌≡◌, ◌+◌, ◌≤◌, ◌++◌, length, vec_len, vec_capacity};
 ghost use Rattle.std.specs.Int.{w64, to_le_bytes};
-ghost use Rattle.key_messages.specs.Objects.{spelling};
+ghost use Rattle.key_messages.specs.Objects.{object_spelling};
 
 use crate::object::KmView;
 
@@ -29,8 +29,8 @@ fn append_key(out: &mut Vec<u8>, key: [u8; 32], counter: u64)
 /// Appends the object's bytes, with 0 in the reserved ones. `out` has room for them, so it takes no memory
 /// (this profile).
 pub fn km_write(object: &KmView, out: &mut Vec<u8>)
-    requires { vec_len out.old + length (spelling object.now) ≤ vec_capacity out.old }
-    ensures items { out.new.items ≡ out.old.items ++ spelling object.now }
+    requires { vec_len out.old + length (object_spelling object.now) ≤ vec_capacity out.old }
+    ensures items { out.new.items ≡ out.old.items ++ object_spelling object.now }
     ensures capacity { vec_capacity out.old ≤ vec_capacity out.new }
 {
     let object = *object;

@@ -96,8 +96,8 @@ abbrev pub program_answer : SlotPair → Bool → List ℕ → Result (Unit {0})
 program_answer pair set key = if is_only_live pair set then Err (record { key = key }) else Ok tt
 
 -- the slot is Programmed, unless that is refused
-abbrev pub programmed : SlotPair → Bool → DrawnKey → SlotPair
-programmed pair set held =
+abbrev pub programmed_pair : SlotPair → Bool → DrawnKey → SlotPair
+programmed_pair pair set held =
     if is_only_live pair set then pair
     else with_both pair.sender set (Programmed held, slot_in pair (not set))
 
@@ -118,13 +118,13 @@ armed_pair pair set unfinished =
 -- ---- K_SET_STOP
 
 -- an Armed slot becomes Live
-abbrev pub woken : Slot → Slot
-woken (Armed held) = Live held
-woken slot = slot
+abbrev pub live_if_armed : Slot → Slot
+live_if_armed (Armed held) = Live held
+live_if_armed slot = slot
 
 -- the slot is emptied, and an Armed other one is Live
 abbrev pub stopped_pair : SlotPair → Bool → SlotPair
-stopped_pair pair set = with_both pair.sender set (Empty, woken (slot_in pair (not set)))
+stopped_pair pair set = with_both pair.sender set (Empty, live_if_armed (slot_in pair (not set)))
 
 -- ---- the end of a sender's unit
 

@@ -9,8 +9,10 @@ mod key;
 mod pool;
 mod slot;
 mod slots;
+mod wires;
 
 pub use key::Key;
 pub use pool::{HostSix, KeyPool, KeySix, MAX_KEYS, PoolEmpty, WireSix};
 pub use slot::SlotState;
 pub use slots::{OnlyLive, SlotEmpty, Slots};
+pub use wires::Wires;

@@ -2,7 +2,7 @@
 
 ghost use Rattle.std.specs.Prelude.{◌≡◌};
 ghost use Rattle.std.specs.Option.{option_copied};
-ghost use Rattle.key_slots.specs.Slots.{slot_state, held_key, live_draw, woken, is_empty, is_armed};
+ghost use Rattle.key_slots.specs.Slots.{slot_state, held_key, live_draw, live_if_armed, is_empty, is_armed};
 
 use crate::Key;
 use gcm_seal::Gcm;
@@ -81,7 +81,7 @@ pub enum SlotState {
 impl Slot {
     /// An Armed slot becomes Live, any other stays as it is.
     pub fn woken(self) -> Slot
-        ensures { result ≡ woken self }
+        ensures { result ≡ live_if_armed self }
     {
         match self {
             Slot::Armed(held) => Slot::Live(held),

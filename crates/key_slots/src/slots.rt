@@ -52,7 +52,8 @@ impl Model for Slots {
 impl Slots {
     ghost use Rattle.key_slots.specs.declared.slot.Slot.TheVariants.{Empty};
     ghost use Rattle.key_slots.specs.Slots.{may_stand, is_sound, empty_pair, slot_in, with_both, is_only_live};
-    ghost use Rattle.key_slots.specs.Slots.{program_answer, programmed, is_empty, is_armed, armed_pair, stopped_pair};
+    ghost use Rattle.key_slots.specs.Slots.{program_answer, programmed_pair, is_empty, is_armed, armed_pair};
+    ghost use Rattle.key_slots.specs.Slots.{stopped_pair};
     ghost use Rattle.key_slots.specs.Slots.{ended_pair, live_set, slot_state, held_key, live_held, shown_key};
 
     /// Both slots empty. It alone takes memory.
@@ -125,7 +126,7 @@ impl Slots {
     /// no newer Live key: then the key comes back, and the slots are as before.
     pub fn program(&mut self, set: KeySet, key: Key, draw: u32) -> Result<(), OnlyLive>
         ensures answer { result ≡ program_answer self.old (is_one set) key }
-        ensures slots { self.new ≡ programmed self.old (is_one set) (record { key = key; draw = draw }) }
+        ensures slots { self.new ≡ programmed_pair self.old (is_one set) (record { key = key; draw = draw }) }
     {
         if self.is_only_live(set) {
             return Err(OnlyLive { key });

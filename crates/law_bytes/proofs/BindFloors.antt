@@ -11,15 +11,14 @@ use Rattle.spec_keys.specs.Operations.{StreamStage, Idle, Establishing, Up, Refr
 use Rattle.spec_keys.specs.History.{place_keys, op_of, history_status}
 use Rattle.law_key_facts.proofs.Given.{key_cause}
 use Rattle.spec_links.specs.Plan.{key_plan}
-use Rattle.interface_state.specs.declared.bindings.Binding.{Binding}
+use Rattle.ide_types.specs.declared.binding.Binding.{Binding}
 use Rattle.interface_state.specs.declared.states.Lock.{Lock}
 use Rattle.interface_state.specs.declared.states.TdiState.{TdiState}
 use Rattle.interface_state.specs.declared.states.TdiState.TheVariants.{ConfigUnlocked, ConfigLocked}
 use Rattle.interface_state.specs.Bindings.{without, is_binding_on, floor_on}
 use Rattle.interface_state.specs.Machine.{Tdi, Call, tdi_after, is_locked, bindings_after, after_failure, after_start}
 use Rattle.interface_state.specs.Machine.{after_change, firmware_updated, lock_flags, bind_answer, interface_after_bind}
-use Rattle.interface_state.specs.Machine.{unbind_answer}
-use Rattle.interface_state.specs.Machine.{unbound_with, lock_answer, interface_after_lock, new_lock}
+use Rattle.interface_state.specs.Machine.{unbind_answer, unbound_with, lock_answer, interface_after_lock, new_lock}
 use Rattle.interface_state.specs.Machine as call
 use Rattle.interface_state.specs.RegisterValues.{changes_listed}
 use Rattle.spec_interfaces.specs.Terms.{View, Unlocked, Locked, Running, Doubt, Broken, Loss, if_secure}
@@ -30,9 +29,8 @@ use Rattle.spec_interfaces.specs.Views.{view_at, needs_at, stream_draw, is_numbe
 unfoldable use Rattle.spec_interfaces.specs.Devices.{devices}
 use Rattle.spec_interfaces.specs.Devices.{Around, around_at, interface_at, interface_asked, interface_if_called}
 use Rattle.spec_interfaces.specs.Devices.{next_interface, is_stream_left}
-use Rattle.spec_interfaces.specs.Devices.{lock_call, reset_call, accepts_lock, locks_at}
-use Rattle.spec_interfaces.specs.Due.{if_locked_or_running, if_fresh, bind_due, op_status}
-use Rattle.spec_interfaces.specs.Due.{standing_at}
+use Rattle.spec_interfaces.specs.Devices.{lock_call, reset_call, accepts_lock, locks_accepted}
+use Rattle.spec_interfaces.specs.Due.{if_locked_or_running, if_fresh, bind_due, op_status, asked_state}
 use Rattle.spec_interfaces.proofs.Locks.{bound_at}
 use Rattle.spec_interfaces.proofs.Rests.{locks_stay}
 use Rattle.spec_interfaces.proofs.Views.{due_own}
@@ -228,7 +226,7 @@ bind_told plan h i line stream loss w x known cause own reaches draw said =
     (interface_cause plan ((event.Interface (ie.Bind i line stream loss), w) ∷ h) cause).0)
   where
     by : (b : Bool) → has_peer plan.peers x.link line stream ≡ b
-        → w ≡ (if b then bind_due x (standing_at plan h x) line stream loss else v.Nothing) → needs_at h x ≤ draw
+        → w ≡ (if b then bind_due x (asked_state plan h x) line stream loss else v.Nothing) → needs_at h x ≤ draw
     by false has is = absurd (true≢false (sym reaches ∙ ap (λ (u : Verdict). carries u 1) is))
     by true has is =
         let fresh = fresh_bind (view_at h x) (op_of h line stream) (stream_draw h line stream) (needs_at h x) _ w is
@@ -247,11 +245,11 @@ bind_told plan h i line stream loss w x known cause own reaches draw said =
 pub record IsBoundFloor (plan : Plan) (h : History) (x : Site) (floor : ℕ) : Type 0 where
   pub older : History
   pub came : CameFrom older h
-  pub same_lock : locks_at plan older x ≡ locks_at plan h x
+  pub same_lock : locks_accepted plan older x ≡ locks_accepted plan h x
   pub needs : needs_at older x ≤ floor
 
 later_floor : (plan : Plan) (h : History) (e : Event) (w : Verdict) (x : Site)
-    → locks_at plan ((e, w) ∷ h) x ≡ locks_at plan h x → (floor : ℕ) → IsBoundFloor plan h x floor
+    → locks_accepted plan ((e, w) ∷ h) x ≡ locks_accepted plan h x → (floor : ℕ) → IsBoundFloor plan h x floor
     → IsBoundFloor plan ((e, w) ∷ h) x floor
 later_floor plan h e w x same floor was = record {
   older = was.older;

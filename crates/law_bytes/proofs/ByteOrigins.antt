@@ -1,28 +1,24 @@
 -- Each byte of trusted memory was sent by an interface in the RUN in which it was admitted. The write that left it was
 -- admitted of a packet; that packet is one that was sealed, in its unit at the same place, so its payload opens to the
 -- payload of the TLP that was sent; and the TLP was sealed for its interface in that RUN.
-use Rattle.law_sealing.proofs.Terms.{◌≡◌, ℕ, ◌+◌, ◌≤◌, ◌<◌, Bool, true, false, List, [], ◌∷◌}
-use Rattle.law_sealing.proofs.Terms.{◌++◌, length, length-append, take, slice_get, Some, Ok}
-use Rattle.law_sealing.proofs.Terms.{refl, ap, sym, ◌∙◌, arith, if◌then◌else◌, Plan, SubStream, History}
-use Rattle.law_sealing.proofs.Terms.{Event, Send, Sealed, Accepted, UnitName, Effect, SealedPacket, Packet}
-use Rattle.law_sealing.proofs.Terms.{PortName, received_in, sent, accepted_packets, CauseLaw, NoForgery, DrawFacts}
-use Rattle.law_sealing.proofs.Terms.{StreamsFit, Tlp}
-use Rattle.law_sealing.proofs.Terms.{header, body, read_of, sub_stream_of, sealed_same, SealedList, sealed_packets}
-use Rattle.law_sealing.proofs.Terms.{accepted_by, numbered, encrypted_bytes, masked_bytes, iv_of, units}
-use Rattle.law_sealing.proofs.Terms.{open_unit, sub_stream_packets, open_unit-unfinished, arrived_packet}
-use Rattle.law_sealing.proofs.Terms.{packets_in_hold}
-use Rattle.law_sealing.proofs.Terms.{sent_bytes, sending_port, sealing_is, all_live, sealed_by_sealing, key_of}
-unfoldable use Rattle.law_sealing.proofs.Terms.{packet_of}
+use Rattle.law_sealing.proofs.Terms.{◌≡◌, ℕ, ◌+◌, ◌≤◌, ◌<◌, Bool, true, false, List, [], ◌∷◌, ◌++◌, length}
+use Rattle.law_sealing.proofs.Terms.{length-append, take, slice_get, Some, Ok, refl, ap, sym, ◌∙◌, arith, if◌then◌else◌}
+use Rattle.law_sealing.proofs.Terms.{Plan, SubStream, History, Event, Send, Sealed, Accepted, UnitName, Effect}
+use Rattle.law_sealing.proofs.Terms.{SealedPacket, Packet, PortName, received_in, sent_packets, accepted_packets}
+use Rattle.law_sealing.proofs.Terms.{CauseLaw, NoForgery, DrawFacts, StreamsFit, Tlp, header, body, read_of}
+use Rattle.law_sealing.proofs.Terms.{sub_stream_of, sealed_same, SealedList, sealed_packets, accepted_by, numbered}
+use Rattle.law_sealing.proofs.Terms.{encrypted_bytes, masked_bytes, iv_of, units, open_unit, sub_stream_packets}
+use Rattle.law_sealing.proofs.Terms.{open_unit-unfinished, arrived_packet, packets_in_hold, sent_bytes, sending_port}
+use Rattle.law_sealing.proofs.Terms.{sealing_is, all_live, sealed_by_sealing, key_of, nat_tests}
+unfoldable use Rattle.law_sealing.proofs.Terms.{packet_of, due}
 use Rattle.std.proofs.lemmas.Bool.{true≢false}
 use Rattle.law_verdicts.proofs.{Admitted, For, IsNew, all_get, at_device_end, cause_at, cause_before, get_less}
 use Rattle.law_verdicts.proofs.{got_next, head_of, interface_cause, live_port, owner_means, sent_at, trusted_before}
 use Rattle.law_verdicts.proofs.{trusted_there}
 use Rattle.tlp_layout.specs.Reading.{read_head_of}
-unfoldable use Rattle.law_sealing.proofs.Terms.{due}
 unfoldable use Rattle.spec_links.proofs.Terms.{bytes_by}
 use Rattle.spec_links.proofs.Terms.{Access}
 use Rattle.std.specs.Prelude.{nat_lt}
-use Rattle.law_sealing.proofs.Terms.{nat_tests}
 use Rattle.ide_types.specs.Ports.{device_port}
 use Rattle.ide_types.specs.declared.direction.Direction.{Direction}
 use Rattle.ide_types.specs.declared.direction.Direction.TheVariants.{Downstream, Upstream}
@@ -41,8 +37,8 @@ use Rattle.law_delivery.proofs.Prefixes.{got_begins}
 use Rattle.law_delivery.proofs.GotUnits.{got_units, units-front_append}
 use Rattle.law_delivery.proofs.Received.{held_front}
 use Rattle.spec_interfaces.specs.Views.{floor_at}
-use Rattle.spec_interfaces.specs.Devices.{runs_at, locks_at}
-use Rattle.spec_interfaces.specs.Cause.{SealFits, owner_of}
+use Rattle.spec_interfaces.specs.Devices.{runs_at, locks_accepted}
+use Rattle.spec_interfaces.specs.Cause.{SealFits, owner_id}
 use Rattle.spec_interfaces.specs.Laws.{IsTrusted, InRun}
 use Rattle.spec_interfaces.proofs.Views.{views_hold}
 use Rattle.law_verdicts.specs.{CameFrom}
@@ -57,7 +53,7 @@ use Rattle.link_events.specs.declared.event.Event.TheVariants.{Forward}
 -- what stands before packet n of the unit that ends, in its sub-stream and draw: what was got, and n packets of it
 pub record IsWithin (plan : Plan) (h : History) (e : Event) (port : PortName) (unit : UnitName) (n : ℕ) : Type 0 where
   front : take (length (accepted_packets plan h (received_in port unit) unit.draw) + n)
-      (sent plan h (received_in port unit) unit.draw)
+      (sent_packets plan h (received_in port unit) unit.draw)
       ≡ accepted_packets plan h (received_in port unit) unit.draw ++ take n (unit_ended plan h e port unit)
   left : open_unit (accepted_packets plan h (received_in port unit) unit.draw ++ take n (unit_ended plan h e port unit))
       ≡ take n (unit_ended plan h e port unit)
@@ -74,7 +70,7 @@ is_within plan fits facts h e port unit effects cause forged n less =
     let ps = unit_ended plan h e port unit in
     let g = accepted_packets plan h s unit.draw in
     let begins = got_begins plan fits facts ((e, Accepted port unit effects) ∷ h) cause forged s unit.draw in
-    let all : sent plan h s unit.draw ≡ (g ++ ps) ++ begins.0 =
+    let all : sent_packets plan h s unit.draw ≡ (g ++ ps) ++ begins.0 =
     ap (λ (xs : SealedList). sub_stream_packets xs s unit.draw)
     (sym (sealed_same plan h e (Accepted port unit effects) refl))
     ∙ (sym begins.1 ∙ ap (λ (qs : List Packet). qs ++ begins.0) (got_next plan h e port unit effects)) in
@@ -139,7 +135,7 @@ module _ (plan : Plan) (whole : FitsPlan plan) (fits : StreamsFit plan) (facts :
   m = length (accepted_packets plan h s unit.draw) + n
 
   pub for : For plan h port.line unit.stream unit.draw adm.head
-  for = owner_means plan h port.line unit.stream unit.draw adm.head (owner_of adm.head) refl adm.bound
+  for = owner_means plan h port.line unit.stream unit.draw adm.head (owner_id adm.head) refl adm.bound
 
   -- its body masks the payload of a TLP that its interface sent in RUN
   pub record IsOwn : Type 0 where
@@ -155,14 +151,14 @@ module _ (plan : Plan) (whole : FitsPlan plan) (fits : StreamsFit plan) (facts :
     pub reads : read_of bytes ≡ Ok tlp
     pub head_is : header tlp ≡ adm.head
     pub runs : runs_at plan older for.site ≡ true
-    pub same_lock : locks_at plan older for.site ≡ locks_at plan h for.site
+    pub same_lock : locks_accepted plan older for.site ≡ locks_accepted plan h for.site
     pub body_is : p.body ≡ masked_bytes (key_of plan unit.draw s) (iv_of unit.sub unit.unit)
         (length (encrypted_bytes (take n (unit_ended plan h e port unit)))) (body tlp)
 
   -- the packet, where it was sealed for these bytes
   body_at : (bytes : List ℕ) (t : Tlp) (place : ℕ) (x : SealedPacket × Packet)
       → slice_get (sealed_packets plan h) place ≡ Some x → x.1 ≡ p → sub_stream_of x.0 ≡ s → x.0.draw ≡ unit.draw
-      → sub_stream_packets (take place (sealed_packets plan h)) s unit.draw ≡ take m (sent plan h s unit.draw)
+      → sub_stream_packets (take place (sealed_packets plan h)) s unit.draw ≡ take m (sent_packets plan h s unit.draw)
       → IsSealedFor plan (take place (sealed_packets plan h)) bytes x → x.0.sync ≡ false → read_of bytes ≡ Ok t
       → p.body ≡ masked_bytes (key_of plan unit.draw s) (iv_of unit.sub unit.unit)
       (length (encrypted_bytes (take n (unit_ended plan h e port unit)))) (body t)
@@ -187,7 +183,7 @@ module _ (plan : Plan) (whole : FitsPlan plan) (fits : StreamsFit plan) (facts :
   own_of : (port_sent : PortName) (bytes : List ℕ) (more trusted : Bool) (ds : List SealedPacket) (older : History)
       (place : ℕ) (x : SealedPacket × Packet) → slice_get (sealed_packets plan h) place ≡ Some x → x.1 ≡ p
       → sub_stream_of x.0 ≡ s → x.0.draw ≡ unit.draw
-      → sub_stream_packets (take place (sealed_packets plan h)) s unit.draw ≡ take m (sent plan h s unit.draw)
+      → sub_stream_packets (take place (sealed_packets plan h)) s unit.draw ≡ take m (sent_packets plan h s unit.draw)
       → CameFrom ((Send port_sent bytes more trusted, Sealed ds) ∷ older) h → IsAmong ds x.0
       → sealing_end plan port_sent bytes ≡ x.0.port
       → IsSealedFor plan (take place (sealed_packets plan h)) bytes x → IsOwn
@@ -201,10 +197,10 @@ module _ (plan : Plan) (whole : FitsPlan plan) (fits : StreamsFit plan) (facts :
       let is_trusted = trusted_there plan h port unit p adm for x.0 x.1 older bytes trusted ds same stream new fit in
       let runs = (views_hold plan (key_plan plan) h (key_cause plan h cause.1) known site for.known).running for.view in
       let since = trusted_before plan site
-      (λ g d. floor_at h site ≤ d.draw → InRun plan site (locks_at plan h site) g)
+      (λ g d. floor_at h site ≤ d.draw → InRun plan site (locks_accepted plan h site) g)
       ((Send port_sent bytes more trusted, Sealed ds) ∷ older) h came runs.since in
       let there = all_get (λ (y : SealedPacket). IsTrusted plan site bytes y → floor_at h site ≤ y.draw
-      → InRun plan site (locks_at plan h site) older) ds among.index x.0 since.0 among.listed in
+      → InRun plan site (locks_accepted plan h site) older) ds among.index x.0 since.0 among.listed in
       let in_run = there is_trusted (omega (arith, for.floor, draw)) in
       let sync : x.0.sync ≡ false = not_synced x.0.sync _ (sym fit.t_is ∙ is_trusted.has_t) in
       let head = ap (λ (r : Packet). r.head) (sym same) ∙ ap (λ (r : Packet). r.head) made.packet
@@ -236,7 +232,7 @@ module _ (plan : Plan) (whole : FitsPlan plan) (fits : StreamsFit plan) (facts :
   by_event : (ev : Event) (ds : List SealedPacket) (older : History) (place : ℕ) (x : SealedPacket × Packet)
       → slice_get (sealed_packets plan h) place ≡ Some x → x.1 ≡ p
       → sub_stream_of x.0 ≡ s → x.0.draw ≡ unit.draw
-      → sub_stream_packets (take place (sealed_packets plan h)) s unit.draw ≡ take m (sent plan h s unit.draw)
+      → sub_stream_packets (take place (sealed_packets plan h)) s unit.draw ≡ take m (sent_packets plan h s unit.draw)
       → CameFrom ((ev, Sealed ds) ∷ older) h → IsAmong ds x.0 → Sealed ds ≡ due plan older ev
       → x.0.port ≡ device_port port.line
       → IsSealedFor plan (take place (sealed_packets plan h)) (sent_bytes plan older ev) x → IsOwn

@@ -2,16 +2,13 @@
 -- devices that it is bound to. In the first case it was sealed at the host's port by a trusted send: it was sealed, its
 -- direction is the host's, a host's port sets T as it is asked, and an answer seals completions alone.
 use Rattle.law_sealing.proofs.Terms.{◌≡◌, ◌⊎◌, inl, inr, ℕ, ◌+◌, ◌<◌, ◌≤◌, ◌==◌, ◌&&◌, ◌||◌, zero, suc, Bool, true}
-use Rattle.law_sealing.proofs.Terms.{false}
-use Rattle.law_sealing.proofs.Terms.{List, [], ◌∷◌, ◌++◌, length, slice_get, nat_le, nat_lt, not, Option, Some, None}
-use Rattle.law_sealing.proofs.Terms.{Result, Ok}
-use Rattle.law_sealing.proofs.Terms.{refl, ap, sym, subst, ◌∙◌, arith, nat_tests, if◌then◌else◌, cases_Bool, eqb-true}
-use Rattle.law_sealing.proofs.Terms.{is_some, Plan, SubStream, History, Event, Send, Verdict, Sealed, Accepted}
-use Rattle.law_sealing.proofs.Terms.{UnitName}
-use Rattle.law_sealing.proofs.Terms.{Effect, SealedPacket, Packet, Prefix, PortName, SubKind, Pr, Cpl, received_in}
-use Rattle.law_sealing.proofs.Terms.{sent, accepted_packets}
-use Rattle.law_sealing.proofs.Terms.{CauseLaw, NoForgery, DrawFacts, SealedList, sealed_packets, KeyName, sent_bytes}
-use Rattle.law_sealing.proofs.Terms.{sending_port, sealing_is, sealed_by_sealing, class_of, FitsPacket, read_of}
+use Rattle.law_sealing.proofs.Terms.{false, List, [], ◌∷◌, ◌++◌, length, slice_get, nat_le, nat_lt, not, Option, Some}
+use Rattle.law_sealing.proofs.Terms.{None, Result, Ok, refl, ap, sym, subst, ◌∙◌, arith, nat_tests, if◌then◌else◌}
+use Rattle.law_sealing.proofs.Terms.{cases_Bool, eqb-true, is_some, Plan, SubStream, History, Event, Send, Verdict}
+use Rattle.law_sealing.proofs.Terms.{Sealed, Accepted, UnitName, Effect, SealedPacket, Packet, Prefix, PortName}
+use Rattle.law_sealing.proofs.Terms.{SubKind, Pr, Cpl, received_in, sent_packets, accepted_packets, CauseLaw, NoForgery}
+use Rattle.law_sealing.proofs.Terms.{DrawFacts, SealedList, sealed_packets, KeyName, sent_bytes, sending_port}
+use Rattle.law_sealing.proofs.Terms.{sealing_is, sealed_by_sealing, class_of, FitsPacket, read_of}
 unfoldable use Rattle.law_sealing.proofs.Terms.{due}
 use Rattle.std.specs.Prelude.{find}
 use Rattle.std.specs.Option.{option_map}
@@ -39,7 +36,7 @@ use Rattle.spec_keys.specs.Operations.{Begun}
 use Rattle.spec_keys.specs.History.{begun_of_draw, place_keys}
 unfoldable use Rattle.spec_keys.specs.History.{manager}
 use Rattle.spec_keys.proofs.Owners.{owner}
-use Rattle.interface_state.specs.declared.bindings.Binding.{Binding}
+use Rattle.ide_types.specs.declared.binding.Binding.{Binding}
 use Rattle.interface_state.specs.declared.states.Lock.{Lock}
 use Rattle.interface_state.specs.declared.states.TdiState.{TdiState}
 use Rattle.interface_state.specs.declared.states.TdiState.TheVariants as tdi
@@ -350,7 +347,7 @@ was_asked plan whole h e end unit effects x n p cause forged known stands truste
     in
     let asked = is_asked plan whole h x known cause.1 among.place among.sealed among.stands host
     (sym (ap (λ (f : Prefix). f.t) prefix) ∙ trusted) (sym (ap (λ (f : Prefix). f.sub) prefix) ∙ sub) in
-    let less = get_less (sent plan h s unit.draw) m p at in
+    let less = get_less (sent_packets plan h s unit.draw) m p at in
     let from_floor : device_floor plan h x ≤ among.sealed.0.draw = omega (arith, least, names.1) in
     record {
       place = among.place;
@@ -358,7 +355,8 @@ was_asked plan whole h e end unit effects x n p cause forged known stands truste
         sealed = among.sealed;
         stands = among.stands;
         under = among.under;
-        number = sym (ap length among.before ∙ length-take-le m (sent plan h s unit.draw) (omega (arith, less)));
+        number = sym (ap length among.before ∙ length-take-le m (sent_packets plan h s unit.draw)
+            (omega (arith, less)));
       };
       same = among.packet;
       bytes = asked.bytes;
@@ -394,8 +392,7 @@ on_binding : (plan : Plan) → FitsPlan plan → (h : History) (e : Event) (end 
     → CauseLaw plan ((e, Accepted end unit effects) ∷ h) → NoForgery plan ((e, Accepted end unit effects) ∷ h)
     → site_at plan x.number ≡ Some x → slice_get (unit_ended plan h e end unit) n ≡ Some p → p.prefix.t ≡ true
     → runs_at plan h x ≡ true → port_of plan end ≡ device_port x.link
-    → floor_on unit.stream (interface_at plan h x).bindings ≡ Some floor
-    → floor ≤ unit.draw
+    → floor_on unit.stream (interface_at plan h x).bindings ≡ Some floor → floor ≤ unit.draw
     → CameOnBinding plan h x end unit (length (accepted_packets plan h (received_in end unit) unit.draw) + n) p
 on_binding plan whole h e end unit effects x n p floor cause forged known stands trusted runs at is least =
     let bound = floor_some unit.stream floor (interface_at plan h x).bindings is in

@@ -1,11 +1,10 @@
 -- What was sealed under a draw from the device's floor on was sealed since the interface was in another RUN last. In an
 -- earlier RUN the manager had it started; the halt that ended its lock made every draw so far too small for the start
 -- of this RUN, and the floor of this RUN is at least the draw of its start.
-use Rattle.law_sealing.proofs.Terms.{◌≡◌, inl, inr, ℕ, ◌+◌, ◌<◌, ◌≤◌, ◌==◌, Bool, true, false, List, [], ◌∷◌}
-use Rattle.law_sealing.proofs.Terms.{◌++◌, Some, refl, ap, sym, subst, ◌∙◌, arith, nat_tests}
-use Rattle.law_sealing.proofs.Terms.{if◌then◌else◌, cases_Bool, append_assoc, slice_get, Plan, PortName, History, Event}
-use Rattle.law_sealing.proofs.Terms.{Verdict, Sealed, SealedPacket, CauseLaw, sent_bytes, sending_port, sealing_is}
-use Rattle.law_sealing.proofs.Terms.{AllLive, zero, suc}
+use Rattle.law_sealing.proofs.Terms.{◌≡◌, inl, inr, ℕ, ◌+◌, ◌<◌, ◌≤◌, ◌==◌, Bool, true, false, List, [], ◌∷◌, ◌++◌}
+use Rattle.law_sealing.proofs.Terms.{Some, refl, ap, sym, subst, ◌∙◌, arith, nat_tests, if◌then◌else◌, cases_Bool}
+use Rattle.law_sealing.proofs.Terms.{append_assoc, slice_get, Plan, PortName, History, Event, Verdict, Sealed}
+use Rattle.law_sealing.proofs.Terms.{SealedPacket, CauseLaw, sent_bytes, sending_port, sealing_is, AllLive, zero, suc}
 use Rattle.law_sealing.proofs.Terms.{IsLive, all_live, sub_stream_of}
 unfoldable use Rattle.law_sealing.proofs.Terms.{due}
 use Rattle.std.proofs.lemmas.Bool.{and_parts, true≢false}
@@ -24,9 +23,9 @@ use Rattle.spec_interfaces.specs.Terms.{if_secure, start_answer}
 use Rattle.spec_interfaces.specs.Peers.{is_secure}
 use Rattle.spec_interfaces.specs.Sites.{Site, site_at}
 use Rattle.spec_interfaces.specs.Exchanges.{carries}
-use Rattle.spec_interfaces.specs.Views.{managed, view_at, needs_at, stream_draw}
+use Rattle.spec_interfaces.specs.Views.{managed_view, view_at, needs_at, stream_draw}
 unfoldable use Rattle.spec_interfaces.specs.Devices.{devices}
-use Rattle.spec_interfaces.specs.Devices.{runs_at, locks_at, interface_at, one_if, locks_in}
+use Rattle.spec_interfaces.specs.Devices.{runs_at, locks_accepted, interface_at, one_if, is_lock_accepted}
 use Rattle.spec_interfaces.specs.Floors.{posted_receiver, draw_at_device, device_floor}
 use Rattle.spec_interfaces.specs.Due.{if_locked, if_reported, if_fresh, unless_lost, started_as, host_status}
 use Rattle.spec_interfaces.proofs.OnLinks.{number_on_link}
@@ -78,10 +77,10 @@ start_fresh plan h (event.Interface (ie.Start i loss)) w x at cause is =
     let own = and_parts (i == x.number) (carries w 1) is in
     let due = due_own plan h x (ie.Start i loss) i w at refl own.0
     (interface_cause plan ((event.Interface (ie.Start i loss), w) ∷ h) cause).0 in
-    fresh_start (view_at h x) (managed h x).reported (host_status h x) (stream_draw h x.link x.plan.stream)
+    fresh_start (view_at h x) (managed_view h x).reported (host_status h x) (stream_draw h x.link x.plan.stream)
     (needs_at h x)
     (unless_lost loss 1 (started_as x (stream_draw h x.link x.plan.stream)
-    (start_answer (interface_at plan h x).state (managed h x).nonce))) w due own.1
+    (start_answer (interface_at plan h x).state (managed_view h x).nonce))) w due own.1
 start_fresh plan h e w x at cause is = absurd (true≢false (sym is))
 
 starts_there : (plan : Plan) (h : History) (e : Event) (w : Verdict) (x : Site) → runs_at plan h x ≡ false
@@ -112,21 +111,22 @@ needs_most plan fits h e w x floor set at cause is greatest on =
 
 -- ---- locks are only ever added
 
-locks_grow : (plan : Plan) (since g : History) (x : Site) → locks_at plan g x ≤ locks_at plan (since ++ g) x
+locks_grow : (plan : Plan) (since g : History) (x : Site) → locks_accepted plan g x ≤ locks_accepted plan (since ++ g) x
 unfolding devices
 locks_grow plan [] g x = omega arith
 locks_grow plan ((e, w) ∷ since) g x =
     let before = locks_grow plan since g x in
-    let more = at_least (locks_at plan (since ++ g) x) (locks_in plan (since ++ g) (devices plan (since ++ g)) e w x) in
+    let more = at_least (locks_accepted plan (since ++ g) x)
+    (is_lock_accepted plan (since ++ g) (devices plan (since ++ g)) e w x) in
     omega (arith, before, more)
   where
     at_least : (n : ℕ) (b : Bool) → n ≤ n + one_if b
     at_least n true = omega arith
     at_least n false = omega arith
 
-locks_from : (plan : Plan) (g h : History) (x : Site) → CameFrom g h → locks_at plan g x ≤ locks_at plan h x
+locks_from : (plan : Plan) (g h : History) (x : Site) → CameFrom g h → locks_accepted plan g x ≤ locks_accepted plan h x
 locks_from plan g h x came =
-    subst (λ (k : History). locks_at plan g x ≤ locks_at plan k x) came.is (locks_grow plan came.since g x)
+    subst (λ (k : History). locks_accepted plan g x ≤ locks_accepted plan k x) came.is (locks_grow plan came.since g x)
 
 -- ---- an earlier RUN
 
@@ -138,11 +138,11 @@ made_since ((e, w) ∷ since) g j b is = after_longer (manager (since ++ g)) e w
 
 -- in RUN, the manager has it started
 stands_there : (plan : Plan) (k : History) (x : Site) → site_at plan x.number ≡ Some x → CauseLaw plan k
-    → runs_at plan k x ≡ true → IsStillStarted (managed k x)
+    → runs_at plan k x ≡ true → IsStillStarted (managed_view k x)
 stands_there plan k x at cause runs =
     let views = views_hold plan (key_plan plan) k (key_cause plan k cause) (interface_cause plan k cause) x at in
     record {
-      started = elim (cases_Bool (managed k x).started) [
+      started = elim (cases_Bool (managed_view k x).started) [
         | inl is ↦ is
         | inr not ↦ absurd (true≢false (sym runs ∙ (views.unstarted not).rests))
       ];
@@ -153,14 +153,15 @@ stands_there plan k x at cause runs =
 one_lock_then : (plan : Plan) (j : ℕ) (b : Begun) (since k : History) (x : Site) → site_at plan x.number ≡ Some x
     → CauseLaw plan (since ++ k) → CauseLaw plan k → runs_at plan k x ≡ true
     → begun_of_draw (manager k).begun j ≡ Some b → needs_at (since ++ k) x ≤ j
-    → locks_at plan (since ++ k) x ≡ locks_at plan k x
+    → locks_accepted plan (since ++ k) x ≡ locks_accepted plan k x
 one_lock_then plan j b since k x at cause before runs made least =
-    by (later plan (locks_at plan k x) j b since k x at (interface_cause plan (since ++ k) cause) (record {
+    by (later plan (locks_accepted plan k x) j b since k x at (interface_cause plan (since ++ k) cause) (record {
       made = made;
       since = inl (refl, stands_there plan k x at before runs);
     })).since
   where
-    by : Since plan (locks_at plan k x) j (since ++ k) x → locks_at plan (since ++ k) x ≡ locks_at plan k x
+    by : Since plan (locks_accepted plan k x) j (since ++ k) x → locks_accepted plan (since ++ k) x
+        ≡ locks_accepted plan k x
     by (inl same) = same.0
     by (inr past) = let less = past.needs in absurd (omega (arith, less, least))
 
@@ -168,7 +169,7 @@ one_lock_then plan j b since k x at cause before runs made least =
 
 -- since a draw was made that the manager could need under the lock that stands
 pub no_other_since : (plan : Plan) (h : History) → CauseLaw plan h → (x : Site) → site_at plan x.number ≡ Some x
-    → (first : History) → CameFrom first h → locks_at plan first x ≡ locks_at plan h x
+    → (first : History) → CameFrom first h → locks_accepted plan first x ≡ locks_accepted plan h x
     → (g : History) (j : ℕ) (b : Begun) → begun_of_draw (manager g).begun j ≡ Some b → needs_at first x ≤ j
     → IsInNoOtherRun plan g h x
 no_other_since plan h cause x at first came same_lock g j b made least k from to running =
@@ -185,7 +186,7 @@ no_other_since plan h cause x at first came same_lock g j b made least k from to
           let low : needs_at (ahead.0 ++ k) x ≤ j = subst (λ (z : History). needs_at z x ≤ j) (sym ahead.1) least in
           sym (one_lock_then plan j b ahead.0 k x at (subst (CauseLaw plan) (sym ahead.1) law) earlier running there
           low)
-          ∙ (ap (λ (z : History). locks_at plan z x) ahead.1 ∙ same_lock)
+          ∙ (ap (λ (z : History). locks_accepted plan z x) ahead.1 ∙ same_lock)
     ]
 
 -- since a draw was made that is from the device's floor on

@@ -1,13 +1,11 @@
 -- The part of a unit's plaintext that is a packet's payload.
-use Rattle.law_sealing.proofs.Terms.{◌≡◌, ℕ, ◌+◌, ◌≤◌, zero, suc, List, [], ◌∷◌, ◌++◌, length, length-append}
-use Rattle.law_sealing.proofs.Terms.{slice_get, take, drop, Option, Some, refl, ap, sym, subst, ◌∙◌, arith}
-use Rattle.law_sealing.proofs.Terms.{append_assoc}
-use Rattle.law_sealing.proofs.Terms.{take-append-le, Plan, Packet}
-use Rattle.law_sealing.proofs.Terms.{encrypted_bytes, masked_bytes, masked_bytes-masked_bytes, masked_bytes-append}
-use Rattle.law_sealing.proofs.Terms.{length-masked_bytes, open_of, IsFront}
-use Rattle.law_sealing.proofs.Terms.{PortName, UnitName}
+use Rattle.law_sealing.proofs.Terms.{◌≡◌, ℕ, ◌+◌, ◌≤◌, zero, suc, List, [], ◌∷◌, ◌++◌, length, length-append, slice_get}
+use Rattle.law_sealing.proofs.Terms.{take, drop, Option, Some, refl, ap, sym, subst, ◌∙◌, arith, append_assoc}
+use Rattle.law_sealing.proofs.Terms.{take-append-le, Plan, Packet, encrypted_bytes, masked_bytes}
+use Rattle.law_sealing.proofs.Terms.{masked_bytes-masked_bytes, masked_bytes-append, length-masked_bytes, open_of}
+use Rattle.law_sealing.proofs.Terms.{IsFront, PortName, UnitName}
 use Rattle.trusted_memory.specs.Writes.{Write}
-use Rattle.spec_links.specs.Memory.{Grants, admitted, admitted_each}
+use Rattle.spec_links.specs.Memory.{Grants, write_if_admitted, admitted_each}
 
 -- ---- lists
 
@@ -90,11 +88,11 @@ part_opens key iv ps n p payload at body =
 pub part_admitted : (plan : Plan) (grants : Grants) (port : PortName) (unit : UnitName) (plain : List ℕ)
     (ps : List Packet) (n : ℕ) (p : Packet) (o : Option Write)
     → slice_get (admitted_each plan grants port unit plain ps) n ≡ Some o → slice_get ps n ≡ Some p
-    → admitted plan grants port unit p (part_at plain ps n p) ≡ o
+    → write_if_admitted plan grants port unit p (part_at plain ps n p) ≡ o
 part_admitted plan grants port unit plain [] n p o is at = absurd cc
 part_admitted plan grants port unit plain (q ∷ ps) zero p o is at =
     let same : q ≡ p = cc (at) in
-    subst (λ (z : Packet). admitted plan grants port unit z (take (length z.body) plain) ≡ o) same (cc (is))
+    subst (λ (z : Packet). write_if_admitted plan grants port unit z (take (length z.body) plain) ≡ o) same (cc (is))
 part_admitted plan grants port unit plain (q ∷ ps) (suc n) p o is at =
     let later = part_admitted plan grants port unit (drop (length q.body) plain) ps n p o is at in
     let size : length (q.body ++ encrypted_bytes (take n ps)) ≡ length q.body + length (encrypted_bytes (take n ps)) =
@@ -103,4 +101,4 @@ part_admitted plan grants port unit plain (q ∷ ps) (suc n) p o is at =
     ≡ take (length p.body) (drop (length (q.body ++ encrypted_bytes (take n ps))) plain) =
     ap (take (length p.body)) (drop-drop (length q.body) (length (encrypted_bytes (take n ps))) plain
     ∙ ap (λ (k : ℕ). drop k plain) (sym size)) in
-    ap (admitted plan grants port unit p) (sym part) ∙ later
+    ap (write_if_admitted plan grants port unit p) (sym part) ∙ later

@@ -7,7 +7,7 @@ use Rattle.ide_types.specs.Lines.{peer_line}
 use Rattle.ide_types.specs.Ports.{host_port, device_port}
 use Rattle.ide_types.specs.declared.plan.PeerPlan.{PeerPlan}
 use Rattle.ide_types.specs.Fits.{FitsPlan}
-use Rattle.ide_types.specs.Ends.{line_has, peer_link, port_at, end_on}
+use Rattle.ide_types.specs.Ends.{line_has, peer_link, port_beside_end, end_on}
 use Rattle.ide_types.proofs.EndsFound.{end_found}
 use Rattle.spec_links.specs.Plan.{has_link}
 unfoldable use Rattle.spec_links.specs.Ports.{port_of}
@@ -84,7 +84,7 @@ is_found plan fits link id e is =
     let c : nat_lt e.line 24 ≡ false = grind (arith, nat_tests, line) in
     let place : e.line - 24 ≡ at.place = omega (arith, line) in
     let has : line_has plan e.line id ≡ true = rw (a, b, c, place, at.stands) at.has in
-    let port : port_at plan.peers e ≡ device_port link =
+    let port : port_beside_end plan.peers e ≡ device_port link =
     rw (a, b, c, place, at.stands) (ap device_port at.meets) in
     record {
       between = grind (arith, nat_tests, line);
@@ -93,11 +93,12 @@ is_found plan fits link id e is =
 
 -- ---- an end there that has the stream
 
-port_is : (plan : Plan) → FitsPlan plan → (e : PortName) → port_of plan e ≡ port_at plan.peers e
+port_is : (plan : Plan) → FitsPlan plan → (e : PortName) → port_of plan e ≡ port_beside_end plan.peers e
 unfolding port_of
 port_is plan fits e = by (has_link plan e.line) refl
   where
-    by : (b : Bool) → has_link plan e.line ≡ b → (if b then e else port_at plan.peers e) ≡ port_at plan.peers e
+    by : (b : Bool) → has_link plan e.line ≡ b → (if b then e else port_beside_end plan.peers e)
+        ≡ port_beside_end plan.peers e
     by false known = refl
     by true known = let low : nat_lt e.line 8 ≡ true = few e.line (length plan.links) fits.links_most known in rw low
         refl

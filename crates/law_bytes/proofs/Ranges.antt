@@ -1,27 +1,22 @@
 -- The ranges of key stream that mask payloads do not meet, nor the block that masks the tag.
-use Rattle.law_sealing.proofs.Terms.{◌≡◌, ℕ, ◌+◌, ◌*◌, ◌≤◌, ◌<◌, inl, inr, zero, suc, Bool, true, false, List, []}
-use Rattle.law_sealing.proofs.Terms.{◌∷◌, ◌++◌, length, length-append, slice_get, take, Some, refl, ap, sym, subst, ◌∙◌}
+use Rattle.law_sealing.proofs.Terms.{◌≡◌, ℕ, ◌+◌, ◌*◌, ◌≤◌, ◌<◌, inl, inr, zero, suc, Bool, true, false, List, [], ◌∷◌}
+use Rattle.law_sealing.proofs.Terms.{◌++◌, length, length-append, slice_get, take, Some, refl, ap, sym, subst, ◌∙◌}
 use Rattle.law_sealing.proofs.Terms.{arith, if◌then◌else◌, cases_Bool, Plan, SubStream, History, SealedPacket, Packet}
-use Rattle.law_sealing.proofs.Terms.{SealedList, sealed_packets, open_unit, sub_stream_packets, sub_stream_of, is_under}
-use Rattle.law_sealing.proofs.Terms.{CauseLaw}
-use Rattle.law_sealing.proofs.Terms.{same_stream, sub_stream_packets-snoc, open_unit-more, open_unit-end}
-use Rattle.law_sealing.proofs.Terms.{encrypted_bytes}
-use Rattle.law_sealing.proofs.Terms.{flat_map-append, append-nil, FitsPacket, body_size, aggregation_of}
-use Rattle.law_sealing.proofs.Terms.{StreamsFit, Prefix, is_same-refl, eqb-refl}
-use Rattle.std.specs.Prelude.{◌-◌}
+use Rattle.law_sealing.proofs.Terms.{SealedList, sealed_packets, open_unit, sub_stream_packets, sub_stream_of}
+use Rattle.law_sealing.proofs.Terms.{is_sealed_under, CauseLaw, same_stream, sub_stream_packets-snoc, open_unit-more}
+use Rattle.law_sealing.proofs.Terms.{open_unit-end, encrypted_bytes, flat_map-append, append-nil, FitsPacket, body_size}
+use Rattle.law_sealing.proofs.Terms.{aggregation_of, StreamsFit, Prefix, is_same-refl, eqb-refl, nat_tests, sent_bytes}
+use Rattle.std.specs.Prelude.{◌-◌, ◌/◌, ◌^◌, ◌≢◌}
 unfoldable use Rattle.law_sealing.proofs.Terms.{packet_of}
-use Rattle.std.specs.Prelude.{◌/◌, ◌^◌, ◌≢◌}
 use Rattle.std.specs.Int.{w32, to_be_bytes, from_be_bytes}
 use Rattle.std.proofs.lemmas.Nat.{from_be_bytes-to_be_bytes_4}
 use Rattle.gcm_seal.specs.Gcm.{counter, masked_bytes}
 use Rattle.gcm_seal.proofs.Strings.{counter-at}
 use Rattle.ide_types.specs.Fits.{FitsPlan}
-use Rattle.law_sealing.proofs.Sums.{in_parts}
-use Rattle.law_sealing.proofs.Terms.{nat_tests, sent_bytes}
+use Rattle.law_sealing.proofs.Sums.{in_parts, next_taken}
 use Rattle.spec_links.specs.Numbers.{AreOfOneUnit, key_used, iv_used}
 use Rattle.law_verdicts.proofs.{draws}
 use Rattle.law_sealing.proofs.OfPlans.{streams_fit}
-use Rattle.law_sealing.proofs.Sums.{next_taken}
 use Rattle.law_sealing.proofs.Places.{Placed, placed}
 use Rattle.law_sealing.proofs.Numbers.{numbers_fresh}
 use Rattle.law_bytes.specs.KeyStream.{offset_at, payload_for, IsMasked, KeyStreamFresh}
@@ -36,8 +31,7 @@ unfolding packet_of
 body_of plan ahead bytes d unfinished = refl
 
 range_of : (plan : Plan) (h : History) (i : ℕ) (x : SealedPacket × Packet)
-    → slice_get (sealed_packets plan h) i ≡ Some x
-    → IsMasked plan h i x
+    → slice_get (sealed_packets plan h) i ≡ Some x → IsMasked plan h i x
 range_of plan h i x at =
     let by = sealed_by plan h i x at in
     record {
@@ -63,14 +57,15 @@ encrypted_more ps p = rw (flat_map-append, append-nil) (length-append (encrypted
 
 next_sent : (xs : SealedList) (s : SubStream) (j n : ℕ) (z : SealedPacket × Packet) → slice_get xs n ≡ Some z
     → sub_stream_packets (take (suc n) xs) s j
-    ≡ (if is_under s j z then sub_stream_packets (take n xs) s j ++ z.1 ∷ [] else sub_stream_packets (take n xs) s j)
+    ≡ (if is_sealed_under s j z then sub_stream_packets (take n xs) s j ++ z.1 ∷ []
+    else sub_stream_packets (take n xs) s j)
 next_sent xs s j n z at =
     ap (λ (ys : SealedList). sub_stream_packets ys s j) (next_taken xs n z at) ∙ sub_stream_packets-snoc (take n xs) z s
     j
 
 -- a packet that ends no unit joins the open one
 joins : (xs : SealedList) (s : SubStream) (j n : ℕ) (z : SealedPacket × Packet) → slice_get xs n ≡ Some z
-    → is_under s j z ≡ true → z.1.prefix.m ≡ false
+    → is_sealed_under s j z ≡ true → z.1.prefix.m ≡ false
     → sealed_to xs s j (suc n) ≡ sealed_to xs s j n + length z.1.body
 joins xs s j n z at under m =
     let next = next_sent xs s j n z at ∙ ap
@@ -82,7 +77,7 @@ joins xs s j n z at under m =
     ∙ encrypted_more (open_unit (sub_stream_packets (take n xs) s j)) z.1)
 
 passes : (xs : SealedList) (s : SubStream) (j n : ℕ) (z : SealedPacket × Packet) → slice_get xs n ≡ Some z
-    → is_under s j z ≡ false → sealed_to xs s j (suc n) ≡ sealed_to xs s j n
+    → is_sealed_under s j z ≡ false → sealed_to xs s j (suc n) ≡ sealed_to xs s j n
 passes xs s j n z at off =
     let next = next_sent xs s j n z at ∙ ap
     (λ (b : Bool). if b then sub_stream_packets (take n xs) s j ++ z.1 ∷ [] else sub_stream_packets (take n xs) s j) off
@@ -91,8 +86,8 @@ passes xs s j n z at off =
 
 -- so it never falls while none ends a unit
 grows : (xs : SealedList) (s : SubStream) (j n : ℕ) (z : SealedPacket × Packet) → slice_get xs n ≡ Some z
-    → (is_under s j z ≡ true → z.1.prefix.m ≡ false) → sealed_to xs s j n ≤ sealed_to xs s j (suc n)
-grows xs s j n z at goes_on = elim (cases_Bool (is_under s j z)) [
+    → (is_sealed_under s j z ≡ true → z.1.prefix.m ≡ false) → sealed_to xs s j n ≤ sealed_to xs s j (suc n)
+grows xs s j n z at goes_on = elim (cases_Bool (is_sealed_under s j z)) [
   | inl under ↦ omega (arith, joins xs s j n z at under (goes_on under))
   | inr off ↦ omega (arith, passes xs s j n z at off)
 ]
@@ -113,7 +108,8 @@ get_less (y ∷ xs) zero x is = omega arith
 get_less (y ∷ xs) (suc n) x is = let rest = get_less xs n x is in omega (arith, rest)
 
 grows_to : (xs : SealedList) (s : SubStream) (j i more : ℕ) → i + more ≤ length xs
-    → ((n : ℕ) (z : SealedPacket × Packet) → i ≤ n → n < i + more → slice_get xs n ≡ Some z → is_under s j z ≡ true
+    → ((n : ℕ) (z : SealedPacket × Packet) → i ≤ n → n < i + more → slice_get xs n ≡ Some z → is_sealed_under s j z
+    ≡ true
     → z.1.prefix.m ≡ false) → sealed_to xs s j i ≤ sealed_to xs s j (i + more)
 grows_to xs s j i zero le goes_on = let same : i + 0 ≡ i = omega arith in rw same (omega arith)
 grows_to xs s j i (suc more) le goes_on =
@@ -125,7 +121,7 @@ grows_to xs s j i (suc more) le goes_on =
     let same : i + suc more ≡ suc (i + more) = omega arith in
     rw same (omega (arith, one, before))
 
-under_itself : (x : SealedPacket × Packet) → is_under (sub_stream_of x.0) x.0.draw x ≡ true
+under_itself : (x : SealedPacket × Packet) → is_sealed_under (sub_stream_of x.0) x.0.draw x ≡ true
 under_itself x = rw (is_same-refl (sub_stream_of x.0), eqb-refl x.0.draw) refl
 
 apart_at : (plan : Plan) (xs : SealedList) (i k : ℕ) (x y : SealedPacket × Packet) → i < k
@@ -147,8 +143,8 @@ apart_at plan xs i k x y less at also one =
 
 -- ---- how many there are
 
-aggregation_eight : (plan : Plan) → StreamsFit plan → (link stream : ℕ) → aggregation_of plan link stream ≤ 8
-aggregation_eight plan fits link stream = grind (arith, fits.eight link stream)
+aggregation_eight : (plan : Plan) → StreamsFit plan → (line stream : ℕ) → aggregation_of plan line stream ≤ 8
+aggregation_eight plan fits line stream = grind (arith, fits.eight line stream)
 
 size_most : (has : Bool) (n : ℕ) → n < 1024 → body_size has n ≤ 4096
 size_most has n less = grind (arith, nat_tests, less)
@@ -189,7 +185,7 @@ short_next : (plan : Plan) → StreamsFit plan → (xs : SealedList) → Placed 
     → IsShort (open_unit (sub_stream_packets (take (suc n) xs) s j))
 short_next plan fits xs all s j n z at short =
     subst (λ (ps : List Packet). IsShort (open_unit ps)) (sym (next_sent xs s j n z at))
-    (elim (cases_Bool (is_under s j z)) [
+    (elim (cases_Bool (is_sealed_under s j z)) [
       | inl under ↦ rw under (elim (cases_Bool z.1.prefix.m) [
         | inl ends ↦ short_ends (sub_stream_packets (take n xs) s j) z.1 ends
         | inr more ↦

@@ -1,18 +1,16 @@
 -- What is shown of trusted memory was sent.
 use Rattle.law_sealing.proofs.Terms.{◌≡◌, ◌≢◌, ◌⊎◌, inl, inr, ℕ, ◌+◌, ◌<◌, ◌==◌, ◌&&◌, zero, suc, Bool, true, false}
-use Rattle.law_sealing.proofs.Terms.{not}
-use Rattle.law_sealing.proofs.Terms.{List, [], ◌∷◌, ◌++◌, length, slice_get, Option, Some, None, Result, Ok, Err, refl}
-use Rattle.law_sealing.proofs.Terms.{ap}
-use Rattle.law_sealing.proofs.Terms.{sym, subst, ◌∙◌, arith, if◌then◌else◌, Plan, History, Event, Verdict, Accepted}
-use Rattle.law_sealing.proofs.Terms.{UnitName, Effect, Packet, PortName, received_in, CauseLaw, NoForgery, DrawFacts}
-use Rattle.law_sealing.proofs.Terms.{StreamsFit, body, key_of, iv_of, is_sync_packet}
+use Rattle.law_sealing.proofs.Terms.{not, List, [], ◌∷◌, ◌++◌, length, slice_get, Option, Some, None, Result, Ok, Err}
+use Rattle.law_sealing.proofs.Terms.{refl, ap, sym, subst, ◌∙◌, arith, if◌then◌else◌, Plan, History, Event, Verdict}
+use Rattle.law_sealing.proofs.Terms.{Accepted, UnitName, Effect, Packet, PortName, received_in, CauseLaw, NoForgery}
+use Rattle.law_sealing.proofs.Terms.{DrawFacts, StreamsFit, body, key_of, iv_of, is_sync_packet, Tlp, header, nat_tests}
+use Rattle.law_sealing.proofs.Terms.{Send, Sealed}
 use Rattle.law_sealing.proofs.OfPlans.{streams_fit}
 use Rattle.law_verdicts.proofs.{accepted_known, admitted_means, at_port, cause_at, draws, get_less, memory_law}
 use Rattle.ide_types.specs.Fits.{FitsPlan}
 use Rattle.ide_types.specs.declared.plan.Region.{Region}
 use Rattle.ide_types.specs.Sub.{sent_direction}
 use Rattle.tlp_layout.specs.declared.head.HeadView.{HeadView}
-use Rattle.law_sealing.proofs.Terms.{Tlp, header}
 use Rattle.tlp_layout.specs.declared.fault.TlpFault.{TlpFault}
 use Rattle.tlp_layout.specs.Reading.{read_head_of}
 use Rattle.trusted_memory.specs.Spans.{enables}
@@ -28,12 +26,11 @@ use Rattle.ide_types.specs.declared.port.Side.TheVariants.{Host, Device}
 use Rattle.std.specs.Prelude.{◌≤◌, nat_lt}
 use Rattle.spec_interfaces.specs.Sites.{Site, site_at}
 use Rattle.spec_interfaces.proofs.OnLinks.{number_on_link}
-use Rattle.law_sealing.proofs.Terms.{nat_tests, Send, Sealed}
-use Rattle.spec_links.specs.Memory.{Grants, admitted, payload_write, admitted_each, unit_ended, plain_of}
+use Rattle.spec_links.specs.Memory.{Grants, write_if_admitted, payload_write, admitted_each, unit_ended, plain_of}
 use Rattle.spec_links.specs.Memory.{accepted_unit_writes}
 unfoldable use Rattle.spec_links.specs.Memory.{writes}
 use Rattle.spec_interfaces.specs.Views.{grant_at}
-use Rattle.spec_interfaces.specs.Cause.{owner_of}
+use Rattle.spec_interfaces.specs.Cause.{owner_id}
 use Rattle.spec_interfaces.proofs.Floors.{found}
 use Rattle.law_verdicts.specs.{CameFrom}
 use Rattle.law_bytes.specs.ByteOrigin.{HasByteOrigin, ShowsSent, ByteOriginLaw}
@@ -76,8 +73,7 @@ record AdmittedBy (plan : Plan) (h : History) (w : Write) : Type 0 where
   number : ℕ
   is : slice_get (accepted_unit_writes plan older event port unit) number ≡ Some (Some w)
 
-newest_at : (os : List (Option Write)) (ws : List Write) (k : ℕ) (w : Write)
-    → slice_get (newest_first os ws) k ≡ Some w
+newest_at : (os : List (Option Write)) (ws : List Write) (k : ℕ) (w : Write) → slice_get (newest_first os ws) k ≡ Some w
     → ((n : ℕ) × (slice_get os n ≡ Some (Some w))) ⊎ ((j : ℕ) × (slice_get ws j ≡ Some w))
 newest_at [] ws k w is = inr (k, is)
 newest_at (None ∷ os) ws k w is = elim (newest_at os ws k w is) [ inl n ↦ inl (suc n.0, n.1) | inr j ↦ inr j ]
@@ -143,7 +139,8 @@ placed_is regions b None w is = absurd cc
 placed_is regions b (Some z) w is = grind arith
 
 write_is : (plan : Plan) (grants : Grants) (port : PortName) (unit : UnitName) (p : Packet) (payload : List ℕ)
-    (w : Write) (head : HeadView) → admitted plan grants port unit p payload ≡ Some w → read_head_of p.head ≡ Ok head
+    (w : Write) (head : HeadView) → write_if_admitted plan grants port unit p payload ≡ Some w → read_head_of p.head
+    ≡ Ok head
     → memory_write head payload ≡ Some w
 write_is plan grants port unit p payload w head is reads =
     by (not (is_sync_packet p)) (at_switch plan port) (sent_direction port.side == 0) (read_head_of p.head) reads is
@@ -195,7 +192,8 @@ forged_at plan since g h is forged = by since (subst (NoForgery plan) (sym is) f
 -- the write of an admitted packet whose body masks the payload of a TLP that its interface sent
 write_sent : (plan : Plan) (grants : Grants) (q : PortName) (unit : UnitName) (p : Packet) (payload : List ℕ)
     (w : Write)
-    (head : HeadView) (tlp : Tlp) → admitted plan grants q unit p payload ≡ Some w → read_head_of p.head ≡ Ok head
+    (head : HeadView) (tlp : Tlp) → write_if_admitted plan grants q unit p payload ≡ Some w → read_head_of p.head
+    ≡ Ok head
     → header tlp ≡ head → payload ≡ body tlp → memory_write (header tlp) (body tlp) ≡ Some w
 write_sent plan grants q unit p payload w head tlp is reads head_is opens =
     (λ i. memory_write (head_is i) (sym opens i)) ∙ write_is plan grants q unit p payload w head is reads
@@ -255,9 +253,9 @@ origin_by plan whole fits facts h older e port unit effects came here none n w a
       byte_is = byte_is;
     }
   where
-    requested : (tlp : Tlp) (head : HeadView) (o : Option ℕ) → header tlp ≡ head → owner_of head ≡ o
-        → owner_of (header tlp) ≡ o
-    requested tlp head o same is = ap owner_of same ∙ is
+    requested : (tlp : Tlp) (head : HeadView) (o : Option ℕ) → header tlp ≡ head → owner_id head ≡ o
+        → owner_id (header tlp) ≡ o
+    requested tlp head o same is = ap owner_id same ∙ is
 
 origin_at : (plan : Plan) → FitsPlan plan → StreamsFit plan → DrawFacts plan → (h : History) → CauseLaw plan h
     → NoForgery plan h → (at byte : ℕ) (left : LeftBy (writes plan h) at byte) → HasByteOrigin plan h at byte

@@ -4,29 +4,23 @@
 -- unit of the newer one is accepted.
 use Rattle.spec_keys.proofs.Terms.{◌≡◌, ℕ, ◌+◌, ◌<◌, ◌≤◌, ◌==◌, ◌⊎◌, inl, inr, ◌&&◌, Bool, true, false, not, List, []}
 use Rattle.spec_keys.proofs.Terms.{◌∷◌, ◌++◌, Option, Some, None, refl, ap, sym, subst, ◌∙◌, arith, nat_tests, nat_lt}
-use Rattle.spec_keys.proofs.Terms.{if◌then◌else◌, is_some, Loss, SealedPacket, Verdict, KeyPlan, KeyPlace}
-use Rattle.spec_keys.proofs.Terms.{is_on_stream, Touch, Program, Go, Accept, Keys, key_in, on_in}
-use Rattle.spec_keys.proofs.Terms.{refuses, touched, StreamStage, Idle, Establishing, Up, Refreshing, Stopping, Work}
-use Rattle.spec_keys.proofs.Terms.{Reach, Manager}
+use Rattle.spec_keys.proofs.Terms.{if◌then◌else◌, is_some, Loss, SealedPacket, Verdict, KeyPlan, KeyPlace, is_on_stream}
+use Rattle.spec_keys.proofs.Terms.{Touch, Program, Go, Accept, Keys, key_in, on_in, refuses}
+use Rattle.spec_keys.proofs.Terms.{StreamStage, Idle, Establishing, Up, Refreshing, Stopping, Work, Reach, Manager}
 use Rattle.spec_keys.proofs.Terms.{manager_after_operation, op_after, work_of, reach_of, whole, History}
-use Rattle.spec_keys.proofs.Terms.{last_exchange_of, op_of, draws, on_it, work_touches, when}
-use Rattle.spec_keys.proofs.Terms.{touches_after, came, place_keys, keeps_live, has_key, has_all}
-use Rattle.spec_keys.proofs.Terms.{history_status, begins_keyed, KeyCauseLaw, PortView, ports_at, refresh_on}
-use Rattle.spec_keys.proofs.Terms.{operation_verdict}
-use Rattle.spec_keys.proofs.Terms.{unless_open, done, is_hosted, is_cut, PortName, Host}
-use Rattle.spec_keys.proofs.Terms.{Device, Pr, Operation, seal_touches, is_same_side, is_same_sub, Loaded}
-use Rattle.spec_keys.proofs.Terms.{begun_with_draw}
-use Rattle.spec_keys.proofs.Terms.{if_secure, is_live_sender, Npr, Cpl, Lost, length, list_any, Clear, Side}
-use Rattle.spec_keys.proofs.Terms.{key_place_at}
-use Rattle.spec_keys.proofs.Terms.{is_local}
+use Rattle.spec_keys.proofs.Terms.{last_exchange_of, op_of, draws, on_it, work_touches, touches_if, touches_after, came}
+use Rattle.spec_keys.proofs.Terms.{place_keys, keeps_live, has_key, has_all, history_status, begins_keyed, KeyCauseLaw}
+use Rattle.spec_keys.proofs.Terms.{PortView, ports_at, refresh_on, operation_verdict, unless_open, finished_verdict}
+use Rattle.spec_keys.proofs.Terms.{is_hosted, is_cut, PortName, Host, Device, Pr, Operation, seal_touches, is_same_side}
+use Rattle.spec_keys.proofs.Terms.{is_same_sub, Loaded, begun_with_draw, if_secure, is_live_sender, Npr, Cpl, Lost}
+use Rattle.spec_keys.proofs.Terms.{length, list_any, Clear, Side, key_place_at, is_local, is_between_devices}
 use Rattle.ide_types.specs.declared.status.StreamStatus.TheVariants as status
 unfoldable use Rattle.spec_keys.proofs.Terms.{keys, manager, moments, key_due, failed_there}
 use Rattle.spec_keys.proofs.Shapes.{Shape, Bare, Waiting, Alone, Following, Both, keys_of, IsAt, marks, Marks}
-unfoldable use Rattle.spec_keys.proofs.Shapes.{used}
+unfoldable use Rattle.spec_keys.proofs.Shapes.{draws_used}
 use Rattle.spec_keys.proofs.Stages.{Rising, Full}
 use Rattle.spec_keys.proofs.Fits.{Fits, FitsAt, StopLeaves}
 use Rattle.law_verdicts.proofs.{secure_parts}
-use Rattle.spec_keys.proofs.Terms.{is_between_devices}
 use Rattle.spec_keys.proofs.Whole.{elsewhere, fits, not_cut}
 use Rattle.spec_keys.proofs.Owners.{same_place}
 use Rattle.spec_keys.proofs.Tests.{same-true}
@@ -61,22 +55,22 @@ unfolding keys
 go_other true j ts = refl
 go_other false j ts = refl
 
-programs_used : (set : Bool) (j : ℕ) (ts : List Touch) → (used (Program set j ∷ ts) ≡ used ts)
-    × (used (Go set j ∷ ts) ≡ used ts)
-unfolding used
+programs_used : (set : Bool) (j : ℕ) (ts : List Touch) → (draws_used (Program set j ∷ ts) ≡ draws_used ts)
+    × (draws_used (Go set j ∷ ts) ≡ draws_used ts)
+unfolding draws_used
 programs_used set j ts = (refl, refl)
 
 -- the draw is On in this set, or a greater one, or it itself, was used
 abbrev pub IsOnOr : ℕ → Bool → List Touch → Type 0
-IsOnOr draw set ts = (on_in (key_in (keys false ts) set) ≡ Some draw) ⊎ (draw < used ts)
+IsOnOr draw set ts = (on_in (key_in (keys false ts) set) ≡ Some draw) ⊎ (draw < draws_used ts)
 
 same_on : (draw : ℕ) (set : Bool) (ts us : List Touch) → key_in (keys false us) set ≡ key_in (keys false ts) set
-    → used us ≡ used ts → IsOnOr draw set ts → IsOnOr draw set us
+    → draws_used us ≡ draws_used ts → IsOnOr draw set ts → IsOnOr draw set us
 same_on draw set ts us keys_same used_same (inl on) = inl (ap on_in keys_same ∙ on)
 same_on draw set ts us keys_same used_same (inr less) = inr (omega (arith, used_same, less))
 
 refreshed_on : (draw : ℕ) (set a b : Bool) (j : ℕ) (ts : List Touch) → IsOnOr draw (not set) ts
-    → IsOnOr draw (not set) (touches_after ts (when a (Program set j) ++ when b (Go set j)))
+    → IsOnOr draw (not set) (touches_after ts (touches_if a (Program set j) ++ touches_if b (Go set j)))
 refreshed_on draw set false false j ts on = on
 refreshed_on draw set true false j ts on =
     same_on draw (not set) ts (Program set j ∷ ts) (program_other set j ts) (programs_used set j ts).0 on
@@ -90,7 +84,7 @@ refreshed_on draw set true true j ts on =
 -- ---- what an accepted unit leaves of it
 
 accepts_on : (draw : ℕ) (set : Bool) (i : ℕ) (ts : List Touch) → IsOnOr draw set ts → IsOnOr draw set (Accept i ∷ ts)
-unfolding keys used
+unfolding keys draws_used
 accepts_on draw set i ts on = elim (cases_Bool (nat_lt draw i)) [
   | inl less ↦ inr (grind (arith, nat_tests, less))
   | inr more ↦ elim on [
@@ -118,7 +112,7 @@ came_on draw set p (v.Accepted port unit effects) ts receives on =
     by (not p.sends && is_same_side p.side port.side && is_on_stream p port.line unit.stream
     && is_same_sub p.sub unit.sub)
   where
-    by : (b : Bool) → IsOnOr draw set (touches_after ts (when b (Accept unit.draw)))
+    by : (b : Bool) → IsOnOr draw set (touches_after ts (touches_if b (Accept unit.draw)))
     by true = accepts_on draw set unit.draw ts on
     by false = on
 came_on draw set p w ts receives on = on
@@ -135,8 +129,7 @@ Follows draw ts q = Unit {0}
 
 -- what leaves the state, the draw and the other key set leaves it so
 follows_on : (draw : ℕ) (ts us : List Touch) (q : StreamStage)
-    → ((set : Bool) → IsOnOr draw set ts → IsOnOr draw set us)
-    → Follows draw ts q → Follows draw us q
+    → ((set : Bool) → IsOnOr draw set ts → IsOnOr draw set us) → Follows draw ts q → Follows draw us q
 follows_on draw ts us Idle more is = tt
 follows_on draw ts us (Establishing j n) more is = is
 follows_on draw ts us (Up k j) more is = is
@@ -255,11 +248,11 @@ stays_standing hosted w is r within = rw is (by (last_exchange_of hosted op.Refr
     by n within = grind (arith, nat_tests, within)
 
 cut_means : (lost : Option Lost) (status : Option ℕ) (n draw : ℕ) (x : Verdict) (r : Reach)
-    → cut_at lost status n ≡ Some x → reach_of op.Refresh x ≡ Some r
-    → (r.acknowledged ≡ n) × (drawn_by x draw ≡ draw)
+    → cut_at lost status n ≡ Some x → reach_of op.Refresh x ≡ Some r → (r.acknowledged ≡ n) × (drawn_by x draw ≡ draw)
 cut_means lost status n draw x r is says = (grind (arith, is, says), grind (arith, is))
 
-done_is : (line stream : ℕ) (w : Work) → w.operation ≡ op.Refresh → done line stream w ≡ v.Refreshed line stream w.draw
+done_is : (line stream : ℕ) (w : Work) → w.operation ≡ op.Refresh → finished_verdict line stream w
+    ≡ v.Refreshed line stream w.draw
 done_is line stream w is = rw is refl
 
 some_reach : (a b : Reach) → Some a ≡ Some b → a ≡ b
@@ -359,12 +352,12 @@ same_if : (b : Bool) (n : ℕ) → n ≡ (if b then n else n)
 same_if true n = refl
 same_if false n = refl
 
-refreshed_draw : (h : History) (l s : ℕ) (loss : Option Loss) (w : Verdict) (link stream : ℕ)
-    → stream_draw ((event.Refresh l s loss, w) ∷ h) link stream
-    ≡ (if (l == link) && (s == stream) then drawn_by w (stream_draw h link stream) else stream_draw h link stream)
+refreshed_draw : (h : History) (l s : ℕ) (loss : Option Loss) (w : Verdict) (line stream : ℕ)
+    → stream_draw ((event.Refresh l s loss, w) ∷ h) line stream
+    ≡ (if (l == line) && (s == stream) then drawn_by w (stream_draw h line stream) else stream_draw h line stream)
 unfolding stream_draw
-refreshed_draw h l s loss (v.Refreshed a b j) link stream = refl
-refreshed_draw h l s loss w link stream = same_if ((l == link) && (s == stream)) (stream_draw h link stream)
+refreshed_draw h l s loss (v.Refreshed a b j) line stream = refl
+refreshed_draw h l s loss w line stream = same_if ((l == line) && (s == stream)) (stream_draw h line stream)
 
 -- on another stream nothing of it changes
 establish_elsewhere : (h : History) (l s : ℕ) (loss : Option Loss) (w : Verdict) (p : KeyPlace)
@@ -506,7 +499,7 @@ unfolding manager moments stream_draw
 reset_follows h l ends k p is = by (is_cut ends p.line) refl (is_between_devices p.line)
   where
     by : (b : Bool) → is_cut ends p.line ≡ b → (peer : Bool) → Follows (stream_draw h p.line p.stream)
-        (touches_after (moments h p) (when (if peer then list_any (λ e. is_same_side e.side p.side
+        (touches_after (moments h p) (touches_if (if peer then list_any (λ e. is_same_side e.side p.side
         && (e.line == p.line)) ends else b) Clear))
         (if b then (if peer then Stopping 1 else Idle) else op_of h p.line p.stream)
     by true cut true = tt
@@ -557,7 +550,7 @@ on_at_most draw true ks on = grind (arith, nat_tests, on)
 on_at_most draw false ks on = grind (arith, nat_tests, on)
 
 used_at_most : (draw : ℕ) (ts : List Touch) (sh : Shape) → IsAt false ts sh → keeps_live (keys_of sh) ≡ true
-    → draw < used ts → draw ≤ greatest_on (keys_of sh)
+    → draw < draws_used ts → draw ≤ greatest_on (keys_of sh)
 used_at_most draw ts Bare at live less = absurd (true≢false (sym live))
 used_at_most draw ts (Waiting true j) at live less = absurd (true≢false (sym live))
 used_at_most draw ts (Waiting false j) at live less = absurd (true≢false (sym live))
@@ -602,29 +595,29 @@ draw_most (Stopping n) top draw p ts sh at fit is live goes = absurd (true≢fal
 
 -- ---- Secure at the host's port
 
-live_first : (h : History) (side : Side) (link stream : ℕ) → is_secure (history_status h side link stream) ≡ true
-    → keeps_live (place_keys h (key_place_at side link stream false Pr)) ≡ true
-live_first h side link stream is =
-    let parts = secure_parts (failed_there h side link stream) (has_key (place_keys h) side link stream)
-    (has_all (place_keys h) side link stream) is in
-    (and_parts (keeps_live (place_keys h (key_place_at side link stream false Pr))) _ parts.1).0
+live_first : (h : History) (side : Side) (line stream : ℕ) → is_secure (history_status h side line stream) ≡ true
+    → keeps_live (place_keys h (key_place_at side line stream false Pr)) ≡ true
+live_first h side line stream is =
+    let parts = secure_parts (failed_there h side line stream) (has_key (place_keys h) side line stream)
+    (has_all (place_keys h) side line stream) is in
+    (and_parts (keeps_live (place_keys h (key_place_at side line stream false Pr))) _ parts.1).0
 
 -- in a stop a host's port has no key
-not_stopping : (plan : KeyPlan) (h : History) → KeyCauseLaw plan h → (link stream : ℕ) → is_hosted link ≡ true
-    → keeps_live (place_keys h (key_place_at Host link stream false Pr)) ≡ true
-    → is_stopping (op_of h link stream) ≡ false
-not_stopping plan h cause link stream hosted live =
-    by (op_of h link stream) (fits plan h cause (key_place_at Host link stream false Pr))
+not_stopping : (plan : KeyPlan) (h : History) → KeyCauseLaw plan h → (line stream : ℕ) → is_hosted line ≡ true
+    → keeps_live (place_keys h (key_place_at Host line stream false Pr)) ≡ true
+    → is_stopping (op_of h line stream) ≡ false
+not_stopping plan h cause line stream hosted live =
+    by (op_of h line stream) (fits plan h cause (key_place_at Host line stream false Pr))
   where
     p : KeyPlace
-    p = key_place_at Host link stream false Pr
+    p = key_place_at Host line stream false Pr
 
     bare : (a n : ℕ) (local : Bool) (sh : Shape) → local ≡ true → StopLeaves local a n sh → sh ≡ Bare
-    bare a n true sh is halts = halts
-    bare a n false sh is halts = absurd (true≢false (sym is))
+    bare a n true sh is stopped_there = stopped_there
+    bare a n false sh is stopped_there = absurd (true≢false (sym is))
 
-    by : (q : StreamStage) → FitsAt q (draws h) (key_place_at Host link stream false Pr)
-        (moments h (key_place_at Host link stream false Pr)) → is_stopping q ≡ false
+    by : (q : StreamStage) → FitsAt q (draws h) (key_place_at Host line stream false Pr)
+        (moments h (key_place_at Host line stream false Pr)) → is_stopping q ≡ false
     by (Stopping n) at =
         let none = bare _ n (is_local p) at.shape hosted at.fits.1 in
         absurd (true≢false (sym live ∙ ap keeps_live (at.is.are ∙ ap keys_of none)))

@@ -3,8 +3,7 @@
 use Rattle.law_sealing.proofs.Terms.{◌≡◌, ℕ, ◌≤◌, ◌==◌, ◌&&◌, zero, suc, Bool, true, false, List, [], ◌∷◌, length}
 use Rattle.law_sealing.proofs.Terms.{slice_get, take, drop, Option, Some, None, Result, Ok, Err, refl, ap, sym, subst}
 use Rattle.law_sealing.proofs.Terms.{◌∙◌, arith, nat_tests, if◌then◌else◌, cases_Bool, eqb-true, inl, inr, Plan}
-use Rattle.law_sealing.proofs.Terms.{History}
-use Rattle.law_sealing.proofs.Terms.{Event, Accepted, UnitName, Effect, Packet, PortName, is_sync_packet}
+use Rattle.law_sealing.proofs.Terms.{History, Event, Accepted, UnitName, Effect, Packet, PortName, is_sync_packet}
 use Rattle.law_sealing.proofs.Terms.{same_port, is_same_port, nat_lt}
 unfoldable use Rattle.law_sealing.proofs.Terms.{due}
 use Rattle.std.proofs.lemmas.Bool.{and_parts}
@@ -26,13 +25,12 @@ use Rattle.guarded_memory.specs.Causes.{floor_cause, mmio_cause, cause_effect, c
 use Rattle.guarded_memory.proofs.Claimed.{claimed}
 use Rattle.spec_interfaces.specs.Sites.{Site, site_at}
 use Rattle.spec_interfaces.specs.Devices.{runs_at, interface_at}
-use Rattle.spec_interfaces.specs.Floors.{place_of, history_standings, device_standing, device_floor}
+use Rattle.spec_interfaces.specs.Floors.{place_of, history_statuses, device_status, device_floor}
 use Rattle.spec_interfaces.proofs.Floors.{standing_placed}
 use Rattle.spec_interfaces.proofs.OnLinks.{number_on_link}
 use Rattle.spec_links.specs.Ports.{at_switch, port_of}
-use Rattle.spec_links.specs.Admission.{switch_effect, effects_by}
-use Rattle.spec_links.specs.Memory.{Policy, policy_at, device_effect, effect_by, unit_ended}
-use Rattle.spec_links.specs.Memory.{plain_of}
+use Rattle.spec_links.specs.Admission.{switch_effect, effects_under_policy}
+use Rattle.spec_links.specs.Memory.{Policy, policy_at, device_effect, effect_by, unit_ended, plain_of}
 use Rattle.law_verdicts.specs.{claimed_write, if_claims, if_stored, unit_stored_writes, stores, write_read}
 use Rattle.law_verdicts.proofs.{effect_at, effects_there, of_effect, run_state, some_is}
 use Rattle.link_verdicts.specs.declared.verdict.BlockCause.{BlockCause}
@@ -189,19 +187,19 @@ pub record IsTaken (plan : Plan) (h : History) (x : Site) (end : PortName) (unit
 taken_there : (plan : Plan) (h : History) (e : Event) (end : PortName) (unit : UnitName) (effects : List Effect)
     (x : Site) (bar n : ℕ) (w : Write) (p : Packet) → Accepted end unit effects ≡ due plan h e
     → site_at plan x.number ≡ Some x → port_of plan end ≡ device_port x.link
-    → slice_get (unit_stored_writes (history_standings plan h x.link) (place_of plan x) bar
+    → slice_get (unit_stored_writes (history_statuses plan h x.link) (place_of plan x) bar
     (plain_of plan end unit (unit_ended plan h e end unit)) effects (unit_ended plan h e end unit)) n ≡ Some (Some w)
     → slice_get (unit_ended plan h e end unit) n ≡ Some p → p.prefix.t ≡ true → IsTaken plan h x end unit p
 taken_there plan h e end unit effects x bar n w p is known at stored stands trusted =
     let ps = unit_ended plan h e end unit in
-    let xs = history_standings plan h x.link in
+    let xs = history_statuses plan h x.link in
     let listed = listed_at xs (place_of plan x) bar (plain_of plan end unit ps) effects ps n p w stored stands in
-    let are = subst (λ (q : PortName). effects ≡ effects_by plan (policy_at plan h) q unit ps) at
+    let are = subst (λ (q : PortName). effects ≡ effects_under_policy plan (policy_at plan h) q unit ps) at
     (effects_there plan h e end unit effects is) in
     let policy = policy_at plan h in
     let one = effect_at plan policy (policy.waiting x.link) (device_port x.link) unit ps n p effect.Stored
     (ap (λ (es : List Effect). slice_get es n) (sym are) ∙ listed.effect_is) stands in
-    let by = read_stored xs (place_of plan x) bar unit listed.payload w (device_standing plan h x) p trusted
+    let by = read_stored xs (place_of plan x) bar unit listed.payload w (device_status plan h x) p trusted
     (standing_placed plan h x.number x known) (read_head_of p.head) refl
     (at_device plan policy one.0 x.link unit p (no_switch plan x known) one.1) listed.claims in
     record {
@@ -218,8 +216,7 @@ taken_there plan h e end unit effects x bar n w p is known at stored stands trus
 
 pub is_taken : (plan : Plan) (h : History) (e : Event) (end : PortName) (unit : UnitName) (effects : List Effect)
     (x : Site) (bar n : ℕ) (w : Write) (p : Packet) → Accepted end unit effects ≡ due plan h e
-    → site_at plan x.number ≡ Some x
-    → slice_get (stores plan h e (Accepted end unit effects) x bar) n ≡ Some (Some w)
+    → site_at plan x.number ≡ Some x → slice_get (stores plan h e (Accepted end unit effects) x bar) n ≡ Some (Some w)
     → slice_get (unit_ended plan h e end unit) n ≡ Some p → p.prefix.t ≡ true → IsTaken plan h x end unit p
 is_taken plan h e end unit effects x bar n w p is known stored stands trusted =
     elim (cases_Bool (is_same_port (port_of plan end) (device_port x.link))) [

@@ -3,13 +3,12 @@ use Rattle.std.specs.Prelude.{◌≡◌, ◌≢◌, ◌+◌, ◌∷◌, ℕ, Boo
 use Rattle.ide_types.specs.Ports.{device_port}
 use Rattle.tlp_layout.specs.declared.tlp.Tlp.{Tlp}
 use Rattle.spec_links.specs.Terms.{PortName, Plan, Event, Send, Effect, UnitName, Verdict, Accepted, Sealed}
-use Rattle.spec_links.specs.Terms.{SealedPacket}
-use Rattle.spec_links.specs.Terms.{History, header, body, read_of, owner_of, Write, memory_write}
+use Rattle.spec_links.specs.Terms.{SealedPacket, History, header, body, read_of, owner_id, Write, memory_write}
 use Rattle.spec_links.specs.Memory.{accepted_unit_writes}
 use Rattle.trusted_memory.specs.Spans.{enables}
 use Rattle.trusted_memory.specs.Writes.{payload_byte}
 use Rattle.spec_interfaces.specs.Sites.{Site, site_at}
-use Rattle.spec_interfaces.specs.Devices.{runs_at, locks_at}
+use Rattle.spec_interfaces.specs.Devices.{runs_at, locks_accepted}
 use Rattle.law_verdicts.specs.{CameFrom}
 use Rattle.link_events.specs.declared.event.Event.TheVariants as event
 use Rattle.link_events.specs.declared.event.InterfaceEvent.TheVariants as ie
@@ -28,9 +27,9 @@ pub record WasSent (plan : Plan) (h : History) (x : Site) (write : Write) : Type
   pub tlp : Tlp
   pub reads : read_of bytes ≡ Ok tlp
   pub is_write : memory_write (header tlp) (body tlp) ≡ Some write
-  pub requester : owner_of (header tlp) ≡ Some x.plan.requester
+  pub requester : owner_id (header tlp) ≡ Some x.plan.requester
   pub runs : runs_at plan older x ≡ true
-  pub same_lock : locks_at plan older x ≡ locks_at plan h x
+  pub same_lock : locks_accepted plan older x ≡ locks_accepted plan h x
 
 -- The byte at an address is that of a write which a pair of the history admitted, at the host's port of the link, and
 -- which an interface of the link had sent in the RUN that it was in then.

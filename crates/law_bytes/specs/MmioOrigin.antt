@@ -6,9 +6,9 @@ use Rattle.spec_links.specs.Terms.{Packet, History, Write}
 use Rattle.spec_links.specs.Plan.{SubStream}
 use Rattle.spec_links.specs.History.{sealed_packets, accepted_packets, received_in}
 use Rattle.spec_links.specs.Memory.{unit_ended}
-use Rattle.spec_links.specs.Ordered.{StandsAt}
+use Rattle.spec_links.specs.Ordered.{IsPacketAtPlace}
 use Rattle.spec_interfaces.specs.Sites.{Site, site_at}
-use Rattle.spec_interfaces.specs.Devices.{runs_at, locks_at, is_bound_at}
+use Rattle.spec_interfaces.specs.Devices.{runs_at, is_bound_at}
 use Rattle.law_verdicts.specs.{CameFrom, IsBoundPacket, stores}
 use Rattle.law_bytes.specs.NoOtherRun.{IsInNoOtherRun}
 
@@ -16,7 +16,7 @@ use Rattle.law_bytes.specs.NoOtherRun.{IsInNoOtherRun}
 -- host's port of the interface's link, and since before that send the interface was in no other RUN than now.
 pub record WasAsked (plan : Plan) (h : History) (x : Site) (s : SubStream) (j m : ℕ) (p : Packet) : Type 0 where
   pub place : ℕ
-  pub stands : StandsAt (sealed_packets plan h) s j m place
+  pub stands : IsPacketAtPlace (sealed_packets plan h) s j m place
   pub same : stands.sealed.1 ≡ p
   pub bytes : List ℕ
   pub more : Bool

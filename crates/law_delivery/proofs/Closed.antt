@@ -5,15 +5,14 @@
 use Rattle.law_sealing.proofs.Terms.{◌≡◌, ℕ, suc, ◌<◌, ◌≤◌, ◌==◌, ◌&&◌, Bool, true, List, [], ◌∷◌, ◌++◌, length, take}
 use Rattle.law_sealing.proofs.Terms.{slice_get, Some, refl, ap, sym, ◌∙◌, subst, arith, length-append, inl, inr, ◌⊎◌}
 use Rattle.law_sealing.proofs.Terms.{if◌then◌else◌, AllByRecursion, and_parts, both_ways, cases_Bool, eqb-true}
-use Rattle.law_sealing.proofs.Terms.{nat_tests, append-nil, take_all}
-use Rattle.law_sealing.proofs.Terms.{PortName, Event, Verdict, Accepted, UnitName, Effect, Packet, Plan, SubStream}
-use Rattle.law_sealing.proofs.Terms.{is_same, is_closed, units, open_unit, is_of, is_under, sealed_packets, sent}
-use Rattle.law_sealing.proofs.Terms.{received_in, arrived_packet, packets_in_hold, accepted_packets, units_got}
-use Rattle.law_sealing.proofs.Terms.{draws_got, total_in, ahead_of_unit}
-use Rattle.law_sealing.proofs.Terms.{ahead_sent, ahead_due, units_since, History, base, CauseLaw, DrawFacts}
-use Rattle.law_sealing.proofs.Terms.{StreamsFit, NoForgery, NotForged, ClosedLaw, TotalsFit, same_stream, eqb-refl}
-use Rattle.law_sealing.proofs.Terms.{joined, joined_units, ending, AcceptedBy, WasSealed, accepted_by, received_there}
-use Rattle.law_sealing.proofs.Terms.{numbered}
+use Rattle.law_sealing.proofs.Terms.{nat_tests, append-nil, take_all, PortName, Event, Verdict, Accepted, UnitName}
+use Rattle.law_sealing.proofs.Terms.{Effect, Packet, Plan, SubStream, is_same, is_closed, units, open_unit}
+use Rattle.law_sealing.proofs.Terms.{is_received_under, is_sealed_under, sealed_packets, sent_packets, received_in}
+use Rattle.law_sealing.proofs.Terms.{arrived_packet, packets_in_hold, accepted_packets, units_got, draws_got, total_in}
+use Rattle.law_sealing.proofs.Terms.{ahead_of_unit, ahead_sent, ahead_due, units_since, History, base, CauseLaw}
+use Rattle.law_sealing.proofs.Terms.{DrawFacts, StreamsFit, NoForgery, NotForged, ClosedLaw, TotalsFit, same_stream}
+use Rattle.law_sealing.proofs.Terms.{eqb-refl, packets_of_units, joined_units, unit_ending, AcceptedBy, WasSealed}
+use Rattle.law_sealing.proofs.Terms.{accepted_by, received_there, numbered}
 use Rattle.std.specs.Int.{w64, to_be_bytes, from_be_bytes}
 use Rattle.std.proofs.lemmas.Nat.{from_be_bytes-to_be_bytes_8}
 use Rattle.law_delivery.proofs.Orders.{NoneAbove, below_next, on_there, none_above, from_base}
@@ -39,7 +38,7 @@ unfolding units_got draws_got
 got_drawn P [] s j all = inl refl
 got_drawn P ((e, Accepted port unit effects) ∷ h) s j all =
     let parts = first_and_rest P (is_same (received_in port unit) s) unit.draw (draws_got h s) all in
-    elim (cases_Bool (is_of s j port unit)) [
+    elim (cases_Bool (is_received_under s j port unit)) [
       | inl is ↦
           let tests = and_parts (is_same (received_in port unit) s) (unit.draw == j) is in
           inr (subst P (eqb-true unit.draw j tests.1) (parts.0 tests.0))
@@ -94,18 +93,18 @@ front_total plan s a b closed a_fits b_fits same =
 
 -- all was got of the smaller draws from Base on
 abbrev pub Older : Plan → History → SubStream → ℕ → Type 0
-Older plan h s j = (i : ℕ) → base h s.line s.stream ≤ i → i < j → accepted_packets plan h s i ≡ sent plan h s i
+Older plan h s j = (i : ℕ) → base h s.line s.stream ≤ i → i < j → accepted_packets plan h s i ≡ sent_packets plan h s i
 
 all_units_got : (plan : Plan) → StreamsFit plan → DrawFacts plan → (h : History) → CauseLaw plan h → NoForgery plan h
-    → (s : SubStream) (i : ℕ) → units_got h s i ≡ length (units (sent plan h s i)) → open_unit (sent plan h s i) ≡ []
-    → accepted_packets plan h s i ≡ sent plan h s i
+    → (s : SubStream) (i : ℕ) → units_got h s i ≡ length (units (sent_packets plan h s i))
+    → open_unit (sent_packets plan h s i) ≡ [] → accepted_packets plan h s i ≡ sent_packets plan h s i
 all_units_got plan fits facts h cause forged s i count none =
     let are = all_first plan fits facts h cause forged s i in
-    let us = units (sent plan h s i) in
+    let us = units (sent_packets plan h s i) in
     let whole : take (units_got h s i) us ≡ us = take_all (units_got h s i) us (omega (arith, count)) in
-    are.first ∙ (ap joined whole ∙
-    (sym (append-nil (joined us)) ∙
-    (ap (λ (ps : List Packet). joined us ++ ps) (sym none) ∙ joined_units (sent plan h s i))))
+    are.first ∙ (ap packets_of_units whole ∙
+    (sym (append-nil (packets_of_units us)) ∙
+    (ap (λ (ps : List Packet). packets_of_units us ++ ps) (sym none) ∙ joined_units (sent_packets plan h s i))))
 
 some_sent : (ps : List Packet) (k : ℕ) (u : List Packet) → slice_get (units ps) k ≡ Some u → 1 ≤ length ps
 unfolding units
@@ -115,8 +114,7 @@ some_sent (p ∷ ps) k u is = omega arith
 older_later : (plan : Plan) → DrawFacts plan → (h : History) (e : Event) (w : Verdict) → CauseLaw plan ((e, w) ∷ h)
     → (s : SubStream) (k : ℕ)
     → IsSealedIn plan h s k → ((i : ℕ) → i < k → accepted_packets plan ((e, w) ∷ h) s i ≡ accepted_packets plan h s i)
-    → Older plan h s k
-    → Older plan ((e, w) ∷ h) s k
+    → Older plan h s k → Older plan ((e, w) ∷ h) s k
 older_later plan facts h e w law s k x stays older i up less =
     let same = base_kept plan facts h e w law s k (sealed_later plan h e w s k x) (omega (arith, up, less)) in
     stays i less ∙ (older i (omega (arith, up, same)) less ∙ sym (sent_kept plan facts h e w law s i k x less))
@@ -145,14 +143,15 @@ module _
   abbrev by : AcceptedBy plan h e port unit effects
   by = accepted_by plan h e port unit effects cause.0
 
-  abbrev was : WasSealed plan h port (ending by.packet unit)
-  was = forged_here (record { port = port; bytes = by.came.bytes }) (ending by.packet unit) by.came.arrival by.before
+  abbrev was : WasSealed plan h port (unit_ending by.packet unit)
+  was = forged_here (record { port = port; bytes = by.came.bytes }) (unit_ending by.packet unit) by.came.arrival
+      by.before
       by.verified
 
   -- the draw of the unit was sealed
   accepted_sealed : IsSealedIn plan h r unit.draw
   accepted_sealed = (first_sealed plan h r unit.draw
-      (some_sent (sent plan h r unit.draw) was.place was.unit was.finished)).0
+      (some_sent (sent_packets plan h r unit.draw) was.place was.unit was.finished)).0
 
   -- at the first unit of its draw
   first_of_draw : is_closed plan port.line unit.stream ≡ true → units_got h r unit.draw ≡ 0 → Older plan h r unit.draw
@@ -178,10 +177,10 @@ module _
       less in
       let p = by.packet in
       let there = received_there plan h port p unit by.passed in
-      let under = subst (λ (t : SubStream). is_under t j x.sealed ≡ true) there x.under in
+      let under = subst (λ (t : SubStream). is_sealed_under t j x.sealed ≡ true) there x.under in
       let up_there = subst (λ (t : SubStream). base h t.line t.stream ≤ i) there up in
       let on = on_there plan h e port unit effects by in
-      let none : open_unit (sent plan h r i) ≡ [] =
+      let none : open_unit (sent_packets plan h r i) ≡ [] =
       rw there (facts.ended h cause.1 port p.prefix.stream p.prefix.sub p.prefix.k j i x.place x.sealed on x.stands
       under up_there less) in
       all_units_got plan fits facts h cause.1 forged r i count none

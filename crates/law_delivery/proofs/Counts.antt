@@ -18,12 +18,11 @@ use Rattle.spec_keys.specs.History.{History, manager, draws, base, begun_of_draw
 use Rattle.spec_keys.proofs.Owners.{begun_below, after_longer}
 use Rattle.spec_links.specs.Plan.{SubStream, is_same}
 use Rattle.spec_links.specs.History.{port_keys, arrived_packet, received_in, packets_in_hold, pending_packets}
-use Rattle.spec_links.specs.History.{got_since, posted_of}
-use Rattle.spec_links.specs.History.{meets_counts}
-use Rattle.spec_links.specs.Due.{due, ended}
+use Rattle.spec_links.specs.History.{got_since, posted_lane, meets_counts}
+use Rattle.spec_links.specs.Due.{due, unit_packets_ended}
 use Rattle.spec_links.specs.Cause.{CauseLaw}
 use Rattle.spec_links.proofs.Tests.{same_stream}
-use Rattle.spec_links.proofs.Causes.{AcceptedBy, accepted_by, ending, packet_that_came, numbered}
+use Rattle.spec_links.proofs.Causes.{AcceptedBy, accepted_by, unit_ending, packet_that_came, numbered}
 use Rattle.law_sealing.proofs.{accepted_on, on_is_owned}
 use Rattle.law_delivery.specs.PostedCounts.{CountsMet, CountLaw, CountLawHolds}
 
@@ -32,11 +31,11 @@ posted_sum ps = sum_by (λ (p : Packet). p.prefix.posted) ps
 
 -- the counts of a sub-stream, of draws from this one on, sum to no more than the posted packets of such draws
 abbrev IsMet : Plan → History → SubStream → ℕ → Type 0
-IsMet plan h s from = posted_sum (got_since plan h s from) ≤ length (got_since plan h (posted_of s) from)
+IsMet plan h s from = posted_sum (got_since plan h s from) ≤ length (got_since plan h (posted_lane s) from)
 
 -- the packets that an accepted unit adds to its sub-stream
-abbrev added : Plan → History → Event → SubStream → UnitName → List Packet
-added plan h e s unit = packets_in_hold plan h s unit.draw unit.unit ++ arrived_packet plan h e ∷ []
+abbrev packets_added : Plan → History → Event → SubStream → UnitName → List Packet
+packets_added plan h e s unit = packets_in_hold plan h s unit.draw unit.unit ++ arrived_packet plan h e ∷ []
 
 -- ---- of draws that were not made nothing was got
 
@@ -77,17 +76,17 @@ none_from plan ((e, w) ∷ h) cause s from below =
 -- ---- one more pair
 
 -- Base stays, or is the next draw
-base_moves : (h : History) (e : Event) (w : Verdict) (link stream : ℕ)
-    → (base ((e, w) ∷ h) link stream ≡ base h link stream) ⊎ (base ((e, w) ∷ h) link stream ≡ draws h)
+base_moves : (h : History) (e : Event) (w : Verdict) (line stream : ℕ)
+    → (base ((e, w) ∷ h) line stream ≡ base h line stream) ⊎ (base ((e, w) ∷ h) line stream ≡ draws h)
 unfolding base
-base_moves h (Establish l t loss) w link stream = grind arith
-base_moves h e w link stream = inl refl
+base_moves h (Establish l t loss) w line stream = grind arith
+base_moves h e w line stream = inl refl
 
 -- what the verdict that accepts a unit has tested
 abbrev IsMetWith : Plan → History → SubStream → List Packet → Type 0
 IsMetWith plan h s unit =
     posted_sum (got_since plan h s (base h s.line s.stream) ++ unit) ≤ length
-    (got_since plan h (posted_of s) (base h s.line s.stream))
+    (got_since plan h (posted_lane s) (base h s.line s.stream))
 
 tested : (plan : Plan) (h : History) (s : SubStream) (unit : List Packet) → sub_bits s.sub ≢ 0
     → meets_counts plan h s unit ≡ true → IsMetWith plan h s unit
@@ -96,7 +95,7 @@ tested plan h s unit other met = grind (arith, nat_tests, met, other)
 
 added_is : (plan : Plan) (h : History) (e : Event) (port : PortName) (unit : UnitName) (effects : List Effect)
     → (by : AcceptedBy plan h e port unit effects)
-    → added plan h e (received_in port unit) unit ≡ ended plan h port (ending by.packet unit)
+    → packets_added plan h e (received_in port unit) unit ≡ unit_packets_ended plan h port (unit_ending by.packet unit)
 added_is plan h e port unit effects by =
     let s = received_in port unit in
     ap (λ (n : ℕ). packets_in_hold plan h s unit.draw n ++ arrived_packet plan h e ∷ [])
@@ -105,11 +104,11 @@ added_is plan h e port unit effects by =
     (packet_that_came plan h e port by.packet by.came)
 
 with_unit : (plan : Plan) (h : History) (e : Event) (port : PortName) (unit : UnitName) (effects : List Effect)
-    → Accepted port unit effects ≡ due plan h e
-    → (s : SubStream) → sub_bits s.sub ≢ 0 → received_in port unit ≡ s → IsMetWith plan h s (added plan h e s unit)
+    → Accepted port unit effects ≡ due plan h e → (s : SubStream) → sub_bits s.sub ≢ 0 → received_in port unit ≡ s
+    → IsMetWith plan h s (packets_added plan h e s unit)
 with_unit plan h e port unit effects is s other same =
     let by = accepted_by plan h e port unit effects is in
-    subst (λ (t : SubStream). sub_bits t.sub ≢ 0 → IsMetWith plan h t (added plan h e t unit)) same
+    subst (λ (t : SubStream). sub_bits t.sub ≢ 0 → IsMetWith plan h t (packets_added plan h e t unit)) same
     (λ other. rw (added_is plan h e port unit effects by) (tested plan h (received_in port unit) _ other by.counts))
     other
 
@@ -126,8 +125,8 @@ kept plan h e (Accepted port unit effects) is s other before =
       nat_tests,
       sum,
       before,
-      length-append (got_since plan h (posted_of s) from)
-          (added plan h e (posted_of s) unit),
+      length-append (got_since plan h (posted_lane s) from)
+          (packets_added plan h e (posted_lane s) unit),
     )
 kept plan h e w is s other before = before
 

@@ -2,27 +2,22 @@
 -- on the history: a packet joins the open unit, and its payload comes back since it was masked at its place in the
 -- unit's plaintext, and masking twice changes nothing. What was got, opened, is what was delivered; and what was got is
 -- finished units that begin what was sealed.
-use Rattle.law_sealing.proofs.Terms.{◌≡◌, ◌≤◌, ℕ, suc, ◌+◌, true, false, List, [], ◌∷◌, ◌++◌, length, drop, Ok}
-use Rattle.law_sealing.proofs.Terms.{Option, refl, ap, sym, ◌∙◌, subst, arith, append_assoc, length-append}
-use Rattle.law_sealing.proofs.Terms.{length-drop, inl, inr, if◌then◌else◌, ◌==◌, map, filter, slice_index, and_parts}
-use Rattle.law_sealing.proofs.Terms.{cases_Bool, eqb-true, append-nil, drop-append-le, take-append-le, take_all}
-use Rattle.law_sealing.proofs.Terms.{flat_map-append, SubKind, PortName, Plan, SubStream, is_same, key_of, units}
-use Rattle.law_sealing.proofs.Terms.{units_after, open_unit, History, base, is_under, ahead_of_packet, SealedList}
-use Rattle.law_sealing.proofs.Terms.{KeyName}
-use Rattle.law_sealing.proofs.Terms.{with_sealed, sealed_packets, sent, sub_stream_packets, sub_stream_of, packet_of}
-use Rattle.law_sealing.proofs.Terms.{arrived_packet, received_in, is_of, packets_in_hold, accepted_packets, units_got}
-use Rattle.law_sealing.proofs.Terms.{CauseLaw, NoForgery}
-use Rattle.law_sealing.proofs.Terms.{IsPrefixOf, units-append, units-end, units-more, open_unit-end, open_unit-more}
-use Rattle.law_sealing.proofs.Terms.{accepted_by, packet_that_came, numbered, DrawFacts, same_stream}
-use Rattle.law_sealing.proofs.Terms.{sub_stream_packets-snoc}
-use Rattle.law_sealing.proofs.Terms.{sealing_is, StreamsFit, Sealed, Accepted, SealedPacket, Tlp, header, body}
-use Rattle.law_sealing.proofs.Terms.{read_of, read_spells_tlp, Packet, is_sync_packet, begins_sync, iv_of}
-use Rattle.law_sealing.proofs.Terms.{encrypted_bytes}
-use Rattle.law_sealing.proofs.Terms.{masked_bytes, open_of, length-masked_bytes, length-open_of}
-use Rattle.law_sealing.proofs.Terms.{masked_bytes-masked_bytes, masked_bytes-append}
-use Rattle.law_sealing.proofs.Terms.{SpellsHead, head_bytes, class_of, layout_of, not_sync, lane_is, sent_bytes}
-use Rattle.law_sealing.proofs.Terms.{sending_port}
-use Rattle.spec_links.specs.Delivered.{carries_tlp_of, tlps_sent, tlps_got, opened_tlps, with_payloads, DeliveryLaw}
+use Rattle.law_sealing.proofs.Terms.{◌≡◌, ◌≤◌, ℕ, suc, ◌+◌, true, false, List, [], ◌∷◌, ◌++◌, length, drop, Ok, Option}
+use Rattle.law_sealing.proofs.Terms.{refl, ap, sym, ◌∙◌, subst, arith, append_assoc, length-append, length-drop, inl}
+use Rattle.law_sealing.proofs.Terms.{inr, if◌then◌else◌, ◌==◌, map, filter, slice_index, and_parts, cases_Bool}
+use Rattle.law_sealing.proofs.Terms.{eqb-true, append-nil, drop-append-le, take-append-le, take_all, flat_map-append}
+use Rattle.law_sealing.proofs.Terms.{SubKind, PortName, Plan, SubStream, is_same, key_of, units, units_after, open_unit}
+use Rattle.law_sealing.proofs.Terms.{History, base, is_sealed_under, ahead_of_packet, SealedList, KeyName, with_sealed}
+use Rattle.law_sealing.proofs.Terms.{sealed_packets, sent_packets, sub_stream_packets, sub_stream_of, packet_of}
+use Rattle.law_sealing.proofs.Terms.{arrived_packet, received_in, is_received_under, packets_in_hold, accepted_packets}
+use Rattle.law_sealing.proofs.Terms.{units_got, CauseLaw, NoForgery, IsPrefixOf, units-append, units-end, units-more}
+use Rattle.law_sealing.proofs.Terms.{open_unit-end, open_unit-more, accepted_by, packet_that_came, numbered, DrawFacts}
+use Rattle.law_sealing.proofs.Terms.{same_stream, sub_stream_packets-snoc, sealing_is, StreamsFit, Sealed, Accepted}
+use Rattle.law_sealing.proofs.Terms.{SealedPacket, Tlp, header, body, read_of, read_spells_tlp, Packet, is_sync_packet}
+use Rattle.law_sealing.proofs.Terms.{begins_sync, iv_of, encrypted_bytes, masked_bytes, open_of, length-masked_bytes}
+use Rattle.law_sealing.proofs.Terms.{length-open_of, masked_bytes-masked_bytes, masked_bytes-append, SpellsHead}
+use Rattle.law_sealing.proofs.Terms.{head_bytes, class_of, layout_of, not_sync, lane_is, sent_bytes, sending_port}
+use Rattle.spec_links.specs.Delivered.{is_tlp_under_draw, tlps_sent, tlps_got, opened_tlps, with_payloads, DeliveryLaw}
 use Rattle.law_delivery.proofs.Received.{held_front}
 use Rattle.tlp_layout.specs.declared.head.HeadView.{HeadView}
 use Rattle.tlp_layout.proofs.Heads.{IsRight, kept}
@@ -145,13 +140,12 @@ carries_tlp plan ahead bytes d unfinished t reads class is_sync = elim (cases_Bo
 opened_more : (plan : Plan) (xs : SealedList) (s : SubStream) (j : ℕ) (d : SealedPacket) (ahead bytes : List ℕ)
     (t : Tlp) → read_of bytes ≡ Ok t → (d.sync ≡ false → class_of (header t) ≡ d.sub) → (d.sync ≡ true → IsSyncOf d)
     → d.unit ≡ length (units (sub_stream_packets xs (sub_stream_of d) d.draw)) + 1 → (before : List (List ℕ))
-    → opened_all plan s j (sub_stream_packets xs s j) ≡ before
-    → opened_all plan s j
+    → opened_all plan s j (sub_stream_packets xs s j) ≡ before → opened_all plan s j
     (sub_stream_packets (xs ++
     (d, packet_of plan ahead bytes d (open_unit (sub_stream_packets xs (sub_stream_of d) d.draw))) ∷ []) s j)
-    ≡ before ++ map (λ (d : SealedPacket). bytes) (filter (carries_tlp_of s j) (d ∷ []))
+    ≡ before ++ map (λ (d : SealedPacket). bytes) (filter (is_tlp_under_draw s j) (d ∷ []))
 opened_more plan xs s j d ahead bytes t reads class is_sync unit before same =
-    ap (opened_all plan s j) (sub_stream_packets-snoc xs (d, p) s j) ∙ elim (cases_Bool (is_under s j (d, p))) [
+    ap (opened_all plan s j) (sub_stream_packets-snoc xs (d, p) s j) ∙ elim (cases_Bool (is_sealed_under s j (d, p))) [
       | inl here ↦ let names = in_parts s j (d, p) here in rw here
           (joins names.2 names.1 ∙ ap (λ later. before ++ later) (grind (arith, here)))
       | inr off ↦ rw off (same ∙ (sym (append-nil before) ∙ ap (λ later. before ++ later) (grind (arith, off))))
@@ -186,9 +180,9 @@ opened_more plan xs s j d ahead bytes t reads class is_sync unit before same =
 
 -- those of one send
 carried-cons : (s : SubStream) (j : ℕ) (bytes : List ℕ) (d : SealedPacket) (ds : List SealedPacket)
-    → map (λ (d : SealedPacket). bytes) (filter (carries_tlp_of s j) (d ∷ []))
-    ++ map (λ (d : SealedPacket). bytes) (filter (carries_tlp_of s j) ds)
-    ≡ map (λ (d : SealedPacket). bytes) (filter (carries_tlp_of s j) (d ∷ ds))
+    → map (λ (d : SealedPacket). bytes) (filter (is_tlp_under_draw s j) (d ∷ []))
+    ++ map (λ (d : SealedPacket). bytes) (filter (is_tlp_under_draw s j) ds)
+    ≡ map (λ (d : SealedPacket). bytes) (filter (is_tlp_under_draw s j) (d ∷ ds))
 carried-cons s j bytes d ds = grind arith
 
 opened_by : (plan : Plan) (port : PortName) (stream : ℕ) (live : SubKind → Option KeyName) (from : ℕ) (class : SubKind)
@@ -196,7 +190,7 @@ opened_by : (plan : Plan) (port : PortName) (stream : ℕ) (live : SubKind → O
     → (s : SubStream) (j : ℕ) (ds : List SealedPacket) (xs : SealedList) → AllOf plan port stream live from class xs ds
     → (before : List (List ℕ)) → opened_all plan s j (sub_stream_packets xs s j) ≡ before
     → opened_all plan s j (sub_stream_packets (with_sealed plan ahead bytes ds xs) s j) ≡ before
-    ++ map (λ (d : SealedPacket). bytes) (filter (carries_tlp_of s j) ds)
+    ++ map (λ (d : SealedPacket). bytes) (filter (is_tlp_under_draw s j) ds)
 opened_by plan port stream live from class ahead bytes t reads is_class s j [] xs all before same = same ∙ sym
     (append-nil before)
 opened_by plan port stream live from class ahead bytes t reads is_class s j (d ∷ ds) xs all before same =
@@ -205,16 +199,16 @@ opened_by plan port stream live from class ahead bytes t reads is_class s j (d �
     let p = packet_of plan (ahead d) bytes d unfinished in
     let unit : d.unit ≡ length (units (sub_stream_packets xs (sub_stream_of d) d.draw)) + 1 = rw
     (lane_is port stream d of.port_is of.stream_is) of.unit in
-    let first = map (λ (d : SealedPacket). bytes) (filter (carries_tlp_of s j) (d ∷ [])) in
+    let first = map (λ (d : SealedPacket). bytes) (filter (is_tlp_under_draw s j) (d ∷ [])) in
     let one = opened_more plan xs s j d (ahead d) bytes t reads (λ no_sync. sym is_class ∙ of.class_is no_sync) of.sync
     unit before same in
     opened_by plan port stream live from class ahead bytes t reads is_class s j ds (xs ++ (d, p) ∷ []) (all.1 p)
     (before ++ first) one
-    ∙ (append_assoc before first (map (λ (d : SealedPacket). bytes) (filter (carries_tlp_of s j) ds)) ∙ ap
+    ∙ (append_assoc before first (map (λ (d : SealedPacket). bytes) (filter (is_tlp_under_draw s j) ds)) ∙ ap
     (λ later. before ++ later) (carried-cons s j bytes d ds))
 
 all_opened : (plan : Plan) → DrawFacts plan → (h : History) → CauseLaw plan h → (s : SubStream) (j : ℕ)
-    → opened_all plan s j (sent plan h s j) ≡ tlps_sent plan h s j
+    → opened_all plan s j (sent_packets plan h s j) ≡ tlps_sent plan h s j
 unfolding sealed_packets sub_stream_packets units open_unit tlps_sent
 all_opened plan facts [] cause s j = refl
 all_opened plan facts ((e, Sealed ds) ∷ h) cause s j =
@@ -237,7 +231,7 @@ got_opened plan [] cause s j = refl
 got_opened plan ((e, Accepted port unit effects) ∷ h) cause s j =
     let by = accepted_by plan h e port unit effects cause.0 in
     let same = got_opened plan h cause.1 s j in
-    elim (cases_Bool (is_of s j port unit)) [
+    elim (cases_Bool (is_received_under s j port unit)) [
       | inl is ↦
           let tests = and_parts (is_same (received_in port unit) s) (unit.draw == j) is in
           let place : units_got h (received_in port unit) unit.draw ≡ units_got h s j =
@@ -275,9 +269,10 @@ delivered plan s j ps qs none begins =
 pub delivery_law : (plan : Plan) → StreamsFit plan → DrawFacts plan → (h : History) → CauseLaw plan h → NoForgery plan h
     → DeliveryLaw plan h
 delivery_law plan fits facts h cause forged s j =
-    let begins = delivered plan s j (accepted_packets plan h s j) (sent plan h s j) (got_units plan h cause s j).none
+    let begins = delivered plan s j (accepted_packets plan h s j) (sent_packets plan h s j)
+    (got_units plan h cause s j).none
     (got_begins plan fits facts h cause forged s j) in
     subst (λ all. IsPrefixOf (tlps_got plan h s j) all) (all_opened plan facts h cause s j)
-    (subst (λ unfinished. IsPrefixOf unfinished (opened_all plan s j (sent plan h s j)))
+    (subst (λ unfinished. IsPrefixOf unfinished (opened_all plan s j (sent_packets plan h s j)))
     (sym (got_opened plan h cause s j))
     begins)

@@ -1,11 +1,10 @@
 -- What was got are finished units, and what is pending finishes none.
 use Rattle.law_sealing.proofs.Terms.{◌≡◌, ℕ, ◌+◌, true, List, [], ◌∷◌, ◌++◌, length, refl, ap, sym, ◌∙◌, length-append}
-use Rattle.law_sealing.proofs.Terms.{append_assoc, inl, inr, cases_Bool, append-nil}
-use Rattle.law_sealing.proofs.Terms.{Plan, SubStream, units, open_unit, History, arrived_packet, is_of, packets_in_hold}
-use Rattle.law_sealing.proofs.Terms.{accepted_packets}
+use Rattle.law_sealing.proofs.Terms.{append_assoc, inl, inr, cases_Bool, append-nil, Plan, SubStream, units, open_unit}
+use Rattle.law_sealing.proofs.Terms.{History, arrived_packet, is_received_under, packets_in_hold, accepted_packets}
 use Rattle.law_sealing.proofs.Terms.{pending_packets, units_got, CauseLaw, IsFront, units-end, units-more}
-use Rattle.law_sealing.proofs.Terms.{open_unit-end}
-use Rattle.law_sealing.proofs.Terms.{open_unit-unfinished, accepted_by, packet_that_came, Accepted, Packet}
+use Rattle.law_sealing.proofs.Terms.{open_unit-end, open_unit-unfinished, accepted_by, packet_that_came, Accepted}
+use Rattle.law_sealing.proofs.Terms.{Packet}
 use Rattle.law_delivery.proofs.Received.{held_front}
 
 -- ---- what was got are finished units, and what is pending finishes none
@@ -47,7 +46,7 @@ got_units plan [] cause s j = record { count = refl; none = refl }
 got_units plan ((e, Accepted port unit effects) ∷ h) cause s j =
     let by = accepted_by plan h e port unit effects cause.0 in
     let are = got_units plan h cause.1 s j in
-    elim (cases_Bool (is_of s j port unit)) [
+    elim (cases_Bool (is_received_under s j port unit)) [
       | inl here ↦
           let m = ap (λ (p : Packet). p.prefix.m) (packet_that_came plan h e port by.packet by.came) ∙ by.ends in
           rw here (one_unit_more (accepted_packets plan h s j) (packets_in_hold plan h s j unit.unit)
@@ -58,12 +57,12 @@ got_units plan ((e, Accepted port unit effects) ∷ h) cause s j =
 got_units plan (_ ∷ h) cause s j = got_units plan h cause.1 s j
 
 -- the packets so far are the units that were got and what is pending
-pub record StandsAfter (plan : Plan) (h : History) (s : SubStream) (j : ℕ) (ps : List Packet) : Type 0 where
+pub record AreGotSoFar (plan : Plan) (h : History) (s : SubStream) (j : ℕ) (ps : List Packet) : Type 0 where
   pub count : length (units ps) ≡ units_got h s j
   pub unfinished : open_unit ps ≡ pending_packets plan h s j
 
 pub stands_after : (plan : Plan) (h : History) → CauseLaw plan h → (s : SubStream) (j : ℕ)
-    → StandsAfter plan h s j (accepted_packets plan h s j ++ pending_packets plan h s j)
+    → AreGotSoFar plan h s j (accepted_packets plan h s j ++ pending_packets plan h s j)
 stands_after plan h cause s j =
     let are = got_units plan h cause s j in
     let unfinished = held_front plan h cause s j (units_got h s j + 1) in

@@ -6,19 +6,16 @@ use Rattle.law_sealing.proofs.Terms.{◌≡◌, ◌≢◌, ℕ, zero, suc, ◌+�
 use Rattle.law_sealing.proofs.Terms.{filter, take, drop, sum_by, slice_get, Some, refl, ap, sym, ◌∙◌, subst, arith}
 use Rattle.law_sealing.proofs.Terms.{length-append, inl, inr, ◌⊎◌, if◌then◌else◌, AllByRecursion, le-leb, cases_Bool}
 use Rattle.law_sealing.proofs.Terms.{cases_lt, cases_eq, nat_tests, take-append-drop, take_all, take-take}
-use Rattle.law_sealing.proofs.Terms.{slice_get_cases, filter-append, sum_by-append, sum_by-cons}
-use Rattle.law_sealing.proofs.Terms.{sub_bits, Plan, SubStream, is_same, is_closed, History, base, posted_in}
-use Rattle.law_sealing.proofs.Terms.{SealedList, sealed_packets, sent, sub_stream_packets, sub_stream_of}
-use Rattle.law_sealing.proofs.Terms.{arrived_packet}
-use Rattle.law_sealing.proofs.Terms.{received_in, packets_in_hold, accepted_packets, got_since, draws_got, posted_of}
-use Rattle.law_sealing.proofs.Terms.{meets_counts, ended}
-use Rattle.law_sealing.proofs.Terms.{CauseLaw, NoForgery, IsPrefixOf, TotalsFit, DrawFacts, StreamsFit, ending}
-use Rattle.law_sealing.proofs.Terms.{accepted_by, sealed_same, sub_stream_packets-snoc, same_stream, is_same-refl}
-use Rattle.law_sealing.proofs.Terms.{posted-own}
-use Rattle.law_sealing.proofs.Terms.{posted-more, PortName, Event, Accepted, SealedPacket, UnitName, Effect, Packet}
-use Rattle.spec_links.specs.Ordered.{NoneMissing, StandsAt, BehindPosted, OrderLaw}
+use Rattle.law_sealing.proofs.Terms.{slice_get_cases, filter-append, sum_by-append, sum_by-cons, sub_bits, Plan}
+use Rattle.law_sealing.proofs.Terms.{SubStream, is_same, is_closed, History, base, posted_since_last, SealedList}
+use Rattle.law_sealing.proofs.Terms.{sealed_packets, sent_packets, sub_stream_packets, sub_stream_of, arrived_packet}
+use Rattle.law_sealing.proofs.Terms.{received_in, packets_in_hold, accepted_packets, got_since, draws_got, posted_lane}
+use Rattle.law_sealing.proofs.Terms.{meets_counts, unit_packets_ended, CauseLaw, NoForgery, IsPrefixOf, TotalsFit}
+use Rattle.law_sealing.proofs.Terms.{DrawFacts, StreamsFit, unit_ending, accepted_by, sealed_same}
+use Rattle.law_sealing.proofs.Terms.{sub_stream_packets-snoc, same_stream, is_same-refl, posted-own, posted-more}
+use Rattle.law_sealing.proofs.Terms.{PortName, Event, Accepted, SealedPacket, UnitName, Effect, Packet, unit_that_ends}
+use Rattle.spec_links.specs.Ordered.{NoneMissing, IsPacketAtPlace, BehindPosted, OrderLaw}
 use Rattle.law_delivery.proofs.Closed.{Older, older_first, all_older, got_kept}
-use Rattle.law_sealing.proofs.Terms.{unit_that_ends}
 use Rattle.law_delivery.proofs.Prefixes.{got_begins}
 use Rattle.law_delivery.proofs.Orders.{below_next, from_base, none_above}
 use Rattle.law_sealing.proofs.Sums.{all_at, at_taken, next_taken, sub_stream_packets-append, in_parts, Rises}
@@ -63,19 +60,20 @@ sum-snoc : (w : SealedPacket × Packet → ℕ) (p : SealedPacket × Packet → 
     → sum_by w (filter p (xs ++ x ∷ [])) ≡ sum_by w (filter p xs) + (if p x then w x else 0)
 sum-snoc w p xs x = rw (filter-append, sum_by-append w) (grind (arith, sum_by-cons w x []))
 
-not_both : (d s : SubStream) → sub_bits s.sub ≢ 0 → is_same d s ≡ true → is_same d (posted_of s) ≡ true → ⊥
+not_both : (d s : SubStream) → sub_bits s.sub ≢ 0 → is_same d s ≡ true → is_same d (posted_lane s) ≡ true → ⊥
 not_both d s other one two =
-    let here = ap (λ (t : SubStream). t.sub) (sym (same_stream d s one) ∙ same_stream d (posted_of s) two) in
+    let here = ap (λ (t : SubStream). t.sub) (sym (same_stream d s one) ∙ same_stream d (posted_lane s) two) in
     other (ap sub_bits here)
 
 -- one more packet
 sums_more : (from : ℕ) (s : SubStream) (xs : SealedList) (x : SealedPacket × Packet) → sub_bits s.sub ≢ 0
-    → (is_same (sub_stream_of x.0) s ≡ true → from ≤ x.0.draw → x.1.prefix.posted ≡ posted_in xs s from)
-    → weight from s xs + posted_in xs s from ≡ number from (posted_of s) xs
-    → weight from s (xs ++ x ∷ []) + posted_in (xs ++ x ∷ []) s from ≡ number from (posted_of s) (xs ++ x ∷ [])
+    → (is_same (sub_stream_of x.0) s ≡ true → from ≤ x.0.draw → x.1.prefix.posted ≡ posted_since_last xs s from)
+    → weight from s xs + posted_since_last xs s from ≡ number from (posted_lane s) xs
+    → weight from s (xs ++ x ∷ []) + posted_since_last (xs ++ x ∷ []) s from
+    ≡ number from (posted_lane s) (xs ++ x ∷ [])
 sums_more from s xs x other count before =
     let more = sum-snoc (λ (x : SealedPacket × Packet). x.1.prefix.posted) (of_since from s) xs x in
-    let number_more = sum-snoc (λ (x : SealedPacket × Packet). 1) (of_since from (posted_of s)) xs x in
+    let number_more = sum-snoc (λ (x : SealedPacket × Packet). 1) (of_since from (posted_lane s)) xs x in
     grind (
       arith,
       nat_tests,
@@ -89,8 +87,8 @@ sums_more from s xs x other count before =
     )
 
 sums : (from : ℕ) (s : SubStream) (xs : SealedList) → sub_bits s.sub ≢ 0 → IsCounted from s xs → (i : ℕ)
-    → weight from s (take i xs) + posted_in (take i xs) s from ≡ number from (posted_of s) (take i xs)
-unfolding posted_in
+    → weight from s (take i xs) + posted_since_last (take i xs) s from ≡ number from (posted_lane s) (take i xs)
+unfolding posted_since_last
 sums from s xs other each zero = refl
 sums from s xs other each (suc i) =
     let before = sums from s xs other each i in
@@ -103,7 +101,7 @@ sums from s xs other each (suc i) =
 -- up to a packet of the sub-stream, they sum to the posted packets before it
 sums_to : (from : ℕ) (s : SubStream) (xs : SealedList) → sub_bits s.sub ≢ 0 → IsCounted from s xs
     → (i : ℕ) (x : SealedPacket × Packet) → slice_get xs i ≡ Some x → is_same (sub_stream_of x.0) s ≡ true
-    → from ≤ x.0.draw → weight from s (take (suc i) xs) ≡ number from (posted_of s) (take i xs)
+    → from ≤ x.0.draw → weight from s (take (suc i) xs) ≡ number from (posted_lane s) (take i xs)
 sums_to from s xs other each i x is this above =
     let last = sum-snoc (λ (x : SealedPacket × Packet). x.1.prefix.posted) (of_since from s) (take i xs) x in
     rw (next_taken xs i x is)
@@ -119,7 +117,8 @@ taken_begins xs i s k = (
       (λ (ys : SealedList). sub_stream_packets ys s k) (take-append-drop i xs),
 )
 
-below_until : (xs : SealedList) (s : SubStream) (place d n m : ℕ) → Rises xs → StandsAt xs s d m place → n ≤ suc place
+below_until : (xs : SealedList) (s : SubStream) (place d n m : ℕ) → Rises xs → IsPacketAtPlace xs s d m place → n
+    ≤ suc place
     → AllByRecursion (λ (x : SealedPacket × Packet). is_same (sub_stream_of x.0) s ≡ true → x.0.draw < suc d)
     (take n xs)
 below_until xs s place d n m rises at le =
@@ -131,7 +130,7 @@ below_until xs s place d n m rises at le =
     omega (arith, most, of.1))
 
 -- with its packet there is one more of the sub-stream and draw
-sized : (xs : SealedList) (s : SubStream) (j m place : ℕ) (at : StandsAt xs s j m place)
+sized : (xs : SealedList) (s : SubStream) (j m place : ℕ) (at : IsPacketAtPlace xs s j m place)
     → length (sub_stream_packets (take (suc place) xs) s j) ≡ suc m
 sized xs s j m place at =
     let more = length-append (sub_stream_packets (take place xs) s j) (at.sealed.1 ∷ []) in
@@ -139,7 +138,7 @@ sized xs s j m place at =
     (omega (arith, more, at.number))
 
 -- it is below the number of all that were sealed there
-sized_below : (xs : SealedList) (s : SubStream) (j m place : ℕ) → StandsAt xs s j m place
+sized_below : (xs : SealedList) (s : SubStream) (j m place : ℕ) → IsPacketAtPlace xs s j m place
     → m < length (sub_stream_packets xs s j)
 sized_below xs s j m place at = omega
     (arith, sized xs s j m place at, length_begins _ _ (taken_begins xs (suc place) s j))
@@ -163,7 +162,7 @@ on_in plan h e port unit effects = rw (is_same-refl (received_in port unit)) ref
 -- if a posted packet that was sealed was not got, no more were got than were sealed before it
 posted_counts : (plan : Plan) → StreamsFit plan → DrawFacts plan → (h : History) (s : SubStream) (j n place from : ℕ)
     → CauseLaw plan h → NoForgery plan h
-    → StandsAt (sealed_packets plan h) s j n place → AllByRecursion (λ (k : ℕ). k < suc j) (draws_got h s)
+    → IsPacketAtPlace (sealed_packets plan h) s j n place → AllByRecursion (λ (k : ℕ). k < suc j) (draws_got h s)
     → length (accepted_packets plan h s j) ≤ n
     → length (got_since plan h s from) ≤ number from s (take place (sealed_packets plan h))
 posted_counts plan fits facts h s j n place from cause forged at draws missing =
@@ -210,7 +209,8 @@ mono w p xs i k le =
     rw (all, sum_by-append w) (omega arith)
 
 -- one more than those before the place
-one_more_number : (from : ℕ) (xs : SealedList) (s : SubStream) (j m place : ℕ) → StandsAt xs s j m place → from ≤ j
+one_more_number : (from : ℕ) (xs : SealedList) (s : SubStream) (j m place : ℕ) → IsPacketAtPlace xs s j m place → from
+    ≤ j
     → number from s (take (suc place) xs) ≡ number from s (take place xs) + 1
 one_more_number from xs s j m place at above =
     let here = in_parts s j at.sealed at.under in
@@ -219,9 +219,9 @@ one_more_number from xs s j m place at above =
 
 -- no accepted posted draw is above that of a packet that was not got
 none_greater : (plan : Plan) (h : History) (s : SubStream) (from j n earlier : ℕ) → from ≤ j
-    → StandsAt (sealed_packets plan h) s j n earlier → length (accepted_packets plan h s j) ≤ n
+    → IsPacketAtPlace (sealed_packets plan h) s j n earlier → length (accepted_packets plan h s j) ≤ n
     → (ks : List ℕ) → AllByRecursion
-    (λ (k : ℕ). (i : ℕ) → from ≤ i → i < k → accepted_packets plan h s i ≡ sent plan h s i) ks
+    (λ (k : ℕ). (i : ℕ) → from ≤ i → i < k → accepted_packets plan h s i ≡ sent_packets plan h s i) ks
     → AllByRecursion (λ (k : ℕ). k < suc j) ks
 none_greater plan h s from j n earlier above at missing [] complete = tt
 none_greater plan h s from j n earlier above at missing (k ∷ ks) complete =
@@ -241,7 +241,7 @@ none_greater plan h s from j n earlier above at missing (k ∷ ks) complete =
 counts_met : (plan : Plan) (h : History) (s : SubStream) (unit : List Packet) → sub_bits s.sub ≢ 0
     → meets_counts plan h s unit ≡ true
     → sum_by (λ (p : Packet). p.prefix.posted) (got_since plan h s (base h s.line s.stream) ++ unit) ≤ length
-    (got_since plan h (posted_of s) (base h s.line s.stream))
+    (got_since plan h (posted_lane s) (base h s.line s.stream))
 unfolding meets_counts
 counts_met plan h s unit other met = grind (arith, nat_tests, met, other)
 
@@ -268,7 +268,7 @@ module _
   posted p = p.prefix.posted
 
   -- under each draw no more was sealed up to one of the unit's packets than was got with the unit
-  at_draw : (m place : ℕ) → StandsAt xs s unit.draw m place → NoneMissing plan h s unit.draw
+  at_draw : (m place : ℕ) → IsPacketAtPlace xs s unit.draw m place → NoneMissing plan h s unit.draw
       → m < length (accepted_packets plan g s unit.draw)
       → (k : ℕ) → from ≤ k → k < suc unit.draw → sum_by posted (sub_stream_packets (take (suc place) xs) s k) ≤ sum_by
       posted
@@ -292,7 +292,7 @@ module _
 
   -- the posted counts of what was got, this unit included, are at least those of what was sealed up to one of its
   -- packets
-  own_counts : (m place : ℕ) → StandsAt xs s unit.draw m place → NoneMissing plan h s unit.draw
+  own_counts : (m place : ℕ) → IsPacketAtPlace xs s unit.draw m place → NoneMissing plan h s unit.draw
       → m < length (accepted_packets plan g s unit.draw)
       → weight from s (take (suc place) xs) ≤ sum_by posted (got_since plan g s from)
   own_counts m place at none within =
@@ -309,7 +309,7 @@ module _
   behind_posted : TotalsFit plan ((e, Accepted port unit effects) ∷ h)
       → BehindPosted plan h e (Accepted port unit effects)
   behind_posted fit m place other if_open within stands j n earlier above before at = elim
-      (cases_lt n (length (accepted_packets plan h (posted_of s) j))) [
+      (cases_lt n (length (accepted_packets plan h (posted_lane s) j))) [
         | inl less ↦ less
         | inr missing ↦
             let by = accepted_by plan h e port unit effects cause.0 in
@@ -321,13 +321,15 @@ module _
             let each = counted plan facts h cause.1 s from other (facts.since_base h cause.1 s) in
             let sealed_counts = sums_to from s xs other each place stands.sealed stands.stands here.0
             (omega (arith, here.1, least)) in
-            let met = counts_met plan h s (ended plan h port (ending by.packet unit)) other by.counts in
-            let draws = none_greater plan h (posted_of s) from j n earlier above at missing (draws_got h (posted_of s))
+            let met = counts_met plan h s (unit_packets_ended plan h port (unit_ending by.packet unit)) other by.counts
+            in
+            let draws = none_greater plan h (posted_lane s) from j n earlier above at missing
+            (draws_got h (posted_lane s))
             none.posted in
-            let posted = posted_counts plan fits facts h (posted_of s) j n earlier from cause.1 forged.1 at draws
+            let posted = posted_counts plan fits facts h (posted_lane s) j n earlier from cause.1 forged.1 at draws
             missing in
-            let one = one_more_number from xs (posted_of s) j n earlier at above in
-            let more = mono (λ (x : SealedPacket × Packet). 1) (of_since from (posted_of s)) xs (suc earlier) place
+            let one = one_more_number from xs (posted_lane s) j n earlier at above in
+            let more = mono (λ (x : SealedPacket × Packet). 1) (of_since from (posted_lane s)) xs (suc earlier) place
             (omega (arith, before)) in
             absurd (omega (arith, own, sealed_counts, met, posted, one, more))
       ]
@@ -339,7 +341,7 @@ module _
       none = elim (cases_Bool (is_closed plan port.line unit.stream)) [
         | inl closed ↦ record {
           own = older_first plan fits facts h e port unit effects cause forged.0 forged.1 fit.0 closed (older s closed);
-          posted = older (posted_of s) closed;
+          posted = older (posted_lane s) closed;
         }
         | inr not_closed ↦ if_open not_closed
       ]

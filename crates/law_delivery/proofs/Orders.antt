@@ -1,11 +1,9 @@
 -- The draws of accepted units never fall.
 use Rattle.law_sealing.proofs.Terms.{◌≡◌, ℕ, suc, ◌<◌, ◌≤◌, List, [], ◌∷◌, Some, sym, subst, arith, inl, inr}
-use Rattle.law_sealing.proofs.Terms.{cases_Bool, leb-true, AllByRecursion}
-use Rattle.law_sealing.proofs.Terms.{PortName, Event, Accepted, UnitName, Effect, Plan, SubStream, is_same, History}
-use Rattle.law_sealing.proofs.Terms.{base, Keyed, On, key_in, on_in, port_keys, draws_got, received_in}
-use Rattle.law_sealing.proofs.Terms.{receiving_sub_stream}
-use Rattle.law_sealing.proofs.Terms.{CauseLaw, DrawFacts, same_stream, AcceptedBy, accepted_by, received_there}
-use Rattle.law_sealing.proofs.Terms.{NeverFalls}
+use Rattle.law_sealing.proofs.Terms.{cases_Bool, leb-true, AllByRecursion, PortName, Event, Accepted, UnitName, Effect}
+use Rattle.law_sealing.proofs.Terms.{Plan, SubStream, is_same, History, base, Keyed, On, key_in, on_in, port_keys}
+use Rattle.law_sealing.proofs.Terms.{draws_got, received_in, receiving_sub_stream, CauseLaw, DrawFacts, same_stream}
+use Rattle.law_sealing.proofs.Terms.{AcceptedBy, accepted_by, received_there, NeverFalls}
 
 -- each draw so far is at most j
 abbrev pub NoneAbove : ℕ → List ℕ → Type 0

@@ -2,17 +2,15 @@
 use Rattle.law_sealing.proofs.Terms.{◌≡◌, ℕ, ◌+◌, ◌≤◌, Bool, true, false, List, [], ◌∷◌, ◌++◌, length, Some, slice_get}
 use Rattle.law_sealing.proofs.Terms.{take, drop, map, refl, ap, sym, ◌∙◌, arith, append_assoc, length-append, add-one}
 use Rattle.law_sealing.proofs.Terms.{inl, inr, if◌then◌else◌, ◌==◌, AllByRecursion, and_parts, cases_Bool, eqb-true}
-use Rattle.law_sealing.proofs.Terms.{take-append-le, nil_from_length}
-use Rattle.law_sealing.proofs.Terms.{Plan, SubStream, is_same, units, units_after, open_unit, History, SealedList}
-use Rattle.law_sealing.proofs.Terms.{sealed_packets, sent, sub_stream_packets, arrived_packet, received_in, is_of}
-use Rattle.law_sealing.proofs.Terms.{packets_in_hold, pending_packets}
-use Rattle.law_sealing.proofs.Terms.{accepted_packets, units_got, due, ended, CauseLaw, NoForgery, NotForged, WasSealed}
-use Rattle.law_sealing.proofs.Terms.{IsPrefixOf}
-use Rattle.law_sealing.proofs.Terms.{last_tag, same_stream, joined, units-append, joined_units, EndsInM, EndsInM-snoc}
-use Rattle.law_sealing.proofs.Terms.{All-snoc, units_all, units_end, unit_at, take_next, below, joined_take}
-use Rattle.law_sealing.proofs.Terms.{joined-snoc, Came, accepted_by, ending, numbered, unit_that_ends}
-use Rattle.law_sealing.proofs.Terms.{DrawFacts, StreamsFit, PortName, Event, Verdict, Accepted, UnitName, Effect}
-use Rattle.law_sealing.proofs.Terms.{Packet, FitsPacket, packet_without_tag}
+use Rattle.law_sealing.proofs.Terms.{take-append-le, nil_from_length, Plan, SubStream, is_same, units, units_after}
+use Rattle.law_sealing.proofs.Terms.{open_unit, History, SealedList, sealed_packets, sent_packets, sub_stream_packets}
+use Rattle.law_sealing.proofs.Terms.{arrived_packet, received_in, is_received_under, packets_in_hold, pending_packets}
+use Rattle.law_sealing.proofs.Terms.{accepted_packets, units_got, due, unit_packets_ended, CauseLaw, NoForgery}
+use Rattle.law_sealing.proofs.Terms.{NotForged, WasSealed, IsPrefixOf, last_tag, same_stream, packets_of_units}
+use Rattle.law_sealing.proofs.Terms.{units-append, joined_units, EndsInM, EndsInM-snoc, All-snoc, units_all, units_end}
+use Rattle.law_sealing.proofs.Terms.{unit_at, take_next, below, joined_take, joined-snoc, Came, accepted_by}
+use Rattle.law_sealing.proofs.Terms.{unit_ending, numbered, unit_that_ends, DrawFacts, StreamsFit, PortName, Event}
+use Rattle.law_sealing.proofs.Terms.{Verdict, Accepted, UnitName, Effect, Packet, FitsPacket, packet_without_tag}
 use Rattle.law_sealing.proofs.Below.{same_packets}
 use Rattle.law_delivery.proofs.Received.{came_fits, held_front, held_fits}
 use Rattle.law_sealing.proofs.Places.{sent_fits}
@@ -22,7 +20,7 @@ use Rattle.law_sealing.proofs.Fronts.{packets_grow}
 -- ---- what was sealed only grows at its end
 
 pub sent_grows : (plan : Plan) (h : History) (e : Event) (w : Verdict) (s : SubStream) (j : ℕ)
-    → IsPrefixOf (sent plan h s j) (sent plan ((e, w) ∷ h) s j)
+    → IsPrefixOf (sent_packets plan h s j) (sent_packets plan ((e, w) ∷ h) s j)
 sent_grows plan h e w s j =
     let grown = packets_grow plan h e w in (
       sub_stream_packets grown.0 s j,
@@ -34,7 +32,7 @@ sent_grows plan h e w s j =
 
 pub record AreFirst (ps : List Packet) (us : List (List Packet)) (n : ℕ) : Type 0 where
   pub within : n ≤ length us
-  pub first : ps ≡ joined (take n us)
+  pub first : ps ≡ packets_of_units (take n us)
 
 -- finished units stay
 AreFirst-grown : (ps qs rs : List Packet) (n : ℕ) → AreFirst ps (units qs) n → IsPrefixOf qs rs
@@ -44,7 +42,7 @@ AreFirst-grown ps qs rs n are begins =
     let more = units_after (open_unit qs) begins.0 in
     rw (← begins.1, units-append qs begins.0) (record {
       within = omega (arith, are.within, length-append us more);
-      first = are.first ∙ ap joined (sym (take-append-le n us more are.within));
+      first = are.first ∙ ap packets_of_units (sym (take-append-le n us more are.within));
     })
 
 -- the next unit joins them
@@ -86,14 +84,17 @@ last_tag-snoc (q ∷ r ∷ ps) p = last_tag-snoc (r ∷ ps) p
 -- it was sealed
 as_sealed : (plan : Plan) → StreamsFit plan → DrawFacts plan → (h : History) (e : Event) (port : PortName)
     (unit : UnitName) (p : Packet) → CauseLaw plan h → Came plan h e port p → p.prefix.m ≡ true
-    → (was : WasSealed plan h port (ending p unit)) → was.unit ≡ ended plan h port (ending p unit)
+    → (was : WasSealed plan h port (unit_ending p unit)) → was.unit
+    ≡ unit_packets_ended plan h port (unit_ending p unit)
 as_sealed plan fits facts h e port unit p cause came ends was =
     let s = received_in port unit in
     let unfinished = pending_packets plan h s unit.draw in
-    let us = units (sent plan h s unit.draw) in
+    let us = units (sent_packets plan h s unit.draw) in
     let sealed_fits = unit_at (AllByRecursion FitsPacket) us was.place was.unit
-    (units_all FitsPacket (sent plan h s unit.draw) (sent_fits plan fits facts h cause s unit.draw)) was.finished in
-    let sealed_ends = unit_at EndsInM us was.place was.unit (units_end (sent plan h s unit.draw)) was.finished in
+    (units_all FitsPacket (sent_packets plan h s unit.draw) (sent_fits plan fits facts h cause s unit.draw))
+    was.finished in
+    let sealed_ends = unit_at EndsInM us was.place was.unit (units_end (sent_packets plan h s unit.draw)) was.finished
+    in
     let all_fit = All-snoc FitsPacket unfinished p (held_fits plan h cause s unit.draw (units_got h s unit.draw + 1))
     (came_fits plan h e port p came) in
     let is_unit = EndsInM-snoc unfinished p (held_front plan h cause s unit.draw (units_got h s unit.draw + 1)) ends in
@@ -103,21 +104,22 @@ as_sealed plan fits facts h e port unit p cause came ends was =
 
 -- the units that were got of a sub-stream under a draw
 abbrev GotFirst : Plan → History → SubStream → ℕ → Type 0
-GotFirst plan h s j = AreFirst (accepted_packets plan h s j) (units (sent plan h s j)) (units_got h s j)
+GotFirst plan h s j = AreFirst (accepted_packets plan h s j) (units (sent_packets plan h s j)) (units_got h s j)
 
 one_more : (plan : Plan) → StreamsFit plan → DrawFacts plan → (h : History) (e : Event) (port : PortName)
     (unit : UnitName) (effects : List Effect) → CauseLaw plan h → NotForged plan h e
     → Accepted port unit effects ≡ due plan h e → let s = received_in port unit in GotFirst plan h s unit.draw
     → AreFirst (accepted_packets plan h s unit.draw ++
     (packets_in_hold plan h s unit.draw unit.unit ++ arrived_packet plan h e ∷ []))
-    (units (sent plan h s unit.draw))
+    (units (sent_packets plan h s unit.draw))
     (units_got h s unit.draw + 1)
 one_more plan fits facts h e port unit effects cause forged is are =
     let by = accepted_by plan h e port unit effects is in
     let s = received_in port unit in
-    let us = units (sent plan h s unit.draw) in
-    let x = ended plan h port (ending by.packet unit) in
-    let was = forged (record { port = port; bytes = by.came.bytes }) (ending by.packet unit) by.came.arrival by.before
+    let us = units (sent_packets plan h s unit.draw) in
+    let x = unit_packets_ended plan h port (unit_ending by.packet unit) in
+    let was = forged (record { port = port; bytes = by.came.bytes }) (unit_ending by.packet unit) by.came.arrival
+    by.before
     by.verified in
     let number : was.place ≡ units_got h s unit.draw = omega
     (arith, was.numbered, numbered plan h port by.packet unit by.passed) in
@@ -127,31 +129,33 @@ one_more plan fits facts h e port unit effects cause forged is are =
     (AreFirst-next (accepted_packets plan h s unit.draw) us (units_got h s unit.draw) x are stands)
 
 pub all_first : (plan : Plan) → StreamsFit plan → DrawFacts plan → (h : History) → CauseLaw plan h → NoForgery plan h
-    → (s : SubStream) (j : ℕ) → AreFirst (accepted_packets plan h s j) (units (sent plan h s j)) (units_got h s j)
+    → (s : SubStream) (j : ℕ) → AreFirst (accepted_packets plan h s j) (units (sent_packets plan h s j))
+    (units_got h s j)
 unfolding accepted_packets units_got
 all_first plan fits facts [] cause forged s j = record { within = omega arith; first = refl }
 all_first plan fits facts ((e, Accepted port unit effects) ∷ h) cause forged s j =
     let here = one_more plan fits facts h e port unit effects cause.1 forged.0 cause.0
     (all_first plan fits facts h cause.1 forged.1 (received_in port unit) unit.draw) in
     let before = all_first plan fits facts h cause.1 forged.1 s j in
-    AreFirst-grown _ (sent plan h s j) (sent plan ((e, Accepted port unit effects) ∷ h) s j) _
-    (elim (cases_Bool (is_of s j port unit)) [
+    AreFirst-grown _ (sent_packets plan h s j) (sent_packets plan ((e, Accepted port unit effects) ∷ h) s j) _
+    (elim (cases_Bool (is_received_under s j port unit)) [
       | inl is ↦
           let tests = and_parts (is_same (received_in port unit) s) (unit.draw == j) is in
           rw is (rw (same_stream (received_in port unit) s tests.0, eqb-true unit.draw j tests.1) at here)
       | inr other ↦ rw other before
     ]) (sent_grows plan h e (Accepted port unit effects) s j)
 all_first plan fits facts ((e, w) ∷ h) cause forged s j =
-    AreFirst-grown (accepted_packets plan h s j) (sent plan h s j) (sent plan ((e, w) ∷ h) s j) (units_got h s j)
+    AreFirst-grown (accepted_packets plan h s j) (sent_packets plan h s j) (sent_packets plan ((e, w) ∷ h) s j)
+    (units_got h s j)
     (all_first plan fits facts h cause.1 forged.1 s j) (sent_grows plan h e w s j)
 
 pub got_begins : (plan : Plan) → StreamsFit plan → DrawFacts plan → (h : History) → CauseLaw plan h → NoForgery plan h
-    → (s : SubStream) (j : ℕ) → IsPrefixOf (accepted_packets plan h s j) (sent plan h s j)
+    → (s : SubStream) (j : ℕ) → IsPrefixOf (accepted_packets plan h s j) (sent_packets plan h s j)
 got_begins plan fits facts h cause forged s j =
     let n = units_got h s j in
-    let us = units (sent plan h s j) in
-    let left = open_unit (sent plan h s j) in
+    let us = units (sent_packets plan h s j) in
+    let left = open_unit (sent_packets plan h s j) in
     let are = all_first plan fits facts h cause forged s j in (
-      joined (drop n us) ++ left,
-      rw (are.first, ← append_assoc, joined_take) (joined_units (sent plan h s j)),
+      packets_of_units (drop n us) ++ left,
+      rw (are.first, ← append_assoc, joined_take) (joined_units (sent_packets plan h s j)),
     )

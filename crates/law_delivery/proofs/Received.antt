@@ -1,8 +1,8 @@
 -- What was held and what was accepted are packets in their spelling, the last of a unit alone with M.
-use Rattle.law_sealing.proofs.Terms.{◌≡◌, ℕ, false, [], ◌∷◌, inl, inr, ◌&&◌, ◌==◌, AllByRecursion, cases_Bool}
-use Rattle.law_sealing.proofs.Terms.{Plan, SubStream, History, is_of, packets_in_hold, CauseLaw, IsFront, All-snoc}
-use Rattle.law_sealing.proofs.Terms.{Came, HeldBy}
-use Rattle.law_sealing.proofs.Terms.{held_by, packet_that_came, PortName, Event, Held, UnitName, Packet, FitsPacket}
+use Rattle.law_sealing.proofs.Terms.{◌≡◌, ℕ, false, [], ◌∷◌, inl, inr, ◌&&◌, ◌==◌, AllByRecursion, cases_Bool, Plan}
+use Rattle.law_sealing.proofs.Terms.{SubStream, History, is_received_under, packets_in_hold, CauseLaw, IsFront}
+use Rattle.law_sealing.proofs.Terms.{All-snoc, Came, HeldBy, held_by, packet_that_came, PortName, Event, Held, UnitName}
+use Rattle.law_sealing.proofs.Terms.{Packet, FitsPacket}
 use Rattle.law_sealing.proofs.Below.{cut_fits}
 
 -- what arrived as a packet fits
@@ -19,7 +19,7 @@ held_each P plan known [] cause s j n = tt
 held_each P plan known ((e, Held port unit) ∷ h) cause s j n =
     let by = held_by plan h e port unit cause.0 in
     let all = held_each P plan known h cause.1 s j n in
-    elim (cases_Bool (is_of s j port unit && (unit.unit == n))) [
+    elim (cases_Bool (is_received_under s j port unit && (unit.unit == n))) [
       | inl here ↦ rw (here, packet_that_came plan h e port by.packet by.came)
           (All-snoc P (packets_in_hold plan h s j n) by.packet all (known h e port unit by))
       | inr other ↦ rw other all

@@ -1,16 +1,14 @@
 -- What came before a packet that ends its unit when it was sealed, and what comes before it when it arrives in order.
-use Rattle.law_sealing.proofs.Terms.{◌≡◌, ℕ, suc, ◌+◌, ◌<◌, ◌≤◌, ◌==◌, ◌&&◌, true, false, List, [], ◌∷◌, ◌++◌}
-use Rattle.law_sealing.proofs.Terms.{length, take, slice_get, Some, refl, ap, sym, ◌∙◌, arith, length-append, inl}
-use Rattle.law_sealing.proofs.Terms.{inr, AllByRecursion, list_any, eqb-true, leb-true, and_parts, cases_Bool}
+use Rattle.law_sealing.proofs.Terms.{◌≡◌, ℕ, suc, ◌+◌, ◌<◌, ◌≤◌, ◌==◌, ◌&&◌, true, false, List, [], ◌∷◌, ◌++◌, length}
+use Rattle.law_sealing.proofs.Terms.{take, slice_get, Some, refl, ap, sym, ◌∙◌, arith, length-append, inl, inr}
+use Rattle.law_sealing.proofs.Terms.{AllByRecursion, list_any, eqb-true, leb-true, and_parts, cases_Bool}
 use Rattle.law_sealing.proofs.Terms.{false_from_ne_true, nat_tests, take-append-le, PortName, Sealed, SealedPacket}
 use Rattle.law_sealing.proofs.Terms.{Packet, Plan, SubStream, is_same, is_closed, lane_in, units, open_unit, History}
 use Rattle.law_sealing.proofs.Terms.{base, On, key_in, port_keys, SealedList, sealed_packets, packet_of}
-use Rattle.law_sealing.proofs.Terms.{sub_stream_packets}
-use Rattle.law_sealing.proofs.Terms.{is_under, sub_stream_of, units_got, draws_got, ahead_of_unit, ahead_sent}
-use Rattle.law_sealing.proofs.Terms.{ahead_due}
-use Rattle.law_sealing.proofs.Terms.{is_of_unit, ahead_of_packet, CauseLaw, DrawFacts, StreamsFit, is_same-refl}
-use Rattle.law_sealing.proofs.Terms.{units-end}
-use Rattle.law_sealing.proofs.Terms.{sub_stream_packets-snoc, received_direction, IsOn, Prefix, sent_bytes}
+use Rattle.law_sealing.proofs.Terms.{sub_stream_packets, is_sealed_under, sub_stream_of, units_got, draws_got}
+use Rattle.law_sealing.proofs.Terms.{ahead_of_unit, ahead_sent, ahead_due, is_of_unit, ahead_of_packet, CauseLaw}
+use Rattle.law_sealing.proofs.Terms.{DrawFacts, StreamsFit, is_same-refl, units-end, sub_stream_packets-snoc}
+use Rattle.law_sealing.proofs.Terms.{received_direction, IsOn, Prefix, sent_bytes}
 use Rattle.law_delivery.proofs.Orders.{is_drawn, below_next}
 use Rattle.law_sealing.proofs.Places.{Placed, placed, unit_is}
 use Rattle.law_sealing.proofs.Totals.{total-same}
@@ -35,7 +33,7 @@ later_unit : (plan : Plan) (ys : SealedList) → Placed plan ys → (i k : ℕ) 
     → sub_stream_of x.0 ≡ s → x.0.draw ≡ j → sub_stream_of z.0 ≡ s → z.0.draw ≡ j → x.0.unit < z.0.unit
 later_unit plan ys places i k x z at_x at_z less m s j x_stream x_draw z_stream z_draw =
     let m_is = ap (λ (f : Prefix). f.m) (places i x at_x).prefix ∙ m in
-    let test : is_under s j x ≡ true = grind
+    let test : is_sealed_under s j x ≡ true = grind
     (arith, nat_tests, ap (λ (t : SubStream). is_same t s) x_stream ∙ is_same-refl s) in
     let joins = ap (λ (zs : SealedList). sub_stream_packets zs s j) (next_taken ys i x at_x) ∙ sub_stream_packets-snoc
     (take i ys) x s j in
@@ -125,8 +123,7 @@ due_off plan h s n off = rw off refl
 -- what the receiver puts before it is what the sender put before it
 pub same_fronts : (plan : Plan) → StreamsFit plan → DrawFacts plan → (h : History) → CauseLaw plan h
     → (port : PortName) (s : SubStream) (j : ℕ) → (port.line ≡ s.line) × (received_direction port.side ≡ s.direction)
-    → IsOn plan h port s j
-    → IsSealedIn plan h s j
+    → IsOn plan h port s j → IsSealedIn plan h s j
     → (units_got h s j ≡ 0 → is_closed plan s.line s.stream ≡ true → Older plan h s j)
     → ahead_sent plan h s j (units_got h s j + 1) ≡ ahead_due plan h s (units_got h s j + 1)
 same_fronts plan fits facts h law port s j receiver live x older = elim

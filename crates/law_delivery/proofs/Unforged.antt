@@ -2,14 +2,14 @@
 use Rattle.law_sealing.proofs.Terms.{◌+◌, ◌≡◌, ℕ, suc, true, List, [], ◌∷◌, ◌++◌, length, Some, slice_get, take, refl}
 use Rattle.law_sealing.proofs.Terms.{ap, sym, ◌∙◌, subst, inl, inr, cases_Bool, drop, append_assoc, take-append-drop}
 use Rattle.law_sealing.proofs.Terms.{Plan, SubStream, units, units_after, open_unit, History, ahead_sent, ahead_due}
-use Rattle.law_sealing.proofs.Terms.{Arrival, sent, pending_packets, units_got, received_in, before_tag, unit_under}
-use Rattle.law_sealing.proofs.Terms.{CauseLaw}
-use Rattle.law_sealing.proofs.Terms.{ArrivesInOrder, NotForged, WasSealed, OrderIsNoForgery, units-append, units-end}
-use Rattle.law_sealing.proofs.Terms.{ending, DrawFacts, StreamsFit, PortName, Event, Packet, packet_bytes}
+use Rattle.law_sealing.proofs.Terms.{Arrival, sent_packets, pending_packets, units_got, received_in, before_tag}
+use Rattle.law_sealing.proofs.Terms.{next_unit_name, CauseLaw, ArrivesInOrder, NotForged, WasSealed, OrderIsNoForgery}
+use Rattle.law_sealing.proofs.Terms.{units-append, units-end, unit_ending, DrawFacts, StreamsFit, PortName, Event}
+use Rattle.law_sealing.proofs.Terms.{Packet, packet_bytes}
 use Rattle.law_sealing.proofs.Sums.{element_behind, next_taken}
 use Rattle.law_delivery.proofs.Prefixes.{last_tag-snoc}
 use Rattle.law_delivery.proofs.Wholes.{after, there, before, fronts_agree}
-use Rattle.law_delivery.proofs.GotUnits.{StandsAfter}
+use Rattle.law_delivery.proofs.GotUnits.{AreGotSoFar}
 
 -- a packet with M ends the unit after those that the packets before it finish
 ends_next : (ps : List Packet) (m : ℕ) (p : Packet) → slice_get ps m ≡ Some p → p.prefix.m ≡ true
@@ -24,16 +24,17 @@ ends_next ps m p is ends =
     rw (all, append_assoc) (element_behind (units (take m ps)) x rest)
 
 in_order_was_sealed : (plan : Plan) (h : History) → CauseLaw plan h
-    → (s : SubStream) (j m : ℕ) (port : PortName) (p : Packet) → slice_get (sent plan h s j) m ≡ Some p → p.prefix.m
+    → (s : SubStream) (j m : ℕ) (port : PortName) (p : Packet) → slice_get (sent_packets plan h s j) m ≡ Some p
+    → p.prefix.m
     ≡ true
-    → StandsAfter plan h s j (take m (sent plan h s j)) → received_in port (unit_under h s j) ≡ s
+    → AreGotSoFar plan h s j (take m (sent_packets plan h s j)) → received_in port (next_unit_name h s j) ≡ s
     → ahead_sent plan h s j (units_got h s j + 1) ≡ ahead_due plan h s (units_got h s j + 1)
-    → WasSealed plan h port (ending p (unit_under h s j))
+    → WasSealed plan h port (unit_ending p (next_unit_name h s j))
 in_order_was_sealed plan h cause s j m port p is ends after there fronts = record {
   unit = pending_packets plan h s j ++ p ∷ [];
   place = units_got h s j;
   numbered = refl;
-  finished = rw there (rw (after.count, after.unfinished) at (ends_next (sent plan h s j) m p is ends));
+  finished = rw there (rw (after.count, after.unfinished) at (ends_next (sent_packets plan h s j) m p is ends));
   same_authenticated = rw there refl;
   same_encrypted = rw there refl;
   same_ahead = subst (λ (t : SubStream). ahead_sent plan h t j (units_got h s j + 1)
@@ -49,7 +50,7 @@ in_order_not_forged plan fits facts h cause e s j m port p arrives a x is tested
     let passed = sym (before plan fits facts h cause e s j m port p arrives) ∙ (ap (before_tag plan h) same ∙ tested) in
     subst (λ (b : Arrival). WasSealed plan h b.port x) same (elim (cases_Bool p.prefix.m) [
       | inl ends ↦
-          let same_ending : ending p (unit_under h s j) ≡ x = cc (rw ends at passed) in
+          let same_ending : unit_ending p (next_unit_name h s j) ≡ x = cc (rw ends at passed) in
           let fronts = fronts_agree plan fits facts h cause e s j m port p arrives ends in
           let stands = after plan fits facts h cause e s j m port p arrives in
           let received = there plan fits facts h cause e s j m port p arrives in

@@ -1,29 +1,24 @@
 -- Everything that arrived unchanged in order was taken.
 use Rattle.spec_links.proofs.Ends.{not_through}
-use Rattle.law_sealing.proofs.Terms.{◌≡◌, ◌≢◌, ℕ, ◌+◌, ◌<◌, Bool, true, false, List, [], ◌∷◌, ◌++◌, length, Some}
-use Rattle.law_sealing.proofs.Terms.{None, Option, Ok, Err, Result, take, refl, ap, sym, ◌∙◌, subst, arith}
-use Rattle.law_sealing.proofs.Terms.{if◌then◌else◌, not, ◌||◌, is_some, nat_tests, flat_map-append, Plan}
-use Rattle.law_sealing.proofs.Terms.{SubStream, has_stream, key_of, aggregation_of, stream_plan, open_unit, History}
-use Rattle.law_sealing.proofs.Terms.{sealed_packets, sub_stream_packets, ahead_sent, ahead_due, Arrival}
-use Rattle.law_sealing.proofs.Terms.{arrival_of_event, sent}
-use Rattle.law_sealing.proofs.Terms.{sub_stream_of, packet_of, pending_packets, units_got, on_draw, failed}
-use Rattle.law_sealing.proofs.Terms.{meets_counts}
-use Rattle.law_sealing.proofs.Terms.{received_in, port_keys, Ending, due, arrival_due, ending_due, before_tag}
-use Rattle.law_sealing.proofs.Terms.{under_keys}
-use Rattle.law_sealing.proofs.Terms.{is_mixed, is_overfull, receiving_sub_stream, unit_under, is_verified, CauseLaw}
-use Rattle.law_sealing.proofs.Terms.{WholeLaw}
-use Rattle.law_sealing.proofs.Terms.{ArrivesInOrder, IsTaken, DrawFacts, On, key_in, StreamsFit, PortName, Event}
-use Rattle.law_sealing.proofs.Terms.{Pass, Alter, Cut, Arrive, Verdict, Fail, Held, Accepted, SealedPacket, Prefix}
-use Rattle.law_sealing.proofs.Terms.{Packet, packet_bytes, iv_of, authenticated_bytes, encrypted_bytes, tag_of}
-use Rattle.law_sealing.proofs.Terms.{verifies}
-use Rattle.law_sealing.proofs.Terms.{tag-verifies, effects_of}
+use Rattle.law_sealing.proofs.Terms.{◌≡◌, ◌≢◌, ℕ, ◌+◌, ◌<◌, Bool, true, false, List, [], ◌∷◌, ◌++◌, length, Some, None}
+use Rattle.law_sealing.proofs.Terms.{Option, Ok, Err, Result, take, refl, ap, sym, ◌∙◌, subst, arith, if◌then◌else◌}
+use Rattle.law_sealing.proofs.Terms.{not, ◌||◌, is_some, nat_tests, flat_map-append, Plan, SubStream, has_stream}
+use Rattle.law_sealing.proofs.Terms.{key_of, aggregation_of, stream_plan, open_unit, History, sealed_packets}
+use Rattle.law_sealing.proofs.Terms.{sub_stream_packets, ahead_sent, ahead_due, Arrival, arrival_of_event, sent_packets}
+use Rattle.law_sealing.proofs.Terms.{sub_stream_of, packet_of, pending_packets, units_got, on_draw, has_failed}
+use Rattle.law_sealing.proofs.Terms.{meets_counts, received_in, port_keys, Ending, due, arrival_due, ending_due}
+use Rattle.law_sealing.proofs.Terms.{before_tag, under_keys, is_mixed, is_overfull, receiving_sub_stream}
+use Rattle.law_sealing.proofs.Terms.{next_unit_name, is_verified, CauseLaw, WholeLaw, ArrivesInOrder, IsTaken}
+use Rattle.law_sealing.proofs.Terms.{DrawFacts, On, key_in, StreamsFit, PortName, Event, Pass, Alter, Cut, Arrive}
+use Rattle.law_sealing.proofs.Terms.{Verdict, Fail, Held, Accepted, SealedPacket, Prefix, Packet, packet_bytes, iv_of}
+use Rattle.law_sealing.proofs.Terms.{authenticated_bytes, encrypted_bytes, tag_of, verifies, tag-verifies, effects_of}
 use Rattle.ide_types.specs.declared.sub.FailCause.TheVariants as fail
 use Rattle.law_sealing.proofs.Below.{is_cut}
 use Rattle.law_delivery.proofs.Orders.{is_drawn}
 use Rattle.law_sealing.proofs.Places.{SentPlace, sent_place, place_among}
 use Rattle.law_sealing.proofs.Fronts.{IsSealedIn}
 use Rattle.law_delivery.proofs.SameFronts.{fronted, same_fronts}
-use Rattle.law_delivery.proofs.GotUnits.{StandsAfter, stands_after}
+use Rattle.law_delivery.proofs.GotUnits.{AreGotSoFar, stands_after}
 
 -- ---- the tag
 
@@ -46,28 +41,27 @@ due_arrives plan h (Arrive port bytes) a is = ap (arrival_due plan h) is
 due_arrives plan h _ a is = absurd cc
 
 under_keys_is : (plan : Plan) (h : History) (port : PortName) (p : Packet) (s : SubStream) (j : ℕ) (other : Option ℕ)
-    → receiving_sub_stream port p ≡ s
-    → is_mixed plan h s other ≡ false → is_overfull plan h s j p.prefix.m ≡ false
+    → receiving_sub_stream port p ≡ s → is_mixed plan h s other ≡ false → is_overfull plan h s j p.prefix.m ≡ false
     → under_keys plan h port p (Some j) other ≡
-    (if p.prefix.m then Ok (record { packet = p; unit = unit_under h s j }) else Err (Held port (unit_under h s j)))
+    (if p.prefix.m then Ok (record { packet = p; unit = next_unit_name h s j })
+    else Err (Held port (next_unit_name h s j)))
 under_keys_is plan h port p s j other there alone room = ap in_stream there ∙ rw (alone, room) refl
   where
     in_stream : SubStream → Result Ending Verdict
     in_stream t =
         if is_mixed plan h t other || is_overfull plan h t j p.prefix.m then Err
         (Fail port p.prefix.stream p.prefix.sub fail.Unit)
-        else if p.prefix.m then Ok (record { packet = p; unit = unit_under h t j })
-        else Err (Held port (unit_under h t j))
+        else if p.prefix.m then Ok (record { packet = p; unit = next_unit_name h t j })
+        else Err (Held port (next_unit_name h t j))
 
 accepted_is : (plan : Plan) (h : History) (port : PortName) (p : Packet) (s : SubStream) (j : ℕ)
-    → received_in port (unit_under h s j) ≡ s
-    → p.tag ≡ tag_of (key_of plan j s) (iv_of s.sub (units_got h s j + 1))
+    → received_in port (next_unit_name h s j) ≡ s → p.tag ≡ tag_of (key_of plan j s) (iv_of s.sub (units_got h s j + 1))
     (ahead_due plan h s (units_got h s j + 1) ++ authenticated_bytes (pending_packets plan h s j ++ p ∷ []))
     (encrypted_bytes (pending_packets plan h s j ++ p ∷ []))
     → meets_counts plan h s (pending_packets plan h s j ++ p ∷ []) ≡ true
-    → ending_due plan h port (Ok (record { packet = p; unit = unit_under h s j }))
-    ≡ Accepted port (unit_under h s j)
-    (effects_of plan h port (unit_under h s j) (pending_packets plan h s j ++ p ∷ []))
+    → ending_due plan h port (Ok (record { packet = p; unit = next_unit_name h s j }))
+    ≡ Accepted port (next_unit_name h s j)
+    (effects_of plan h port (next_unit_name h s j) (pending_packets plan h s j ++ p ∷ []))
 unfolding is_verified
 accepted_is plan h port p s j there tag counts =
     let verified = tag-verifies (key_of plan j s) (iv_of s.sub (units_got h s j + 1))
@@ -83,8 +77,8 @@ accepted_is plan h port p s j there tag counts =
         then Fail port s.stream s.sub fail.Tag
         else if not (meets_counts plan h t (pending_packets plan h t j ++ p ∷ [])) then Fail port s.stream s.sub
         fail.Order
-        else Accepted port (unit_under h s j)
-        (effects_of plan h port (unit_under h s j) (pending_packets plan h t j ++ p ∷ []))
+        else Accepted port (next_unit_name h s j)
+        (effects_of plan h port (next_unit_name h s j) (pending_packets plan h t j ++ p ∷ []))
 
 -- ---- the law
 
@@ -110,10 +104,10 @@ module _
   place : SentPlace plan h s j m p
   place = sent_place plan fits facts h cause s j m p arrives.sealed
 
-  pub after : StandsAfter plan h s j (take m (sent plan h s j))
-  after = subst (StandsAfter plan h s j) arrives.in_order (stands_after plan h cause s j)
+  pub after : AreGotSoFar plan h s j (take m (sent_packets plan h s j))
+  after = subst (AreGotSoFar plan h s j) arrives.in_order (stands_after plan h cause s j)
 
-  pub there : received_in port (unit_under h s j) ≡ s
+  pub there : received_in port (next_unit_name h s j) ≡ s
   there = λ i. record { line = arrives.receiver.0 i; stream = s.stream; direction = arrives.receiver.1 i; sub = s.sub }
 
   -- the fronts of both sides
@@ -171,7 +165,8 @@ module _
 
   -- it passes what is tested before the tag
   pub before : before_tag plan h (record { port = port; bytes = packet_bytes p })
-      ≡ (if p.prefix.m then Ok (record { packet = p; unit = unit_under h s j }) else Err (Held port (unit_under h s j)))
+      ≡ (if p.prefix.m then Ok (record { packet = p; unit = next_unit_name h s j })
+      else Err (Held port (next_unit_name h s j)))
   unfolding before_tag
   before =
       let stream : p.prefix.stream ≡ s.stream = ap (λ (f : Prefix). f.stream) place.prefix ∙ ap
@@ -183,7 +178,7 @@ module _
       let known : has_stream plan port p.prefix.stream ≡ true =
       (λ i. is_some (stream_plan plan (arrives.receiver.0 i) (stream i))) ∙ facts.known h cause port s p.prefix.k j
       (is_drawn _ j live) in
-      let secure : failed h port p.prefix.stream ≡ false = rw stream arrives.secure in
+      let secure : has_failed h port p.prefix.stream ≡ false = rw stream arrives.secure in
       let less = λ (more : p.prefix.m ≡ false). subst (λ ps. length ps + 1 < aggregation_of plan s.line s.stream)
       after.unfinished
       (place.room more) in
@@ -203,7 +198,8 @@ module _
     where
       by_m : Bool → Verdict
       by_m b = ending_due plan h port
-          (if b then Ok (record { packet = p; unit = unit_under h s j }) else Err (Held port (unit_under h s j)))
+          (if b then Ok (record { packet = p; unit = next_unit_name h s j })
+          else Err (Held port (next_unit_name h s j)))
 
 pub whole_law_holds : (plan : Plan) → StreamsFit plan → DrawFacts plan → (h : History) → CauseLaw plan h
     → WholeLaw plan h

@@ -6,7 +6,7 @@ use Rattle.ide_types.specs.Fits.{FitsPlan}
 use Rattle.ide_prefix.specs.Packet.{Packet}
 use Rattle.spec_links.specs.Plan.{SubStream}
 use Rattle.spec_links.specs.Cause.{CauseLaw}
-use Rattle.spec_links.specs.History.{got_since, posted_of}
+use Rattle.spec_links.specs.History.{got_since, posted_lane}
 use Rattle.spec_keys.specs.History.{History, base}
 
 -- Since the last establish of a stream, the posted counts of all packets that a non-posted or completion sub-stream got
@@ -15,7 +15,7 @@ abbrev pub CountsMet : Plan → History → Type 0
 CountsMet plan h =
     (s : SubStream) → sub_bits s.sub ≢ 0
     → sum_by (λ (p : Packet). p.prefix.posted) (got_since plan h s (base h s.line s.stream))
-    ≤ length (got_since plan h (posted_of s) (base h s.line s.stream))
+    ≤ length (got_since plan h (posted_lane s) (base h s.line s.stream))
 
 -- It is so after each event.
 abbrev pub CountLaw : Plan → History → Type 0

@@ -2,28 +2,24 @@
 -- that is the law of deliveries, and T is in the packets, of which those that were got are a prefix of those that were
 -- sealed.
 use Rattle.law_sealing.proofs.Terms.{◌≡◌, ℕ, ◌<◌, ◌≤◌, ◌+◌, ◌==◌, ◌&&◌, Bool, true, false, List, [], ◌∷◌, ◌++◌, length}
-use Rattle.law_sealing.proofs.Terms.{Ok}
-use Rattle.law_sealing.proofs.Terms.{refl, ap, sym, subst, ◌∙◌, arith, nat_tests, inl, inr, if◌then◌else◌, cases_Bool}
-use Rattle.law_sealing.proofs.Terms.{AllByRecursion, map, filter, drop, take, not, append-nil, append_assoc, eqb-true}
-use Rattle.law_sealing.proofs.Terms.{map-append, and_parts, Plan, History, base, Event, Verdict, Sealed, Accepted}
-use Rattle.law_sealing.proofs.Terms.{Held}
-use Rattle.law_sealing.proofs.Terms.{PortName, UnitName, SealedPacket, SubKind, SubStream, Packet, is_sync_packet, Tlp}
-use Rattle.law_sealing.proofs.Terms.{header, body, read_of, class_of, CauseLaw, NoForgery, IsPrefixOf, DrawFacts}
-use Rattle.law_sealing.proofs.Terms.{StreamsFit, is_of, is_same, same_stream, received_in, arrived_packet, open_unit}
-use Rattle.law_sealing.proofs.Terms.{sent, sent_bytes, sub_stream_of, is_under, SealedList, with_sealed}
-use Rattle.law_sealing.proofs.Terms.{sub_stream_packets-snoc}
-use Rattle.law_sealing.proofs.Terms.{ahead_of_packet, sealing_is, sending_port, KeyName, Option}
+use Rattle.law_sealing.proofs.Terms.{Ok, refl, ap, sym, ◌∙◌, arith, inl, inr, if◌then◌else◌, Event, Verdict, Held}
+use Rattle.law_sealing.proofs.Terms.{cases_Bool, AllByRecursion, map, filter, drop, take, append-nil, append_assoc}
+use Rattle.law_sealing.proofs.Terms.{eqb-true, map-append, and_parts, Plan, History, base, Sealed, UnitName, NoForgery}
+use Rattle.law_sealing.proofs.Terms.{Accepted, PortName, SealedPacket, SubKind, SubStream, Packet, StreamsFit}
+use Rattle.law_sealing.proofs.Terms.{is_sync_packet, Tlp, header, body, read_of, class_of, CauseLaw}
+use Rattle.law_sealing.proofs.Terms.{IsPrefixOf, DrawFacts, is_received_under, is_same, same_stream}
+use Rattle.law_sealing.proofs.Terms.{received_in, arrived_packet, open_unit, sent_packets, sent_bytes, sub_stream_of}
+use Rattle.law_sealing.proofs.Terms.{is_sealed_under, SealedList, with_sealed, sub_stream_packets-snoc, ahead_of_packet}
+use Rattle.law_sealing.proofs.Terms.{sealing_is, sending_port, KeyName, Option}
 unfoldable use Rattle.law_sealing.proofs.Terms.{packets_in_hold, accepted_packets, sealed_packets, sub_stream_packets}
 unfoldable use Rattle.law_sealing.proofs.Terms.{packet_of}
-use Rattle.spec_links.specs.Delivered.{carries_tlp_of, opened_tlps, with_payloads}
+use Rattle.spec_links.specs.Delivered.{is_tlp_under_draw, opened_tlps, with_payloads}
 unfoldable use Rattle.spec_links.specs.Delivered.{tlps_sent, tlps_got}
 use Rattle.spec_links.specs.Hops.{HopTlp, tlps_with}
 use Rattle.spec_links.specs.HopLaws.{sealed_tlp}
 use Rattle.spec_links.specs.Memory.{unit_ended}
 use Rattle.law_sealing.proofs.Sealings.{AllOf, IsSyncOf, live_at, from_at, all_of_sealing}
-use Rattle.law_sealing.proofs.Sums.{in_parts}
-use Rattle.law_delivery.proofs.Deliveries.{delivery_law, carries_tlp, carried_by, tlp_with}
-use Rattle.law_delivery.proofs.Prefixes.{got_begins}
+use Rattle.law_delivery.proofs.Deliveries.{carries_tlp, carried_by, tlp_with}
 use Rattle.law_reads.proofs.Taken.{tlps_of}
 
 -- ---- what is accepted and what is sealed, with T
@@ -31,14 +27,14 @@ use Rattle.law_reads.proofs.Taken.{tlps_of}
 unfoldable pub hop_got : Plan → History → SubStream → ℕ → List HopTlp
 hop_got plan [] s j = []
 hop_got plan ((e, Accepted port unit effects) ∷ h) s j =
-    if is_of s j port unit then hop_got plan h s j ++ tlps_of plan port unit (unit_ended plan h e port unit)
+    if is_received_under s j port unit then hop_got plan h s j ++ tlps_of plan port unit (unit_ended plan h e port unit)
     else hop_got plan h s j
 hop_got plan (_ ∷ h) s j = hop_got plan h s j
 
 unfoldable pub hop_sent : Plan → History → SubStream → ℕ → List HopTlp
 hop_sent plan [] s j = []
 hop_sent plan ((e, Sealed ds) ∷ h) s j =
-    hop_sent plan h s j ++ map (sealed_tlp (sent_bytes plan h e)) (filter (carries_tlp_of s j) ds)
+    hop_sent plan h s j ++ map (sealed_tlp (sent_bytes plan h e)) (filter (is_tlp_under_draw s j) ds)
 hop_sent plan (_ ∷ h) s j = hop_sent plan h s j
 
 -- ---- their bytes
@@ -59,7 +55,7 @@ pub bytes_got : (plan : Plan) (h : History) (s : SubStream) (j : ℕ)
 unfolding hop_got tlps_got
 bytes_got plan [] s j = refl
 bytes_got plan ((e, Accepted port unit effects) ∷ h) s j =
-    let before = bytes_got plan h s j in elim (cases_Bool (is_of s j port unit)) [
+    let before = bytes_got plan h s j in elim (cases_Bool (is_received_under s j port unit)) [
       | inl is ↦
           let tests = and_parts (is_same (received_in port unit) s) (unit.draw == j) is in
           let stream = same_stream (received_in port unit) s tests.0 in
@@ -85,7 +81,7 @@ unfolding hop_sent tlps_sent
 bytes_sent plan [] s j = refl
 bytes_sent plan ((e, Sealed ds) ∷ h) s j =
     let before = bytes_sent plan h s j in
-    let new = bytes_sealed (sent_bytes plan h e) (filter (carries_tlp_of s j) ds) in
+    let new = bytes_sealed (sent_bytes plan h e) (filter (is_tlp_under_draw s j) ds) in
     map-append (λ (x : HopTlp). x.bytes) (hop_sent plan h s j) _ ∙ (λ i. before i ++ new i)
 bytes_sent plan (_ ∷ h) s j = bytes_sent plan h s j
 
@@ -119,7 +115,7 @@ pub flags_got : (plan : Plan) (h : History) (s : SubStream) (j : ℕ) → flags_
 unfolding hop_got accepted_packets
 flags_got plan [] s j = refl
 flags_got plan ((e, Accepted port unit effects) ∷ h) s j =
-    let before = flags_got plan h s j in elim (cases_Bool (is_of s j port unit)) [
+    let before = flags_got plan h s j in elim (cases_Bool (is_received_under s j port unit)) [
       | inl is ↦
           let tests = and_parts (is_same (received_in port unit) s) (unit.draw == j) is in
           let stream = same_stream (received_in port unit) s tests.0 in
@@ -147,16 +143,15 @@ sync_same p payload bytes sync is = by (is_sync_packet p) sync is
 
 flags_more : (plan : Plan) (xs : SealedList) (s : SubStream) (j : ℕ) (d : SealedPacket) (ahead bytes : List ℕ)
     (t : Tlp) → read_of bytes ≡ Ok t → (d.sync ≡ false → class_of (header t) ≡ d.sub) → (d.sync ≡ true → IsSyncOf d)
-    → (before : List Bool) → flags (sub_stream_packets xs s j) ≡ before
-    → flags (sub_stream_packets (xs ++ (
+    → (before : List Bool) → flags (sub_stream_packets xs s j) ≡ before → flags (sub_stream_packets (xs ++ (
       d,
       packet_of plan ahead bytes d (open_unit (sub_stream_packets xs
           (sub_stream_of d) d.draw)),
     ) ∷ []) s j)
-    ≡ before ++ map (λ (d : SealedPacket). d.t) (filter (carries_tlp_of s j) (d ∷ []))
+    ≡ before ++ map (λ (d : SealedPacket). d.t) (filter (is_tlp_under_draw s j) (d ∷ []))
 unfolding packet_of
 flags_more plan xs s j d ahead bytes t reads class is_sync before same =
-    ap flags (sub_stream_packets-snoc xs (d, p) s j) ∙ elim (cases_Bool (is_under s j (d, p))) [
+    ap flags (sub_stream_packets-snoc xs (d, p) s j) ∙ elim (cases_Bool (is_sealed_under s j (d, p))) [
       | inl here ↦ rw here (flags-append (sub_stream_packets xs s j) (p ∷ []) ∙ (λ i. same i ++ one here i))
       | inr off ↦ rw off (same ∙ (sym (append-nil before) ∙ ap (λ (later : List Bool). before ++ later) (grind
           (arith, off))))
@@ -170,14 +165,14 @@ flags_more plan xs s j d ahead bytes t reads class is_sync before same =
         (carries_tlp plan ahead bytes d (open_unit (sub_stream_packets xs (sub_stream_of d) d.draw)) t reads class
         is_sync).1
 
-    one : is_under s j (d, p) ≡ true → flags (p ∷ []) ≡ map (λ (d : SealedPacket). d.t) (filter
-        (carries_tlp_of s j) (d ∷ []))
+    one : is_sealed_under s j (d, p) ≡ true → flags (p ∷ []) ≡ map (λ (d : SealedPacket). d.t) (filter
+        (is_tlp_under_draw s j) (d ∷ []))
     one here = grind (arith, here, sync)
 
 flags-cons : (s : SubStream) (j : ℕ) (d : SealedPacket) (ds : List SealedPacket)
-    → map (λ (d : SealedPacket). d.t) (filter (carries_tlp_of s j) (d ∷ []))
-    ++ map (λ (d : SealedPacket). d.t) (filter (carries_tlp_of s j) ds)
-    ≡ map (λ (d : SealedPacket). d.t) (filter (carries_tlp_of s j) (d ∷ ds))
+    → map (λ (d : SealedPacket). d.t) (filter (is_tlp_under_draw s j) (d ∷ []))
+    ++ map (λ (d : SealedPacket). d.t) (filter (is_tlp_under_draw s j) ds)
+    ≡ map (λ (d : SealedPacket). d.t) (filter (is_tlp_under_draw s j) (d ∷ ds))
 flags-cons s j d ds = grind arith
 
 flags_by : (plan : Plan) (port : PortName) (stream : ℕ) (live : SubKind → Option KeyName) (from : ℕ) (class : SubKind)
@@ -185,18 +180,18 @@ flags_by : (plan : Plan) (port : PortName) (stream : ℕ) (live : SubKind → Op
     → (s : SubStream) (j : ℕ) (ds : List SealedPacket) (xs : SealedList) → AllOf plan port stream live from class xs ds
     → (before : List Bool) → flags (sub_stream_packets xs s j) ≡ before
     → flags (sub_stream_packets (with_sealed plan ahead bytes ds xs) s j) ≡ before
-    ++ map (λ (d : SealedPacket). d.t) (filter (carries_tlp_of s j) ds)
+    ++ map (λ (d : SealedPacket). d.t) (filter (is_tlp_under_draw s j) ds)
 flags_by plan port stream live from class ahead bytes t reads is_class s j [] xs all before same = same ∙ sym
     (append-nil before)
 flags_by plan port stream live from class ahead bytes t reads is_class s j (d ∷ ds) xs all before same =
     let of = all.0 in
     let p = packet_of plan (ahead d) bytes d (open_unit (sub_stream_packets xs (sub_stream_of d) d.draw)) in
-    let first = map (λ (d : SealedPacket). d.t) (filter (carries_tlp_of s j) (d ∷ [])) in
+    let first = map (λ (d : SealedPacket). d.t) (filter (is_tlp_under_draw s j) (d ∷ [])) in
     let one = flags_more plan xs s j d (ahead d) bytes t reads (λ no_sync. sym is_class ∙ of.class_is no_sync) of.sync
     before same in
     flags_by plan port stream live from class ahead bytes t reads is_class s j ds (xs ++ (d, p) ∷ []) (all.1 p)
     (before ++ first) one
-    ∙ (append_assoc before first (map (λ (d : SealedPacket). d.t) (filter (carries_tlp_of s j) ds)) ∙ ap
+    ∙ (append_assoc before first (map (λ (d : SealedPacket). d.t) (filter (is_tlp_under_draw s j) ds)) ∙ ap
     (λ (later : List Bool). before ++ later) (flags-cons s j d ds))
 
 flags_sealed : (bytes : List ℕ) (ds : List SealedPacket) → flags_in (map (sealed_tlp bytes) ds)
@@ -205,21 +200,21 @@ flags_sealed bytes [] = refl
 flags_sealed bytes (d ∷ ds) = ap (λ (ts : List Bool). d.t ∷ ts) (flags_sealed bytes ds)
 
 pub flags_sent : (plan : Plan) → DrawFacts plan → (h : History) → CauseLaw plan h → (s : SubStream) (j : ℕ)
-    → flags_in (hop_sent plan h s j) ≡ flags (sent plan h s j)
+    → flags_in (hop_sent plan h s j) ≡ flags (sent_packets plan h s j)
 unfolding sealed_packets sub_stream_packets hop_sent
 flags_sent plan facts [] cause s j = refl
 flags_sent plan facts ((e, Sealed ds) ∷ h) cause s j =
     let is = sealing_is plan h e ds cause.0 in
     let from = is.sending in
     let before = flags_sent plan facts h cause.1 s j in
-    let new = flags_sealed (sent_bytes plan h e) (filter (carries_tlp_of s j) ds) in
+    let new = flags_sealed (sent_bytes plan h e) (filter (is_tlp_under_draw s j) ds) in
     map-append (λ (x : HopTlp). x.t) (hop_sent plan h s j) _ ∙ ((λ i. before i ++ new i)
     ∙ sym (flags_by plan from.port from.stream (live_at plan h from.port from.stream)
     (from_at plan h from.port from.stream)
     from.class (ahead_of_packet plan (sealed_packets plan h) (base h)) (sent_bytes plan h e) is.tlp is.reads is.class s
     j ds (sealed_packets plan h)
     (all_of_sealing plan facts h cause.1 (sending_port plan e) (sent_bytes plan h e) ds is) (flags
-    (sent plan h s j)) refl))
+    (sent_packets plan h s j)) refl))
 flags_sent plan facts (_ ∷ h) cause s j = flags_sent plan facts h cause.1 s j
 
 -- ---- both, in one sub-stream

@@ -1,47 +1,44 @@
 -- What is accepted behind a hop is a prefix of what was sealed before it: across the first segment, through the switch,
 -- and across the second.
-use Rattle.law_sealing.proofs.Terms.{◌≡◌, ℕ, ◌<◌, ◌≤◌, ◌+◌, ◌==◌, ◌&&◌, Bool, true, false, List, [], ◌∷◌, ◌++◌}
-use Rattle.law_sealing.proofs.Terms.{length, Option, Some, None, refl, ap, sym, subst, ◌∙◌, arith, nat_tests, inl, inr}
+use Rattle.law_sealing.proofs.Terms.{◌≡◌, ℕ, ◌<◌, ◌≤◌, ◌+◌, ◌==◌, ◌&&◌, Bool, true, false, List, [], ◌∷◌, ◌++◌, length}
+use Rattle.law_sealing.proofs.Terms.{Option, Some, None, refl, ap, sym, subst, ◌∙◌, arith, nat_tests, inl, inr, Event}
 use Rattle.law_sealing.proofs.Terms.{if◌then◌else◌, cases_Bool, AllByRecursion, map, filter, append_assoc, and_parts}
-use Rattle.law_sealing.proofs.Terms.{eqb-true, is_some, slice_get, Plan, History, Event, Verdict, Sealed, Accepted}
-use Rattle.law_sealing.proofs.Terms.{PortName, UnitName, SealedPacket, SubKind, SubStream, CauseLaw, NoForgery}
-use Rattle.law_sealing.proofs.Terms.{IsPrefixOf, DrawFacts, StreamsFit, is_of, is_same, lane_in, lane_out, same_stream}
-use Rattle.law_sealing.proofs.Terms.{Pr, received_in, sub_stream_of, sent_bytes, accepted_packets, sent, stream_plan}
-use Rattle.law_sealing.proofs.Terms.{nat_lt, not}
+use Rattle.law_sealing.proofs.Terms.{eqb-true, is_some, slice_get, Plan, History, Verdict, Sealed, Accepted, UnitName}
+use Rattle.law_sealing.proofs.Terms.{PortName, SealedPacket, SubKind, SubStream, CauseLaw, NoForgery, IsPrefixOf}
+use Rattle.law_sealing.proofs.Terms.{DrawFacts, StreamsFit, is_received_under, is_same, lane_in, lane_out, same_stream}
+use Rattle.law_sealing.proofs.Terms.{Pr, received_in, sub_stream_of, sent_bytes, accepted_packets, nat_lt, not}
 use Rattle.std.proofs.Common.{subst₂, ◌-◌}
-use Rattle.spec_links.proofs.Terms.{Establish, Reset, KeyPlace, draws, op_of, begins_keyed, partner}
-use Rattle.spec_links.proofs.Terms.{place_in_sub_stream}
+use Rattle.spec_links.proofs.Terms.{Establish, Reset, draws, op_of, begins_keyed, partner, KeyPlace}
 use Rattle.spec_links.proofs.Ends.{stream_is_there}
 use Rattle.law_sealing.proofs.OfPlans.{streams_fit}
 use Rattle.law_key_facts.proofs.Draws.{draws as draw_facts}
 use Rattle.ide_types.specs.Ports.{host_port, device_port}
 use Rattle.ide_types.specs.Lines.{is_link_line, near_hop_line, far_hop_line}
-use Rattle.ide_types.specs.declared.direction.Direction.{Direction}
 use Rattle.ide_types.specs.declared.direction.Direction.TheVariants.{Downstream, Upstream}
 use Rattle.ide_types.specs.declared.port.Side.TheVariants.{Host, Device}
 use Rattle.ide_types.specs.Ends.{link_hop, line_has}
 use Rattle.ide_types.specs.Plans.{hop_has_id}
 use Rattle.ide_types.specs.Fits.{FitsPlan}
 use Rattle.ide_types.specs.declared.plan.HopPlan.{HopPlan}
-use Rattle.spec_keys.specs.Places.{is_cut, is_between_devices}
-use Rattle.spec_links.specs.Delivered.{carries_tlp_of, tlps_sent, tlps_got}
-use Rattle.spec_links.specs.Hops.{HopTlp, has_hop, first_end, entering_end, leaving_end, last_end, clears_hop}
-use Rattle.spec_links.specs.HopLaws.{sealed_tlp, in_sub, OneDraw, CrossesInOrder}
+use Rattle.spec_keys.specs.Places.{is_cut}
+use Rattle.spec_links.specs.Delivered.{is_tlp_under_draw}
+use Rattle.spec_links.specs.Hops.{HopTlp, has_hop, clears_hop}
+use Rattle.spec_links.specs.HopLaws.{sealed_tlp, in_sub, CrossesInOrder, OneDraw}
 unfoldable use Rattle.spec_links.specs.HopLaws.{tlps_since_reset, draws_since}
 use Rattle.spec_links.specs.Memory.{accepted_tlps, unit_ended}
 use Rattle.link_verdicts.specs.declared.verdict.Verdict.TheVariants as v
-use Rattle.spec_interfaces.proofs.Trusted.{draws_grow}
 use Rattle.law_delivery.proofs.Deliveries.{delivery_law}
 use Rattle.law_delivery.proofs.Prefixes.{got_begins}
 use Rattle.law_hops.specs.Statements.{HopLawHolds}
 use Rattle.law_reads.proofs.Taken.{tlps_of}
-use Rattle.law_hops.proofs.Since.{IsSegment, Marked, marked}
+use Rattle.law_hops.proofs.Since.{IsSegment, marked, Marked}
 unfoldable use Rattle.law_hops.proofs.Since.{mark}
-use Rattle.law_hops.proofs.Carried.{InSub, both_begin, bytes_in, bytes_got, bytes_sent, flags_in, flags, flags-append}
+use Rattle.law_hops.proofs.Carried.{InSub, both_begin, bytes_got, bytes_sent, flags, flags-append}
 use Rattle.law_hops.proofs.Carried.{flags_got, flags_sent}
 unfoldable use Rattle.law_hops.proofs.Carried.{hop_got, hop_sent}
 use Rattle.law_hops.proofs.Crossing.{IsLone, OnlyDraw, taken_is, sealed_is, unit_sub, with_sub}
 use Rattle.law_hops.proofs.Forwards.{in_order, each_in_order}
+use Rattle.ide_types.specs.declared.direction.Direction.{Direction}
 
 -- ---- one sub-stream under one draw
 
@@ -53,7 +50,7 @@ got_sub : (plan : Plan) (h : History) → CauseLaw plan h → (s : SubStream) (j
 unfolding hop_got
 got_sub plan [] cause s j = tt
 got_sub plan ((e, Accepted port unit effects) ∷ h) cause s j =
-    let before = got_sub plan h cause.1 s j in elim (cases_Bool (is_of s j port unit)) [
+    let before = got_sub plan h cause.1 s j in elim (cases_Bool (is_received_under s j port unit)) [
       | inl is ↦
           let tests = and_parts (is_same (received_in port unit) s) (unit.draw == j) is in
           let sub : unit.sub ≡ s.sub = ap (λ (t : SubStream). t.sub) (same_stream (received_in port unit) s tests.0) in
@@ -68,10 +65,10 @@ middle : (a b c : Bool) → (a && b && c) ≡ true → b ≡ true
 middle a b c is = grind arith
 
 carried_sub : (s : SubStream) (j : ℕ) (bytes : List ℕ) (ds : List SealedPacket)
-    → InSub s.sub (map (sealed_tlp bytes) (filter (carries_tlp_of s j) ds))
+    → InSub s.sub (map (sealed_tlp bytes) (filter (is_tlp_under_draw s j) ds))
 carried_sub s j bytes [] = tt
 carried_sub s j bytes (d ∷ ds) =
-    let later = carried_sub s j bytes ds in elim (cases_Bool (carries_tlp_of s j d)) [
+    let later = carried_sub s j bytes ds in elim (cases_Bool (is_tlp_under_draw s j d)) [
       | inl is ↦
           let same : is_same (sub_stream_of d) s ≡ true = middle (not d.sync) (is_same (sub_stream_of d) s)
           (d.draw == j) is in
@@ -192,8 +189,7 @@ near_lone plan fits link x t some =
     let place : 8 + link - 8 ≡ link = omega arith in
     one_id x.hop t (rw (a, b, place, x.is) at there)
 
-far_lone : (plan : Plan) → FitsPlan plan → (link : ℕ) (x : HasHop plan link)
-    → IsLone plan (far_hop_line link) x.hop.id
+far_lone : (plan : Plan) → FitsPlan plan → (link : ℕ) (x : HasHop plan link) → IsLone plan (far_hop_line link) x.hop.id
 far_lone plan fits link x t some =
     let there : line_has plan (16 + link) t ≡ true = sym (stream_is_there plan (16 + link) t) ∙ some in
     let less = x.below in

@@ -1,18 +1,15 @@
 -- Across a segment that had one draw since its link's last reset: what was accepted since then is, in each sub-stream,
 -- a prefix of what was sealed since then. All of it came under that draw, and nothing before the reset did.
-use Rattle.law_sealing.proofs.Terms.{◌≡◌, ℕ, ◌<◌, ◌≤◌, ◌+◌, ◌==◌, ◌&&◌, Bool, true, false, List, [], ◌∷◌, ◌++◌}
-use Rattle.law_sealing.proofs.Terms.{refl, ap, sym, subst, ◌∙◌, arith, nat_tests, inl, inr}
-use Rattle.law_sealing.proofs.Terms.{if◌then◌else◌, cases_Bool, AllByRecursion, map, filter, not, append-nil, eqb-true}
-use Rattle.law_sealing.proofs.Terms.{and_parts, filter-append, is_some, Plan, History, Event, Verdict, Sealed}
-use Rattle.law_sealing.proofs.Terms.{Accepted}
-use Rattle.law_sealing.proofs.Terms.{Held, PortName, UnitName, Effect, SealedPacket, SubKind, SubStream, Packet}
-use Rattle.law_sealing.proofs.Terms.{CauseLaw, DrawFacts, is_of, is_same, lane_in}
-use Rattle.law_sealing.proofs.Terms.{lane_out, is_same_port, same_stream, same_port, received_in, receiving_sub_stream}
-use Rattle.law_sealing.proofs.Terms.{sub_stream_of, sent_bytes, sealing_is, sending_port}
-use Rattle.law_sealing.proofs.Terms.{stream_plan}
-use Rattle.law_sealing.proofs.Terms.{accepted_by, received_there, packet_that_came, held_by, key_in, port_keys}
-use Rattle.law_sealing.proofs.Terms.{On}
-use Rattle.law_sealing.proofs.Terms.{IsLive, AllLive, all_live, is_sync_packet}
+use Rattle.law_sealing.proofs.Terms.{◌≡◌, ℕ, ◌<◌, ◌≤◌, ◌+◌, ◌==◌, ◌&&◌, Bool, true, false, List, [], ◌∷◌, ◌++◌, refl}
+use Rattle.law_sealing.proofs.Terms.{ap, sym, subst, ◌∙◌, arith, nat_tests, inl, inr, if◌then◌else◌, cases_Bool}
+use Rattle.law_sealing.proofs.Terms.{AllByRecursion, map, filter, not, append-nil, eqb-true, and_parts, filter-append}
+use Rattle.law_sealing.proofs.Terms.{is_some, Plan, History, Event, Verdict, Sealed, Accepted, Held, PortName, UnitName}
+use Rattle.law_sealing.proofs.Terms.{Effect, SealedPacket, SubKind, SubStream, Packet, CauseLaw, DrawFacts}
+use Rattle.law_sealing.proofs.Terms.{is_received_under, is_same, lane_in, lane_out, is_same_port, same_stream}
+use Rattle.law_sealing.proofs.Terms.{same_port, received_in, receiving_sub_stream, sub_stream_of, sent_bytes}
+use Rattle.law_sealing.proofs.Terms.{sealing_is, sending_port, stream_plan, accepted_by, received_there}
+use Rattle.law_sealing.proofs.Terms.{packet_that_came, held_by, key_in, port_keys, On, IsLive, AllLive, all_live}
+use Rattle.law_sealing.proofs.Terms.{is_sync_packet}
 unfoldable use Rattle.law_sealing.proofs.Terms.{packets_in_hold}
 use Rattle.spec_links.proofs.Terms.{Establish, Reset, draws, op_of, begins_keyed, arith}
 use Rattle.spec_links.proofs.UnitLemmas.{All-snoc}
@@ -21,10 +18,10 @@ use Rattle.spec_links.proofs.Senders.{in_lane}
 use Rattle.ide_types.specs.Sub.{is_same_sub}
 use Rattle.spec_interfaces.proofs.Trusted.{draws_grow}
 use Rattle.law_key_facts.proofs.SealedKeys.{live_on, live_below}
-use Rattle.spec_links.specs.Delivered.{carries_tlp_of}
+use Rattle.spec_links.specs.Delivered.{is_tlp_under_draw}
 use Rattle.spec_links.specs.Hops.{HopTlp, tlps_with, clears_hop}
 unfoldable use Rattle.spec_links.specs.Hops.{accepted_tlps_in}
-use Rattle.spec_links.specs.HopLaws.{carries_tlp_at, sealed_tlp, in_sub}
+use Rattle.spec_links.specs.HopLaws.{is_tlp_of_sender, sealed_tlp, in_sub}
 unfoldable use Rattle.spec_links.specs.HopLaws.{tlps_since_reset, draws_since}
 use Rattle.spec_links.specs.Memory.{accepted_tlps, unit_ended}
 use Rattle.link_verdicts.specs.declared.verdict.Verdict.TheVariants as v
@@ -54,11 +51,11 @@ unfolding packets_in_hold
 held_sub plan [] cause s j n = tt
 held_sub plan ((e, Held port unit) ∷ h) cause s j n =
     let before = held_sub plan h cause.1 s j n in
-    elim (cases_Bool (is_of s j port unit && (unit.unit == n))) [
+    elim (cases_Bool (is_received_under s j port unit && (unit.unit == n))) [
       | inl is ↦
           let by = held_by plan h e port unit cause.0 in
           let tests = and_parts (is_same (received_in port unit) s) (unit.draw == j)
-          (and_parts (is_of s j port unit) (unit.unit == n) is).0 in
+          (and_parts (is_received_under s j port unit) (unit.unit == n) is).0 in
           let there = sym (received_there plan h port by.packet unit by.passed)
           ∙ same_stream (received_in port unit) s tests.0 in
           let sub : by.packet.prefix.sub ≡ s.sub = ap (λ (t : SubStream). t.sub) there in
@@ -113,7 +110,7 @@ unfolding hop_got
 none_got plan [] cause s j up = refl
 none_got plan ((e, Accepted port unit effects) ∷ h) cause s j up =
     let before = none_got plan h cause.1 s j (omega (arith, up, draws_grow h e (Accepted port unit effects))) in
-    elim (cases_Bool (is_of s j port unit)) [
+    elim (cases_Bool (is_received_under s j port unit)) [
       | inl is ↦ absurd
           (let tests = and_parts (is_same (received_in port unit) s) (unit.draw == j) is in
           let draw = eqb-true unit.draw j tests.1 in
@@ -124,7 +121,7 @@ none_got plan ((e, Accepted port unit effects) ∷ h) cause s j up =
 none_got plan ((e, w) ∷ h) cause s j up = none_got plan h cause.1 s j (omega (arith, up, draws_grow h e w))
 
 carried_none : (s : SubStream) (j : ℕ) (ds : List SealedPacket)
-    → AllByRecursion (λ (d : SealedPacket). (d.draw == j) ≡ false) ds → filter (carries_tlp_of s j) ds ≡ []
+    → AllByRecursion (λ (d : SealedPacket). (d.draw == j) ≡ false) ds → filter (is_tlp_under_draw s j) ds ≡ []
 carried_none s j [] all = refl
 carried_none s j (d ∷ ds) all =
     let later = carried_none s j ds all.1 in
@@ -155,7 +152,7 @@ none_sealed plan ((e, w) ∷ h) cause s j up = none_sealed plan h cause.1 s j (o
 
 -- whether a unit at a port is of a sub-stream that the receiver gets
 of_lane : (port q : PortName) (unit : UnitName) (stream : ℕ) (u : SubKind) (j : ℕ)
-    → is_of (lane_in q stream u) j port unit
+    → is_received_under (lane_in q stream u) j port unit
     ≡ (is_same_port port q && (unit.stream == stream) && is_same_sub unit.sub u && (unit.draw == j))
 of_lane port q unit stream u j = let sides = same_in port.side q.side in grind (arith, sides)
 
@@ -221,14 +218,15 @@ accepted_is plan h e port unit effects cause link q stream u j segment lone only
           (subst (λ (l : ℕ). OnlyDraw h link l j) (ap (λ (p : PortName). p.line) (sym same)) only) in
           let streams : (unit.stream == stream) ≡ true = grind (arith, nat_tests, known.0) in
           let draws_same : (unit.draw == j) ≡ true = grind (arith, nat_tests, known.1) in
-          let is : is_of (lane_in q stream u) j port unit ≡ is_same_sub unit.sub u = of_lane port q unit stream u j
+          let is : is_received_under (lane_in q stream u) j port unit ≡ is_same_sub unit.sub u =
+          of_lane port q unit stream u j
           ∙ own_sub (is_same_port port q) (unit.stream == stream) (is_same_sub unit.sub u) (unit.draw == j) here streams
           draws_same in
           let new = in_own unit.sub u n (with_sub unit.sub _ (unit_ended plan h e port unit)
           (unit_sub plan h e port unit effects cause)) in
           rw (here, is) (in_sub-append u t n ∙ ((λ i. before i ++ new i) ∙ more_if (is_same_sub unit.sub u) g n))
       | inr other ↦
-          let off : is_of (lane_in q stream u) j port unit ≡ false = of_lane port q unit stream u j
+          let off : is_received_under (lane_in q stream u) j port unit ≡ false = of_lane port q unit stream u j
           ∙ ap (λ (b : Bool). b && (unit.stream == stream) && is_same_sub unit.sub u && (unit.draw == j)) other in
           rw (other, off) before
     ]
@@ -271,11 +269,11 @@ abbrev KnownAt : PortName → ℕ → ℕ → SealedPacket → Type 0
 KnownAt p stream j d = is_same_port d.port p ≡ true → (d.stream ≡ stream) × (d.draw ≡ j)
 
 carries_there : (p : PortName) (stream : ℕ) (u : SubKind) (j : ℕ) (d : SealedPacket) → KnownAt p stream j d
-    → carries_tlp_of (lane_out p stream u) j d ≡ (carries_tlp_at p d && is_same_sub d.sub u)
+    → is_tlp_under_draw (lane_out p stream u) j d ≡ (is_tlp_of_sender p d && is_same_sub d.sub u)
 carries_there p stream u j d known = by (is_same_port d.port p) refl
   where
     by : (b : Bool) → is_same_port d.port p ≡ b
-        → carries_tlp_of (lane_out p stream u) j d ≡ (not d.sync && b && is_same_sub d.sub u)
+        → is_tlp_under_draw (lane_out p stream u) j d ≡ (not d.sync && b && is_same_sub d.sub u)
     by true here =
         let at = known here in
         let lane = in_lane p stream d u (same_port d.port p here) at.0 in
@@ -284,25 +282,24 @@ carries_there p stream u j d known = by (is_same_port d.port p) refl
     by false other = grind (arith, other)
 
 sealed_same : (p : PortName) (stream : ℕ) (u : SubKind) (j : ℕ) (bytes : List ℕ) (ds : List SealedPacket)
-    → AllByRecursion (KnownAt p stream j) ds
-    → in_sub u (map (sealed_tlp bytes) (filter (carries_tlp_at p) ds))
-    ≡ map (sealed_tlp bytes) (filter (carries_tlp_of (lane_out p stream u) j) ds)
+    → AllByRecursion (KnownAt p stream j) ds → in_sub u (map (sealed_tlp bytes) (filter (is_tlp_of_sender p) ds))
+    ≡ map (sealed_tlp bytes) (filter (is_tlp_under_draw (lane_out p stream u) j) ds)
 sealed_same p stream u j bytes [] all = refl
 sealed_same p stream u j bytes (d ∷ ds) all =
     let later = sealed_same p stream u j bytes ds all.1 in
     let here = carries_there p stream u j d all.0 in
-    by (carries_tlp_at p d) (is_same_sub d.sub u) (carries_tlp_of (lane_out p stream u) j d) refl refl here later
+    by (is_tlp_of_sender p d) (is_same_sub d.sub u) (is_tlp_under_draw (lane_out p stream u) j d) refl refl here later
   where
     one : HopTlp
     one = sealed_tlp bytes d
 
-    by : (a b c : Bool) → carries_tlp_at p d ≡ a → is_same_sub d.sub u ≡ b → c ≡ (a && b)
-        → in_sub u (map (sealed_tlp bytes) (filter (carries_tlp_at p) ds))
-        ≡ map (sealed_tlp bytes) (filter (carries_tlp_of (lane_out p stream u) j) ds)
-        → in_sub u (map (sealed_tlp bytes) (if a then d ∷ filter (carries_tlp_at p) ds else filter
-        (carries_tlp_at p) ds))
-        ≡ map (sealed_tlp bytes) (if c then d ∷ filter (carries_tlp_of (lane_out p stream u) j) ds
-        else filter (carries_tlp_of (lane_out p stream u) j) ds)
+    by : (a b c : Bool) → is_tlp_of_sender p d ≡ a → is_same_sub d.sub u ≡ b → c ≡ (a && b)
+        → in_sub u (map (sealed_tlp bytes) (filter (is_tlp_of_sender p) ds))
+        ≡ map (sealed_tlp bytes) (filter (is_tlp_under_draw (lane_out p stream u) j) ds)
+        → in_sub u (map (sealed_tlp bytes) (if a then d ∷ filter (is_tlp_of_sender p) ds else filter
+        (is_tlp_of_sender p) ds))
+        ≡ map (sealed_tlp bytes) (if c then d ∷ filter (is_tlp_under_draw (lane_out p stream u) j) ds
+        else filter (is_tlp_under_draw (lane_out p stream u) j) ds)
     by true true c carries sub is later = rw (is, sub) (ap (λ (xs : List HopTlp). sealed_tlp bytes d ∷ xs) later)
     by true false c carries sub is later = rw (is, sub) later
     by false b c carries sub is later = rw is later

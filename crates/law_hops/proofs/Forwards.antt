@@ -1,56 +1,51 @@
 -- A hop seals what it accepted: by induction on the history. A forward seals the first TLP that waits, no other event
 -- seals at a switch, an accepted unit adds TLPs at the end, and a reset clears both lists.
 use Rattle.law_sealing.proofs.Terms.{◌≡◌, ℕ, suc, ◌<◌, ◌≤◌, ◌+◌, ◌==◌, ◌&&◌, Bool, true, false, List, [], ◌∷◌, ◌++◌}
-use Rattle.law_sealing.proofs.Terms.{length}
-use Rattle.law_sealing.proofs.Terms.{drop, take, map, filter, slice_get, Option, Some, None, Ok, refl, ap, sym, subst}
-use Rattle.law_sealing.proofs.Terms.{◌∙◌, arith, nat_tests, inl, inr, if◌then◌else◌, cases_Bool, append-nil, not}
+use Rattle.law_sealing.proofs.Terms.{length, drop, take, map, filter, slice_get, Option, Some, Ok, refl, ap, sym, None}
+use Rattle.law_sealing.proofs.Terms.{◌∙◌, arith, nat_tests, if◌then◌else◌, append-nil, not, IsSealing}
 use Rattle.law_sealing.proofs.Terms.{take-append-le, take-append-drop, length-append, unwrap_or, AllByRecursion}
-use Rattle.law_sealing.proofs.Terms.{nat_lt}
 use Rattle.law_sealing.proofs.Terms.{Plan, History, Event, Send, Verdict, Sealed, Accepted, PortName, SealedPacket}
 use Rattle.law_sealing.proofs.Terms.{SubKind, Npr, Cpl, Tlp, header, read_of, class_of, CauseLaw, Sending, Lanes}
-use Rattle.law_sealing.proofs.Terms.{lanes_at, needs_sync, sealed_by_is, is_same_port, sent_bytes, sealing_is}
-use Rattle.law_sealing.proofs.Terms.{all_live}
-use Rattle.law_sealing.proofs.Terms.{AllLive, sending_port, sealed_packets, IsSealing, IsPrefixOf, is_some, eqb-true}
-use Rattle.law_sealing.proofs.Terms.{same_port, is_sealing, sealed_by_sealing, length-drop, and_parts}
-unfoldable use Rattle.law_sealing.proofs.Terms.{due, listed}
-use Rattle.std.specs.Prelude.{nat_le}
+use Rattle.law_sealing.proofs.Terms.{lanes_at, needs_sync, sealed_by_is, is_same_port, sent_bytes, sealing_is, all_live}
+use Rattle.law_sealing.proofs.Terms.{AllLive, sending_port, sealed_packets, IsPrefixOf}
+use Rattle.law_sealing.proofs.Terms.{same_port, sealed_by_sealing, and_parts, UnitName, Effect}
+unfoldable use Rattle.law_sealing.proofs.Terms.{due, listed_seals}
 use Rattle.std.proofs.Common.{zero, Result}
 use Rattle.ide_types.specs.declared.plan.LinkPlan.{LinkPlan}
 use Rattle.tlp_layout.specs.declared.fault.TlpFault.{TlpFault}
 use Rattle.std.specs.Option.{option_map_or}
 use Rattle.std.proofs.lemmas.List.Elements.{filter-append}
 use Rattle.ide_types.specs.Sub.{direction_number, is_same_sub}
-use Rattle.ide_types.specs.Ports.{host_port, device_port}
+use Rattle.ide_types.specs.Ports.{host_port}
 use Rattle.ide_types.specs.declared.port.Side.{Side}
 use Rattle.ide_types.specs.declared.port.Side.TheVariants.{Host, Device}
 use Rattle.ide_types.specs.declared.direction.Direction.{Direction}
 use Rattle.ide_types.specs.declared.direction.Direction.TheVariants.{Downstream, Upstream}
 use Rattle.ide_types.specs.Ends.{hop_end, link_hop}
 use Rattle.ide_types.specs.Fits.{FitsPlan}
-use Rattle.association.specs.Outgoing.{Outgoing, NoTlp, OnNone, OnStream}
-use Rattle.association.proofs.Outgoing.{on_stream_reads}
+use Rattle.tlp_layout.specs.Outgoing.{Outgoing, NoTlp, OnNone, OnStream}
+use Rattle.tlp_layout.proofs.Outgoing.{on_stream_reads}
 use Rattle.spec_stream.specs.Sending.{first_that_holds, refusals, sealed_with_syncs}
 use Rattle.link_events.specs.declared.event.Event.TheVariants.{Access, Forward}
 use Rattle.link_events.specs.declared.event.AccessEvent.TheVariants as ae
 use Rattle.link_verdicts.specs.declared.access.AccessVerdict.TheVariants as av
 use Rattle.link_verdicts.specs.declared.verdict.Verdict.TheVariants as v
 use Rattle.spec_links.specs.Terms.{Reset}
-use Rattle.spec_links.specs.Plan.{has_link, has_port, streams_of}
-use Rattle.spec_links.specs.Ports.{at_switch, may_send, goes_to_hop, hop_lists}
+use Rattle.spec_links.specs.Plan.{has_port, streams_of}
+use Rattle.spec_links.specs.Ports.{at_switch, goes_to_hop, hop_lists}
 unfoldable use Rattle.spec_links.specs.Ports.{sealing_end}
-use Rattle.spec_links.specs.Due.{send_due, bytes_due, forward_out, forward_first, forward_due, answer_due}
+use Rattle.spec_links.specs.Due.{send_due, bytes_due, forward_out}
 unfoldable use Rattle.spec_links.specs.Due.{t_sealed}
-use Rattle.spec_links.specs.Memory.{accepted_tlps, hop_waiting, unit_ended}
+use Rattle.spec_links.specs.Memory.{accepted_tlps, unit_ended}
 unfoldable use Rattle.spec_links.specs.Sent.{bytes_by}
 use Rattle.spec_links.specs.Hops.{HopTlp, has_hop, entering_end, leaving_end, clears_hop, is_forward_on}
 unfoldable use Rattle.spec_links.specs.Hops.{accepted_tlps_in, forwarded_count}
-use Rattle.spec_links.specs.HopLaws.{carries_tlp_at, sealed_tlp, in_sub, ForwardsInOrder, ForwardsEach}
+use Rattle.spec_links.specs.HopLaws.{is_tlp_of_sender, sealed_tlp, in_sub, ForwardsInOrder, ForwardsEach}
 unfoldable use Rattle.spec_links.specs.HopLaws.{tlps_since_reset}
 use Rattle.law_reads.proofs.Oldest.{first_means}
 use Rattle.law_reads.proofs.Forwarded.{Forwarded, forward_means, as_forward}
 use Rattle.law_reads.proofs.Taken.{here_after, taken_accepted, tlps_of}
-use Rattle.law_sealing.proofs.Terms.{UnitName, Effect}
-use Rattle.law_hops.proofs.TlpsRead.{ReadsAs, taken_read, read_at}
+use Rattle.law_hops.proofs.TlpsRead.{taken_read, read_at, ReadsAs}
 
 -- ---- what a sealed send tells: its packets, with T
 
@@ -116,9 +111,9 @@ sent_list plan h port (OnStream t stream) more trusted ds is =
 -- of its packets one carries a TLP
 listed_tlp : (x : Lanes) (s : Sending) (number : ℕ) (n c : Bool) (end : PortName) (bytes : List ℕ)
     → is_same_port s.port end ≡ true
-    → map (sealed_tlp bytes) (filter (carries_tlp_at end) (listed x s number n c))
+    → map (sealed_tlp bytes) (filter (is_tlp_of_sender end) (listed_seals x s number n c))
     ≡ record { sub = s.class; bytes = bytes; t = s.trusted } ∷ []
-unfolding listed
+unfolding listed_seals
 listed_tlp x s number false false end bytes here = rw here refl
 listed_tlp x s number true false end bytes here = rw here refl
 listed_tlp x s number false true end bytes here = rw here refl
@@ -126,10 +121,10 @@ listed_tlp x s number true true end bytes here = rw here refl
 
 sealed_tlp_is : (x : Lanes) (s : Sending) (number : ℕ) (end : PortName) (bytes : List ℕ)
     → is_same_port s.port end ≡ true
-    → map (sealed_tlp bytes) (filter (carries_tlp_at end) (sealed_with_syncs x s number))
+    → map (sealed_tlp bytes) (filter (is_tlp_of_sender end) (sealed_with_syncs x s number))
     ≡ record { sub = s.class; bytes = bytes; t = s.trusted } ∷ []
 sealed_tlp_is x s number end bytes here =
-    ap (λ (ds : List SealedPacket). map (sealed_tlp bytes) (filter (carries_tlp_at end) ds)) (sealed_by_is x s number)
+    ap (λ (ds : List SealedPacket). map (sealed_tlp bytes) (filter (is_tlp_of_sender end) ds)) (sealed_by_is x s number)
     ∙ listed_tlp x s number (needs_sync x s.class Npr) (needs_sync x s.class Cpl) end bytes here
 
 -- ---- a forward
@@ -157,7 +152,7 @@ tlp_is x u bytes t sub_is bytes_is t_is = λ i. record { sub = sub_is i; bytes =
 pub forwards_first : (plan : Plan) → FitsPlan plan → (h : History) (link : ℕ) (d : Direction)
     (ds : List SealedPacket) → CauseLaw plan h
     → (f : Forwarded plan h link d ds)
-    → map (sealed_tlp (sent_bytes plan h (Forward link d))) (filter (carries_tlp_at (leaving_end link d)) ds)
+    → map (sealed_tlp (sent_bytes plan h (Forward link d))) (filter (is_tlp_of_sender (leaving_end link d)) ds)
     ≡ f.first ∷ []
 unfolding bytes_by
 forwards_first plan fits h link d ds cause f =
@@ -176,14 +171,14 @@ forwards_first plan fits h link d ds cause f =
     let class : s.sending.class ≡ f.first.sub =
     s.class_is ∙ (ap (λ (t : Tlp). class_of (header t)) tlp ∙ known.class) in
     let t : s.sending.trusted ≡ f.first.t = s.t_is ∙ own_t plan fits h link d s.tlp s.stream f.first.t f.known in
-    ap (λ (es : List SealedPacket). map (sealed_tlp bytes) (filter (carries_tlp_at end) es)) s.list
+    ap (λ (es : List SealedPacket). map (sealed_tlp bytes) (filter (is_tlp_of_sender end) es)) s.list
     ∙ (sealed_tlp_is (lanes_at plan h end s.stream) s.sending s.number end bytes here
     ∙ ap (λ (x : HopTlp). x ∷ []) (tlp_is f.first s.sending.class bytes s.sending.trusted class bytes_is t))
 
 -- ---- no other event seals there
 
 none_carried : (plan : Plan) (h : History) (port : PortName) (stream : ℕ) (end : PortName) (ds : List SealedPacket)
-    → is_same_port port end ≡ false → AllLive plan h port stream ds → filter (carries_tlp_at end) ds ≡ []
+    → is_same_port port end ≡ false → AllLive plan h port stream ds → filter (is_tlp_of_sender end) ds ≡ []
 none_carried plan h port stream end [] other all = refl
 none_carried plan h port stream end (x ∷ xs) other all =
     let there : is_same_port x.port end ≡ false = ap (λ (p : PortName). is_same_port p end) all.0.port_is ∙ other in
@@ -192,7 +187,7 @@ none_carried plan h port stream end (x ∷ xs) other all =
 
 sealed_nothing : (plan : Plan) (h : History) (e : Event) (end : PortName) (ds : List SealedPacket)
     → v.Sealed ds ≡ due plan h e → is_same_port (sending_port plan e) end ≡ false
-    → filter (carries_tlp_at end) ds ≡ []
+    → filter (is_tlp_of_sender end) ds ≡ []
 sealed_nothing plan h e end ds is other =
     let seals = sealing_is plan h e ds is in
     let there : is_same_port seals.sending.port end ≡ false = ap (λ (p : PortName). is_same_port p end) seals.at_port
@@ -212,8 +207,7 @@ apart plan p q here there = by (is_same_port p q) refl
 
 -- a link with a hop is one of the plan's
 link_known : (links : List LinkPlan) (n : ℕ) (r : Result Tlp TlpFault)
-    → hop_lists (link_hop (slice_get links n)) r ≡ true
-    → n < length links
+    → hop_lists (link_hop (slice_get links n)) r ≡ true → n < length links
 link_known [] n r is = absurd cc
 link_known (l ∷ links) zero r is = omega arith
 link_known (l ∷ links) (suc n) r is = let less = link_known links n r is in omega (arith, less)
@@ -321,7 +315,7 @@ sealed_forwards plan fits h e ds link d cause known before = by (is_forward_on l
 
     Both : Bool → Type 0
     Both b = (tlps_since_reset plan h link (leaving_end link d)
-        ++ map (sealed_tlp (sent_bytes plan h e)) (filter (carries_tlp_at (leaving_end link d)) ds)
+        ++ map (sealed_tlp (sent_bytes plan h e)) (filter (is_tlp_of_sender (leaving_end link d)) ds)
         ≡ take (if b then forwarded_count h link d + 1 else forwarded_count h link d)
         (accepted_tlps plan ((e, Sealed ds) ∷ h) link (entering_end link d)))
         × ((if b then forwarded_count h link d + 1 else forwarded_count h link d)
@@ -344,7 +338,7 @@ sealed_forwards plan fits h e ds link d cause known before = by (is_forward_on l
         let n = forwarded_count h link d in
         let f = forward_means plan h link d ds (cause.0 ∙ ap (due plan h) (as_forward e link d on)) in
         let more = one_more all n f.first f.waits in
-        let new = ap (λ (x : Event). map (sealed_tlp (sent_bytes plan h x)) (filter (carries_tlp_at end) ds))
+        let new = ap (λ (x : Event). map (sealed_tlp (sent_bytes plan h x)) (filter (is_tlp_of_sender end) ds))
         (as_forward e link d on) ∙ forwards_first plan fits h link d ds cause.1 f in (
           ap (λ (xs : List HopTlp). tlps_since_reset plan h link end ++ xs) new
               ∙ (ap (λ (xs : List HopTlp). xs ++ f.first ∷ []) before.list

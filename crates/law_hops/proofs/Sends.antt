@@ -1,33 +1,30 @@
 -- A forward is a send of the first TLP that waits, on the hop's stream.
-use Rattle.law_sealing.proofs.Terms.{◌≡◌, ℕ, ◌<◌, ◌+◌, Bool, true, false, List, [], ◌∷◌, length, slice_get, Option}
-use Rattle.law_sealing.proofs.Terms.{Some, Ok}
-use Rattle.law_sealing.proofs.Terms.{refl, ap, sym, ◌∙◌, arith, nat_tests, if◌then◌else◌, is_some, and_parts, Plan}
-use Rattle.law_sealing.proofs.Terms.{History}
-use Rattle.law_sealing.proofs.Terms.{CauseLaw, Tlp, header, read_of, class_of, sent_bytes, sealed_packets, lanes_at}
-use Rattle.law_sealing.proofs.Terms.{streams_of, SubKind, PortName}
+use Rattle.law_sealing.proofs.Terms.{◌≡◌, ℕ, ◌<◌, ◌+◌, false, List, [], ◌∷◌, length, slice_get, Bool, Option, History}
+use Rattle.law_sealing.proofs.Terms.{Some, Ok, ap, ◌∙◌, arith, nat_tests, if◌then◌else◌, is_some, and_parts, CauseLaw}
+use Rattle.law_sealing.proofs.Terms.{Plan, Tlp, read_of, SubKind, PortName, sealed_packets, lanes_at, streams_of}
 unfoldable use Rattle.law_sealing.proofs.Terms.{due}
 use Rattle.ide_types.specs.Lines.{is_link_line}
 use Rattle.ide_types.specs.declared.port.Side.{Side}
 use Rattle.ide_types.specs.declared.direction.Direction.{Direction}
 use Rattle.ide_types.specs.declared.direction.Direction.TheVariants.{Downstream, Upstream}
 use Rattle.ide_types.specs.Ends.{link_hop}
-use Rattle.ide_types.specs.Fits.{FitsPlan}
 use Rattle.ide_types.specs.declared.plan.HopPlan.{HopPlan}
-use Rattle.ide_types.specs.declared.stream.StreamPlan.{StreamPlan}
-unfoldable use Rattle.association.specs.Choice.{choice_of}
-use Rattle.association.specs.Outgoing.{Outgoing, OnStream, outgoing_as}
-unfoldable use Rattle.association.specs.Outgoing.{outgoing_of}
-use Rattle.link_events.specs.declared.event.Event.TheVariants.{Forward}
+unfoldable use Rattle.tlp_layout.specs.Choice.{choice_of}
+use Rattle.tlp_layout.specs.Outgoing.{Outgoing, OnStream, outgoing_as}
+unfoldable use Rattle.tlp_layout.specs.Outgoing.{outgoing_of}
 use Rattle.link_verdicts.specs.declared.verdict.Verdict.TheVariants as v
 use Rattle.spec_links.specs.Plan.{lone_stream}
 use Rattle.spec_links.specs.Due.{send_due, verdict_of_send, forward_out, forward_first}
-use Rattle.spec_links.specs.Hops.{HopTlp, has_hop, entering_end, leaving_end, forwarded_count}
-use Rattle.spec_links.specs.Memory.{accepted_tlps, hop_waiting}
+use Rattle.spec_links.specs.Hops.{entering_end, leaving_end, forwarded_count, HopTlp}
+use Rattle.spec_links.specs.Memory.{accepted_tlps}
 use Rattle.spec_links.proofs.HopFirst.{drop_first, forwarded_bytes}
 use Rattle.spec_links.proofs.HopRows.{near_row, far_row}
 use Rattle.law_hops.specs.Sends.{ForwardSends}
-use Rattle.law_hops.proofs.TlpsRead.{ReadsAs, taken_read, read_at}
+use Rattle.law_hops.proofs.TlpsRead.{taken_read, read_at, ReadsAs}
 use Rattle.law_hops.proofs.Forwards.{own_t}
+use Rattle.ide_types.specs.Fits.{FitsPlan}
+use Rattle.ide_types.specs.declared.stream.StreamPlan.{StreamPlan}
+use Rattle.link_events.specs.declared.event.Event.TheVariants.{Forward}
 
 lone_takes : (id : ℕ) (side : Side) (bytes : List ℕ) (t : Tlp) → read_of bytes ≡ Ok t
     → outgoing_of (lone_stream id 1 ∷ []) side bytes ≡ OnStream t id

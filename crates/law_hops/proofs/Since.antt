@@ -1,34 +1,28 @@
 -- The draws under which a segment seals and accepts since its link's last reset were given to it since then: the reset
 -- takes all keys, each later operation has a draw that began after it, and each draw belongs to one line.
 use Rattle.law_sealing.proofs.Terms.{◌≡◌, ℕ, ◌<◌, ◌≤◌, ◌+◌, ◌==◌, ◌&&◌, Bool, true, false, List, [], ◌∷◌, length}
-use Rattle.law_sealing.proofs.Terms.{Option}
-use Rattle.law_sealing.proofs.Terms.{Some, None, refl, ap, sym, subst, ◌∙◌, arith, nat_tests, if◌then◌else◌, is_some}
-use Rattle.law_sealing.proofs.Terms.{AllByRecursion, Plan, History, Event, Verdict, PortName, SubStream, CauseLaw}
-use Rattle.law_sealing.proofs.Terms.{port_keys, On, key_in, on_in, and_parts, eqb-true}
+use Rattle.law_sealing.proofs.Terms.{Option, Some, None, refl, ap, sym, subst, ◌∙◌, arith, nat_tests, if◌then◌else◌}
+use Rattle.law_sealing.proofs.Terms.{is_some, AllByRecursion, Plan, History, Event, Verdict, PortName, SubStream}
+use Rattle.law_sealing.proofs.Terms.{CauseLaw, port_keys, On, key_in, on_in, eqb-true}
 use Rattle.spec_links.proofs.Terms.{Establish, Refresh, Stop, Reset, KeyPlan, KeyPlace, key_plan, place_in_sub_stream}
-use Rattle.spec_links.proofs.Terms.{Begun, Idle, Manager, StreamStage, Reach, Work, Operation, Loss, draws, op_of}
-use Rattle.spec_links.proofs.Terms.{begins_keyed}
+use Rattle.spec_links.proofs.Terms.{Begun, Manager, StreamStage, Reach, Work, Operation, draws, op_of, Idle, Loss}
 use Rattle.spec_links.proofs.Terms.{work_of, reach_of, manager_after_operation, touches, touches_after, KeyCauseLaw}
-use Rattle.spec_links.proofs.Terms.{not, nat_lt}
-use Rattle.spec_links.proofs.Terms.{nat_le}
 unfoldable use Rattle.spec_links.proofs.Terms.{manager, moments, key_due}
 unfoldable use Rattle.spec_keys.specs.Keys.{keys}
-use Rattle.spec_keys.specs.Keys.{Clear}
-use Rattle.spec_keys.specs.History.{begun_of_draw, when}
+use Rattle.spec_keys.specs.Keys.{Clear, Touch}
+use Rattle.spec_keys.specs.History.{begun_of_draw, touches_if}
 use Rattle.spec_keys.specs.Operations.{makes_draw, op_cut}
 use Rattle.spec_keys.specs.Places.{is_cut, is_cleared, is_between_devices}
 use Rattle.spec_keys.specs.Due.{has_refresh}
-use Rattle.spec_keys.proofs.Owners.{OwnedKeys, behind_owned, owned_on, owner, begun_below}
+use Rattle.spec_keys.proofs.Owners.{OwnedKeys, behind_owned, owned_on, owner, begun_below, work_is}
 use Rattle.law_keys.proofs.Bases.{From, OpFrom, leads}
-use Rattle.ide_types.specs.Lines.{is_link_line, near_hop_line, far_hop_line}
+use Rattle.ide_types.specs.Lines.{is_link_line}
 use Rattle.law_key_facts.proofs.Unplanned.{on_at}
 use Rattle.law_key_facts.proofs.SealedKeys.{on_is_owned}
 use Rattle.law_key_facts.proofs.Given.{key_cause}
 use Rattle.law_key_facts.proofs.Ended.{reached_none, none_first}
-use Rattle.spec_keys.proofs.Owners.{work_is}
 use Rattle.spec_links.specs.Hops.{clears_hop}
 use Rattle.ide_types.specs.declared.port.Side.{Side}
-use Rattle.spec_keys.specs.Keys.{Touch}
 unfoldable use Rattle.spec_links.specs.HopLaws.{draws_since}
 use Rattle.link_verdicts.specs.declared.verdict.Operation.TheVariants as op
 use Rattle.link_verdicts.specs.declared.verdict.Verdict.TheVariants as v
@@ -61,12 +55,11 @@ next_marked h e w link p is before =
     record { low = rw is more.low; op_from = rw is more.op_from; keys_from = rw is keys_from }
 
 cut_idle : (b : ℕ) (ends : List PortName) (line : ℕ) (q : StreamStage) → is_cut ends line ≡ true
-    → is_between_devices line ≡ false
-    → OpFrom b (op_cut ends line q)
+    → is_between_devices line ≡ false → OpFrom b (op_cut ends line q)
 cut_idle b ends line q cut peer = rw (cut, peer) tt
 
 cleared_keys : (O : Bool → ℕ → Type 0) (s cleared : Bool) (ts : List Touch) → cleared ≡ true
-    → OwnedKeys O (keys s (touches_after ts (when cleared Clear)))
+    → OwnedKeys O (keys s (touches_after ts (touches_if cleared Clear)))
 unfolding keys
 cleared_keys O true cleared ts is = rw is (record { first_is = tt; second_is = tt })
 cleared_keys O false cleared ts is = rw is (record { first_is = tt; second_is = tt })
@@ -142,8 +135,7 @@ none_begins : (a c : Bool) (xs ys : List ℕ) → (if a && (c && false) then xs 
 none_begins a c xs ys = grind arith
 
 establishes_since : (P : ℕ → Type 0) (m : Manager) (l s : ℕ) (r : Option Reach) (since : List ℕ) (from line : ℕ)
-    → BegunSince P m.begun since from line
-    → BegunSince P (manager_after_operation m op.Establish l s r).begun
+    → BegunSince P m.begun since from line → BegunSince P (manager_after_operation m op.Establish l s r).begun
     (if (l == line) && ((work_of op.Establish (m.ops l s) (length m.begun)).begins && is_some r)
     then length m.begun ∷ since else since) from line
 establishes_since P m l s None since from line before = rw (none_begins (l == line)
@@ -211,8 +203,7 @@ reset_since P h k ends l link line before = by (clears_hop ends link)
     by false all j c is on_line up = before all j c is on_line up
 
 pub begun_since : (P : ℕ → Type 0) (kp : KeyPlan) (h : History) → KeyCauseLaw kp h → (link line : ℕ)
-    → is_link_line line ≡ false
-    → BegunSince P (manager h).begun (draws_since h link line) (mark h link) line
+    → is_link_line line ≡ false → BegunSince P (manager h).begun (draws_since h link line) (mark h link) line
 unfolding mark manager draws_since key_due
 begun_since P kp [] cause link line alone = λ all j c is on_line up. absurd cc
 begun_since P kp ((Establish l s loss, x) ∷ h) cause link line alone =

@@ -1,39 +1,37 @@
 -- An answer `through` changes nothing: each definition passes it over.
-use Rattle.law_sealing.proofs.Terms.{◌≡◌, ℕ, ◌&&◌, Bool, true, false, List, [], ◌∷◌, refl, ap, sym, ◌∙◌, arith, drop}
-use Rattle.law_sealing.proofs.Terms.{not}
-use Rattle.law_sealing.proofs.Terms.{Plan, History, Event, PortName, Pass, Alter, Cut, Arrive, CauseLaw, SubStream}
+use Rattle.law_sealing.proofs.Terms.{◌≡◌, ℕ, ◌&&◌, Bool, false, List, [], ◌∷◌, refl, ap, ◌∙◌, arith, Event, CauseLaw}
+use Rattle.law_sealing.proofs.Terms.{not, Plan, History, PortName, Pass, Alter, Cut, Arrive, SubStream}
 unfoldable use Rattle.law_sealing.proofs.Terms.{sealed_packets, accepted_packets, packets_in_hold}
 use Rattle.ide_types.specs.Ports.{keyed_status}
 use Rattle.ide_types.specs.declared.port.Side.{Side}
 use Rattle.ide_types.specs.declared.port.Side.TheVariants.{Device}
-use Rattle.ide_types.specs.declared.direction.Direction.{Direction}
-use Rattle.spec_keys.specs.History.{has_key, has_all, place_keys, history_status}
+use Rattle.spec_keys.specs.History.{has_key, has_all, place_keys}
 unfoldable use Rattle.spec_keys.specs.History.{failed_there, manager, moments}
 use Rattle.spec_interfaces.specs.Sites.{Site}
 use Rattle.spec_interfaces.specs.Peers.{any_leaves, binding_leaves, greatest_on, live_at, live_by_id, receiver_at}
-use Rattle.interface_state.specs.declared.bindings.Binding.{Binding}
+use Rattle.ide_types.specs.declared.binding.Binding.{Binding}
 use Rattle.std.specs.Prelude.{◌||◌, Option, Some, None, is_some, if◌then◌else◌}
-unfoldable use Rattle.spec_interfaces.specs.Views.{managed}
-use Rattle.spec_interfaces.specs.Devices.{interface_at, has_secure_stream, is_secure, leaves, interface_if_called}
+unfoldable use Rattle.spec_interfaces.specs.Views.{managed_view}
+use Rattle.spec_interfaces.specs.Devices.{interface_at, has_secure_stream, is_secure, interface_if_called}
 unfoldable use Rattle.spec_interfaces.specs.Devices.{devices}
 use Rattle.spec_interfaces.specs.Terms.{StreamLeft}
-unfoldable use Rattle.spec_links.specs.Guarded.{happened}
-use Rattle.spec_links.specs.Hops.{entering_end}
+unfoldable use Rattle.spec_links.specs.Guarded.{link_happenings}
 unfoldable use Rattle.spec_links.specs.Hops.{accepted_tlps_in, forwarded_count}
-use Rattle.spec_links.specs.HopLaws.{Unchanged, ThroughLaw}
+use Rattle.spec_links.specs.HopLaws.{ThroughLaw, Unchanged}
 unfoldable use Rattle.spec_links.specs.Memory.{writes}
 unfoldable use Rattle.spec_links.specs.Sent.{queued_in, reads_taken}
 use Rattle.link_verdicts.specs.declared.verdict.Verdict.TheVariants as v
+use Rattle.ide_types.specs.declared.direction.Direction.{Direction}
 
 twice : (a b : Bool) → ((a && b) && b) ≡ (a && b)
 twice a b = grind arith
 
 -- a failure stays one while a key is Live
-stays_failed : (h : History) (side : Side) (link stream : ℕ)
-    → (failed_there h side link stream && has_key (place_keys h) side link stream) ≡ failed_there h side link stream
+stays_failed : (h : History) (side : Side) (line stream : ℕ)
+    → (failed_there h side line stream && has_key (place_keys h) side line stream) ≡ failed_there h side line stream
 unfolding failed_there moments
-stays_failed [] side link stream = refl
-stays_failed ((e, w) ∷ h) side link stream = twice _ (has_key (place_keys ((e, w) ∷ h)) side link stream)
+stays_failed [] side line stream = refl
+stays_failed ((e, w) ∷ h) side line stream = twice _ (has_key (place_keys ((e, w) ∷ h)) side line stream)
 
 none_leaves : (a b : Bool) → b ≡ a → (a && not b) ≡ false
 none_leaves a b same = grind arith
@@ -78,14 +76,15 @@ still_failed : (h : History) (e : PortName) (stream : ℕ)
 still_failed h e stream = stays_failed h e.side e.line stream
 
 pub unchanged : (plan : Plan) (h : History) → ThroughLaw plan h
-unfolding sealed_packets accepted_packets packets_in_hold failed_there manager moments managed devices happened
+unfolding sealed_packets accepted_packets packets_in_hold failed_there manager moments managed_view devices
+    link_happenings
     accepted_tlps_in forwarded_count writes
     queued_in reads_taken
 unchanged plan h (Pass n) port brings = record {
   sealed = refl;
   operations = refl;
   keys = λ p. refl;
-  failures = λ side link stream. stays_failed h side link stream;
+  failures = λ side line stream. stays_failed h side line stream;
   accepted = λ s j. refl;
   pending_packets = λ s j k. refl;
   switches = λ link d. refl;
@@ -101,7 +100,7 @@ unchanged plan h (Alter n at mask) port brings = record {
   sealed = refl;
   operations = refl;
   keys = λ p. refl;
-  failures = λ side link stream. stays_failed h side link stream;
+  failures = λ side line stream. stays_failed h side line stream;
   accepted = λ s j. refl;
   pending_packets = λ s j k. refl;
   switches = λ link d. refl;
@@ -117,7 +116,7 @@ unchanged plan h (Cut n len) port brings = record {
   sealed = refl;
   operations = refl;
   keys = λ p. refl;
-  failures = λ side link stream. stays_failed h side link stream;
+  failures = λ side line stream. stays_failed h side line stream;
   accepted = λ s j. refl;
   pending_packets = λ s j k. refl;
   switches = λ link d. refl;
@@ -133,7 +132,7 @@ unchanged plan h (Arrive q bytes) port brings = record {
   sealed = refl;
   operations = refl;
   keys = λ p. refl;
-  failures = λ side link stream. stays_failed h side link stream;
+  failures = λ side line stream. stays_failed h side line stream;
   accepted = λ s j. refl;
   pending_packets = λ s j k. refl;
   switches = λ link d. refl;

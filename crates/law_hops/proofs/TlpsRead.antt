@@ -2,15 +2,14 @@
 -- payload in plain has as many bytes as in ciphertext.
 use Rattle.law_sealing.proofs.Terms.{◌≡◌, ℕ, ◌<◌, ◌≤◌, ◌+◌, Bool, true, false, List, [], ◌∷◌, ◌++◌, length, drop, take}
 use Rattle.law_sealing.proofs.Terms.{Ok, ap, sym, subst, ◌∙◌, arith, inl, inr, if◌then◌else◌, All, cases_Bool}
-use Rattle.law_sealing.proofs.Terms.{AllByRecursion, length-append, length-drop, slice_index, All-nil}
-use Rattle.law_sealing.proofs.Terms.{Packet, FitsPacket, is_sync_packet, begins_sync, encrypted_bytes, Tlp, header}
-use Rattle.law_sealing.proofs.Terms.{read_of}
+use Rattle.law_sealing.proofs.Terms.{AllByRecursion, length-append, length-drop, slice_index, All-nil, Packet}
+use Rattle.law_sealing.proofs.Terms.{FitsPacket, is_sync_packet, begins_sync, encrypted_bytes, Tlp, header, read_of}
 use Rattle.law_sealing.proofs.Terms.{read_spells_tlp, class_of, masked-bytes, length-open_of, Plan, History, Event}
-use Rattle.law_sealing.proofs.Terms.{PortName, UnitName, Accepted, CauseLaw, accepted_by, iv_of, key_of}
-use Rattle.law_sealing.proofs.Terms.{received_in, packets_in_hold, arrived_packet, packet_that_came, is_same_port}
+use Rattle.law_sealing.proofs.Terms.{PortName, UnitName, Accepted, CauseLaw, accepted_by, iv_of, key_of, received_in}
+use Rattle.law_sealing.proofs.Terms.{packets_in_hold, arrived_packet, packet_that_came, is_same_port, slice_get, Some}
+use Rattle.law_sealing.proofs.Terms.{Effect}
 unfoldable use Rattle.law_sealing.proofs.Terms.{open_of}
 use Rattle.std.proofs.Common.{zero, suc}
-use Rattle.law_sealing.proofs.Terms.{slice_get, Some, Effect}
 use Rattle.std.proofs.lemmas.List.Elements.{All-append, All-take, All-drop}
 use Rattle.std.proofs.lemmas.List.{length-take-le}
 use Rattle.tlp_layout.specs.Tlp.{with_payload}
@@ -56,8 +55,7 @@ one_reads p payload fits plain size bytes = elim fits.carries [
         cc (begins, plain)
 
 tlps_read : (plain : List ℕ) (ps : List Packet) → AllByRecursion FitsPacket ps
-    → length (encrypted_bytes ps) ≤ length plain
-    → All IsByte plain → AllByRecursion ReadsAs (tlps_with plain ps)
+    → length (encrypted_bytes ps) ≤ length plain → All IsByte plain → AllByRecursion ReadsAs (tlps_with plain ps)
 tlps_read plain [] fits size bytes = tt
 tlps_read plain (p ∷ ps) fits size bytes =
     let n = length p.body in

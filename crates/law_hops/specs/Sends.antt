@@ -17,8 +17,7 @@ use Rattle.spec_links.specs.Memory.{hop_waiting}
 abbrev pub ForwardSends : Type 0
 ForwardSends = (plan : Plan) → FitsPlan plan → (h : History) → CauseLaw plan h → (link : ℕ) (d : Direction)
     (hop : HopPlan) → has_hop plan link ≡ true → link_hop (slice_get plan.links link) ≡ Some hop
-    → (x : HopTlp) (xs : List HopTlp) → hop_waiting plan h link d ≡ x ∷ xs
-    → due plan h (Forward link d)
+    → (x : HopTlp) (xs : List HopTlp) → hop_waiting plan h link d ≡ x ∷ xs → due plan h (Forward link d)
     ≡ verdict_of_send (lanes_at plan h (leaving_end link d) hop.id)
     (record { port = leaving_end link d; stream = hop.id; class = x.sub; more = false; trusted = x.t })
     (length (sealed_packets plan h) + 1)

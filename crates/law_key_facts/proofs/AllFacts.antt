@@ -1,9 +1,8 @@
 -- All that is used of keys holds.
-use Rattle.spec_links.proofs.Terms.{Bool, [], ap, arith, false, refl, sym, true, ℕ, ◌<◌, ◌==◌, ◌∙◌, ◌≡◌, ◌≤◌}
-use Rattle.spec_links.proofs.Terms.{nat_tests, base, CauseLaw, port_keys, place_in_sub_stream, sent, waits, KeyFacts}
-use Rattle.spec_links.proofs.Terms.{SubStream}
-use Rattle.spec_links.proofs.Terms.{key_plan, lane_out, History, Keyed, Keys, On}
-use Rattle.spec_links.proofs.Terms.{Plan, PortName, SubKind, key_in, nat_le, not, on_in}
+use Rattle.spec_links.proofs.Terms.{Bool, [], ap, arith, false, refl, sym, true, ℕ, ◌<◌, ◌==◌, ◌∙◌, ◌≡◌, ◌≤◌, nat_tests}
+use Rattle.spec_links.proofs.Terms.{base, CauseLaw, port_keys, place_in_sub_stream, sent_packets, waits, KeyFacts}
+use Rattle.spec_links.proofs.Terms.{SubStream, key_plan, lane_out, History, Keyed, Keys, On, Plan, PortName, SubKind}
+use Rattle.spec_links.proofs.Terms.{key_in, nat_le, not, on_in}
 use Rattle.spec_keys.proofs.Tests.{le-true}
 use Rattle.law_keys.proofs.Bases.{on_from}
 use Rattle.law_key_facts.proofs.Seats.{keys_out}
@@ -34,7 +33,8 @@ differ ks false i j apart_is on other le = let differ = apart_is j i on other in
 
 pub unused : (plan : Plan) (h : History) → CauseLaw plan h → (port : PortName) (stream : ℕ) (u : SubKind) (k : Bool)
     (j : ℕ) → let s = lane_out port stream u in
-    key_in (port_keys h port s) k ≡ On j → waits k j (key_in (port_keys h port s) (not k)) ≡ true → sent plan h s j ≡ []
+    key_in (port_keys h port s) k ≡ On j → waits k j (key_in (port_keys h port s) (not k)) ≡ true
+    → sent_packets plan h s j ≡ []
 unused plan h law port stream u k j on waiting =
     let s = lane_out port stream u in
     let other = other_of k j (key_in (port_keys h port s) (not k)) waiting in
@@ -56,7 +56,7 @@ facts plan = record {
   sealed = λ h e ds law port s. sealed plan h e ds law port s;
   accepted = λ h e port unit effects law q s. accepted plan h e port unit effects law q s;
   keyed = λ h e w law port s still. keyed plan h e w law port s still;
-  base_same = λ h e w law link stream still. operates_no_base plan h e w link stream still;
+  base_same = λ h e w law line stream still. operates_no_base plan h e w line stream still;
   from_base = λ h law port s k j on. from_base plan h law port s k j on;
   apart = λ h law port s i j first second. apart plan h law port s i j first second;
   unused = λ h law port stream u k j on waiting. unused plan h law port stream u k j on waiting;

@@ -4,35 +4,27 @@
 -- key: it has sealed nothing newer if it is the sender, and no draw is On there if it is the receiver.
 use Rattle.spec_links.proofs.Terms.{Bool, List, None, Option, Some, [], ap, arith, false, inl, inr, length, refl}
 use Rattle.spec_links.proofs.Terms.{slice_get, subst, subst₂, suc, sym, true, ℕ, ◌++◌, ◌<◌, ◌==◌, ◌∙◌, ◌∷◌, ◌≡◌, ◌≤◌}
-use Rattle.spec_links.proofs.Terms.{◌⊎◌, nat_tests, Side, StreamStatus}
-use Rattle.spec_links.proofs.Terms.{Loss, Operation, PortView, establish_on, ports_at, refresh_on, base}
-use Rattle.spec_links.proofs.Terms.{touches_after, came}
-use Rattle.spec_links.proofs.Terms.{draws, manager, moments, on_it, op_of, touches, when, work_touches, ClearTouch}
-use Rattle.spec_links.proofs.Terms.{GoTouch}
-use Rattle.spec_links.proofs.Terms.{Loaded, ProgramTouch, Touch}
-use Rattle.spec_links.proofs.Terms.{is_open, draw_of_keyed, keys, sender_draw, without_outlived, touched, Idle}
-use Rattle.spec_links.proofs.Terms.{StreamStage, Reach}
-use Rattle.spec_links.proofs.Terms.{Stopping}
-use Rattle.spec_links.proofs.Terms.{Work, op_after, reach_of, work_of, is_on_stream, is_same_sub, lane, CauseLaw}
-use Rattle.spec_links.proofs.Terms.{SealedList, after_ends, ahead_of_packet}
-use Rattle.spec_links.proofs.Terms.{ended_keys, ends_unit_at, is_under, port_keys, packet_of, place_in_sub_stream}
-use Rattle.spec_links.proofs.Terms.{sealed_packets, sent}
-use Rattle.spec_links.proofs.Terms.{sub_stream_packets, sub_stream_of, with_sealed, SubStream, is_same, key_plan}
-use Rattle.spec_links.proofs.Terms.{lane_in}
-use Rattle.spec_links.proofs.Terms.{lane_out, partner, AllByRecursion, Device}
-use Rattle.spec_links.proofs.Terms.{Establish, Event, History, Host, KeyPlan, Keys, Off, On, Packet, KeyPlace, Plan}
-use Rattle.spec_links.proofs.Terms.{PortName, Refresh, Reset, SealedPacket, Stop, SubKind, Verdict}
-use Rattle.spec_links.proofs.Terms.{if◌then◌else◌, is_some, key_in, place_keys}
-use Rattle.spec_links.proofs.Terms.{nat_lt, no_keys, history_status, ◌&&◌, open_unit}
+use Rattle.spec_links.proofs.Terms.{◌⊎◌, nat_tests, Side, StreamStatus, Loss, Operation, PortView, establish_on}
+use Rattle.spec_links.proofs.Terms.{ports_at, refresh_on, base, touches_after, came, draws, manager, moments, on_it}
+use Rattle.spec_links.proofs.Terms.{op_of, touches, touches_if, work_touches, ClearTouch, GoTouch, Loaded, ProgramTouch}
+use Rattle.spec_links.proofs.Terms.{Touch, is_open, draw_of_keyed, keys, sender_draw, without_outlived}
+use Rattle.spec_links.proofs.Terms.{keys_after_touch, Idle, StreamStage, Reach, Stopping, Work, op_after, reach_of}
+use Rattle.spec_links.proofs.Terms.{work_of, is_on_stream, is_same_sub, CauseLaw, SealedList, after_ends}
+use Rattle.spec_links.proofs.Terms.{ahead_of_packet, ended_keys, ends_port_unit, is_sealed_under, port_keys, packet_of}
+use Rattle.spec_links.proofs.Terms.{place_in_sub_stream, sealed_packets, sent_packets, sub_stream_packets}
+use Rattle.spec_links.proofs.Terms.{sub_stream_of, with_sealed, SubStream, is_same, key_plan, lane_in, lane_out}
+use Rattle.spec_links.proofs.Terms.{partner, AllByRecursion, Device, Establish, Event, History, Host, KeyPlan, Keys}
+use Rattle.spec_links.proofs.Terms.{Off, On, Packet, KeyPlace, Plan, PortName, Refresh, Reset, SealedPacket, Stop}
+use Rattle.spec_links.proofs.Terms.{SubKind, Verdict, if◌then◌else◌, is_some, key_in, place_keys, nat_lt, no_keys}
+use Rattle.spec_links.proofs.Terms.{history_status, ◌&&◌, open_unit, Begun, KeyCauseLaw, key_due, sent_bytes, Manager}
 use Rattle.spec_keys.proofs.Shapes.{Shape, Bare, Sound, keys_of, live_waiting, live_alone, live_following, live_both}
 use Rattle.spec_keys.proofs.Touches.{Goes, waiting_goes, alone_goes, following_goes, both_goes, AllCome}
 use Rattle.spec_keys.proofs.Owners.{begun_below, owner, work_is, same_place}
 use Rattle.spec_keys.specs.Due.{has_refresh}
-use Rattle.spec_keys.specs.History.{begun_of_draw, stop_at}
+use Rattle.spec_keys.specs.History.{begun_of_draw, stop_exchange}
 use Rattle.spec_keys.specs.Operations.{makes_draw, manager_after_operation}
 use Rattle.spec_keys.specs.Places.{is_cleared, is_cut, is_host, is_local, is_between_devices}
 use Rattle.ide_types.specs.Lines.{is_hosted, is_link_line}
-use Rattle.spec_links.proofs.Terms.{Begun, KeyCauseLaw, key_due}
 use Rattle.spec_keys.proofs.Fits.{StopLeaves}
 use Rattle.spec_keys.proofs.Tests.{lt-true, both-true, true-same}
 use Rattle.spec_keys.proofs.Uses.{live_is_on}
@@ -42,12 +34,10 @@ use Rattle.law_keys.proofs.Bases.{based}
 use Rattle.law_keys.proofs.Firsts.{state_of, refresh_state}
 use Rattle.spec_links.proofs.Tests.{eqb-sym}
 use Rattle.spec_links.proofs.UnitLemmas.{open_unit-end}
-use Rattle.spec_links.proofs.Terms.{sent_bytes, Manager}
 use Rattle.spec_links.proofs.Senders.{AreOther, on_live}
 use Rattle.spec_links.proofs.Sealed.{sub_stream_packets-snoc, sent-same, left_alone}
 use Rattle.spec_links.proofs.SealingIs.{sending_port, IsLive, AllLive, sealing_is, all_live, AllApart, all_apart}
-use Rattle.spec_links.proofs.SealingIs.{seals_none}
-use Rattle.spec_links.proofs.SealingIs.{sealed_same, sealed_by_sealing, sealing_manager}
+use Rattle.spec_links.proofs.SealingIs.{seals_none, sealed_same, sealed_by_sealing, sealing_manager}
 use Rattle.law_key_facts.proofs.Seats.{own_key, keys_out, keys_into, live_of, live_here, on_key}
 use Rattle.law_key_facts.proofs.Unplanned.{never_on, acts}
 use Rattle.law_key_facts.proofs.Given.{key_cause}
@@ -80,7 +70,7 @@ bare_host plan h law p host is = by_op (op_of h p.line p.stream) refl is
         keys_of at.fits
     by_op (Stopping n) there is =
         let at = in_state (key_plan plan) h (key_cause plan h law) p (Stopping n) there in
-        let bare = stopped_bare (is_local p) host (stop_at p) n at.shape at.fits.1 in
+        let bare = stopped_bare (is_local p) host (stop_exchange p) n at.shape at.fits.1 in
         at.is.are ∙ ap keys_of bare
     by_op _ there is = absurd cc
 
@@ -95,13 +85,13 @@ OnlyKeys (_ ∷ ts) = ⊥
 -- the Live draw of an open unit stays Live when a key is programmed, and when one that is kept gets its GO and is no
 -- smaller
 program_keeps : (f : ℕ → Bool) (ks : Keys) (k : Bool) (j i : ℕ) → sender_draw ks ≡ Some i → f i ≡ true
-    → sender_draw (without_outlived true f (touched true ks (ProgramTouch k j))) ≡ Some i
+    → sender_draw (without_outlived true f (keys_after_touch true ks (ProgramTouch k j))) ≡ Some i
 program_keeps f ks k j i live opens = grind (arith, nat_tests)
 
 go_keeps : (f : ℕ → Bool) (ks : Keys) (k : Bool) (j i : ℕ) → sender_draw ks ≡ Some i → f i ≡ true
     → draw_of_keyed (key_in ks k)
     ≡ Some j → i ≤ j
-    → sender_draw (without_outlived true f (touched true ks (GoTouch k j))) ≡ Some i
+    → sender_draw (without_outlived true f (keys_after_touch true ks (GoTouch k j))) ≡ Some i
 go_keeps f ks k j i live opens kept le = grind (arith, nat_tests)
 
 abbrev Given : Keys → Bool → ℕ → Type 0
@@ -119,8 +109,7 @@ given ts k j _ sound (both_goes a) =
 
 live_stays : (ts more : List Touch) → AllCome true ts more → OnlyKeys more → (i : ℕ) → sender_draw (keys true ts)
     ≡ Some i
-    → is_open ts i ≡ true
-    → sender_draw (keys true (touches_after ts more)) ≡ Some i
+    → is_open ts i ≡ true → sender_draw (keys true (touches_after ts more)) ≡ Some i
 unfolding is_open keys
 live_stays ts [] come only i live opens = live
 live_stays ts (ProgramTouch k j ∷ more) come only i live opens =
@@ -136,7 +125,8 @@ live_stays ts (_ ∷ more) come only i live opens = absurd only
 
 -- ---- what a pair does to a sender
 
-when_only : (b c : Bool) (k l : Bool) (i j : ℕ) → OnlyKeys (when b (ProgramTouch k i) ++ when c (GoTouch l j))
+when_only : (b c : Bool) (k l : Bool) (i j : ℕ)
+    → OnlyKeys (touches_if b (ProgramTouch k i) ++ touches_if c (GoTouch l j))
 when_only true true k l i j = tt
 when_only true false k l i j = tt
 when_only false true k l i j = tt
@@ -190,7 +180,7 @@ moved h (Reset l ends) (v.Reset m) none p sends = by_cut (is_cut ends p.line) re
         → (stops (if cut then (if is_between_devices p.line then Stopping 1 else Idle) else (manager h).ops p.line
         p.stream)
         ≡ true)
-        ⊎ OnlyKeys (when (is_cleared ends p.side p.line) ClearTouch)
+        ⊎ OnlyKeys (touches_if (is_cleared ends p.side p.line) ClearTouch)
     by_cut true is = inl (cut_stops (is_between_devices p.line))
     by_cut false is = inr (rw (uncleared ends p.side p.line is) tt)
 moved h (Reset l ends) w none p sends = inr tt
@@ -204,8 +194,7 @@ begins kp q next ports l s loss stopped goes = grind arith
 
 refuses : (kp : KeyPlan) (q : StreamStage) (next : ℕ) (ports : PortView) (host : StreamStatus) (l s : ℕ)
     (loss : Option Loss)
-    → stops q ≡ true
-    → is_some (reach_of op.Refresh (refresh_on kp q next ports host l s loss)) ≡ true → ⊥
+    → stops q ≡ true → is_some (reach_of op.Refresh (refresh_on kp q next ports host l s loss)) ≡ true → ⊥
 refuses kp q next ports host l s loss stopped goes = grind arith
 
 if_stops : (cut peer : Bool) (q : StreamStage) → stops q ≡ true
@@ -259,7 +248,7 @@ abbrev AllOff : SubStream → List SealedPacket → Type 0
 AllOff s = AllByRecursion (λ (d : SealedPacket). is_same (sub_stream_of d) s ≡ false)
 
 none_ends : (port : PortName) (s : SubStream) (d : SealedPacket) → is_same (sub_stream_of d) s ≡ false
-    → ends_unit_at port s d ≡ false
+    → ends_port_unit port s d ≡ false
 none_ends port s d off = grind (arith, off)
 
 all_end : (port : PortName) (s : SubStream) (ds : List SealedPacket) (ks : Keys) → AllOff s ds → after_ends port s ds ks
@@ -281,13 +270,14 @@ others_leave X i plan ahead bytes port s ds xs ks off opens =
 -- one of the sub-stream is under the Live draw, and ends its unit or leaves the key
 one_open : (X : Type 0) (i : ℕ) (port : PortName) (s : SubStream) (d : SealedPacket) (p : Packet) (xs : SealedList)
     (ks : Keys)
-    → is_same (sub_stream_of d) s ≡ true → ends_unit_at port s d ≡ d.m → p.prefix.m ≡ d.m → sender_draw ks ≡ Some d.draw
+    → is_same (sub_stream_of d) s ≡ true → ends_port_unit port s d ≡ d.m → p.prefix.m ≡ d.m → sender_draw ks
+    ≡ Some d.draw
     → OpenIs X i xs s ks → OpenIs X i (xs ++ (d, p) ∷ []) s
-    (if ends_unit_at port s d then ended_keys ks.first ks.second else ks)
+    (if ends_port_unit port s d then ended_keys ks.first ks.second else ks)
 one_open X i port s d p xs ks here ends m live opens = by_draw (d.draw == i) d.m refl refl
   where
     by_draw : (b c : Bool) → (d.draw == i) ≡ b → d.m ≡ c → OpenIs X i (xs ++ (d, p) ∷ []) s
-        (if ends_unit_at port s d then ended_keys ks.first ks.second else ks)
+        (if ends_port_unit port s d then ended_keys ks.first ks.second else ks)
     by_draw true true same last = inl
         (ap open_unit (sub_stream_packets-snoc xs (d, p) s i ∙ rw (here, same) refl) ∙ open_unit-end
         (sub_stream_packets xs s i) p (m ∙ last))
@@ -310,8 +300,7 @@ others_off s d [] here other = tt
 others_off s d (e ∷ ds) here other = (sub_off s d e here other.0, others_off s d ds here other.1)
 
 ends_own : (port : PortName) (stream : ℕ) (u : SubKind) (d : SealedPacket)
-    → is_same (sub_stream_of d) (lane_out port stream u) ≡ true
-    → ends_unit_at port (lane_out port stream u) d ≡ d.m
+    → is_same (sub_stream_of d) (lane_out port stream u) ≡ true → ends_port_unit port (lane_out port stream u) d ≡ d.m
 ends_own port stream u d here = grind (arith, nat_tests)
 
 all_open : (X : Type 0) (i : ℕ) (plan : Plan) (h : History) (q : PortName) (t : ℕ) (ahead : SealedPacket → List ℕ)
@@ -414,7 +403,7 @@ unfolding sub_stream_packets
 not_sent [] s n i le below = refl
 not_sent (x ∷ xs) s n i le below =
     let lt : x.0.draw < n = below 0 x refl in
-    let off : is_under s i x ≡ false = grind (arith, nat_tests) in
+    let off : is_sealed_under s i x ≡ false = grind (arith, nat_tests) in
     rw off (not_sent xs s n i le (λ k y at. below (suc k) y at))
 
 lower : (b : Bool) (m n i : ℕ) → n ≤ m → (if b then m else n) ≤ i → n ≤ i
@@ -422,8 +411,7 @@ lower b m n i le up = grind arith
 
 -- Base never falls
 base_up : (plan : Plan) (h : History) (e : Event) (w : Verdict) → CauseLaw plan ((e, w) ∷ h) → (p : KeyPlace) (i : ℕ)
-    → base ((e, w) ∷ h) p.line p.stream ≤ i
-    → base h p.line p.stream ≤ i
+    → base ((e, w) ∷ h) p.line p.stream ≤ i → base h p.line p.stream ≤ i
 unfolding base
 base_up plan h (Establish l s loss) w law p i le = lower _ (draws h) (base h p.line p.stream) i
     (based (key_plan plan) h (key_cause plan h law.1) p).low le
@@ -666,8 +654,9 @@ local_is q host hosted = rw (host, hosted) refl
 
 pub ended : (plan : Plan) (h : History) → CauseLaw plan h → (port : PortName) (stream : ℕ) (u : SubKind) (k : Bool)
     (j i place : ℕ) (x : SealedPacket × Packet) → let s = lane_in port stream u in
-    key_in (port_keys h port s) k ≡ On j → slice_get (sealed_packets plan h) place ≡ Some x → is_under s j x ≡ true
-    → base h s.line s.stream ≤ i → i < j → open_unit (sent plan h s i) ≡ []
+    key_in (port_keys h port s) k ≡ On j → slice_get (sealed_packets plan h) place ≡ Some x → is_sealed_under s j x
+    ≡ true
+    → base h s.line s.stream ≤ i → i < j → open_unit (sent_packets plan h s i) ≡ []
 ended plan h law q stream u k j i at x on stands under up less = by_line (is_hosted q.line) refl
   where
     lanes : lane_in q stream u ≡ lane_out (partner q) stream u
@@ -681,7 +670,7 @@ ended plan h law q stream u k j i at x on stands under up less = by_line (is_hos
     draw = true-same x.0.draw j (both-true (is_same (sub_stream_of x.0) (lane_in q stream u)) (x.0.draw == j) under).1
 
     by_side : (side : Side) → (partner q).side ≡ side → is_hosted q.line ≡ true → Excuse plan h (partner q) stream u i
-        → open_unit (sent plan h (lane_out (partner q) stream u) i) ≡ []
+        → open_unit (sent_packets plan h (lane_out (partner q) stream u) i) ≡ []
     by_side Host host hosted e = absurd
         (let most = e.left (local_is (partner q) host hosted) at x stands here in omega (arith, most, draw, less))
     by_side Device device hosted e =
@@ -689,9 +678,9 @@ ended plan h law q stream u k j i at x on stands under up less = by_line (is_hos
         (local_is q (host_end q device) hosted) e.stopping in
         absurd (never_on k j (ap (λ (ks : Keys). key_in ks k) (sym bare ∙ sym (keys_into h q stream u)) ∙ on))
 
-    by_line : (hosted : Bool) → is_hosted q.line ≡ hosted → open_unit (sent plan h (lane_in q stream u) i) ≡ []
+    by_line : (hosted : Bool) → is_hosted q.line ≡ hosted → open_unit (sent_packets plan h (lane_in q stream u) i) ≡ []
     by_line true hosted =
-        subst (λ (r : SubStream). open_unit (sent plan h r i) ≡ []) (sym lanes)
+        subst (λ (r : SubStream). open_unit (sent_packets plan h r i) ≡ []) (sym lanes)
         (elim (opens_at plan h law (partner q) stream u i up) [
           | inl none ↦ none
           | inr (inl live) ↦ absurd

@@ -1,9 +1,8 @@
 -- Whether a stream failed at a port, after one more pair.
 use Rattle.spec_links.proofs.Terms.{Bool, ap, arith, false, sym, true, ℕ, ◌∙◌, ◌∷◌, ◌≡◌, Side, Cpl, Npr, Pr}
-use Rattle.spec_links.proofs.Terms.{failed_there, has_key, places_of, failed, fails_at, has_live_key, has_live_in}
-use Rattle.spec_links.proofs.Terms.{has_live_out, is_keyed, lane_in, lane_out, Event}
-use Rattle.spec_links.proofs.Terms.{History, KeyPlace, PortName, SubKind, Verdict, keeps_live, place_keys, list_any}
-use Rattle.spec_links.proofs.Terms.{◌&&◌, ◌||◌}
+use Rattle.spec_links.proofs.Terms.{failed_there, has_key, places_of, has_failed, fails_at, has_live_key, has_live_in}
+use Rattle.spec_links.proofs.Terms.{has_live_out, is_keyed, lane_in, lane_out, Event, History, KeyPlace, PortName}
+use Rattle.spec_links.proofs.Terms.{SubKind, Verdict, keeps_live, place_keys, list_any, ◌&&◌, ◌||◌}
 use Rattle.law_key_facts.proofs.Seats.{keys_out, keys_into}
 
 -- ---- keys
@@ -20,12 +19,11 @@ pub in_keyed : (h : History) (port : PortName) (stream : ℕ) (u : SubKind) → 
     ≡ keeps_live (place_keys h (end_of port stream false u))
 in_keyed h port stream u = ap keeps_live (keys_into h port stream u)
 
-by_side : (side : Side) (link stream : ℕ) (keyed : KeyPlace → Bool)
-    → let at = λ (sends : Bool) (u : SubKind). keyed
-    (record { side = side; line = link; stream = stream; sends = sends; sub = u }) in
+by_side : (side : Side) (line stream : ℕ) (keyed : KeyPlace → Bool) → let at = λ (sends : Bool) (u : SubKind). keyed
+    (record { side = side; line = line; stream = stream; sends = sends; sub = u }) in
     (at true Pr || at true Npr || at true Cpl || (at false Pr || at false Npr || at false Cpl))
-    ≡ list_any keyed (places_of side link stream)
-by_side side link stream keyed = grind arith
+    ≡ list_any keyed (places_of side line stream)
+by_side side line stream keyed = grind arith
 
 pub live_is_key : (h : History) (port : PortName) (stream : ℕ) → has_live_key h port stream
     ≡ has_key (place_keys h) port.side port.line stream
@@ -39,8 +37,8 @@ live_is_key h port stream =
 -- ---- failures
 
 pub failed_next : (h : History) (e : Event) (w : Verdict) (port : PortName) (stream : ℕ)
-    → failed ((e, w) ∷ h) port stream ≡
-    ((fails_at port stream w || failed h port stream) && has_live_key ((e, w) ∷ h) port stream)
+    → has_failed ((e, w) ∷ h) port stream ≡
+    ((fails_at port stream w || has_failed h port stream) && has_live_key ((e, w) ∷ h) port stream)
 unfolding failed_there
-failed_next h e w port stream = ap (λ (b : Bool). (fails_at port stream w || failed h port stream) && b)
+failed_next h e w port stream = ap (λ (b : Bool). (fails_at port stream w || has_failed h port stream) && b)
     (sym (live_is_key ((e, w) ∷ h) port stream))

@@ -1,15 +1,13 @@
 -- A key that becomes Live at a sender has sealed nothing.
-use Rattle.spec_links.proofs.Terms.{Bool, List, Some, [], ap, arith, false, inl, inr, refl, subst, sym, true, ℕ}
-use Rattle.spec_links.proofs.Terms.{◌<◌, ◌==◌, ◌∙◌, ◌∷◌, ◌≡◌, ◌≤◌, ◌⊎◌, nat_tests, base, touches_after, draws}
-use Rattle.spec_links.proofs.Terms.{manager}
-use Rattle.spec_links.proofs.Terms.{moments, touches, GoTouch as Go, Touch, is_open, keys, without_outlived, touched}
-use Rattle.spec_links.proofs.Terms.{CauseLaw, KeyName, SealedList, after_ends, ahead_of_packet, ended_keys, port_keys}
-use Rattle.spec_links.proofs.Terms.{lesser, live_key, place_in_sub_stream, sealed_packets, sent, sub_stream_packets}
-use Rattle.spec_links.proofs.Terms.{sub_stream_of, waits}
-use Rattle.spec_links.proofs.Terms.{SubStream, is_same, key_plan, lane_out, Event, History, Keyed, Keys, Off, On}
-use Rattle.spec_links.proofs.Terms.{Plan, PortName, Sealed, SealedPacket, SubKind, Verdict, key_in}
-use Rattle.spec_links.proofs.Terms.{place_keys, not, on_in, ◌&&◌, sent_bytes}
-use Rattle.spec_keys.proofs.Shapes.{Shape, used, IsAt}
+use Rattle.spec_links.proofs.Terms.{Bool, List, Some, [], ap, arith, false, inl, inr, refl, subst, sym, true, ℕ, ◌<◌}
+use Rattle.spec_links.proofs.Terms.{◌==◌, ◌∙◌, ◌∷◌, ◌≡◌, ◌≤◌, ◌⊎◌, nat_tests, base, touches_after, draws, manager}
+use Rattle.spec_links.proofs.Terms.{moments, touches, GoTouch as Go, Touch, is_open, keys, without_outlived}
+use Rattle.spec_links.proofs.Terms.{keys_after_touch, CauseLaw, KeyName, SealedList, after_ends, ahead_of_packet}
+use Rattle.spec_links.proofs.Terms.{ended_keys, port_keys, lesser, live_key, place_in_sub_stream, sealed_packets}
+use Rattle.spec_links.proofs.Terms.{sent_packets, sub_stream_packets, sub_stream_of, waits, SubStream, is_same}
+use Rattle.spec_links.proofs.Terms.{key_plan, lane_out, Event, History, Keyed, Keys, Off, On, Plan, PortName, Sealed}
+use Rattle.spec_links.proofs.Terms.{SealedPacket, SubKind, Verdict, key_in, place_keys, not, on_in, ◌&&◌, sent_bytes}
+use Rattle.spec_keys.proofs.Shapes.{Shape, draws_used, IsAt}
 use Rattle.spec_keys.proofs.Touches.{Goes, waiting_goes, alone_goes, following_goes, both_goes, Comes, AllCome}
 use Rattle.law_keys.proofs.Behind.{used_behind}
 use Rattle.spec_keys.proofs.Whole.{fits, next_fits}
@@ -31,12 +29,12 @@ settled_on : (s : Bool) (f : ℕ → Bool) (ks : Keys) (k : Bool) (j : ℕ) → 
 settled_on s f ks k j on = grind arith
 
 -- only a GO makes a draw On
-touch_on : (s : Bool) (ks : Keys) (t : Touch) (k : Bool) (j : ℕ) → on_in (key_in (touched s ks t) k) ≡ Some j
+touch_on : (s : Bool) (ks : Keys) (t : Touch) (k : Bool) (j : ℕ) → on_in (key_in (keys_after_touch s ks t) k) ≡ Some j
     → (on_in (key_in ks k) ≡ Some j) ⊎ (t ≡ Go k j)
 touch_on s ks t k j on = grind arith
 
 goes_on : (s : Bool) (ts : List Touch) (sh : Shape) (k : Bool) (j : ℕ) → IsAt s ts sh → Goes k j sh
-    → (on_in (key_in (keys s ts) k) ≡ Some j) ⊎ (used ts ≤ j)
+    → (on_in (key_in (keys s ts) k) ≡ Some j) ⊎ (draws_used ts ≤ j)
 goes_on s ts _ k j is waiting_goes = let sound = is.sound in inr sound.0
 goes_on s ts _ k j is alone_goes = inl
     (ap (λ (ks : Keys). on_in (key_in ks k)) is.are ∙ ap on_in (own_key k (On j) Off))
@@ -45,18 +43,17 @@ goes_on s ts _ k j is (both_goes i) = inl
     (ap (λ (ks : Keys). on_in (key_in ks k)) is.are ∙ ap on_in (own_key k (On j) (On i)))
 
 next_on : (s : Bool) (ts : List Touch) (t : Touch) → Comes s ts t → (k : Bool) (j : ℕ)
-    → on_in (key_in (keys s (t ∷ ts)) k) ≡ Some j
-    → (on_in (key_in (keys s ts) k) ≡ Some j) ⊎ (used ts ≤ j)
+    → on_in (key_in (keys s (t ∷ ts)) k) ≡ Some j → (on_in (key_in (keys s ts) k) ≡ Some j) ⊎ (draws_used ts ≤ j)
 unfolding keys
 next_on s ts t comes k j on = elim
-    (touch_on s (keys s ts) t k j (settled_on s (is_open (t ∷ ts)) (touched s (keys s ts) t) k j on)) [
+    (touch_on s (keys s ts) t k j (settled_on s (is_open (t ∷ ts)) (keys_after_touch s (keys s ts) t) k j on)) [
       | inl was ↦ inl was
       | inr go ↦ let goes = subst (Comes s ts) go comes in goes_on s ts goes.shape k j goes.is goes.may
     ]
 
 all_on : (s : Bool) (ts more : List Touch) → AllCome s ts more → (k : Bool) (j : ℕ)
     → on_in (key_in (keys s (touches_after ts more)) k) ≡ Some j → (on_in (key_in (keys s ts) k) ≡ Some j)
-    ⊎ (used ts ≤ j)
+    ⊎ (draws_used ts ≤ j)
 all_on s ts [] come k j on = inl on
 all_on s ts (t ∷ more) come k j on = elim (all_on s (t ∷ ts) more come.1 k j on) [
   | inl now ↦ next_on s ts t come.0 k j now
@@ -67,7 +64,7 @@ all_on s ts (t ∷ more) come k j on = elim (all_on s (t ∷ ts) more come.1 k j
 newly_on : (plan : Plan) (h : History) (e : Event) (w : Verdict) → CauseLaw plan ((e, w) ∷ h)
     → (port : PortName) (stream : ℕ) (u : SubKind) (k : Bool) (j : ℕ) → let s = lane_out port stream u in
     key_in (port_keys ((e, w) ∷ h) port s) k ≡ On j → (key_in (port_keys h port s) k ≡ On j)
-    ⊎ (used (moments h (place_in_sub_stream port s true)) ≤ j)
+    ⊎ (draws_used (moments h (place_in_sub_stream port s true)) ≤ j)
 unfolding moments
 newly_on plan h e w law port stream u k j on =
     let s = lane_out port stream u in
@@ -132,7 +129,7 @@ is_lesser a b k j on not_waiting = grind (arith, nat_tests)
 sent_before : (plan : Plan) (h : History) (e : Event) (w : Verdict) → CauseLaw plan ((e, w) ∷ h)
     → (port : PortName) (stream : ℕ) (u : SubKind) (k : Bool) (j : ℕ) → let s = lane_out port stream u in
     key_in (port_keys h port s) k ≡ On j → waits k j (key_in (port_keys h port s) (not k)) ≡ true
-    → sent plan ((e, w) ∷ h) s j ≡ sent plan h s j
+    → sent_packets plan ((e, w) ∷ h) s j ≡ sent_packets plan h s j
 unfolding sealed_packets
 sent_before plan h e (Sealed ds) law port stream u k j on waiting =
     let s = lane_out port stream u in
@@ -147,7 +144,7 @@ sent_before plan h e (Sealed ds) law port stream u k j on waiting =
 sent_before plan h e w law port stream u k j on waiting = refl
 
 abbrev IsFresh : Plan → History → Event → Verdict → SubStream → PortName → KeyName → Type 0
-IsFresh plan h e w s port key = (live_key h port s ≡ Some key) ⊎ (sent plan ((e, w) ∷ h) s key.draw ≡ [])
+IsFresh plan h e w s port key = (live_key h port s ≡ Some key) ⊎ (sent_packets plan ((e, w) ∷ h) s key.draw ≡ [])
 
 -- if the draw was On before
 on_fresh : (plan : Plan) (h : History) (e : Event) (w : Verdict) → CauseLaw plan ((e, w) ∷ h)
@@ -165,7 +162,8 @@ on_fresh plan h e w law port stream u key on = by_test
 
 pub fresh : (plan : Plan) (h : History) (e : Event) (w : Verdict) → CauseLaw plan ((e, w) ∷ h)
     → (port : PortName) (stream : ℕ) (u : SubKind) (key : KeyName) → let s = lane_out port stream u in
-    live_key ((e, w) ∷ h) port s ≡ Some key → (live_key h port s ≡ Some key) ⊎ (sent plan ((e, w) ∷ h) s key.draw ≡ [])
+    live_key ((e, w) ∷ h) port s ≡ Some key → (live_key h port s ≡ Some key)
+    ⊎ (sent_packets plan ((e, w) ∷ h) s key.draw ≡ [])
 fresh plan h e (Sealed ds) law port stream u key live =
     let s = lane_out port stream u in
     let new = port_keys ((e, Sealed ds) ∷ h) port s in

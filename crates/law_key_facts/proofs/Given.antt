@@ -1,12 +1,11 @@
 -- What is sealed and what is accepted is under keys that are Live or On: the rules of keys may suppose it.
-use Rattle.spec_links.proofs.Terms.{Bool, List, Some, [], ap, arith, false, refl, subst, sym, true, ℕ, ◌++◌, ◌==◌}
-use Rattle.spec_links.proofs.Terms.{◌∙◌, ◌∷◌, ◌≡◌, key_due, came, is_sender, moments, seal_touches, when, Accept}
-use Rattle.spec_links.proofs.Terms.{Seal, keys, sender_draw, GivenFits, KeyCauseLaw, UsesFit, is_on_stream}
-use Rattle.spec_links.proofs.Terms.{is_same_side, is_same_sub, CauseLaw, due, port_keys, lesser, live_key, on_draw}
+use Rattle.spec_links.proofs.Terms.{Bool, List, Some, [], ap, arith, false, refl, subst, sym, true, ℕ, ◌++◌, ◌==◌, ◌∙◌}
+use Rattle.spec_links.proofs.Terms.{◌∷◌, ◌≡◌, key_due, came, is_sender, moments, seal_touches, touches_if, Accept, Seal}
+use Rattle.spec_links.proofs.Terms.{keys, sender_draw, GivenFits, KeyCauseLaw, UsesFit, is_on_stream, is_same_side}
+use Rattle.spec_links.proofs.Terms.{is_same_sub, CauseLaw, due, port_keys, lesser, live_key, on_draw}
 use Rattle.spec_links.proofs.Terms.{place_in_sub_stream, received_in, SubStream, key_plan, lane_out, Accepted, Effect}
-use Rattle.spec_links.proofs.Terms.{Establish}
-use Rattle.spec_links.proofs.Terms.{Event, Held, History, Keys, Packet, KeyPlace, Plan, PortName, Refresh, Reset}
-use Rattle.spec_links.proofs.Terms.{Sealed, SealedPacket, Stop, UnitName, Verdict, key_in, place_keys, not}
+use Rattle.spec_links.proofs.Terms.{Establish, Event, Held, History, Keys, Packet, KeyPlace, Plan, PortName, Refresh}
+use Rattle.spec_links.proofs.Terms.{Reset, Sealed, SealedPacket, Stop, UnitName, Verdict, key_in, place_keys, not}
 use Rattle.spec_links.proofs.Terms.{on_in, sub_bits, ◌&&◌, sent_bytes}
 use Rattle.spec_links.proofs.Causes.{Passed, held_by, accepted_by, received_there}
 use Rattle.spec_links.proofs.Senders.{AreOther}
@@ -43,7 +42,7 @@ one_use : (h : History) (p : KeyPlace) (d : SealedPacket) (ds : List SealedPacke
 one_use h p d ds live none more = by_test (is_sender p d) refl
   where
     by_test : (b : Bool) → is_sender p d ≡ b → UsesFit p.sends (moments h p)
-        (when b (Seal d.draw d.m) ++ seal_touches p ds)
+        (touches_if b (Seal d.draw d.m) ++ seal_touches p ds)
     by_test true here = rw (none here) (live here, tt)
     by_test false other = more
 
@@ -97,7 +96,7 @@ accepted_given plan h e port unit effects p is = by_test
   where
     by_test : (b : Bool) →
         (not p.sends && is_same_side p.side port.side && is_on_stream p port.line unit.stream
-        && is_same_sub p.sub unit.sub) ≡ b → UsesFit p.sends (moments h p) (when b (Accept unit.draw))
+        && is_same_sub p.sub unit.sub) ≡ b → UsesFit p.sends (moments h p) (touches_if b (Accept unit.draw))
     by_test false other = tt
     by_test true here =
         let on = accepted_on plan h e port unit effects is in
@@ -119,18 +118,18 @@ came_given plan h e (Accepted port unit effects) is p = accepted_given plan h e 
 came_given plan h e _ is p = tt
 
 pub given_fits : (plan : Plan) (h : History) (e : Event) (w : Verdict) → w ≡ due plan h e → GivenFits h e w
-given_fits plan h (Establish link stream lose) w is = tt
-given_fits plan h (Refresh link stream lose) w is = tt
-given_fits plan h (Stop link stream lose) w is = tt
+given_fits plan h (Establish line stream lose) w is = tt
+given_fits plan h (Refresh line stream lose) w is = tt
+given_fits plan h (Stop line stream lose) w is = tt
 given_fits plan h (Reset link ends) w is = tt
 given_fits plan h e w is = came_given plan h e w is
 
 due_is_key_due : (plan : Plan) (h : History) (e : Event) (w : Verdict) → w ≡ due plan h e → w
     ≡ key_due (key_plan plan) h e w
 unfolding due key_due
-due_is_key_due plan h (Establish link stream lose) w is = is
-due_is_key_due plan h (Refresh link stream lose) w is = is
-due_is_key_due plan h (Stop link stream lose) w is = is
+due_is_key_due plan h (Establish line stream lose) w is = is
+due_is_key_due plan h (Refresh line stream lose) w is = is
+due_is_key_due plan h (Stop line stream lose) w is = is
 due_is_key_due plan h (Reset link ends) w is = is
 due_is_key_due plan h _ w is = refl
 

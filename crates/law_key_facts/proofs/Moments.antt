@@ -2,27 +2,25 @@
 -- those whose GO came nothing was held or accepted, and a unit is open exactly if the touches say so. Each is by
 -- induction on the history, since bounds on the touches hold of the earlier ones too. A sealed packet is itself a
 -- touch; what is held or accepted was under a draw that is On, so its GO had come.
-use Rattle.spec_links.proofs.Terms.{Bool, List, Some, [], ap, arith, drop, false, filter, length, length-append}
-use Rattle.spec_links.proofs.Terms.{refl, suc, sym, true, zero, ℕ, ◌++◌, ◌+◌, ◌-◌, ◌<◌, ◌==◌, ◌∙◌, ◌∷◌, ◌≡◌, ◌≤◌}
-use Rattle.spec_links.proofs.Terms.{nat_tests, append-nil, filter-append, suffix_len, max, Pr, base, touches_after}
-use Rattle.spec_links.proofs.Terms.{draws as draws_made, is_sender, manager, moments, seal_touches, touches, when}
-use Rattle.spec_links.proofs.Terms.{Seal, Touch, is_open, CauseLaw, SealedList, ahead_of_packet, ends_unit_in}
-use Rattle.spec_links.proofs.Terms.{got_since}
-use Rattle.spec_links.proofs.Terms.{packets_in_hold}
-use Rattle.spec_links.proofs.Terms.{is_in, is_under, port_keys, packet_of, place_in_sub_stream, posted_in, received_in}
-use Rattle.spec_links.proofs.Terms.{sealed_packets, sends_it, sub_stream_packets, sub_stream_of, total_in, units_got}
-use Rattle.spec_links.proofs.Terms.{units_since, with_sealed, SubStream, is_same, lane_in, lane_out, Accepted}
-use Rattle.spec_links.proofs.Terms.{AllByRecursion, Event, Held, History, Keys, Packet, KeyPlace, Plan, PortName}
-use Rattle.spec_links.proofs.Terms.{Sealed, SealedPacket, SubKind, UnitName, Verdict, if◌then◌else◌, key_in}
-use Rattle.spec_links.proofs.Terms.{nat_le, nat_lt, not, on_in, sent_direction, ◌&&◌, open_unit, sent_bytes, subst}
+use Rattle.spec_links.proofs.Terms.{Bool, List, Some, [], ap, arith, drop, false, filter, length, length-append, refl}
+use Rattle.spec_links.proofs.Terms.{suc, sym, true, zero, ℕ, ◌++◌, ◌+◌, ◌-◌, ◌<◌, ◌==◌, ◌∙◌, ◌∷◌, ◌≡◌, ◌≤◌, nat_tests}
+use Rattle.spec_links.proofs.Terms.{append-nil, filter-append, suffix_len, max, Pr, base, touches_after}
+use Rattle.spec_links.proofs.Terms.{draws as draws_made, is_sender, manager, moments, seal_touches, touches, touches_if}
+use Rattle.spec_links.proofs.Terms.{Seal, Touch, is_open, CauseLaw, SealedList, ahead_of_packet, ends_unit_since}
+use Rattle.spec_links.proofs.Terms.{got_since, packets_in_hold, is_sealed_since, is_sealed_under, port_keys, packet_of}
+use Rattle.spec_links.proofs.Terms.{place_in_sub_stream, posted_since_last, received_in, sealed_packets, sends_it}
+use Rattle.spec_links.proofs.Terms.{sub_stream_packets, sub_stream_of, total_in, units_got, units_since, with_sealed}
+use Rattle.spec_links.proofs.Terms.{SubStream, is_same, lane_in, lane_out, Accepted, AllByRecursion, Event, Held}
+use Rattle.spec_links.proofs.Terms.{History, Keys, Packet, KeyPlace, Plan, PortName, Sealed, SealedPacket, SubKind}
+use Rattle.spec_links.proofs.Terms.{UnitName, Verdict, if◌then◌else◌, key_in, nat_le, nat_lt, not, on_in}
+use Rattle.spec_links.proofs.Terms.{sent_direction, ◌&&◌, open_unit, sent_bytes, subst}
 use Rattle.spec_keys.proofs.Tests.{both-true}
-use Rattle.spec_keys.proofs.Shapes.{used, started}
+use Rattle.spec_keys.proofs.Shapes.{draws_used, draws_started}
 use Rattle.law_keys.proofs.Behind.{used_behind, started_behind, on_started, open_behind, touches_no_seal}
 use Rattle.spec_links.proofs.Tests.{same_stream, same_receiver, eqb-refl}
-use Rattle.spec_links.proofs.SealingIs.{sealed_by_sealing}
+use Rattle.spec_links.proofs.SealingIs.{sealed_by_sealing, sealed_same, sealing_touches}
 use Rattle.law_key_facts.proofs.Seats.{keys_into}
 use Rattle.law_key_facts.proofs.Given.{accepted_on, held_on}
-use Rattle.spec_links.proofs.SealingIs.{sealed_same, sealing_touches}
 use Rattle.spec_links.proofs.Sealed.{sub_stream_packets-snoc, left_alone}
 use Rattle.spec_links.proofs.UnitLemmas.{open_unit-snoc}
 
@@ -59,7 +57,7 @@ sends_lane port stream u = rw (eqb-refl port.line, eqb-refl (sent_direction port
 
 -- none of a draw from this one on
 abbrev NoneIn : SubStream → ℕ → SealedList → Type 0
-NoneIn s from xs = filter (is_in s from) xs ≡ []
+NoneIn s from xs = filter (is_sealed_since s from) xs ≡ []
 
 -- whether a packet is of the sub-stream and of a draw from this one on
 abbrev is_from : SubStream → ℕ → SealedPacket → Bool
@@ -67,9 +65,9 @@ is_from s from d = is_same (sub_stream_of d) s && nat_le from d.draw
 
 none_used : (port : PortName) (s : SubStream) (from : ℕ) → sends_it port s ≡ true
     → (ts : List Touch) (ds : List SealedPacket)
-    → used (touches_after ts (seal_touches (place_in_sub_stream port s true) ds)) ≤ from
+    → draws_used (touches_after ts (seal_touches (place_in_sub_stream port s true) ds)) ≤ from
     → AllByRecursion (λ (d : SealedPacket). is_from s from d ≡ false) ds
-unfolding used
+unfolding draws_used
 none_used port s from here ts [] le = tt
 none_used port s from here ts (d ∷ ds) le =
     by_test (is_sender (place_in_sub_stream port s true) d) refl le (none_used port s from here ts ds)
@@ -80,23 +78,25 @@ none_used port s from here ts (d ∷ ds) le =
 
     by_test : (b : Bool) → is_sender (place_in_sub_stream port s true) d ≡ b
         → let All = AllByRecursion (λ (d : SealedPacket). is_from s from d ≡ false) in
-        used (touches_after ts (when b (Seal d.draw d.m) ++ more)) ≤ from
-        → (used (touches_after ts more) ≤ from → All ds)
-        → (used (touches_after (Seal d.draw d.m ∷ ts) more) ≤ from → All ds) → All (d ∷ ds)
+        draws_used (touches_after ts (touches_if b (Seal d.draw d.m) ++ more)) ≤ from
+        → (draws_used (touches_after ts more) ≤ from → All ds)
+        → (draws_used (touches_after (Seal d.draw d.m ∷ ts) more) ≤ from → All ds) → All (d ∷ ds)
     by_test false is le without with_it = (let other = seal_same port s d here in grind arith, without le)
     by_test true is le without with_it =
-        let most : max (d.draw + 1) (used ts) ≤ used (touches_after (Seal d.draw d.m ∷ ts) more) = used_behind
+        let most : max (d.draw + 1) (draws_used ts) ≤ draws_used (touches_after (Seal d.draw d.m ∷ ts) more) =
+        used_behind
         (Seal d.draw d.m ∷ ts) more in
         (grind (arith, nat_tests), with_it le)
 
-pub earlier_used : (h : History) (e : Event) (w : Verdict) (p : KeyPlace) (n : ℕ) → used (moments ((e, w) ∷ h) p) ≤ n
-    → used (moments h p) ≤ n
+pub earlier_used : (h : History) (e : Event) (w : Verdict) (p : KeyPlace) (n : ℕ) → draws_used (moments ((e, w) ∷ h) p)
+    ≤ n
+    → draws_used (moments h p) ≤ n
 unfolding moments
 earlier_used h e w p n le = let before = used_behind (moments h p) (touches (manager h).ops (draws_made h) e w p) in
     omega (arith, before, le)
 
 pub none_in : (plan : Plan) (h : History) → CauseLaw plan h → (port : PortName) (s : SubStream) (from : ℕ)
-    → sends_it port s ≡ true → used (moments h (place_in_sub_stream port s true)) ≤ from
+    → sends_it port s ≡ true → draws_used (moments h (place_in_sub_stream port s true)) ≤ from
     → NoneIn s from (sealed_packets plan h)
 unfolding sealed_packets moments
 none_in plan [] law port s from here le = refl
@@ -104,43 +104,44 @@ none_in plan ((e, Sealed ds) ∷ h) law port s from here le =
     let ts = moments h (place_in_sub_stream port s true) in
     let touched = sealing_touches (manager h).ops (draws_made h) e ds (place_in_sub_stream port s true)
     (sealed_by_sealing plan h e ds law.0) in
-    left_alone (filter (is_in s from)) (λ d. is_from s from d ≡ false)
-    (λ xs d q off. filter-append (is_in s from) xs ((d, q) ∷ []) ∙ rw off (append-nil _))
+    left_alone (filter (is_sealed_since s from)) (λ d. is_from s from d ≡ false)
+    (λ xs d q off. filter-append (is_sealed_since s from) xs ((d, q) ∷ []) ∙ rw off (append-nil _))
     plan (ahead_of_packet plan (sealed_packets plan h) (base h)) (sent_bytes plan h e) ds (sealed_packets plan h)
-    (none_used port s from here ts ds (subst (λ (us : List Touch). used (touches_after ts us) ≤ from) touched le))
+    (none_used port s from here ts ds (subst (λ (us : List Touch). draws_used (touches_after ts us) ≤ from) touched le))
     ∙ none_in plan h law.1 port s from here (earlier_used h e (Sealed ds) (place_in_sub_stream port s true) from le)
 none_in plan ((e, w) ∷ h) law port s from here le = none_in plan h law.1 port s from here
     (earlier_used h e w (place_in_sub_stream port s true) from le)
 
 pub none_sent : (plan : Plan) (h : History) → CauseLaw plan h → (port : PortName) (s : SubStream) (j : ℕ)
-    → sends_it port s ≡ true → used (moments h (place_in_sub_stream port s true)) ≤ j
+    → sends_it port s ≡ true → draws_used (moments h (place_in_sub_stream port s true)) ≤ j
     → sub_stream_packets (sealed_packets plan h) s j ≡ []
 unfolding sub_stream_packets
 none_sent plan h law port s j here le =
-    rw (filter_less (is_in s j) (is_under s j) (sealed_packets plan h) (λ x is. grind (arith, nat_tests))
+    rw (filter_less (is_sealed_since s j) (is_sealed_under s j) (sealed_packets plan h)
+    (λ x is. grind (arith, nat_tests))
     (none_in plan h law port s j here le)) refl
 
 -- if no posted packet from a draw on was sealed, the count from it on is 0
 pub none_posted : (plan : Plan) (h : History) → CauseLaw plan h
     → (port : PortName) (stream : ℕ) (u : SubKind) (from : ℕ)
-    → used (moments h (place_in_sub_stream port (lane_out port stream Pr) true)) ≤ from
-    → posted_in (sealed_packets plan h)
+    → draws_used (moments h (place_in_sub_stream port (lane_out port stream Pr) true)) ≤ from
+    → posted_since_last (sealed_packets plan h)
     (lane_out port stream u) from ≡ 0
-unfolding posted_in
+unfolding posted_since_last
 none_posted plan h law port stream u from le =
-    ap length (filter_drop (is_in (lane_out port stream Pr) from)
-    (length (sealed_packets plan h) - suffix_len (λ x. not (is_in (lane_out port stream u) from x))
+    ap length (filter_drop (is_sealed_since (lane_out port stream Pr) from)
+    (length (sealed_packets plan h) - suffix_len (λ x. not (is_sealed_since (lane_out port stream u) from x))
     (sealed_packets plan h)) (sealed_packets plan h)
     (none_in plan h law port (lane_out port stream Pr) from (sends_lane port stream Pr) le))
 
 -- if no packet from a draw on was sealed, no unit was finished
 pub none_finished : (plan : Plan) (h : History) → CauseLaw plan h → (port : PortName) (s : SubStream) (from : ℕ)
-    → sends_it port s ≡ true → used (moments h (place_in_sub_stream port s true)) ≤ from
+    → sends_it port s ≡ true → draws_used (moments h (place_in_sub_stream port s true)) ≤ from
     → total_in (sealed_packets plan h) s from ≡ 0
 unfolding total_in
 none_finished plan h law port s from here le =
-    ap length (filter_less (is_in s from) (ends_unit_in s from) (sealed_packets plan h)
-    (λ x is. (both-true (is_in s from x) x.1.prefix.m is).0) (none_in plan h law port s from here le))
+    ap length (filter_less (is_sealed_since s from) (ends_unit_since s from) (sealed_packets plan h)
+    (λ x is. (both-true (is_sealed_since s from x) x.1.prefix.m is).0) (none_in plan h law port s from here le))
 
 -- ---- receivers
 
@@ -148,7 +149,7 @@ none_finished plan h law port s from here le =
 on_there : (plan : Plan) (h : History) (q : PortName) (stream : ℕ) (u : SubKind) (port : PortName) (unit : UnitName)
     (k : Bool) → received_in port unit ≡ lane_in q stream u
     → on_in (key_in (port_keys h port (received_in port unit)) k) ≡ Some unit.draw
-    → unit.draw < started (moments h (place_in_sub_stream q (lane_in q stream u) false))
+    → unit.draw < draws_started (moments h (place_in_sub_stream q (lane_in q stream u) false))
 on_there plan h q stream u port unit k same on =
     let port_is = same_receiver port q (ap (λ (s : SubStream). s.line) same) (ap (λ (s : SubStream). s.direction) same)
     in
@@ -157,8 +158,8 @@ on_there plan h q stream u port unit k same on =
     on_started false (moments h (place_in_sub_stream q (lane_in q stream u) false)) k unit.draw
     (sym (ap (λ (x : Keys). on_in (key_in x k)) (keys_into h q stream u)) ∙ there)
 
-earlier : (h : History) (e : Event) (w : Verdict) (p : KeyPlace) (j : ℕ) → started (moments ((e, w) ∷ h) p) ≤ j
-    → started (moments h p) ≤ j
+earlier : (h : History) (e : Event) (w : Verdict) (p : KeyPlace) (j : ℕ) → draws_started (moments ((e, w) ∷ h) p) ≤ j
+    → draws_started (moments h p) ≤ j
 unfolding moments
 earlier h e w p j le = let before = started_behind (moments h p) (touches (manager h).ops (draws_made h) e w p) in omega
     (arith, before, le)
@@ -166,7 +167,7 @@ earlier h e w p j le = let before = started_behind (moments h p) (touches (manag
 -- so it is of no draw whose GO did not come
 apart_from : (plan : Plan) (h : History) (q : PortName) (stream : ℕ) (u : SubKind) (port : PortName) (unit : UnitName)
     → (on : (k : Bool) × (on_in (key_in (port_keys h port (received_in port unit)) k) ≡ Some unit.draw))
-    → (from : ℕ) → started (moments h (place_in_sub_stream q (lane_in q stream u) false)) ≤ from
+    → (from : ℕ) → draws_started (moments h (place_in_sub_stream q (lane_in q stream u) false)) ≤ from
     → let here = is_same (received_in port unit) (lane_in q stream u) in
     ((here && (unit.draw == from)) ≡ false) × ((here && nat_le from unit.draw) ≡ false)
 apart_from plan h q stream u port unit on from le = by_test (is_same (received_in port unit) (lane_in q stream u)) refl
@@ -180,7 +181,7 @@ apart_from plan h q stream u port unit on from le = by_test (is_same (received_i
         (grind (arith, nat_tests), grind (arith, nat_tests))
 
 pub none_held : (plan : Plan) (h : History) → CauseLaw plan h → (q : PortName) (stream : ℕ) (u : SubKind) (j n : ℕ)
-    → started (moments h (place_in_sub_stream q (lane_in q stream u) false)) ≤ j
+    → draws_started (moments h (place_in_sub_stream q (lane_in q stream u) false)) ≤ j
     → packets_in_hold plan h (lane_in q stream u) j n
     ≡ []
 unfolding packets_in_hold
@@ -193,7 +194,8 @@ none_held plan ((e, w) ∷ h) law q stream u j n le = none_held plan h law.1 q s
     (earlier h e w (place_in_sub_stream q (lane_in q stream u) false) j le)
 
 pub none_got : (plan : Plan) (h : History) → CauseLaw plan h → (q : PortName) (stream : ℕ) (u : SubKind) (j : ℕ)
-    → started (moments h (place_in_sub_stream q (lane_in q stream u) false)) ≤ j → units_got h (lane_in q stream u) j
+    → draws_started (moments h (place_in_sub_stream q (lane_in q stream u) false)) ≤ j
+    → units_got h (lane_in q stream u) j
     ≡ 0
 unfolding units_got
 none_got plan [] law q stream u j le = refl
@@ -205,7 +207,7 @@ none_got plan ((e, w) ∷ h) law q stream u j le = none_got plan h law.1 q strea
     (earlier h e w (place_in_sub_stream q (lane_in q stream u) false) j le)
 
 pub none_since : (plan : Plan) (h : History) → CauseLaw plan h → (q : PortName) (stream : ℕ) (u : SubKind) (from : ℕ)
-    → started (moments h (place_in_sub_stream q (lane_in q stream u) false)) ≤ from
+    → draws_started (moments h (place_in_sub_stream q (lane_in q stream u) false)) ≤ from
     → got_since plan h (lane_in q stream u) from ≡ []
 unfolding got_since
 none_since plan [] law q stream u from le = refl
@@ -217,7 +219,7 @@ none_since plan ((e, w) ∷ h) law q stream u from le = none_since plan h law.1 
     (earlier h e w (place_in_sub_stream q (lane_in q stream u) false) from le)
 
 pub no_units : (plan : Plan) (h : History) → CauseLaw plan h → (q : PortName) (stream : ℕ) (u : SubKind) (from : ℕ)
-    → started (moments h (place_in_sub_stream q (lane_in q stream u) false)) ≤ from
+    → draws_started (moments h (place_in_sub_stream q (lane_in q stream u) false)) ≤ from
     → units_since h (lane_in q stream u) from ≡ 0
 unfolding units_since
 no_units plan [] law q stream u from le = refl
@@ -243,14 +245,13 @@ open_after ps q = rw open_unit-snoc (grind (arith, nat_tests, length-append {A =
 
 busy_one : (plan : Plan) (ahead : SealedPacket → List ℕ) (bytes : List ℕ) (port : PortName) (s : SubStream) (j : ℕ)
     (d : SealedPacket) (unfinished : List Packet) (xs : SealedList) (ts : List Touch) → sends_it port s ≡ true
-    → Busy s j xs ts
-    → Busy s j (xs ++ (d, packet_of plan (ahead d) bytes d unfinished) ∷ [])
-    (touches_after ts (when (is_sender (place_in_sub_stream port s true) d) (Seal d.draw d.m)))
+    → Busy s j xs ts → Busy s j (xs ++ (d, packet_of plan (ahead d) bytes d unfinished) ∷ [])
+    (touches_after ts (touches_if (is_sender (place_in_sub_stream port s true) d) (Seal d.draw d.m)))
 unfolding is_open
 busy_one plan ahead bytes port s j d unfinished xs ts here before =
     ap (λ (ps : List Packet). nat_lt 0 (length (open_unit ps))) (sub_stream_packets-snoc xs (d, q) s j) ∙ by_test
     (is_same (sub_stream_of d) s) (d.draw == j) refl
-    ∙ ap (λ (b : Bool). is_open (touches_after ts (when b (Seal d.draw d.m))) j) (sym (seal_same port s d here))
+    ∙ ap (λ (b : Bool). is_open (touches_after ts (touches_if b (Seal d.draw d.m))) j) (sym (seal_same port s d here))
   where
     q : Packet
     q = packet_of plan (ahead d) bytes d unfinished
@@ -258,14 +259,14 @@ busy_one plan ahead bytes port s j d unfinished xs ts here before =
     by_test : (a b : Bool) → (d.draw == j) ≡ b
         → nat_lt 0 (length (open_unit
         (if a && b then sub_stream_packets xs s j ++ q ∷ [] else sub_stream_packets xs s j)))
-        ≡ is_open (touches_after ts (when a (Seal d.draw d.m))) j
+        ≡ is_open (touches_after ts (touches_if a (Seal d.draw d.m))) j
     by_test false b is = before
     by_test true false is = rw is before
     by_test true true is = rw is
         (open_after (sub_stream_packets xs s j) q ∙ ap not (sealed_m plan (ahead d) bytes d unfinished))
 
-behind-append : (ts : List Touch) (b : Bool) (t : Touch) (more : List Touch) → touches_after ts (when b t ++ more)
-    ≡ touches_after (touches_after ts (when b t)) more
+behind-append : (ts : List Touch) (b : Bool) (t : Touch) (more : List Touch) → touches_after ts (touches_if b t ++ more)
+    ≡ touches_after (touches_after ts (touches_if b t)) more
 behind-append ts true t more = refl
 behind-append ts false t more = refl
 
@@ -277,7 +278,7 @@ busy_more plan ahead bytes port s j [] xs ts here before = before
 busy_more plan ahead bytes port s j (d ∷ ds) xs ts here before =
     let unfinished = open_unit (sub_stream_packets xs (sub_stream_of d) d.draw) in
     let more = busy_more plan ahead bytes port s j ds (xs ++ (d, packet_of plan (ahead d) bytes d unfinished) ∷ [])
-    (touches_after ts (when (is_sender (place_in_sub_stream port s true) d) (Seal d.draw d.m))) here
+    (touches_after ts (touches_if (is_sender (place_in_sub_stream port s true) d) (Seal d.draw d.m))) here
     (busy_one plan ahead bytes port s j d unfinished xs ts
     here before) in
     more ∙ ap (λ (us : List Touch). is_open us j)

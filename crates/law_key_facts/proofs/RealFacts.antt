@@ -4,21 +4,16 @@
 -- lesser of two draws that are On is the one that the last packet of a unit ends.
 use Rattle.spec_links.proofs.Terms.{Bool, List, Some, [], ap, arith, false, refl, sym, true, ℕ, ◌++◌, ◌+◌, ◌<◌, ◌==◌}
 use Rattle.spec_links.proofs.Terms.{◌∙◌, ◌∷◌, ◌≡◌, ◌≤◌, nat_tests, base, touches_after, came, draws as draws_made}
-use Rattle.spec_links.proofs.Terms.{is_sender}
-use Rattle.spec_links.proofs.Terms.{manager, moments, seal_touches}
-use Rattle.spec_links.proofs.Terms.{touches, when, Accept, Seal, Touch, is_on, keys, sender_draw, StreamStage}
-use Rattle.spec_links.proofs.Terms.{is_on_stream}
-use Rattle.spec_links.proofs.Terms.{is_same_side, is_same_sub, CauseLaw, due, accepted_keys, after_ends}
-use Rattle.spec_links.proofs.Terms.{arrival_of_event}
-use Rattle.spec_links.proofs.Terms.{ended_keys, ends_unit_at, is_keyed, port_keys}
-use Rattle.spec_links.proofs.Terms.{keys_by_role, place_in_sub_stream, received_in, receives_it, sends_it}
-use Rattle.spec_links.proofs.Terms.{sub_stream_of}
-use Rattle.spec_links.proofs.Terms.{is_steady}
-use Rattle.spec_links.proofs.Terms.{operates, SubStream, is_same, is_same_port, key_plan, Effect, Establish, Event}
-use Rattle.spec_links.proofs.Terms.{History, Keyed, Keys, On, KeyPlace, Plan}
-use Rattle.spec_links.proofs.Terms.{PortName, Refresh, Reset, SealedPacket, Stop, UnitName, Verdict}
+use Rattle.spec_links.proofs.Terms.{is_sender, manager, moments, seal_touches, touches, touches_if, Accept, Seal, Touch}
+use Rattle.spec_links.proofs.Terms.{is_on, keys, sender_draw, StreamStage, is_on_stream, is_same_side, is_same_sub}
+use Rattle.spec_links.proofs.Terms.{CauseLaw, due, accepted_keys, after_ends, arrival_of_event, ended_keys}
+use Rattle.spec_links.proofs.Terms.{ends_port_unit, is_keyed, port_keys, keys_by_role, place_in_sub_stream, received_in}
+use Rattle.spec_links.proofs.Terms.{receives_it, sends_it, sub_stream_of, is_steady, operates, SubStream, is_same}
+use Rattle.spec_links.proofs.Terms.{is_same_port, key_plan, Effect, Establish, Event, History, Keyed, Keys, On}
+use Rattle.spec_links.proofs.Terms.{KeyPlace, Plan, PortName, Refresh, Reset, SealedPacket, Stop, UnitName, Verdict}
 use Rattle.spec_links.proofs.Terms.{if◌then◌else◌, keeps_live, key_in, place_keys, no_keys, not, on_in, ◌&&◌, ◌||◌}
-use Rattle.spec_keys.proofs.Shapes.{used, used_bound, Shape, Both, keys_of, Sound, IsAt, sealed_shape, seals}
+use Rattle.spec_links.proofs.Terms.{subst}
+use Rattle.spec_keys.proofs.Shapes.{draws_used, used_bound, Shape, Both, keys_of, Sound, IsAt, sealed_shape, seals}
 use Rattle.spec_keys.proofs.Touches.{AllCome}
 use Rattle.spec_keys.proofs.Facts.{key_facts}
 use Rattle.spec_keys.proofs.Whole.{fits, next_fits, not_cut}
@@ -28,7 +23,6 @@ use Rattle.ide_types.specs.declared.port.Side.{Side}
 use Rattle.spec_links.proofs.Tests.{same_port, same_stream, eqb-sym, in_not_out, out_not_in, same_in}
 use Rattle.spec_links.proofs.Causes.{accepted_by}
 use Rattle.spec_links.proofs.SealingIs.{sealed_by_sealing, sealing_touches}
-use Rattle.spec_links.proofs.Terms.{subst}
 use Rattle.law_key_facts.proofs.Given.{accepted_on, key_cause}
 use Rattle.law_key_facts.proofs.Unplanned.{on_at}
 use Rattle.link_verdicts.specs.declared.verdict.Verdict.TheVariants as v
@@ -131,8 +125,10 @@ sealing port s here ts (d ∷ ds) come =
         → (AllCome true (Seal d.draw d.m ∷ ts) (seal_touches (place_in_sub_stream port s true) ds)
         → (keys true (touches_after (Seal d.draw d.m ∷ ts) (seal_touches (place_in_sub_stream port s true) ds)))
         ≡ after_ends port s ds ((keys true (Seal d.draw d.m ∷ ts))))
-        → (b : Bool) → AllCome true ts (when b (Seal d.draw d.m) ++ seal_touches (place_in_sub_stream port s true) ds)
-        → (keys true (touches_after ts (when b (Seal d.draw d.m) ++ seal_touches (place_in_sub_stream port s true) ds)))
+        → (b : Bool) → AllCome true ts (touches_if b (Seal d.draw d.m)
+        ++ seal_touches (place_in_sub_stream port s true) ds)
+        → (keys true (touches_after ts (touches_if b (Seal d.draw d.m)
+        ++ seal_touches (place_in_sub_stream port s true) ds)))
         ≡ after_ends port s ds (if b && d.m then end_of (keys true ts) else (keys true ts))
     by_test without with_it false come = without come
     by_test without with_it true come = with_it come.1 ∙ ap (after_ends port s ds)
@@ -144,11 +140,11 @@ none_sealed port s [] = refl
 none_sealed port s (d ∷ ds) = none_sealed port s ds
 
 never_ends : (port : PortName) (s : SubStream) (ds : List SealedPacket) (ks : Keys)
-    → ((d : SealedPacket) → ends_unit_at port s d ≡ false) → after_ends port s ds ks ≡ ks
+    → ((d : SealedPacket) → ends_port_unit port s d ≡ false) → after_ends port s ds ks ≡ ks
 never_ends port s [] ks none = refl
 never_ends port s (d ∷ ds) ks none = rw (none d) (never_ends port s ds ks none)
 
-not_ending : (port : PortName) (s : SubStream) (d : SealedPacket) → receives_it port s ≡ true → ends_unit_at port s d
+not_ending : (port : PortName) (s : SubStream) (d : SealedPacket) → receives_it port s ≡ true → ends_port_unit port s d
     ≡ false
 not_ending port s d here = let other = in_not_out port.side in grind (arith, nat_tests)
 
@@ -157,7 +153,7 @@ pub ends_keep : (P : Keys → Type 0) → ((ks : Keys) → P ks → P (ended_key
     → (port : PortName) (s : SubStream)
     (ds : List SealedPacket) (ks : Keys) → P ks → P (after_ends port s ds ks)
 ends_keep P kept port s [] ks holds = holds
-ends_keep P kept port s (d ∷ ds) ks holds = ends_keep P kept port s ds _ (by_test (ends_unit_at port s d))
+ends_keep P kept port s (d ∷ ds) ks holds = ends_keep P kept port s ds _ (by_test (ends_port_unit port s d))
   where
     by_test : (b : Bool) → P (if b then ended_keys ks.first ks.second else ks)
     by_test true = kept ks holds
@@ -217,7 +213,7 @@ pub accepted_touches : (plan : Plan) (h : History) (e : Event) (port : PortName)
 accepted_touches plan h e port unit effects is p = let by = accepted_by plan h e port unit effects is in brings plan h e
     (v.Accepted port unit effects) p port by.came.bytes by.came.arrival
 
-accept_when : (ts : List Touch) (j : ℕ) (b : Bool) → keys false (touches_after ts (when b (Accept j)))
+accept_when : (ts : List Touch) (j : ℕ) (b : Bool) → keys false (touches_after ts (touches_if b (Accept j)))
     ≡ (if b then accepted_keys j (keys false ts) else keys false ts)
 unfolding keys
 accept_when ts j true = refl
@@ -320,14 +316,14 @@ apart plan h law port s i j first second = different i j one_set
 -- ---- a draw that is On
 
 pub used_most : (plan : Plan) (h : History) → CauseLaw plan h → (p : KeyPlace) (k : Bool) (j : ℕ)
-    → key_in (place_keys h p) k ≡ On j → used (moments h p) ≤ j + 1
+    → key_in (place_keys h p) k ≡ On j → draws_used (moments h p) ≤ j + 1
 used_most plan h law p k j on = let at = fits (key_plan plan) h (key_cause plan h law) p in used_bound p.sends
     (moments h p) at.shape k j at.is (ap on_in on)
 
 -- ---- the base
 
-pub operates_no_base : (plan : Plan) (h : History) (e : Event) (w : Verdict) (link stream : ℕ) → operates e link stream
-    ≡ false → base ((e, w) ∷ h) link stream ≡ base h link stream
+pub operates_no_base : (plan : Plan) (h : History) (e : Event) (w : Verdict) (line stream : ℕ) → operates e line stream
+    ≡ false → base ((e, w) ∷ h) line stream ≡ base h line stream
 unfolding operates base
-operates_no_base plan h (Establish l s lose) w link stream still = rw still refl
-operates_no_base plan h _ w link stream still = refl
+operates_no_base plan h (Establish l s lose) w line stream still = rw still refl
+operates_no_base plan h _ w line stream still = refl

@@ -2,11 +2,10 @@
 use Rattle.spec_links.proofs.Terms.{Bool, List, Option, Some, [], ap, false, inl, inr, refl, slice_get, subst, sym}
 use Rattle.spec_links.proofs.Terms.{true, ℕ, ◌++◌, ◌<◌, ◌==◌, ◌∙◌, ◌∷◌, ◌≡◌, ◌⊎◌, Loss, base, begins_keyed, draws}
 use Rattle.spec_links.proofs.Terms.{manager, Begun, CauseLaw, SealedList, ahead_of_packet, port_keys, packet_of}
-use Rattle.spec_links.proofs.Terms.{place_in_sub_stream}
-use Rattle.spec_links.proofs.Terms.{sealed_packets, sub_stream_packets, sub_stream_of, with_sealed, NoneFrom, SubStream}
-use Rattle.spec_links.proofs.Terms.{lane_out, AllByRecursion, Establish, Event, History, On, Packet, Plan, PortName}
-use Rattle.spec_links.proofs.Terms.{Sealed, SealedPacket, Verdict, if◌then◌else◌, key_in, on_in, ◌&&◌, open_unit}
-use Rattle.spec_links.proofs.Terms.{sent_bytes}
+use Rattle.spec_links.proofs.Terms.{place_in_sub_stream, sealed_packets, sub_stream_packets, sub_stream_of, with_sealed}
+use Rattle.spec_links.proofs.Terms.{NoneFrom, SubStream, lane_out, AllByRecursion, Establish, Event, History, On}
+use Rattle.spec_links.proofs.Terms.{Packet, Plan, PortName, Sealed, SealedPacket, Verdict, if◌then◌else◌, key_in, on_in}
+use Rattle.spec_links.proofs.Terms.{◌&&◌, open_unit, sent_bytes}
 use Rattle.spec_keys.proofs.Owners.{Owner, owner, begun_below, after_longer, on_owned}
 use Rattle.spec_links.proofs.LastPlaces.{place_of_last}
 use Rattle.spec_links.proofs.Senders.{on_live}
@@ -108,22 +107,22 @@ live_below plan h port stream d live = begun_below (manager h).begun d.draw (own
 -- ---- Base
 
 none_new : (plan : Plan) (h : History) (l s : ℕ) (loss : Option Loss) (w : Verdict)
-    → CauseLaw plan ((Establish l s loss, w) ∷ h) → (link stream : ℕ)
-    → NoneFrom plan ((Establish l s loss, w) ∷ h) link stream (draws h)
+    → CauseLaw plan ((Establish l s loss, w) ∷ h) → (line stream : ℕ)
+    → NoneFrom plan ((Establish l s loss, w) ∷ h) line stream (draws h)
 unfolding sealed_packets
-none_new plan h l s loss (Sealed ds) law link stream i x is on_link on_stream = absurd
+none_new plan h l s loss (Sealed ds) law line stream i x is on_link on_stream = absurd
     (let sealing = sealed_by_sealing plan h (Establish l s loss) ds law.0 in cc)
-none_new plan h l s loss w law link stream i x is on_link on_stream = below_draws plan h law.1 i x is
+none_new plan h l s loss w law line stream i x is on_link on_stream = below_draws plan h law.1 i x is
 
-pub base_fresh : (plan : Plan) (h : History) (e : Event) (w : Verdict) → CauseLaw plan ((e, w) ∷ h) → (link stream : ℕ)
-    → (base ((e, w) ∷ h) link stream ≡ base h link stream) ⊎ NoneFrom plan ((e, w) ∷ h) link stream
-    (base ((e, w) ∷ h) link stream)
+pub base_fresh : (plan : Plan) (h : History) (e : Event) (w : Verdict) → CauseLaw plan ((e, w) ∷ h) → (line stream : ℕ)
+    → (base ((e, w) ∷ h) line stream ≡ base h line stream) ⊎ NoneFrom plan ((e, w) ∷ h) line stream
+    (base ((e, w) ∷ h) line stream)
 unfolding base
-base_fresh plan h (Establish l s loss) w law link stream = by_test
-    ((l == link) && (s == stream) && begins_keyed ((manager h).ops l s) (draws h) w)
+base_fresh plan h (Establish l s loss) w law line stream = by_test
+    ((l == line) && (s == stream) && begins_keyed ((manager h).ops l s) (draws h) w)
   where
-    by_test : (b : Bool) → ((if b then draws h else base h link stream) ≡ base h link stream)
-        ⊎ NoneFrom plan ((Establish l s loss, w) ∷ h) link stream (if b then draws h else base h link stream)
-    by_test true = inr (none_new plan h l s loss w law link stream)
+    by_test : (b : Bool) → ((if b then draws h else base h line stream) ≡ base h line stream)
+        ⊎ NoneFrom plan ((Establish l s loss, w) ∷ h) line stream (if b then draws h else base h line stream)
+    by_test true = inr (none_new plan h l s loss w law line stream)
     by_test false = inl refl
-base_fresh plan h e w law link stream = inl refl
+base_fresh plan h e w law line stream = inl refl

@@ -4,30 +4,24 @@
 -- changes only to a draw that was not made yet, of which nothing was sealed.
 use Rattle.spec_links.proofs.Terms.{Bool, List, None, Option, Some, [], ap, arith, false, filter, inl, inr, length}
 use Rattle.spec_links.proofs.Terms.{refl, slice_get, subst, suc, sym, true, zero, ℕ, ◌++◌, ◌+◌, ◌<◌, ◌==◌, ◌∙◌, ◌∷◌}
-use Rattle.spec_links.proofs.Terms.{◌≡◌, ◌≤◌, nat_tests, slice_get_within}
-use Rattle.spec_links.proofs.Terms.{max, Loss, Operation, base, begins_keyed, touches_after, draws, manager, moments}
-use Rattle.spec_links.proofs.Terms.{touches, when, Accept, Touch, Manager, Reach, manager_after_operation, reach_of}
-use Rattle.spec_links.proofs.Terms.{work_of}
-use Rattle.spec_links.proofs.Terms.{is_on_stream, is_same_side, is_same_sub, CauseLaw}
-use Rattle.spec_links.proofs.Terms.{due, KeyName, SealedList, ahead_of_packet, draws_got, is_in, port_keys, lesser}
-use Rattle.spec_links.proofs.Terms.{packet_of}
-use Rattle.spec_links.proofs.Terms.{place_in_sub_stream, received_in, sealed_packets, sub_stream_packets, sub_stream_of}
-use Rattle.spec_links.proofs.Terms.{with_sealed}
-use Rattle.spec_links.proofs.Terms.{BaseStays, is_quiet, SubStream, is_same}
-use Rattle.spec_links.proofs.Terms.{lane_in, lane_out, AllByRecursion, Effect, Establish, Event, History, Keyed, Keys}
-use Rattle.spec_links.proofs.Terms.{On, Packet, Plan, PortName, Refresh, Reset, SealedPacket, Stop, SubKind}
-use Rattle.spec_links.proofs.Terms.{UnitName, Verdict}
-use Rattle.spec_links.proofs.Terms.{if◌then◌else◌, key_in, not, ◌&&◌, open_unit}
+use Rattle.spec_links.proofs.Terms.{◌≡◌, ◌≤◌, nat_tests, slice_get_within, max, Loss, Operation, base, begins_keyed}
+use Rattle.spec_links.proofs.Terms.{touches_after, draws, manager, moments, touches, touches_if, Accept, Touch, Manager}
+use Rattle.spec_links.proofs.Terms.{Reach, manager_after_operation, reach_of, work_of, is_on_stream, is_same_side}
+use Rattle.spec_links.proofs.Terms.{is_same_sub, CauseLaw, due, KeyName, SealedList, ahead_of_packet, draws_got}
+use Rattle.spec_links.proofs.Terms.{is_sealed_since, port_keys, lesser, packet_of, place_in_sub_stream, received_in}
+use Rattle.spec_links.proofs.Terms.{sealed_packets, sub_stream_packets, sub_stream_of, with_sealed, BaseStays, is_quiet}
+use Rattle.spec_links.proofs.Terms.{SubStream, is_same, lane_in, lane_out, AllByRecursion, Effect, Establish, Event}
+use Rattle.spec_links.proofs.Terms.{History, Keyed, Keys, On, Packet, Plan, PortName, Refresh, Reset, SealedPacket}
+use Rattle.spec_links.proofs.Terms.{Stop, SubKind, UnitName, Verdict, if◌then◌else◌, key_in, not, ◌&&◌, open_unit}
+use Rattle.spec_links.proofs.Terms.{sent_bytes}
 use Rattle.spec_links.proofs.Senders.{on_live}
-use Rattle.spec_keys.proofs.Shapes.{used}
+use Rattle.spec_keys.proofs.Shapes.{draws_used}
 use Rattle.spec_keys.proofs.Whole.{more_begun}
 use Rattle.spec_links.proofs.Tests.{same_stream, same_in, is_same-refl}
 use Rattle.spec_links.proofs.KeyVerdicts.{establish_due_quiet}
 use Rattle.spec_links.proofs.LastPlaces.{place_of_last, all_of}
-use Rattle.spec_links.proofs.Terms.{sent_bytes}
 use Rattle.spec_links.proofs.SealingIs.{sending_port, is_sealing, sealed_by_sealing, sealing_base, quiet_seals_none}
-use Rattle.spec_links.proofs.SealingIs.{IsLive}
-use Rattle.spec_links.proofs.SealingIs.{AllLive, sealing_is, all_live, seals_none}
+use Rattle.spec_links.proofs.SealingIs.{IsLive, AllLive, sealing_is, all_live, seals_none}
 use Rattle.law_key_facts.proofs.Seats.{keys_out, keys_into, live_here}
 use Rattle.law_key_facts.proofs.RealFacts.{used_most, accepted_touches}
 use Rattle.law_key_facts.proofs.Moments.{earlier_used, none_in, none_left, sends_lane}
@@ -51,7 +45,7 @@ on_above plan h law port stream u k j on i x at same =
     let s = lane_out port stream u in
     let most = used_most plan h law (place_in_sub_stream port s true) k j
     (ap (λ (ks : Keys). key_in ks k) (sym (keys_out h port stream u)) ∙ on) in
-    let none = none_at (is_in s (j + 1)) (sealed_packets plan h) i x
+    let none = none_at (is_sealed_since s (j + 1)) (sealed_packets plan h) i x
     (none_in plan h law port s (j + 1) (sends_lane port stream u) most) at in
     grind (arith, nat_tests)
 
@@ -154,21 +148,22 @@ accept_lane q stream u port unit here = let sides = same_in port.side q.side in 
 accepted_used : (plan : Plan) (h : History) (e : Event) (port : PortName) (unit : UnitName) (effects : List Effect)
     → v.Accepted port unit effects ≡ due plan h e → (q : PortName) (stream : ℕ) (u : SubKind) (n : ℕ)
     → is_same (received_in port unit) (lane_in q stream u) ≡ true
-    → used (moments ((e, v.Accepted port unit effects) ∷ h) (place_in_sub_stream q (lane_in q stream u) false)) ≤ n
+    → draws_used (moments ((e, v.Accepted port unit effects) ∷ h) (place_in_sub_stream q (lane_in q stream u) false))
+    ≤ n
     → unit.draw < n
-unfolding moments used
+unfolding moments draws_used
 accepted_used plan h e port unit effects is q stream u n here le =
     let s = lane_in q stream u in
     let p = place_in_sub_stream q s false in
     let test = accept_lane q stream u port unit here in
     let touched : touches (manager h).ops (draws h) e (v.Accepted port unit effects) p ≡ Accept unit.draw
-    ∷ [] = accepted_touches plan h e port unit effects is p ∙ ap (λ (b : Bool). when b (Accept unit.draw)) test in
-    let most : max (unit.draw + 1) (used (moments h p)) ≤ n = subst
-    (λ (ts : List Touch). used (touches_after (moments h p) ts) ≤ n) touched le in
+    ∷ [] = accepted_touches plan h e port unit effects is p ∙ ap (λ (b : Bool). touches_if b (Accept unit.draw)) test in
+    let most : max (unit.draw + 1) (draws_used (moments h p)) ≤ n = subst
+    (λ (ts : List Touch). draws_used (touches_after (moments h p) ts) ≤ n) touched le in
     omega (arith, most)
 
 got_below : (plan : Plan) (h : History) → CauseLaw plan h → (q : PortName) (stream : ℕ) (u : SubKind) (j : ℕ)
-    → used (moments h (place_in_sub_stream q (lane_in q stream u) false)) ≤ j + 1
+    → draws_used (moments h (place_in_sub_stream q (lane_in q stream u) false)) ≤ j + 1
     → AllByRecursion (λ (i : ℕ). i ≤ j) (draws_got h (lane_in q stream u))
 unfolding draws_got
 got_below plan [] law q stream u j le = tt

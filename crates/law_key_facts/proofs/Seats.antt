@@ -1,12 +1,10 @@
 -- A port's place in a sub-stream, and the keys there.
 use Rattle.spec_links.proofs.Terms.{Bool, Some, ap, arith, false, refl, sym, true, ℕ, ◌∙◌, ◌≡◌, nat_tests, is_sender}
 use Rattle.spec_links.proofs.Terms.{sender_draw, is_on_stream, is_same_side, is_same_sub, KeyName, port_keys, lesser}
-use Rattle.spec_links.proofs.Terms.{live_key, place_in_sub_stream, received_in}
-use Rattle.spec_links.proofs.Terms.{sub_stream_of, SubStream, is_same, lane_in, lane_out, History, Keyed, On}
-use Rattle.spec_links.proofs.Terms.{KeyPlace}
-use Rattle.spec_links.proofs.Terms.{Plan, PortName, SealedPacket, SubKind, UnitName, key_in, place_keys, not, on_in}
-use Rattle.spec_links.proofs.Terms.{received_direction, sent_direction}
-use Rattle.spec_links.proofs.Terms.{◌&&◌}
+use Rattle.spec_links.proofs.Terms.{live_key, place_in_sub_stream, received_in, sub_stream_of, SubStream, is_same}
+use Rattle.spec_links.proofs.Terms.{lane_in, lane_out, History, Keyed, On, KeyPlace, Plan, PortName, SealedPacket}
+use Rattle.spec_links.proofs.Terms.{SubKind, UnitName, key_in, place_keys, not, on_in, received_direction}
+use Rattle.spec_links.proofs.Terms.{sent_direction, ◌&&◌}
 use Rattle.spec_keys.proofs.Shapes.{pair_of}
 use Rattle.spec_links.proofs.SealingIs.{IsLive}
 use Rattle.spec_links.proofs.Senders.{lane_is}

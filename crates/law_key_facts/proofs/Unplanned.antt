@@ -1,16 +1,12 @@
 -- A stream that the plan does not have gets no keys.
 use Rattle.spec_links.proofs.Terms.{Bool, None, Option, Some, [], ap, arith, false, inl, inr, length, refl, sym, true}
-use Rattle.spec_links.proofs.Terms.{ℕ, ◌==◌, ◌∙◌, ◌∷◌, ◌≡◌, ◌⊎◌, Operation, key_due, manager, on_it, op_of}
-use Rattle.spec_links.proofs.Terms.{work_touches}
-use Rattle.spec_links.proofs.Terms.{KeyCauseLaw, Idle, Manager, StreamStage}
-use Rattle.spec_links.proofs.Terms.{Reach, Work, op_after, manager_after_operation, reach_of, work_of, is_on_stream}
-use Rattle.spec_links.proofs.Terms.{CauseLaw}
-use Rattle.spec_links.proofs.Terms.{port_keys, keys_by_role, place_in_sub_stream, receives_it, sends_it, SubStream}
-use Rattle.spec_links.proofs.Terms.{key_plan}
+use Rattle.spec_links.proofs.Terms.{ℕ, ◌==◌, ◌∙◌, ◌∷◌, ◌≡◌, ◌⊎◌, Operation, key_due, manager, on_it, Idle, StreamStage}
+use Rattle.spec_links.proofs.Terms.{work_touches, KeyCauseLaw, Manager, Reach, Work, op_after}
+use Rattle.spec_links.proofs.Terms.{manager_after_operation, reach_of, work_of, is_on_stream, CauseLaw, port_keys}
+use Rattle.spec_links.proofs.Terms.{keys_by_role, place_in_sub_stream, receives_it, sends_it, SubStream, key_plan}
 use Rattle.spec_links.proofs.Terms.{stream_plan, List, ◌&&◌, draw_of_keyed, AllByRecursion, Begun, Keyed, Off, Loaded}
-use Rattle.spec_links.proofs.Terms.{subst}
-use Rattle.spec_links.proofs.Terms.{History, KeyPlan, Keys, On, KeyPlace, Plan}
-use Rattle.spec_links.proofs.Terms.{PortName, Verdict, if◌then◌else◌, is_some, key_in, place_keys, no_keys}
+use Rattle.spec_links.proofs.Terms.{subst, History, KeyPlan, Keys, On, KeyPlace, Plan, PortName, Verdict, if◌then◌else◌}
+use Rattle.spec_links.proofs.Terms.{is_some, key_in, place_keys, no_keys}
 use Rattle.spec_keys.proofs.Owners.{kept_owned, owner}
 use Rattle.spec_keys.specs.Due.{has_refresh}
 use Rattle.spec_keys.specs.History.{begun_of_draw}
@@ -61,8 +57,7 @@ abbrev AllKnown : KeyPlan → List Begun → Type 0
 AllKnown kp bs = AllByRecursion (λ (b : Begun). kp.has_stream b.line b.stream ≡ true) bs
 
 one_more : (kp : KeyPlan) (b : Bool) (l s : ℕ) (set : Bool) (bs : List Begun) → kp.has_stream l s ≡ true
-    → AllKnown kp bs
-    → AllKnown kp (if b then record { line = l; stream = s; set = set } ∷ bs else bs)
+    → AllKnown kp bs → AllKnown kp (if b then record { line = l; stream = s; set = set } ∷ bs else bs)
 one_more kp true l s set bs known all = (known, all)
 one_more kp false l s set bs known all = all
 

@@ -1,16 +1,13 @@
 -- Draws that are kept on a stream are from its base on.
 use Rattle.law_keys.proofs.Terms.{◌≡◌, ℕ, ◌≤◌, ◌==◌, Bool, true, false, Option, Some, List, [], ◌∷◌, length, refl, ap}
 use Rattle.law_keys.proofs.Terms.{sym, ◌∙◌, arith, ◌&&◌, Event, Loss, Operation, Verdict, KeyPlan, KeyPlace}
-use Rattle.law_keys.proofs.Terms.{is_on_stream, Touch, no_keys, keys, StreamStage, Idle}
-use Rattle.law_keys.proofs.Terms.{Establishing, Up, Refreshing, Reach, Manager, work_of, reach_of}
-use Rattle.law_keys.proofs.Terms.{manager_after_operation}
-use Rattle.law_keys.proofs.Terms.{manager_after, History, manager, op_of, draws, work_touches, on_it, touches, moments}
-use Rattle.law_keys.proofs.Terms.{base, begins_keyed, draw_on_at, key_due, KeyCauseLaw}
-use Rattle.law_keys.proofs.Terms.{both-true, keys_of, OwnedKeys, AllOwned, behind_owned, came_owned, cleared_owned}
-use Rattle.law_keys.proofs.Terms.{owned_on, same_place, op_cut, is_cleared, PortName}
-use Rattle.law_keys.proofs.Terms.{Begun, Work, begun_after_work, by_stream, is_hosted, makes_draw, op_after}
-use Rattle.law_keys.proofs.Terms.{worked_owned}
-use Rattle.law_keys.proofs.Terms.{None, if◌then◌else◌}
+use Rattle.law_keys.proofs.Terms.{is_on_stream, Touch, no_keys, keys, StreamStage, Idle, Establishing, Up, Refreshing}
+use Rattle.law_keys.proofs.Terms.{Reach, Manager, work_of, reach_of, manager_after_operation, manager_after, History}
+use Rattle.law_keys.proofs.Terms.{manager, op_of, draws, work_touches, on_it, touches, moments, base, begins_keyed}
+use Rattle.law_keys.proofs.Terms.{draw_on_at, key_due, KeyCauseLaw, both-true, keys_of, OwnedKeys, AllOwned}
+use Rattle.law_keys.proofs.Terms.{behind_owned, came_owned, cleared_owned, owned_on, same_place, op_cut, is_cleared}
+use Rattle.law_keys.proofs.Terms.{PortName, Begun, Work, begun_after_work, by_stream, is_hosted, makes_draw, op_after}
+use Rattle.law_keys.proofs.Terms.{worked_owned, None, if◌then◌else◌}
 use Rattle.link_events.specs.declared.event.Event.TheVariants as event
 use Rattle.link_verdicts.specs.declared.verdict.Operation.TheVariants as op
 use Rattle.link_verdicts.specs.declared.verdict.Verdict.TheVariants as v
@@ -40,13 +37,12 @@ after_from : (b : ℕ) (hosted : Bool) (o : Operation) (q : StreamStage) (next :
     → OpFrom b (op_after hosted (work_of o q next) r)
 after_from b hosted o q next r low from = grind arith
 
-low_more : (b : ℕ) (bs : List Begun) (link stream : ℕ) (w : Work) → b ≤ length bs
-    → b ≤ length (begun_after_work bs link stream w)
-low_more b bs link stream w low = grind arith
+low_more : (b : ℕ) (bs : List Begun) (line stream : ℕ) (w : Work) → b ≤ length bs
+    → b ≤ length (begun_after_work bs line stream w)
+low_more b bs line stream w low = grind arith
 
 operated_leads : (m : Manager) (o : Operation) (l s : ℕ) (r : Option Reach) (p : KeyPlace) (b : ℕ) → b ≤ length m.begun
-    → OpFrom b (m.ops p.line p.stream)
-    → Leads b p (manager_after_operation m o l s r)
+    → OpFrom b (m.ops p.line p.stream) → Leads b p (manager_after_operation m o l s r)
     (on_it (is_on_stream p l s) (work_touches (work_of o (m.ops l s) (length m.begun)) r p))
 operated_leads m o l s None p b low from = record {
   low = low;
@@ -69,8 +65,7 @@ cut_from : (b : ℕ) (ends : List PortName) (line : ℕ) (q : StreamStage) → O
 cut_from b ends line q from = grind arith
 
 pub leads : (m : Manager) (e : Event) (w : Verdict) (p : KeyPlace) (b : ℕ) → b ≤ length m.begun
-    → OpFrom b (m.ops p.line p.stream)
-    → Leads b p (manager_after m e w) (touches m.ops (length m.begun) e w p)
+    → OpFrom b (m.ops p.line p.stream) → Leads b p (manager_after m e w) (touches m.ops (length m.begun) e w p)
 leads m (event.Establish l s loss) w p b low from = operated_leads m op.Establish l s (reach_of op.Establish w) p b low
     from
 leads m (event.Refresh l s loss) w p b low from = operated_leads m op.Refresh l s (reach_of op.Refresh w) p b low from
@@ -99,8 +94,7 @@ pub record Based (h : History) (p : KeyPlace) : Type 0 where
 
 -- by the base that stands after the pair
 next_based : (h : History) (e : Event) (w : Verdict) (p : KeyPlace) (b : ℕ) → base ((e, w) ∷ h) p.line p.stream ≡ b
-    → b ≤ draws h
-    → OpFrom b (op_of h p.line p.stream) → OwnedKeys (From b) (keys p.sends (moments h p))
+    → b ≤ draws h → OpFrom b (op_of h p.line p.stream) → OwnedKeys (From b) (keys p.sends (moments h p))
     → Based ((e, w) ∷ h) p
 unfolding moments manager
 next_based h e w p b is low from owned =

@@ -1,28 +1,27 @@
 -- What touches after others leave: marks only grow, a draw that is On got its GO, an operation opens and ends no unit.
 use Rattle.law_keys.proofs.Terms.{◌≡◌, ℕ, ◌<◌, ◌≤◌, Bool, true, false, Option, Some, List, [], ◌∷◌, refl, ◌∙◌, arith}
-use Rattle.law_keys.proofs.Terms.{Touch, Seal, Keyed, On, Keys, key_in, on_in, touched, without_outlived, is_open, keys}
-use Rattle.law_keys.proofs.Terms.{Event}
-use Rattle.law_keys.proofs.Terms.{Verdict, KeyPlace, is_on_stream, StreamStage}
-use Rattle.law_keys.proofs.Terms.{Work, Reach, work_of, reach_of, touches_after, work_touches, on_it, came, touches}
-use Rattle.law_keys.proofs.Terms.{used}
-use Rattle.law_keys.proofs.Terms.{started}
+use Rattle.law_keys.proofs.Terms.{Touch, Seal, Keyed, On, Keys, key_in, on_in, keys_after_touch, without_outlived}
+use Rattle.law_keys.proofs.Terms.{is_open, keys, Event, Verdict, KeyPlace, is_on_stream, StreamStage, Work, Reach}
+use Rattle.law_keys.proofs.Terms.{work_of, reach_of, touches_after, work_touches, on_it, came, touches, draws_used}
+use Rattle.law_keys.proofs.Terms.{draws_started}
 use Rattle.link_events.specs.declared.event.Event.TheVariants as event
 use Rattle.link_verdicts.specs.declared.verdict.Operation.TheVariants as op
 use Rattle.link_verdicts.specs.declared.verdict.Verdict.TheVariants as v
 
-marks_touch : (t : Touch) (ts : List Touch) → (used ts ≤ used (t ∷ ts)) × (started ts ≤ started (t ∷ ts))
-unfolding used started
+marks_touch : (t : Touch) (ts : List Touch) → (draws_used ts ≤ draws_used (t ∷ ts))
+    × (draws_started ts ≤ draws_started (t ∷ ts))
+unfolding draws_used draws_started
 marks_touch t ts = grind arith
 
-marks_behind : (ts more : List Touch) → (used ts ≤ used (touches_after ts more))
-    × (started ts ≤ started (touches_after ts more))
+marks_behind : (ts more : List Touch) → (draws_used ts ≤ draws_used (touches_after ts more))
+    × (draws_started ts ≤ draws_started (touches_after ts more))
 marks_behind ts [] = omega arith
 marks_behind ts (t ∷ more) = omega (arith, marks_touch t ts, marks_behind (t ∷ ts) more)
 
-pub used_behind : (ts more : List Touch) → used ts ≤ used (touches_after ts more)
+pub used_behind : (ts more : List Touch) → draws_used ts ≤ draws_used (touches_after ts more)
 used_behind ts more = (marks_behind ts more).0
 
-pub started_behind : (ts more : List Touch) → started ts ≤ started (touches_after ts more)
+pub started_behind : (ts more : List Touch) → draws_started ts ≤ draws_started (touches_after ts more)
 started_behind ts more = (marks_behind ts more).1
 
 -- ---- a draw that is On got its GO
@@ -35,18 +34,18 @@ record AllBelow (n : ℕ) (ks : Keys) : Type 0 where
   first_is : OnBelow n ks.first
   second_is : OnBelow n ks.second
 
-one_below : (s : Bool) (f : ℕ → Bool) (ts : List Touch) (ks : Keys) (t : Touch) → AllBelow (started ts) ks
-    → AllBelow (started (t ∷ ts)) (without_outlived s f (touched s ks t))
-unfolding started
+one_below : (s : Bool) (f : ℕ → Bool) (ts : List Touch) (ks : Keys) (t : Touch) → AllBelow (draws_started ts) ks
+    → AllBelow (draws_started (t ∷ ts)) (without_outlived s f (keys_after_touch s ks t))
+unfolding draws_started
 one_below s f ts ks t below = grind arith
 
-all_below : (s : Bool) (ts : List Touch) → AllBelow (started ts) (keys s ts)
+all_below : (s : Bool) (ts : List Touch) → AllBelow (draws_started ts) (keys s ts)
 unfolding keys
 all_below s [] = record { first_is = tt; second_is = tt }
 all_below s (t ∷ ts) = one_below s (is_open (t ∷ ts)) ts (keys s ts) t (all_below s ts)
 
 pub on_started : (s : Bool) (ts : List Touch) (k : Bool) (j : ℕ) → on_in (key_in (keys s ts) k) ≡ Some j
-    → j < started ts
+    → j < draws_started ts
 on_started s ts k j on = let below = all_below s ts in grind arith
 
 -- ---- touches that are no seals

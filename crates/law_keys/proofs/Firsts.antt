@@ -1,15 +1,12 @@
 -- A place gets its first key that is On in an establish, under the base of the stream.
 use Rattle.spec_keys.specs.Due.{has_refresh}
-use Rattle.law_keys.proofs.Terms.{None}
-use Rattle.law_keys.proofs.Terms.{◌≡◌, ℕ, ◌≤◌, ◌==◌, Bool, true, false, Option, Some, List, [], ◌∷◌, length, refl, ap}
-use Rattle.law_keys.proofs.Terms.{sym, ◌∙◌, arith, ◌&&◌, if◌then◌else◌, is_some, nat_tests, Host, Loss, Verdict}
-use Rattle.law_keys.proofs.Terms.{KeyPlan, KeyPlace, Touch, keys, StreamStage, Idle}
-use Rattle.law_keys.proofs.Terms.{Establishing, Reach, Manager, work_of, reach_of, manager_after_operation, History}
-use Rattle.law_keys.proofs.Terms.{manager, op_of}
-use Rattle.law_keys.proofs.Terms.{draws, moments, place_keys, base, begins_keyed, keeps_live, history_status, PortView}
-use Rattle.law_keys.proofs.Terms.{ports_at, establish_on, refresh_on, key_due}
-use Rattle.law_keys.proofs.Terms.{KeyCauseLaw, marks, Shape, keys_of, used, started, IsAt, Rising, FitsAt, fits}
-use Rattle.law_keys.proofs.Terms.{Operation, StreamStatus, op_cut, PortName}
+use Rattle.law_keys.proofs.Terms.{None, ◌≡◌, ℕ, ◌≤◌, ◌==◌, Bool, true, false, Option, Some, List, [], ◌∷◌, length, refl}
+use Rattle.law_keys.proofs.Terms.{ap, sym, ◌∙◌, arith, ◌&&◌, if◌then◌else◌, is_some, nat_tests, Host, Loss, Verdict}
+use Rattle.law_keys.proofs.Terms.{KeyPlan, KeyPlace, Touch, keys, StreamStage, Idle, Establishing, Reach, Manager}
+use Rattle.law_keys.proofs.Terms.{work_of, reach_of, manager_after_operation, History, manager, op_of, draws, moments}
+use Rattle.law_keys.proofs.Terms.{place_keys, base, begins_keyed, keeps_live, history_status, PortView, ports_at}
+use Rattle.law_keys.proofs.Terms.{establish_on, refresh_on, key_due, KeyCauseLaw, marks, Shape, keys_of, draws_used}
+use Rattle.law_keys.proofs.Terms.{draws_started, IsAt, Rising, FitsAt, fits, Operation, StreamStatus, op_cut, PortName}
 use Rattle.std.proofs.Math.Bool.{and-false}
 use Rattle.link_events.specs.declared.event.Event.TheVariants as event
 use Rattle.link_verdicts.specs.declared.verdict.Operation.TheVariants as op
@@ -23,46 +20,45 @@ abbrev OpIs : ℕ → StreamStage → Type 0
 OpIs b (Establishing j n) = b ≡ j
 OpIs b _ = Unit {0}
 
-other_is : (m : Manager) (b : ℕ) (o : Operation) (l s link stream : ℕ) (r : Option Reach) → (o ≡ op.Establish → ⊥)
-    → OpIs b (m.ops link stream)
-    → OpIs b ((manager_after_operation m o l s r).ops link stream)
-other_is m b o l s link stream r other is = grind arith
+other_is : (m : Manager) (b : ℕ) (o : Operation) (l s line stream : ℕ) (r : Option Reach) → (o ≡ op.Establish → ⊥)
+    → OpIs b (m.ops line stream) → OpIs b ((manager_after_operation m o l s r).ops line stream)
+other_is m b o l s line stream r other is = grind arith
 
 -- an establish that begins makes its draw both the base and the draw of the state; any other leaves both
-established_is : (m : Manager) (b l s link stream : ℕ) (r : Option Reach) → OpIs b (m.ops link stream)
-    → OpIs (if (l == link) && (s == stream) && ((work_of op.Establish (m.ops l s) (length m.begun)).begins && is_some r)
+established_is : (m : Manager) (b l s line stream : ℕ) (r : Option Reach) → OpIs b (m.ops line stream)
+    → OpIs (if (l == line) && (s == stream) && ((work_of op.Establish (m.ops l s) (length m.begun)).begins && is_some r)
     then length m.begun else b)
-    ((manager_after_operation m op.Establish l s r).ops link stream)
-established_is m b l s link stream r is = grind (arith, nat_tests)
+    ((manager_after_operation m op.Establish l s r).ops line stream)
+established_is m b l s line stream r is = grind (arith, nat_tests)
 
 cut_is : (b : ℕ) (ends : List PortName) (line : ℕ) (q : StreamStage) → OpIs b q → OpIs b (op_cut ends line q)
 cut_is b ends line q is = grind arith
 
 abbrev BaseIs : History → ℕ → ℕ → Type 0
-BaseIs h link stream = OpIs (base h link stream) (op_of h link stream)
+BaseIs h line stream = OpIs (base h line stream) (op_of h line stream)
 
 -- event by event: the base changes at an establish that begins, and there alone
-pub base_is : (h : History) (link stream : ℕ) → BaseIs h link stream
+pub base_is : (h : History) (line stream : ℕ) → BaseIs h line stream
 unfolding base manager
-base_is [] link stream = tt
-base_is ((event.Establish l s lose, x) ∷ h) link stream =
-    established_is (manager h) (base h link stream) l s link stream (reach_of op.Establish x) (base_is h link stream)
-base_is ((event.Refresh l s lose, x) ∷ h) link stream =
-    other_is (manager h) (base h link stream) op.Refresh l s link stream (reach_of op.Refresh x) (λ e. cc)
-    (base_is h link stream)
-base_is ((event.Stop l s lose, x) ∷ h) link stream =
-    other_is (manager h) (base h link stream) op.Stop l s link stream (reach_of op.Stop x) (λ e. cc)
-    (base_is h link stream)
-base_is ((event.Reset l ends, v.Reset m) ∷ h) link stream = cut_is (base h link stream) ends link (op_of h link stream)
-    (base_is h link stream)
-base_is ((e, x) ∷ h) link stream = base_is h link stream
+base_is [] line stream = tt
+base_is ((event.Establish l s lose, x) ∷ h) line stream =
+    established_is (manager h) (base h line stream) l s line stream (reach_of op.Establish x) (base_is h line stream)
+base_is ((event.Refresh l s lose, x) ∷ h) line stream =
+    other_is (manager h) (base h line stream) op.Refresh l s line stream (reach_of op.Refresh x) (λ e. cc)
+    (base_is h line stream)
+base_is ((event.Stop l s lose, x) ∷ h) line stream =
+    other_is (manager h) (base h line stream) op.Stop l s line stream (reach_of op.Stop x) (λ e. cc)
+    (base_is h line stream)
+base_is ((event.Reset l ends, v.Reset m) ∷ h) line stream = cut_is (base h line stream) ends line (op_of h line stream)
+    (base_is h line stream)
+base_is ((e, x) ∷ h) line stream = base_is h line stream
 
 -- ---- an establish at a place with no key On
 
 -- all that was used or started there is below the operation's draw
 pub record Fresh (h : History) (p : KeyPlace) (j : ℕ) : Type 0 where
-  pub used_below : used (moments h p) ≤ j
-  pub started_below : started (moments h p) ≤ j
+  pub used_below : draws_used (moments h p) ≤ j
+  pub started_below : draws_started (moments h p) ≤ j
 
 -- what an establish finds that reached an exchange
 pub record First (h : History) (p : KeyPlace) (x : Verdict) (lose : Option Loss) : Type 0 where
@@ -78,15 +74,15 @@ state_of plan h l s lose x r is reached = grind arith
 
 -- without a key that is On no GO has come past the draw
 fresh_rising : (ts : List Touch) (s : Bool) (j a b n : ℕ) (sh : Shape) → IsAt s ts sh
-    → Rising false false j a b n (marks ts) sh → keeps_live (keys_of sh) ≡ false → (used ts ≤ j) × (started ts ≤ j)
+    → Rising false false j a b n (marks ts) sh → keeps_live (keys_of sh) ≡ false → (draws_used ts ≤ j)
+    × (draws_started ts ≤ j)
 fresh_rising ts s j a b n sh is rising none = grind arith
 
 fresh_at : (plan : KeyPlan) (q : StreamStage) (next : ℕ) (ports : PortView) (p : KeyPlace) (ts : List Touch)
     (lose : Option Loss)
-    → FitsAt q next p ts
-    → keeps_live (keys p.sends ts) ≡ false
+    → FitsAt q next p ts → keeps_live (keys p.sends ts) ≡ false
     → is_some (reach_of op.Establish (establish_on plan q next ports p.line p.stream lose)) ≡ true
-    → (used ts ≤ (work_of op.Establish q next).draw) × (started ts ≤ (work_of op.Establish q next).draw)
+    → (draws_used ts ≤ (work_of op.Establish q next).draw) × (draws_started ts ≤ (work_of op.Establish q next).draw)
 fresh_at plan Idle next ports p ts lose at none goes = (at.below.within, at.below.fresh)
 fresh_at plan (Establishing j n) next ports p ts lose at none goes =
     fresh_rising ts p.sends j _ _ n at.shape at.is at.fits.2 (ap keeps_live (sym at.is.are) ∙ none)
@@ -94,8 +90,7 @@ fresh_at plan q next ports p ts lose at none goes = absurd cc
 
 first_base : (plan : KeyPlan) (q : StreamStage) (next : ℕ) (ports : PortView) (l s b : ℕ) (lose : Option Loss)
     (r : Option Reach)
-    → OpIs b q → is_some r ≡ true
-    → is_some (reach_of op.Establish (establish_on plan q next ports l s lose)) ≡ true
+    → OpIs b q → is_some r ≡ true → is_some (reach_of op.Establish (establish_on plan q next ports l s lose)) ≡ true
     → (if (l == l) && (s == s) && ((work_of op.Establish q next).begins && is_some r) then next else b)
     ≡ (work_of op.Establish q next).draw
 first_base plan q next ports l s b lose r is some goes = grind (arith, nat_tests)

@@ -1,11 +1,10 @@
 -- A draw that was On at a place and then kept in neither of its sets is never kept there again: a key that waits for
 -- its GO is of a draw that had none, and a GO finds its draw kept.
-use Rattle.law_keys.proofs.Terms.{◌≡◌, ℕ, ◌<◌, ◌&&◌, ◌||◌, Bool, true, false, Some, List, [], ◌∷◌, refl, arith}
-use Rattle.law_keys.proofs.Terms.{not, nat_tests, KeyPlan, Touch, Go, Keys, key_in, draw_of_keyed, without_outlived}
-use Rattle.law_keys.proofs.Terms.{touched}
-use Rattle.law_keys.proofs.Terms.{keys, is_on_there, is_kept_there, was_on, has_gone, StaysGone, History, KeyCauseLaw}
-use Rattle.law_keys.proofs.Terms.{touches_after, moments, manager, draws, touches, KeyPlace, Shape, IsAt, started}
-use Rattle.law_keys.proofs.Terms.{is_open, fits, next_fits}
+use Rattle.law_keys.proofs.Terms.{◌≡◌, ℕ, ◌<◌, ◌&&◌, ◌||◌, Bool, true, false, Some, List, [], ◌∷◌, refl, arith, not}
+use Rattle.law_keys.proofs.Terms.{nat_tests, KeyPlan, Touch, Go, Keys, key_in, draw_of_keyed, without_outlived}
+use Rattle.law_keys.proofs.Terms.{keys_after_touch, keys, is_on_there, is_kept_there, was_on, has_gone, StaysGone}
+use Rattle.law_keys.proofs.Terms.{History, KeyCauseLaw, touches_after, moments, manager, draws, touches, KeyPlace}
+use Rattle.law_keys.proofs.Terms.{Shape, IsAt, draws_started, is_open, fits, next_fits}
 use Rattle.spec_keys.proofs.Touches.{Comes, AllCome}
 use Rattle.law_keys.proofs.Behind.{on_started, started_behind}
 
@@ -23,7 +22,7 @@ FindsKey ks t = Unit {0}
 finds_key : (s : Bool) (ts : List Touch) (t : Touch) → Comes s ts t → FindsKey (keys s ts) t
 finds_key s ts t comes = grind arith
 
-touched_on : (s : Bool) (ks : Keys) (t : Touch) (j : ℕ) → FindsKey ks t → is_on_there (touched s ks t) j ≡ true
+touched_on : (s : Bool) (ks : Keys) (t : Touch) (j : ℕ) → FindsKey ks t → is_on_there (keys_after_touch s ks t) j ≡ true
     → is_kept_there ks j ≡ true
 touched_on s ks t j finds on = grind (arith, nat_tests)
 
@@ -32,25 +31,25 @@ on_was_kept : (s : Bool) (ts : List Touch) (t : Touch) (j : ℕ) → Comes s ts 
     → is_on_there (keys s (t ∷ ts)) j ≡ true → is_kept_there (keys s ts) j ≡ true
 unfolding keys
 on_was_kept s ts t j comes on = touched_on s (keys s ts) t j (finds_key s ts t comes)
-    (settled_on s (is_open (t ∷ ts)) (touched s (keys s ts) t) j on)
+    (settled_on s (is_open (t ∷ ts)) (keys_after_touch s (keys s ts) t) j on)
 
 -- ---- a draw that was On got its GO
 
-there_started : (s : Bool) (ts : List Touch) (j : ℕ) → is_on_there (keys s ts) j ≡ true → j < started ts
+there_started : (s : Bool) (ts : List Touch) (j : ℕ) → is_on_there (keys s ts) j ≡ true → j < draws_started ts
 there_started s ts j on = grind (arith, nat_tests, on_started s ts false j, on_started s ts true j)
 
-was_on_started : (s : Bool) (ts : List Touch) (j : ℕ) → was_on s ts j ≡ true → j < started ts
+was_on_started : (s : Bool) (ts : List Touch) (j : ℕ) → was_on s ts j ≡ true → j < draws_started ts
 was_on_started s [] j e = absurd cc
 was_on_started s (t ∷ ts) j e = by_test (is_on_there (keys s (t ∷ ts)) j) refl e (was_on_started s ts j)
   where
     by_test : (b : Bool) → is_on_there (keys s (t ∷ ts)) j ≡ b → (b || was_on s ts j) ≡ true
-        → (was_on s ts j ≡ true → j < started ts) → j < started (t ∷ ts)
+        → (was_on s ts j ≡ true → j < draws_started ts) → j < draws_started (t ∷ ts)
     by_test true on e before = there_started s (t ∷ ts) j on
     by_test false on e before = let lt = before e in let le = started_behind ts (t ∷ []) in omega (arith, lt, le)
 
 -- a key that is kept and had its GO is On
 kept_is_on : (s : Bool) (ts : List Touch) (sh : Shape) (j : ℕ) → IsAt s ts sh → is_kept_there (keys s ts) j ≡ true
-    → j < started ts → is_on_there (keys s ts) j ≡ true
+    → j < draws_started ts → is_on_there (keys s ts) j ≡ true
 kept_is_on s ts sh j is kept lt = grind (arith, nat_tests)
 
 -- ---- a draw that has gone

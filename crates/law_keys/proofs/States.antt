@@ -1,16 +1,12 @@
 -- What the state of a stream says of its places.
 use Rattle.link_verdicts.specs.declared.verdict.Operation.TheVariants as op
-use Rattle.spec_keys.proofs.Terms.{go_at}
+use Rattle.spec_keys.proofs.Terms.{go_exchange}
 use Rattle.spec_keys.specs.Keys.{keys}
 use Rattle.law_keys.proofs.Terms.{◌≡◌, ℕ, Bool, true, false, Some, None, List, ◌≢◌, ◌<◌, subst, arith, KeyPlan}
-use Rattle.law_keys.proofs.Terms.{KeyPlace}
-use Rattle.law_keys.proofs.Terms.{Touch, key_in, draw_of_keyed, on_in, StreamStage, Idle, Establishing, Up, Refreshing}
-use Rattle.law_keys.proofs.Terms.{History}
-use Rattle.law_keys.proofs.Terms.{op_of, draws}
-use Rattle.law_keys.proofs.Terms.{moments, place_keys, keeps_live, KeyCauseLaw, KeysFollowOperations, Marks, marks}
-use Rattle.law_keys.proofs.Terms.{Shape}
-use Rattle.law_keys.proofs.Terms.{keys_of}
-use Rattle.law_keys.proofs.Terms.{Fits, FitsAt, Rising, IsAt, exchanges_establish, exchanges_refresh, kept_owned, fits}
+use Rattle.law_keys.proofs.Terms.{KeyPlace, Touch, key_in, draw_of_keyed, on_in, StreamStage, Idle, Establishing, Up}
+use Rattle.law_keys.proofs.Terms.{Refreshing, History, op_of, draws, moments, place_keys, keeps_live, KeyCauseLaw}
+use Rattle.law_keys.proofs.Terms.{KeysFollowOperations, Marks, marks, Shape, keys_of, Fits, FitsAt, Rising, IsAt}
+use Rattle.law_keys.proofs.Terms.{exchanges_establish, exchanges_refresh, kept_owned, fits}
 
 -- what a place holds in such a state
 pub in_state : (plan : KeyPlan) (h : History) → KeyCauseLaw plan h → (p : KeyPlace) (q : StreamStage)
@@ -36,7 +32,7 @@ rising_alone : (s : Bool) (ts : List Touch) (sh : Shape) (j a b n : ℕ) (u : Ma
 rising_alone s ts sh j a b n u set i is rising kept = grind arith
 
 establishing_has : (p : KeyPlace) (ts : List Touch) (top j n : ℕ) → FitsAt (Establishing j n) top p ts
-    → (go_at op.Establish p < n → on_in (key_in (keys p.sends ts) false) ≡ Some j)
+    → (go_exchange op.Establish p < n → on_in (key_in (keys p.sends ts) false) ≡ Some j)
     × ((set : Bool) (i : ℕ) → draw_of_keyed (key_in (keys p.sends ts) set) ≡ Some i → i ≡ j)
 establishing_has p ts top j n at = (
   rising_on p.sends ts at.shape false false j _ _ n (marks ts) at.is (exchanges_establish p).in_order at.fits.2,
@@ -49,8 +45,7 @@ up_has : (p : KeyPlace) (ts : List Touch) (top : ℕ) (set : Bool) (j : ℕ) →
 up_has p ts top set j at = grind arith
 
 refreshing_has : (p : KeyPlace) (ts : List Touch) (top : ℕ) (set : Bool) (j n : ℕ)
-    → FitsAt (Refreshing set j n) top p ts
-    → go_at op.Refresh p < n
+    → FitsAt (Refreshing set j n) top p ts → go_exchange op.Refresh p < n
     → on_in (key_in (keys p.sends ts) set) ≡ Some j
 refreshing_has p ts top set j n at past = rising_on p.sends ts at.shape true set j _ _ n (marks ts) at.is
     (exchanges_refresh p).in_order at.fits.3 past

@@ -3,8 +3,7 @@ use Rattle.std.proofs.Common.{◌≡◌, Some, subst, sym}
 use Rattle.spec_interfaces.specs.Sites.{Site, site_at}
 use Rattle.spec_interfaces.proofs.Floors.{number_at}
 use Rattle.law_locks.specs.Statements.{LockLawHolds, AttestedHolds, ViewsAreTrueHolds, ScrubbedHolds}
-use Rattle.law_locks.specs.Statements.{OneLockPerKeyHolds}
-use Rattle.law_locks.specs.Statements.{AnswersLawHolds}
+use Rattle.law_locks.specs.Statements.{OneLockPerKeyHolds, AnswersLawHolds}
 use Rattle.law_locks.specs.Runs.{AnswersInLock}
 use Rattle.law_locks.proofs.Answered.{answers_in_lock}
 use Rattle.law_locks.specs.Locks.{AreSecure, IsAttested, HasTrueViews, Scrubs}

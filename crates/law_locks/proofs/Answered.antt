@@ -10,6 +10,7 @@ use Rattle.spec_links.proofs.Terms.{UnitName, Effect, Packet, PortName, CauseLaw
 use Rattle.spec_links.proofs.Terms.{WaitingRead, Reset, granted_to, answer_due}
 unfoldable use Rattle.spec_links.proofs.Terms.{due}
 use Rattle.std.specs.Option.{option_and_then, option_map}
+use Rattle.ide_types.specs.declared.binding.Binding.{Binding}
 use Rattle.tlp_layout.specs.declared.head.HeadView.{HeadView}
 use Rattle.tlp_layout.specs.declared.head.Lead.{Lead}
 use Rattle.tlp_layout.specs.declared.head.Fields.{Fields}
@@ -23,12 +24,12 @@ use Rattle.trusted_memory.specs.Requests.{memory_read, read_with}
 use Rattle.spec_interfaces.specs.Terms.{Running}
 use Rattle.spec_interfaces.specs.Sites.{Site, site_with}
 use Rattle.spec_interfaces.specs.Views.{view_at, floor_at}
-use Rattle.spec_interfaces.specs.Devices.{locks_at}
-use Rattle.spec_interfaces.specs.Cause.{owner_of}
+use Rattle.spec_interfaces.specs.Devices.{locks_accepted}
+use Rattle.spec_interfaces.specs.Cause.{owner_id}
 use Rattle.spec_interfaces.proofs.Views.{views_hold}
 use Rattle.spec_links.specs.Plan.{key_plan}
 use Rattle.spec_links.specs.Ports.{port_of}
-use Rattle.spec_links.specs.Memory.{queued, unit_ended}
+use Rattle.spec_links.specs.Memory.{queued_reads, unit_ended}
 use Rattle.spec_links.specs.Sent.{reads_by, read_in, drawn_read, reads_taken, unit_accepted}
 unfoldable use Rattle.spec_links.specs.Sent.{queued_in}
 use Rattle.law_key_facts.proofs.Given.{key_cause}
@@ -36,7 +37,7 @@ use Rattle.law_reads.proofs.ByNumber.{IsBehind, behind_earlier, unit_same}
 use Rattle.law_reads.proofs.Oldest.{first_means}
 use Rattle.law_memory.proofs.OfReads.{owned_means, under_means, not_less}
 use Rattle.law_memory.proofs.Origins.{if_bound}
-use Rattle.association.specs.Choice.{id_of}
+use Rattle.tlp_layout.specs.Choice.{id_of}
 use Rattle.ide_types.specs.declared.port.Side.TheVariants.{Device}
 use Rattle.law_memory.proofs.Causes.{interface_cause}
 use Rattle.law_locks.specs.Runs.{AdmittedAt, IsReadInLock, AnswersInLock}
@@ -160,8 +161,7 @@ accepted_at : (plan : Plan) (xs : SealedList) (h : History) (e : Event) (port : 
     (effects : List Effect) (link k : ℕ) (r : WaitingRead)
     → unit_accepted plan xs h e port unit ≡ unit_ended plan h e port unit
     → ((j : ℕ) → slice_get (queued_in plan xs h link) j ≡ Some r
-    → QueuedAt plan ((e, Accepted port unit effects) ∷ h) link r)
-    → (b : Bool) → ((port_of plan port).line == link) ≡ b
+    → QueuedAt plan ((e, Accepted port unit effects) ∷ h) link r) → (b : Bool) → ((port_of plan port).line == link) ≡ b
     → slice_get (if b then queued_in plan xs h link
     ++ reads_by unit.draw effects (unit_accepted plan xs h e port unit) else queued_in plan xs h link) k ≡ Some r
     → QueuedAt plan ((e, Accepted port unit effects) ∷ h) link r
@@ -203,7 +203,7 @@ queued_at plan xs ((e, w) ∷ h) cause front link k r is =
 -- ---- who is answered
 
 -- the requester of a read is its owner
-owner_is : (head : HeadView) (r : MemReadView) → memory_read head ≡ Some r → owner_of head ≡ Some r.requester
+owner_is : (head : HeadView) (r : MemReadView) → memory_read head ≡ Some r → owner_id head ≡ Some r.requester
 owner_is head r is = by head.has_payload head.lead head.fields (span_of head) is
   where
     by : (has : Bool) (lead : Lead) (fields : Fields) (o : Option Span)
@@ -240,7 +240,7 @@ admitted_of plan h link r x q owns = record {
 
 -- the requester of a read that was queued is an interface of the link
 pub reader_there : (plan : Plan) (h : History) → CauseLaw plan h → (link k : ℕ) (r : WaitingRead)
-    → slice_get (queued plan h link) k ≡ Some r → is_some (site_with plan link r.read.requester) ≡ true
+    → slice_get (queued_reads plan h link) k ≡ Some r → is_some (site_with plan link r.read.requester) ≡ true
 reader_there plan h cause link k r is =
     let q = queued_at plan (sealed_packets plan h) h cause ([], append-nil (sealed_packets plan h)) link k r is in
     subst (λ (l : ℕ). is_some (site_with plan l r.read.requester) ≡ true) q.link_is
@@ -257,8 +257,8 @@ in_lock plan h link ds cause is =
     let x = owned.site in
     let under = under_means plan h link ds x r.draw (granted_to h (Some x)) refl owned.is in
     let bound = if_bound (view_at h x) x.plan.stream (floor_at h x) under.bound under.is in
-    let floor = ap (λ (c : ℕ × ℕ). c.1) bound.1 in
-    let up = not_less r.draw under.bound.1 under.fresh in
+    let floor : under.bound.floor ≡ floor_at h x = ap (λ (c : Binding). c.floor) bound.1 in
+    let up = not_less r.draw under.bound.floor under.fresh in
     let q = queued_at plan (sealed_packets plan h) h cause ([], append-nil (sealed_packets plan h)) link
     (reads_taken h link) r first.oldest in
     let a = admitted_of plan h link r x q owned.owns in
@@ -283,7 +283,7 @@ in_lock plan h link ds cause is =
       is_read = q.at.is_read;
       same_lock = sym (one_lock plan a.unit.draw made.0 pairs a.older x at causes made.1 started.was_started runs.view
           view (subst (λ (g : History). floor_at g x ≤ a.unit.draw) (sym whole) least))
-          ∙ ap (λ (g : History). locks_at plan g x) whole;
+          ∙ ap (λ (g : History). locks_accepted plan g x) whole;
     }
 
 pub answers_in_lock : (plan : Plan) (h : History) (e : Event) (w : Verdict) → CauseLaw plan ((e, w) ∷ h)

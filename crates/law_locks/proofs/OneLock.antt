@@ -11,6 +11,7 @@ use Rattle.spec_links.proofs.Causes.{accepted_by, unit_that_ends}
 use Rattle.std.proofs.lemmas.Bool.{true≢false}
 use Rattle.std.specs.Option.{option_and_then, option_or}
 use Rattle.ide_types.specs.Sub.{sent_direction}
+use Rattle.ide_types.specs.declared.binding.Binding.{Binding}
 use Rattle.ide_types.specs.declared.plan.Region.{Region}
 use Rattle.tlp_layout.specs.declared.head.HeadView.{HeadView}
 use Rattle.tlp_layout.specs.declared.fault.TlpFault.{TlpFault}
@@ -35,16 +36,15 @@ use Rattle.link_verdicts.specs.declared.verdict.BlockCause.{BlockCause}
 use Rattle.link_verdicts.specs.declared.verdict.Effect.TheVariants as effect
 use Rattle.spec_interfaces.specs.Terms.{View, Running}
 use Rattle.spec_interfaces.specs.Sites.{Site, site_at, site_with}
-use Rattle.spec_interfaces.specs.Devices.{locks_at}
+use Rattle.spec_interfaces.specs.Devices.{locks_accepted}
 use Rattle.spec_interfaces.specs.Views.{view_at, floor_at, grant_at, granted_to, bound_if}
-use Rattle.spec_interfaces.specs.Cause.{owner_of}
+use Rattle.spec_interfaces.specs.Cause.{owner_id}
 use Rattle.spec_interfaces.proofs.Views.{views_hold}
 use Rattle.spec_links.specs.Plan.{key_plan}
 use Rattle.spec_links.specs.Ports.{at_switch, port_of}
 use Rattle.spec_links.specs.Admission.{switch_effect}
 use Rattle.spec_links.specs.Memory.{Policy, policy_at, unit_grant, requester_bound, host_effect, device_effect}
-use Rattle.spec_links.specs.Memory.{effect_by}
-use Rattle.spec_links.specs.Memory.{effects_each, waiting_then, effects_of, unit_ended}
+use Rattle.spec_links.specs.Memory.{effect_by, effects_each, waiting_then, effects_of, unit_ended}
 use Rattle.law_key_facts.proofs.Given.{key_cause, accepted_on}
 use Rattle.law_key_facts.proofs.SealedKeys.{on_is_owned}
 use Rattle.law_memory.proofs.Causes.{interface_cause}
@@ -64,7 +64,7 @@ read_not : (o : Option BlockCause) (place full : Option BlockCause) → (o ≡ N
 read_not None place full some = absurd (some refl)
 read_not (Some c) place full some = refl
 
-grant_some : (o : Option (ℕ × ℕ)) (stream draw : ℕ) → is_on_bound stream draw o ≡ false
+grant_some : (o : Option Binding) (stream draw : ℕ) → is_on_bound stream draw o ≡ false
     → grant_cause o stream draw ≡ None → ⊥
 grant_some None stream draw off is = absurd cc
 grant_some (Some b) stream draw off is = true≢false (sym (grind (arith, nat_tests, is)) ∙ off)
@@ -199,7 +199,7 @@ bound_there plan h cause since older e port unit effects came n p effect stands 
 pub runs_there : (plan : Plan) (h : History) (x : Site) (a : AdmittedAt plan h x) → CauseLaw plan h
     → Runs a.older x a.unit.draw
 runs_there plan h x a cause =
-    owner_runs plan a.older (port_of plan a.port).line a.unit.stream a.unit.draw x (owner_of a.head) a.owns
+    owner_runs plan a.older (port_of plan a.port).line a.unit.stream a.unit.draw x (owner_id a.head) a.owns
     (bound_there plan h cause a.since a.older a.event a.port a.unit a.effects a.came a.number a.packet a.effect a.stands
     a.has_effect a.admitted a.head a.reads)
 
@@ -213,7 +213,7 @@ pub owner_there : (plan : Plan) (h : History) → CauseLaw plan h → (since old
     (unit : UnitName) (effects : List Effect) → since ++ (e, Accepted port unit effects) ∷ older ≡ h
     → (n : ℕ) (p : Packet) (effect : Effect) → slice_get (unit_ended plan older e port unit) n ≡ Some p
     → slice_get effects n ≡ Some effect → is_admitted_effect effect ≡ true → (head : HeadView)
-    → read_head_of p.head ≡ Ok head → (rid : ℕ) → owner_of head ≡ Some rid
+    → read_head_of p.head ≡ Ok head → (rid : ℕ) → owner_id head ≡ Some rid
     → is_some (site_with plan (port_of plan port).line rid) ≡ true
 owner_there plan h cause since older e port unit effects came n p effect stands has_effect admitted head reads rid owns
     =
@@ -242,12 +242,12 @@ made_there plan h x a cause =
 module _ (plan : Plan) (h : History) (cause : CauseLaw plan h) (x : Site) where
   -- from an earlier pair to a later one
   earlier : (a b : AdmittedAt plan h x) → a.unit.draw ≡ b.unit.draw → (since : History) → since ++ a.older ≡ b.older
-      → locks_at plan b.older x ≡ locks_at plan a.older x
+      → locks_accepted plan b.older x ≡ locks_accepted plan a.older x
   earlier a b same since is =
       let first = runs_there plan h x a cause in
       let second = runs_there plan h x b cause in
       let made = made_there plan h x a cause in
-      let at = number_owned plan (port_of plan a.port).line (owner_of a.head) x a.owns in
+      let at = number_owned plan (port_of plan a.port).line (owner_id a.head) x a.owns in
       let before = (cause_at plan a.since ((a.event, Accepted a.port a.unit a.effects) ∷ a.older) h a.came cause).1 in
       let here = (cause_at plan b.since ((b.event, Accepted b.port b.unit b.effects) ∷ b.older) h b.came cause).1 in
       let causes = interface_cause plan (since ++ a.older) (subst (CauseLaw plan) (sym is) here) in
@@ -258,7 +258,7 @@ module _ (plan : Plan) (h : History) (cause : CauseLaw plan h) (x : Site) where
       let floor : floor_at (since ++ a.older) x ≤ a.unit.draw =
       subst (λ (g : History). floor_at g x ≤ a.unit.draw) (sym is)
       (subst (λ (n : ℕ). floor_at b.older x ≤ n) (sym same) second.floor) in
-      ap (λ (g : History). locks_at plan g x) (sym is)
+      ap (λ (g : History). locks_accepted plan g x) (sym is)
       ∙ one_lock plan a.unit.draw made.0 since a.older x at causes made.1 runs.was_started first.view view floor
 
 -- of two fronts of one list the one is a front of the other

@@ -4,15 +4,13 @@ use Rattle.std.proofs.Common.{if◌then◌else◌, refl, sym, ap, ◌∙◌, inl
 use Rattle.std.proofs.lemmas.Bool.{and_parts, cases_Bool, true≢false}
 use Rattle.law_locks.proofs.Runs.{other_not}
 use Rattle.spec_interfaces.specs.Terms.{Plan, View, Unlocked, Locked, Running, Doubt, Broken, Event, InterfaceEvent}
-use Rattle.spec_interfaces.specs.Terms.{Loss, Verdict, History, op_of}
-use Rattle.spec_interfaces.specs.Terms.{draws, kept_report, lock_of, option_map}
+use Rattle.spec_interfaces.specs.Terms.{Loss, Verdict, History, op_of, draws, kept_report, lock_of, option_map}
 use Rattle.spec_interfaces.specs.Sites.{Site, site_at}
 use Rattle.spec_interfaces.specs.Exchanges.{carries}
 use Rattle.spec_interfaces.specs.Views.{Managed, on_lock, on_start, on_halt, on_state, on_bind, view_broken}
 use Rattle.spec_interfaces.specs.Views.{number_in, is_number, stop_breaks, view_at}
-unfoldable use Rattle.spec_interfaces.specs.Views.{managed}
-use Rattle.spec_interfaces.specs.Devices.{around_at, accepts_lock}
-use Rattle.spec_interfaces.specs.Devices.{runs_at, interface_at}
+unfoldable use Rattle.spec_interfaces.specs.Views.{managed_view}
+use Rattle.spec_interfaces.specs.Devices.{around_at, accepts_lock, runs_at, interface_at}
 unfoldable use Rattle.spec_interfaces.specs.Devices.{devices, registers_locked}
 use Rattle.spec_interfaces.specs.Due.{interface_due, if_unlocked, if_locked}
 use Rattle.spec_interfaces.specs.Due.{if_reported, if_locked_or_running, reported_as}
@@ -44,8 +42,7 @@ kept plan h e w x none was = record {
 }
 
 number_of : (plan : Plan) (x : Site) (view : View) (loss : Option Loss) (o : Option (List ℕ)) (n : ℕ) (report : List ℕ)
-    → v.Interface (iv.Reported n report) ≡ if_locked_or_running view (reported_as plan x loss o)
-    → n ≡ x.number
+    → v.Interface (iv.Reported n report) ≡ if_locked_or_running view (reported_as plan x loss o) → n ≡ x.number
 number_of plan x view loss o n report e = grind arith
 
 -- a report that the pair shows
@@ -57,7 +54,7 @@ unfolding devices registers_locked
 shown plan h i loss n report x at own cause =
     let number = same_number i x.number own in
     let due = due_own plan h x (ie.Report i loss) i (v.Interface (iv.Reported n report)) at refl own cause.0 in
-    let n_is = number_of plan x (managed h x).view loss
+    let n_is = number_of plan x (managed_view h x).view loss
     (option_map (kept_report x.plan) (lock_of (interface_at plan h x).state)) n report due in
     record {
       loss = loss;
@@ -74,7 +71,7 @@ shown plan h i loss n report x at own cause =
 
 -- the manager has the report of the lock that stands
 abbrev pub HasReport : Plan → History → Site → Type 0
-HasReport plan h x = view_at h x ≡ Locked → (managed h x).reported ≡ true → IsReported plan h x
+HasReport plan h x = view_at h x ≡ Locked → (managed_view h x).reported ≡ true → IsReported plan h x
 
 -- if it has it after a pair, it had it before
 abbrev Leaves : Managed → Managed → Type 0
@@ -109,7 +106,7 @@ broken_leaves m b view reported = grind (arith, view, reported)
 -- ---- the pair
 
 still : (plan : Plan) (h : History) (e : Event) (w : Verdict) (x : Site) → locks_it x e w ≡ false
-    → Leaves (managed h x) (managed ((e, w) ∷ h) x) → HasReport plan h x → HasReport plan ((e, w) ∷ h) x
+    → Leaves (managed_view h x) (managed_view ((e, w) ∷ h) x) → HasReport plan h x → HasReport plan ((e, w) ∷ h) x
 still plan h e w x none leaves has view reported =
     let was = leaves view reported in
     kept plan h e w x (not_accepted (around_at plan h x) x e w (interface_at plan h x) none) (has was.0 was.1)
@@ -122,8 +119,9 @@ lock_turn : (plan : Plan) (h : History) (i : ℕ) (loss : Option Loss) (w : Verd
     → HasReport plan h x → HasReport plan ((event.Interface (ie.Lock i loss), w) ∷ h) x
 lock_turn plan h i loss w x own due has view reported =
     let m = managed_own h (ie.Lock i loss) w x own in
-    let was = as_leaves (managed h x) _ _ m (lock_leaves (managed h x) w) view reported in
-    let none : carries w 3 ≡ false = ap (λ (z : Verdict). carries z 3) due ∙ refused_not (managed h x).view _ was.0 in
+    let was = as_leaves (managed_view h x) _ _ m (lock_leaves (managed_view h x) w) view reported in
+    let none : carries w 3 ≡ false = ap (λ (z : Verdict). carries z 3) due ∙ refused_not (managed_view h x).view _ was.0
+    in
     kept plan h (event.Interface (ie.Lock i loss)) w x
     (not_accepted (around_at plan h x) x (event.Interface (ie.Lock i loss)) w (interface_at plan h x)
     (not_carried (i == x.number) (carries w 3) none)) (has was.0 was.1)
@@ -138,25 +136,26 @@ own_turn plan h (ie.Report i loss) (v.Interface (iv.Reported n report)) x at own
     shown plan h i loss n report x at own cause
 own_turn plan h (ie.Report i loss) (v.Interface w) x at own cause has =
     still plan h (event.Interface (ie.Report i loss)) (v.Interface w) x refl
-    (same_leaves (managed h x) _ (managed_own h (ie.Report i loss) (v.Interface w) x own)) has
+    (same_leaves (managed_view h x) _ (managed_own h (ie.Report i loss) (v.Interface w) x own)) has
 own_turn plan h (ie.Report i loss) w x at own cause has =
     still plan h (event.Interface (ie.Report i loss)) w x refl
-    (same_leaves (managed h x) _ (managed_own h (ie.Report i loss) w x own)) has
+    (same_leaves (managed_view h x) _ (managed_own h (ie.Report i loss) w x own)) has
 own_turn plan h (ie.Start i loss) w x at own cause has =
     still plan h (event.Interface (ie.Start i loss)) w x refl
-    (as_leaves (managed h x) _ _ (managed_own h (ie.Start i loss) w x own) (start_leaves (managed h x) w)) has
+    (as_leaves (managed_view h x) _ _ (managed_own h (ie.Start i loss) w x own) (start_leaves (managed_view h x) w)) has
 own_turn plan h (ie.Halt i loss) w x at own cause has =
     still plan h (event.Interface (ie.Halt i loss)) w x refl
-    (as_leaves (managed h x) _ _ (managed_own h (ie.Halt i loss) w x own) (halt_leaves (draws h) (managed h x) w)) has
+    (as_leaves (managed_view h x) _ _ (managed_own h (ie.Halt i loss) w x own)
+    (halt_leaves (draws h) (managed_view h x) w)) has
 own_turn plan h (ie.State i loss) w x at own cause has =
     still plan h (event.Interface (ie.State i loss)) w x refl
-    (as_leaves (managed h x) _ _ (managed_own h (ie.State i loss) w x own) (state_leaves (managed h x) w)) has
+    (as_leaves (managed_view h x) _ _ (managed_own h (ie.State i loss) w x own) (state_leaves (managed_view h x) w)) has
 own_turn plan h (ie.Bind i line stream loss) w x at own cause has =
     still plan h (event.Interface (ie.Bind i line stream loss)) w x refl
-    (as_leaves (managed h x) _ _ (managed_own h (ie.Bind i line stream loss) w x own)
-    (bind_leaves line (managed h x) w)) has
+    (as_leaves (managed_view h x) _ _ (managed_own h (ie.Bind i line stream loss) w x own)
+    (bind_leaves line (managed_view h x) w)) has
 own_turn plan h e w x at own cause has =
-    still plan h (event.Interface e) w x refl (same_leaves (managed h x) _ (managed_own h e w x own)) has
+    still plan h (event.Interface e) w x refl (same_leaves (managed_view h x) _ (managed_own h e w x own)) has
 
 turn : (plan : Plan) (h : History) (e : Event) (w : Verdict) (x : Site) → site_at plan x.number ≡ Some x
     → InterfaceCause plan ((e, w) ∷ h) → HasReport plan h x → HasReport plan ((e, w) ∷ h) x
@@ -164,18 +163,18 @@ turn plan h (event.Interface e) w x at cause has = elim (cases_Bool (is_number (
   | inl own ↦ own_turn plan h e w x at own cause has
   | inr other ↦
       still plan h (event.Interface e) w x (other_not x e w other)
-      (same_leaves (managed h x) _ (managed_other h e w x other)) has
+      (same_leaves (managed_view h x) _ (managed_other h e w x other)) has
 ]
-turn plan h (event.Stop link stream loss) w x at cause has =
-    still plan h (event.Stop link stream loss) w x refl
-    (as_leaves (managed h x) _ _ (managed_step h (event.Stop link stream loss) w x)
-    (broken_leaves (managed h x) (stop_breaks (op_of h) (draws h) x link stream w (managed h x)))) has
+turn plan h (event.Stop line stream loss) w x at cause has =
+    still plan h (event.Stop line stream loss) w x refl
+    (as_leaves (managed_view h x) _ _ (managed_step h (event.Stop line stream loss) w x)
+    (broken_leaves (managed_view h x) (stop_breaks (op_of h) (draws h) x line stream w (managed_view h x)))) has
 turn plan h (event.Reset link ends) (v.Reset l) x at cause has =
     still plan h (event.Reset link ends) (v.Reset l) x refl
-    (as_leaves (managed h x) _ _ (managed_step h (event.Reset link ends) (v.Reset l) x)
-    (broken_leaves (managed h x) (link == x.link))) has
+    (as_leaves (managed_view h x) _ _ (managed_step h (event.Reset link ends) (v.Reset l) x)
+    (broken_leaves (managed_view h x) (link == x.link))) has
 turn plan h e w x at cause has =
-    still plan h e w x refl (same_leaves (managed h x) _ (managed_step h e w x)) has
+    still plan h e w x refl (same_leaves (managed_view h x) _ (managed_step h e w x)) has
 
 -- ---- RUN
 
@@ -194,7 +193,7 @@ had : (plan : Plan) (h : History) (e : Event) (w : Verdict) (x : Site) → site_
     → InterfaceCause plan ((e, w) ∷ h) → HasReport plan h x → starts x e w ≡ true → IsReported plan h x
 had plan h (event.Interface (ie.Start i loss)) w x at cause has is =
     let parts = and_parts (i == x.number) (carries w 1) is in
-    let asked = asked_reported (managed h x).view (managed h x).reported _ w
+    let asked = asked_reported (managed_view h x).view (managed_view h x).reported _ w
     (due_own plan h x (ie.Start i loss) i w at refl parts.0 cause.0) parts.1 in
     has asked.0 asked.1
 had plan h (event.Interface e) w x at cause has is = absurd (true≢false (sym is))
@@ -218,7 +217,7 @@ pub record Reports (plan : Plan) (h : History) (x : Site) : Type 0 where
 
 pub reported : (plan : Plan) (h : History) → InterfaceCause plan h → (x : Site) → site_at plan x.number ≡ Some x
     → Reports plan h x
-unfolding devices managed
+unfolding devices managed_view
 reported plan [] cause x at = record {
   managed = λ view is. absurd cc;
   runs = λ is. absurd (true≢false (sym is));

@@ -9,10 +9,9 @@ use Rattle.spec_interfaces.specs.Terms.{InterfaceEvent, Loss, Verdict, History, 
 use Rattle.spec_interfaces.specs.Sites.{Site, site_at}
 use Rattle.spec_interfaces.specs.Exchanges.{carries}
 use Rattle.spec_interfaces.specs.Views.{Managed, on_lock, on_report, on_start, on_halt, on_state, on_bind, view_broken}
-use Rattle.spec_interfaces.specs.Views.{number_in, is_number, stop_breaks, view_at, floor_at}
-use Rattle.spec_interfaces.specs.Views.{stream_draw}
-unfoldable use Rattle.spec_interfaces.specs.Views.{managed}
-use Rattle.spec_interfaces.specs.Devices.{locks_at, interface_at}
+use Rattle.spec_interfaces.specs.Views.{number_in, is_number, stop_breaks, view_at, floor_at, stream_draw}
+unfoldable use Rattle.spec_interfaces.specs.Views.{managed_view}
+use Rattle.spec_interfaces.specs.Devices.{locks_accepted, interface_at}
 use Rattle.spec_interfaces.specs.Due.{interface_due, unless_lost, if_unlocked, if_locked, if_reported, if_fresh}
 use Rattle.spec_interfaces.specs.Due.{started_as, host_status}
 use Rattle.spec_interfaces.specs.Cause.{InterfaceCause}
@@ -40,7 +39,8 @@ pub record IsPast (m : Managed) (j : ℕ) : Type 0 where
   pub floor : m.view ≡ Running → j < m.floor
 
 abbrev pub Since : Plan → ℕ → ℕ → History → Site → Type 0
-Since plan locks j h x = ((locks_at plan h x ≡ locks) × IsStillStarted (managed h x)) ⊎ IsPast (managed h x) j
+Since plan locks j h x = ((locks_accepted plan h x ≡ locks) × IsStillStarted (managed_view h x))
+    ⊎ IsPast (managed_view h x) j
 
 -- ---- pairs that change nothing of it
 
@@ -62,10 +62,11 @@ past_on m n j leaves past = record {
 }
 
 still : (plan : Plan) (locks j : ℕ) (h : History) (e : Event) (w : Verdict) (x : Site) → locks_it x e w ≡ false
-    → Leaves (managed h x) (managed ((e, w) ∷ h) x) → Since plan locks j h x → Since plan locks j ((e, w) ∷ h) x
+    → Leaves (managed_view h x) (managed_view ((e, w) ∷ h) x) → Since plan locks j h x
+    → Since plan locks j ((e, w) ∷ h) x
 still plan locks j h e w x none leaves (inl same) =
-    inl (locks_stay plan h e w x none ∙ same.0, stands_on (managed h x) _ leaves same.1)
-still plan locks j h e w x none leaves (inr past) = inr (past_on (managed h x) _ j leaves past)
+    inl (locks_stay plan h e w x none ∙ same.0, stands_on (managed_view h x) _ leaves same.1)
+still plan locks j h e w x none leaves (inr past) = inr (past_on (managed_view h x) _ j leaves past)
 
 same_leaves : (m n : Managed) → n ≡ m → Leaves m n
 same_leaves m n same = record {
@@ -148,12 +149,12 @@ lock_turn : (plan : Plan) (locks j : ℕ) (h : History) (i : ℕ) (loss : Option
     → (i == x.number) ≡ true → w ≡ interface_due plan h x (ie.Lock i loss) → Since plan locks j h x
     → Since plan locks j ((event.Interface (ie.Lock i loss), w) ∷ h) x
 lock_turn plan locks j h i loss w x own due (inl same) =
-    let stays = not_unlocked (managed h x) _ w due same.1.locked in
+    let stays = not_unlocked (managed_view h x) _ w due same.1.locked in
     still plan locks j h (event.Interface (ie.Lock i loss)) w x (not_carried (i == x.number) (carries w 3) stays.1)
-    (same_leaves (managed h x) _ (managed_own h (ie.Lock i loss) w x own ∙ stays.0)) (inl same)
+    (same_leaves (managed_view h x) _ (managed_own h (ie.Lock i loss) w x own ∙ stays.0)) (inl same)
 lock_turn plan locks j h i loss w x own due (inr past) =
     inr (subst (λ (m : Managed). IsPast m j) (sym (managed_own h (ie.Lock i loss) w x own))
-    (lock_past (managed h x) j w past))
+    (lock_past (managed_view h x) j w past))
 
 -- ---- start
 
@@ -218,19 +219,20 @@ own_turn plan locks j h (ie.Lock i loss) w x at own cause less since =
     lock_turn plan locks j h i loss w x own (due_own plan h x (ie.Lock i loss) i w at refl own cause.0) since
 own_turn plan locks j h (ie.Report i loss) w x at own cause less since =
     still plan locks j h (event.Interface (ie.Report i loss)) w x refl
-    (as_leaves (managed h x) _ _ (managed_own h (ie.Report i loss) w x own) (report_leaves (managed h x) w)) since
+    (as_leaves (managed_view h x) _ _ (managed_own h (ie.Report i loss) w x own) (report_leaves (managed_view h x) w))
+    since
 own_turn plan locks j h (ie.Start i loss) w x at own cause less (inl same) =
     inl (
       locks_stay plan h (event.Interface (ie.Start i loss)) w x refl ∙ same.0,
-      subst IsStillStarted (sym (managed_own h (ie.Start i loss) w x own)) (start_stands (managed h x) w same.1),
+      subst IsStillStarted (sym (managed_own h (ie.Start i loss) w x own)) (start_stands (managed_view h x) w same.1),
     )
 own_turn plan locks j h (ie.Start i loss) w x at own cause less (inr past) =
     inr (subst (λ (m : Managed). IsPast m j) (sym (managed_own h (ie.Start i loss) w x own))
-    (start_past (managed h x) j (stream_draw h x.link x.plan.stream) x (host_status h x) loss
-    (start_answer (interface_at plan h x).state (managed h x).nonce) w
+    (start_past (managed_view h x) j (stream_draw h x.link x.plan.stream) x (host_status h x) loss
+    (start_answer (interface_at plan h x).state (managed_view h x).nonce) w
     (due_own plan h x (ie.Start i loss) i w at refl own cause.0) past))
 own_turn plan locks j h (ie.Halt i loss) w x at own cause less (inl same) =
-    elim (halt_turns (managed h x) j (draws h) w less same.1) [
+    elim (halt_turns (managed_view h x) j (draws h) w less same.1) [
       | inl stands ↦ inl (
         locks_stay plan h (event.Interface (ie.Halt i loss)) w x refl ∙ same.0,
         subst IsStillStarted (sym (managed_own h (ie.Halt i loss) w x own)) stands,
@@ -239,16 +241,17 @@ own_turn plan locks j h (ie.Halt i loss) w x at own cause less (inl same) =
     ]
 own_turn plan locks j h (ie.Halt i loss) w x at own cause less (inr past) =
     inr (subst (λ (m : Managed). IsPast m j) (sym (managed_own h (ie.Halt i loss) w x own))
-    (halt_past (managed h x) j (draws h) w less past))
+    (halt_past (managed_view h x) j (draws h) w less past))
 own_turn plan locks j h (ie.State i loss) w x at own cause less since =
     still plan locks j h (event.Interface (ie.State i loss)) w x refl
-    (as_leaves (managed h x) _ _ (managed_own h (ie.State i loss) w x own) (state_leaves (managed h x) w)) since
+    (as_leaves (managed_view h x) _ _ (managed_own h (ie.State i loss) w x own) (state_leaves (managed_view h x) w))
+    since
 own_turn plan locks j h (ie.Bind i line stream loss) w x at own cause less since =
     still plan locks j h (event.Interface (ie.Bind i line stream loss)) w x refl
-    (as_leaves (managed h x) _ _ (managed_own h (ie.Bind i line stream loss) w x own)
-    (bind_leaves line (managed h x) w)) since
+    (as_leaves (managed_view h x) _ _ (managed_own h (ie.Bind i line stream loss) w x own)
+    (bind_leaves line (managed_view h x) w)) since
 own_turn plan locks j h e w x at own cause less since =
-    still plan locks j h (event.Interface e) w x refl (same_leaves (managed h x) _ (managed_own h e w x own)) since
+    still plan locks j h (event.Interface e) w x refl (same_leaves (managed_view h x) _ (managed_own h e w x own)) since
 
 pub other_not : (x : Site) (e : InterfaceEvent) (w : Verdict) → is_number (number_in e) x.number ≡ false
     → locks_it x (event.Interface e) w ≡ false
@@ -263,18 +266,18 @@ turn plan locks j h (event.Interface e) w x at cause less since =
       | inl own ↦ own_turn plan locks j h e w x at own cause less since
       | inr other ↦
           still plan locks j h (event.Interface e) w x (other_not x e w other)
-          (same_leaves (managed h x) _ (managed_other h e w x other)) since
+          (same_leaves (managed_view h x) _ (managed_other h e w x other)) since
     ]
-turn plan locks j h (event.Stop link stream loss) w x at cause less since =
-    still plan locks j h (event.Stop link stream loss) w x refl
-    (as_leaves (managed h x) _ _ (managed_step h (event.Stop link stream loss) w x)
-    (broken_leaves (managed h x) (stop_breaks (op_of h) (draws h) x link stream w (managed h x)))) since
+turn plan locks j h (event.Stop line stream loss) w x at cause less since =
+    still plan locks j h (event.Stop line stream loss) w x refl
+    (as_leaves (managed_view h x) _ _ (managed_step h (event.Stop line stream loss) w x)
+    (broken_leaves (managed_view h x) (stop_breaks (op_of h) (draws h) x line stream w (managed_view h x)))) since
 turn plan locks j h (event.Reset link ends) (v.Reset l) x at cause less since =
     still plan locks j h (event.Reset link ends) (v.Reset l) x refl
-    (as_leaves (managed h x) _ _ (managed_step h (event.Reset link ends) (v.Reset l) x)
-    (broken_leaves (managed h x) (link == x.link))) since
+    (as_leaves (managed_view h x) _ _ (managed_step h (event.Reset link ends) (v.Reset l) x)
+    (broken_leaves (managed_view h x) (link == x.link))) since
 turn plan locks j h e w x at cause less since =
-    still plan locks j h e w x refl (same_leaves (managed h x) _ (managed_step h e w x)) since
+    still plan locks j h e w x refl (same_leaves (managed_view h x) _ (managed_step h e w x)) since
 
 -- ---- all pairs since
 
@@ -296,11 +299,11 @@ later plan locks j b ((e, w) ∷ since) older x at cause before =
 -- from where a draw was admitted of an interface to where it is admitted again
 pub one_lock : (plan : Plan) (j : ℕ) (b : Begun) (since older : History) (x : Site) → site_at plan x.number ≡ Some x
     → InterfaceCause plan (since ++ older) → begun_of_draw (manager older).begun j ≡ Some b
-    → (managed older x).started ≡ true → view_at older x ≡ Running
+    → (managed_view older x).started ≡ true → view_at older x ≡ Running
     → view_at (since ++ older) x ≡ Running → floor_at (since ++ older) x ≤ j
-    → locks_at plan (since ++ older) x ≡ locks_at plan older x
+    → locks_accepted plan (since ++ older) x ≡ locks_accepted plan older x
 one_lock plan j b since older x at cause made started runs again floor =
-    by (later plan (locks_at plan older x) j b since older x at cause (record {
+    by (later plan (locks_accepted plan older x) j b since older x at cause (record {
       made = made;
       since = inl (refl, record { started = started; locked = λ is. apart (sym is ∙ runs) });
     })).since
@@ -308,7 +311,7 @@ one_lock plan j b since older x at cause made started runs again floor =
     apart : Unlocked ≡ Running → ⊥
     apart e = absurd cc
 
-    by : Since plan (locks_at plan older x) j (since ++ older) x
-        → locks_at plan (since ++ older) x ≡ locks_at plan older x
+    by : Since plan (locks_accepted plan older x) j (since ++ older) x
+        → locks_accepted plan (since ++ older) x ≡ locks_accepted plan older x
     by (inl same) = same.0
     by (inr past) = let less = past.floor again in absurd (omega (arith, less, floor))

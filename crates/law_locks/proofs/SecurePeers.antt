@@ -14,17 +14,15 @@ use Rattle.spec_interfaces.specs.Views.{is_number, number_in}
 use Rattle.spec_interfaces.specs.Peers.{is_secure, live_at, live_by_id, any_leaves, greatest_on, receiver_at, peer_end}
 unfoldable use Rattle.spec_interfaces.specs.Devices.{devices}
 use Rattle.spec_interfaces.specs.Devices.{around_at, interface_at, interface_if_called, next_interface, is_stream_left}
-use Rattle.spec_interfaces.specs.Devices.{leaves}
-use Rattle.spec_interfaces.specs.Devices.{reset_call, is_bound_at}
+use Rattle.spec_interfaces.specs.Devices.{leaves, reset_call, is_bound_at}
 use Rattle.spec_interfaces.proofs.Binds.{AreLive, no_binding, next_live}
 use Rattle.spec_interfaces.proofs.Locks.{bound_at}
-use Rattle.interface_state.specs.declared.bindings.Binding.{Binding}
+use Rattle.ide_types.specs.declared.binding.Binding.{Binding}
 use Rattle.interface_state.specs.declared.states.TdiState.{TdiState}
 use Rattle.interface_state.specs.declared.states.TdiState.TheVariants.{ConfigUnlocked, ConfigLocked, Run, Error}
 use Rattle.interface_state.specs.Bindings.{binds}
 use Rattle.interface_state.specs.Held.{IsBound}
-use Rattle.interface_state.specs.Machine.{Tdi, is_locked, bindings_left}
-use Rattle.interface_state.specs.Machine.{after_failure}
+use Rattle.interface_state.specs.Machine.{Tdi, is_locked, bindings_left, after_failure}
 use Rattle.interface_state.specs.Machine as call
 use Rattle.interface_state.proofs.Bound.{left_bound}
 use Rattle.law_mmio.proofs.Secure.{interface_leaves_secure}
@@ -73,8 +71,7 @@ left_after before after own t false held is are =
     none_leaves before after t.bindings (or_parts own (any_leaves before after t.bindings) is).1 are
 
 reset_after : (before after : ℕ → Option ℕ) (resets own : Bool) (t : Tdi) → IsBound t.state t.bindings
-    → AreLive before t.bindings
-    → AreLive after
+    → AreLive before t.bindings → AreLive after
     (interface_if_called (resets || (own || any_leaves before after t.bindings)) (reset_call resets) t).bindings
 reset_after before after true own t held are = no_binding after [] refl
 reset_after before after false own t held are =
@@ -117,8 +114,7 @@ abbrev live_on : Plan → History → Site → ℕ → Option ℕ
 live_on plan h x = live_by_id (live_at h) plan.peers x.link
 
 after : (plan : Plan) (h : History) (e : Event) (w : Verdict) (x : Site) → w ≡ due plan h e
-    → AreLive (live_on plan h x) (interface_at plan h x).bindings
-    → AreLive (live_on plan ((e, w) ∷ h) x)
+    → AreLive (live_on plan h x) (interface_at plan h x).bindings → AreLive (live_on plan ((e, w) ∷ h) x)
     (next_interface (around_at plan h x) (is_stream_left plan h e w x (interface_at plan h x)) x e w
     (interface_at plan h x)).bindings
 after plan h (event.Interface e) w x is are = λ stream binds_it.

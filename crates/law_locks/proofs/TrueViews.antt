@@ -15,7 +15,7 @@ use Rattle.spec_interfaces.specs.Sites.{Site, site_at}
 use Rattle.spec_interfaces.specs.Exchanges.{carries, changes_device}
 use Rattle.spec_interfaces.specs.Views.{Managed, on_lock, on_report, on_start, on_halt, on_state, on_bind, view_broken}
 use Rattle.spec_interfaces.specs.Views.{view_told, on_operation, number_in, is_number, stop_breaks, view_at}
-unfoldable use Rattle.spec_interfaces.specs.Views.{managed}
+unfoldable use Rattle.spec_interfaces.specs.Views.{managed_view}
 use Rattle.spec_interfaces.specs.Devices.{around_at, interface_if_called, lock_call, interface_asked, interface_at}
 use Rattle.spec_interfaces.specs.Devices.{is_stream_left, reset_call}
 unfoldable use Rattle.spec_interfaces.specs.Devices.{devices}
@@ -214,8 +214,7 @@ start_view m t asked Locked w is next = next
 start_view m t asked view w is next = is
 
 start_true : (m : Managed) (t : Tdi) (x : Site) (draw : ℕ) (s : StreamStatus) (loss : Option Loss)
-    → IsTrueOf m.view t.state
-    → After on_start 1 m t (tdi_after t (StartInterface m.nonce))
+    → IsTrueOf m.view t.state → After on_start 1 m t (tdi_after t (StartInterface m.nonce))
     (if_locked m.view (if_reported m.reported (if_secure s (if_fresh draw m.needs
     (unless_lost loss 1 (started_as x draw (start_answer t.state m.nonce)))))))
 start_true m t x draw s loss is =
@@ -301,38 +300,39 @@ called false c t = refl
 own_turn : (plan : Plan) (h : History) (e : InterfaceEvent) (w : Verdict) (x : Site)
     → site_at plan x.number ≡ Some x → is_number (number_in e) x.number ≡ true
     → InterfaceCause plan ((event.Interface e, w) ∷ h) → Holds plan h x
-    → IsTrueOf (on_operation (draws h) e w (managed h x)).view
+    → IsTrueOf (on_operation (draws h) e w (managed_view h x)).view
     (interface_asked (around_at plan h x) x e w (interface_at plan h x)).state
 own_turn plan h (ie.Lock i loss) w x at own cause is =
     let a = around_at plan h x in
     let t = interface_at plan h x in
     let due = due_own plan h x (ie.Lock i loss) i w at refl own cause.0 in
-    subst (λ (k : Tdi). IsTrueOf (on_lock (managed h x) w).view k.state) (sym (called (carries w 3) (lock_call a x) t))
-    (subst (After on_lock 3 (managed h x) t (tdi_after t (lock_call a x))) (sym due)
-    (lock_true (managed h x) t x (host_status h x) loss (new_lock t x.plan.flags x.plan.stream x.plan.offset)
+    subst (λ (k : Tdi). IsTrueOf (on_lock (managed_view h x) w).view k.state)
+    (sym (called (carries w 3) (lock_call a x) t))
+    (subst (After on_lock 3 (managed_view h x) t (tdi_after t (lock_call a x))) (sym due)
+    (lock_true (managed_view h x) t x (host_status h x) loss (new_lock t x.plan.flags x.plan.stream x.plan.offset)
     (lock_answer t x.plan.flags x.plan.offset a.secure a.drawn) is))
 own_turn plan h (ie.Start i loss) w x at own cause is =
     let t = interface_at plan h x in
     let due = due_own plan h x (ie.Start i loss) i w at refl own cause.0 in
-    subst (λ (k : Tdi). IsTrueOf (on_start (managed h x) w).view k.state)
-    (sym (called (carries w 1) (StartInterface (managed h x).nonce) t))
-    (subst (After on_start 1 (managed h x) t (tdi_after t (StartInterface (managed h x).nonce))) (sym due)
-    (start_true (managed h x) t x _ (host_status h x) loss is))
+    subst (λ (k : Tdi). IsTrueOf (on_start (managed_view h x) w).view k.state)
+    (sym (called (carries w 1) (StartInterface (managed_view h x).nonce) t))
+    (subst (After on_start 1 (managed_view h x) t (tdi_after t (StartInterface (managed_view h x).nonce))) (sym due)
+    (start_true (managed_view h x) t x _ (host_status h x) loss is))
 own_turn plan h (ie.Halt i loss) w x at own cause is =
     let t = interface_at plan h x in
     let due = due_own plan h x (ie.Halt i loss) i w at refl own cause.0 in
-    subst (λ (k : Tdi). IsTrueOf (on_halt (draws h) (managed h x) w).view k.state)
+    subst (λ (k : Tdi). IsTrueOf (on_halt (draws h) (managed_view h x) w).view k.state)
     (sym (called (carries w 1) StopInterface t))
-    (subst (After (on_halt (draws h)) 1 (managed h x) t (tdi_after t StopInterface)) (sym due)
-    (halt_true (draws h) (managed h x) t x.number _ loss is))
-own_turn plan h (ie.State i loss) w x at own cause is = state_true (managed h x) w (interface_at plan h x).state is
+    (subst (After (on_halt (draws h)) 1 (managed_view h x) t (tdi_after t StopInterface)) (sym due)
+    (halt_true (draws h) (managed_view h x) t x.number _ loss is))
+own_turn plan h (ie.State i loss) w x at own cause is = state_true (managed_view h x) w (interface_at plan h x).state is
 own_turn plan h (ie.Report i loss) w x at own cause is =
-    subst (λ (view : View). IsTrueOf view (interface_at plan h x).state) (sym (report_view (managed h x) w)) is
+    subst (λ (view : View). IsTrueOf view (interface_at plan h x).state) (sym (report_view (managed_view h x) w)) is
 own_turn plan h (ie.Bind i line stream loss) w x at own cause is =
     subst (λ (view : View). IsTrueOf view
     (interface_if_called (carries w 1) (BindStream stream ((around_at plan h x).live stream))
     (interface_at plan h x)).state)
-    (sym (bind_view line (managed h x) w))
+    (sym (bind_view line (managed_view h x) w))
     (called_true (view_at h x) (carries w 1) (BindStream stream ((around_at plan h x).live stream))
     (interface_at plan h x)
     refl is)
@@ -368,22 +368,22 @@ stop_true false left m t is = called_true m.view left StreamLeft t refl is
 
 turn : (plan : Plan) (h : History) (e : Event) (w : Verdict) (x : Site) → site_at plan x.number ≡ Some x
     → InterfaceCause plan ((e, w) ∷ h) → Holds plan h x → Holds plan ((e, w) ∷ h) x
-unfolding devices managed
+unfolding devices managed_view
 turn plan h (event.Interface e) w x at cause is = elim (cases_Bool (is_number (number_in e) x.number)) [
   | inl own ↦
-      as_true (managed ((event.Interface e, w) ∷ h) x) _ (interface_at plan ((event.Interface e, w) ∷ h) x) _
+      as_true (managed_view ((event.Interface e, w) ∷ h) x) _ (interface_at plan ((event.Interface e, w) ∷ h) x) _
       (managed_own h e w x own) (interface_own plan h e w x own) (own_turn plan h e w x at own cause is)
   | inr other ↦
-      as_true (managed ((event.Interface e, w) ∷ h) x) _ (interface_at plan ((event.Interface e, w) ∷ h) x) _
+      as_true (managed_view ((event.Interface e, w) ∷ h) x) _ (interface_at plan ((event.Interface e, w) ∷ h) x) _
       (managed_other h e w x other) (interface_other plan h e w x other) is
 ]
-turn plan h (event.Stop link stream loss) w x at cause is =
-    stop_true (stop_breaks (op_of h) (draws h) x link stream w (managed h x))
-    (is_stream_left plan h (event.Stop link stream loss) w x (interface_at plan h x)) (managed h x)
+turn plan h (event.Stop line stream loss) w x at cause is =
+    stop_true (stop_breaks (op_of h) (draws h) x line stream w (managed_view h x))
+    (is_stream_left plan h (event.Stop line stream loss) w x (interface_at plan h x)) (managed_view h x)
     (interface_at plan h x) is
 turn plan h (event.Reset link ends) (v.Reset l) x at cause is =
     reset_true (link == x.link) (is_stream_left plan h (event.Reset link ends) (v.Reset l) x (interface_at plan h x))
-    (managed h x)
+    (managed_view h x)
     (interface_at plan h x) is
 turn plan h e w x at cause is =
     called_true (view_at h x) (is_stream_left plan h e w x (interface_at plan h x)) StreamLeft (interface_at plan h x)
@@ -391,6 +391,6 @@ turn plan h e w x at cause is =
 
 pub true_views : (plan : Plan) (h : History) → InterfaceCause plan h → (x : Site) → site_at plan x.number ≡ Some x
     → IsTrueOf (view_at h x) (interface_at plan h x).state
-unfolding devices managed
+unfolding devices managed_view
 true_views plan [] cause x at = refl
 true_views plan ((e, w) ∷ h) cause x at = turn plan h e w x at cause (true_views plan h cause.1 x at)

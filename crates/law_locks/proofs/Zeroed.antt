@@ -11,8 +11,7 @@ use Rattle.spec_interfaces.specs.Sites.{Site}
 use Rattle.spec_interfaces.specs.Exchanges.{carries, changes_device}
 use Rattle.spec_interfaces.specs.Views.{is_number, number_in}
 use Rattle.spec_interfaces.specs.Devices.{Around, around_at, interface_if_called, lock_call, next_interface}
-use Rattle.spec_interfaces.specs.Devices.{interface_at, is_stream_left}
-use Rattle.spec_interfaces.specs.Devices.{reset_call}
+use Rattle.spec_interfaces.specs.Devices.{interface_at, is_stream_left, reset_call}
 unfoldable use Rattle.spec_interfaces.specs.Devices.{devices}
 use Rattle.interface_state.specs.Machine.{is_unlocked, new_lock, interface_after_lock}
 use Rattle.interface_state.proofs.Bound.{bound_state, unbound_state}

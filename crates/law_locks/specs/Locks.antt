@@ -4,11 +4,10 @@ use Rattle.std.specs.Prelude.{◌≡◌, ◌⊎◌, ◌∷◌, ◌++◌, ℕ, tr
 use Rattle.ide_types.specs.declared.plan.Plan.{Plan}
 use Rattle.spec_keys.specs.History.{History}
 use Rattle.spec_interfaces.specs.Terms.{View, Unlocked, Locked, Running, TdiState, Event, Verdict, Loss, state_code}
-use Rattle.spec_interfaces.specs.Terms.{PortName, history_status}
-use Rattle.spec_interfaces.specs.Terms.{interface_report_bytes}
+use Rattle.spec_interfaces.specs.Terms.{PortName, history_status, interface_report_bytes}
 use Rattle.spec_interfaces.specs.Sites.{Site, site_at}
 use Rattle.spec_interfaces.specs.Views.{view_at}
-use Rattle.spec_interfaces.specs.Devices.{interface_at, locks_at, runs_at, registers_locked, has_secure_stream}
+use Rattle.spec_interfaces.specs.Devices.{interface_at, locks_accepted, runs_at, registers_locked, has_secure_stream}
 use Rattle.spec_interfaces.specs.Devices.{is_bound_at}
 use Rattle.spec_interfaces.specs.Peers.{peer_end, is_secure}
 use Rattle.spec_interfaces.specs.Laws.{IsLocked}
@@ -52,7 +51,7 @@ pub record IsReported (plan : Plan) (h : History) (x : Site) : Type 0 where
   pub since : History
   pub came : since ++ (event.Interface (ie.Report x.number loss), v.Interface (iv.Reported x.number report)) ∷ older
       ≡ h
-  pub same_lock : locks_at plan older x ≡ locks_at plan h x
+  pub same_lock : locks_accepted plan older x ≡ locks_accepted plan h x
   pub report_is : report ≡ interface_report_bytes x.plan (registers_locked plan h x) x.plan.flags x.plan.offset
 
 -- so of each interface in RUN

@@ -1,14 +1,14 @@
 -- Each key serves one lock of an interface: what is admitted of it under a draw is admitted under one lock.
 use Rattle.std.specs.Prelude.{◌≡◌, ℕ, ◌++◌, ◌∷◌, Bool, true, false, List, Some, Ok, slice_get}
 use Rattle.spec_links.specs.Terms.{PortName, Plan, Event, Effect, UnitName, Accepted, Packet, History, read_head_of}
-use Rattle.spec_links.specs.Terms.{owner_at, site_with, Access, Verdict, Sealed, WaitingRead, memory_read}
+use Rattle.spec_links.specs.Terms.{owner_site, site_with, Access, Verdict, Sealed, WaitingRead, memory_read}
 use Rattle.spec_links.specs.Sent.{reads_taken}
 use Rattle.law_locks.specs.Fronts.{AtPairs}
 use Rattle.link_events.specs.declared.event.AccessEvent.TheVariants as ae
 use Rattle.spec_links.specs.Ports.{port_of}
-use Rattle.spec_links.specs.Memory.{unit_ended, queued}
+use Rattle.spec_links.specs.Memory.{unit_ended, queued_reads}
 use Rattle.spec_interfaces.specs.Sites.{Site}
-use Rattle.spec_interfaces.specs.Devices.{locks_at}
+use Rattle.spec_interfaces.specs.Devices.{locks_accepted}
 use Rattle.tlp_layout.specs.declared.head.HeadView.{HeadView}
 use Rattle.link_verdicts.specs.declared.verdict.Effect.TheVariants.{Applied, Queued}
 
@@ -35,25 +35,25 @@ pub record AdmittedAt (plan : Plan) (h : History) (x : Site) : Type 0 where
   pub admitted : is_admitted_effect effect ≡ true
   pub head : HeadView
   pub reads : read_head_of packet.head ≡ Ok head
-  pub owns : owner_at plan (port_of plan port).line head ≡ Some x
+  pub owns : owner_site plan (port_of plan port).line head ≡ Some x
 
 -- two packets of an interface that are admitted under one draw are admitted under one lock
 abbrev pub OneLockPerKey : Plan → History → Type 0
 OneLockPerKey plan h = (x : Site) (a b : AdmittedAt plan h x) → a.unit.draw ≡ b.unit.draw
-    → locks_at plan a.older x ≡ locks_at plan b.older x
+    → locks_accepted plan a.older x ≡ locks_accepted plan b.older x
 
 -- ---- answers
 
 -- the oldest read of a link that waits, which an answer takes, was queued under the lock that stands
 pub record IsReadInLock (plan : Plan) (h : History) (link : ℕ) : Type 0 where
   pub read : WaitingRead
-  pub oldest : slice_get (queued plan h link) (reads_taken h link) ≡ Some read
+  pub oldest : slice_get (queued_reads plan h link) (reads_taken h link) ≡ Some read
   pub interface : Site
   pub owns : site_with plan link read.read.requester ≡ Some interface
   pub from : AdmittedAt plan h interface
   pub draw : from.unit.draw ≡ read.draw
   pub is_read : memory_read from.head ≡ Some read.read
-  pub same_lock : locks_at plan from.older interface ≡ locks_at plan h interface
+  pub same_lock : locks_accepted plan from.older interface ≡ locks_accepted plan h interface
 
 abbrev pub AnswersInLock : Plan → History → Event → Verdict → Type 0
 AnswersInLock plan h (Access (ae.Answer link)) (Sealed ds) = IsReadInLock plan h link

@@ -1,10 +1,9 @@
 -- Each accepted packet with T on a stream between devices was sealed while the owner of its TLP was in RUN and bound to
 -- the stream. It is a packet that was got, so packet m of what was got is packet m of what was sealed, with its T.
-use Rattle.law_sealing.proofs.Terms.{◌≡◌, ℕ, ◌+◌, ◌<◌, Bool, true, false, List, [], ◌∷◌, length}
-use Rattle.law_sealing.proofs.Terms.{slice_get, Option, Some, None, refl, ap, sym, subst, ◌∙◌, arith, nat_tests}
-use Rattle.law_sealing.proofs.Terms.{if◌then◌else◌, Plan, SubStream, History, Event, Send, Verdict, Sealed, Accepted}
-use Rattle.law_sealing.proofs.Terms.{UnitName, Effect, SealedPacket, Packet, Prefix, PortName, received_in, sent}
-use Rattle.law_sealing.proofs.Terms.{CauseLaw}
+use Rattle.law_sealing.proofs.Terms.{◌≡◌, ℕ, ◌+◌, ◌<◌, Bool, true, false, List, [], ◌∷◌, length, slice_get, Option}
+use Rattle.law_sealing.proofs.Terms.{Some, None, refl, ap, sym, subst, ◌∙◌, arith, nat_tests, if◌then◌else◌, Plan}
+use Rattle.law_sealing.proofs.Terms.{SubStream, History, Event, Send, Verdict, Sealed, Accepted, UnitName, Effect}
+use Rattle.law_sealing.proofs.Terms.{SealedPacket, Packet, Prefix, PortName, received_in, sent_packets, CauseLaw}
 use Rattle.law_sealing.proofs.Terms.{NoForgery, DrawFacts, StreamsFit}
 unfoldable use Rattle.law_sealing.proofs.Terms.{accepted_packets, sealed_packets}
 use Rattle.std.specs.Prelude.{◌-◌, nat_le, nat_lt}
@@ -17,7 +16,7 @@ use Rattle.ide_types.specs.declared.direction.Direction.{Direction}
 use Rattle.ide_types.specs.declared.direction.Direction.TheVariants.{Downstream, Upstream}
 use Rattle.ide_types.specs.declared.plan.PeerPlan.{PeerPlan}
 use Rattle.ide_types.specs.Fits.{FitsPlan, FitsPeer}
-use Rattle.ide_types.specs.Ends.{end_on, hop_end, line_has, link_hop, own_has_id, peer_link, port_at}
+use Rattle.ide_types.specs.Ends.{end_on, hop_end, line_has, link_hop, own_has_id, peer_link, port_beside_end}
 use Rattle.ide_types.specs.Plans.{hop_has_id}
 use Rattle.ide_types.proofs.EndsFound.{all_at, end_found}
 use Rattle.spec_links.specs.Plan.{has_link}
@@ -41,8 +40,7 @@ low_link : (a b : PortName) → a ≡ b → a.line < 24 → nat_le 24 b.line ≡
 low_link a b same low late = let links = ap (λ (q : PortName). q.line) same in grind (arith, nat_tests)
 
 -- an ID that gives an end of a line from 24 on at a device's port gives it among the streams between devices
-among_peers : (low own hop : Bool) (o : Option PortName) (link : ℕ) (e : PortName) → link < 8
-    → nat_le 24 e.line ≡ true
+among_peers : (low own hop : Bool) (o : Option PortName) (link : ℕ) (e : PortName) → link < 8 → nat_le 24 e.line ≡ true
     → (if low then (if own then device_port link else if hop then hop_end Device link
     else unwrap_or o (device_port link)) else device_port link) ≡ e
     → o ≡ Some e
@@ -80,7 +78,7 @@ at_device plan fits e id late has = by (slice_get plan.peers (e.line - 24)) refl
     by : (x : Option PeerPlan) → slice_get plan.peers (e.line - 24) ≡ x → AtDevice plan e id
     by None is = absurd (let none = rw (a, b, c, is) at has in cc)
     by (Some p) is =
-        let port : port_at plan.peers e ≡ device_port (peer_link e.side p) = rw (a, b, c, is) refl in
+        let port : port_beside_end plan.peers e ≡ device_port (peer_link e.side p) = rw (a, b, c, is) refl in
         let fit = all_at (FitsPeer plan.links) plan.peers (e.line - 24) p fits.each_peer is in
         let met = ap (λ (q : PortName). end_on plan q id) (sym port) ∙ end_found plan fits e id has in
         let there = among_peers (nat_lt (peer_link e.side p) 8)
@@ -152,7 +150,7 @@ bound_at plan whole fits facts h e port unit effects cause forged late n p is ha
     ∙ (ap (λ (r : Packet). r.prefix.t) among.packet ∙ has_t) in
     let owner = peer_seals_bound plan seal.older (owners_link plan d.port) seal.bytes d
     (peer_fit plan seal.older seal.bytes seal.trusted d device.is_peer fit) trusted in
-    let less = get_less (sent plan h s unit.draw) m p at in
+    let less = get_less (sent_packets plan h s unit.draw) m p at in
     record {
       was = record {
         place = among.place;
@@ -160,7 +158,8 @@ bound_at plan whole fits facts h e port unit effects cause forged late n p is ha
           sealed = among.sealed;
           stands = among.stands;
           under = among.under;
-          number = sym (ap length among.before ∙ length-take-le m (sent plan h s unit.draw) (omega (arith, less)));
+          number = sym (ap length among.before ∙ length-take-le m (sent_packets plan h s unit.draw)
+              (omega (arith, less)));
         };
         port = seal.port;
         bytes = seal.bytes;

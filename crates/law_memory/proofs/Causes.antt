@@ -1,16 +1,16 @@
 -- What is due of interfaces is due by them alone, and T is set as they say.
 use Rattle.spec_interfaces.specs.Sites.{Site}
-use Rattle.std.specs.Prelude.{Option}
+use Rattle.std.specs.Prelude.{Option, nat_le, nat_lt, not, ◌&&◌}
 use Rattle.law_sealing.proofs.Terms.{◌≡◌, ℕ, ◌+◌, Bool, true, false, List, [], ◌∷◌, length, Result}
 use Rattle.law_sealing.proofs.Terms.{refl, ap, sym, subst, if◌then◌else◌, unwrap_or, AllByRecursion, Plan}
 use Rattle.law_sealing.proofs.Terms.{History, Event, Send, Verdict, PortName, Tlp, header, read_of, CauseLaw, Sending}
 use Rattle.law_sealing.proofs.Terms.{Lanes, lanes_at, needs_sync, described_seal, ends_unit, sets_trusted, sealed_by_is}
 use Rattle.law_sealing.proofs.Terms.{SubKind, Npr, Cpl, class_of}
-unfoldable use Rattle.law_sealing.proofs.Terms.{due, listed, sealed_packets}
+unfoldable use Rattle.law_sealing.proofs.Terms.{due, listed_seals, sealed_packets}
 use Rattle.tlp_layout.specs.declared.fault.TlpFault.{TlpFault}
 use Rattle.spec_stream.specs.Sending.{first_that_holds, refusals, sealed_with_syncs}
-use Rattle.association.specs.Outgoing.{Outgoing, NoTlp, OnNone, OnStream, outgoing_of}
-use Rattle.association.proofs.Outgoing.{on_stream_reads}
+use Rattle.tlp_layout.specs.Outgoing.{Outgoing, NoTlp, OnNone, OnStream, outgoing_of}
+use Rattle.tlp_layout.proofs.Outgoing.{on_stream_reads}
 use Rattle.spec_links.specs.Plan.{has_link, has_port, streams_of}
 use Rattle.spec_links.specs.Due.{bytes_due, send_due}
 unfoldable use Rattle.spec_links.specs.Due.{t_sealed}
@@ -20,14 +20,13 @@ use Rattle.ide_types.specs.Ends.{hop_end}
 use Rattle.ide_types.specs.declared.port.Side.{Side}
 use Rattle.ide_types.specs.declared.port.Side.TheVariants.{Host, Device}
 use Rattle.tlp_layout.specs.declared.head.HeadView.{HeadView}
-use Rattle.std.specs.Prelude.{nat_le, nat_lt, not, ◌&&◌}
 use Rattle.std.proofs.Common.{arith, ◌∙◌}
 use Rattle.std.proofs.lemmas.Bool.Decides.{nat_tests}
 use Rattle.spec_links.specs.Memory.{memory_due}
 use Rattle.spec_interfaces.specs.Terms.{InterfaceEvent, SealedPacket}
 unfoldable use Rattle.spec_interfaces.specs.Due.{interface_verdict_due as interface_due}
-use Rattle.spec_interfaces.specs.Cause.{InterfaceCause, PairFits, SealFits, is_peer, owner_at, owner_read, owners_link}
-use Rattle.spec_interfaces.specs.Cause.{t_at}
+use Rattle.spec_interfaces.specs.Cause.{InterfaceCause, PairFits, SealFits, is_peer, owner_site, owner_read}
+use Rattle.spec_interfaces.specs.Cause.{owners_link, t_at}
 use Rattle.spec_interfaces.specs.Devices.{peer_t}
 use Rattle.link_events.specs.declared.event.Event.TheVariants as event
 use Rattle.link_events.specs.declared.event.InterfaceEvent.TheVariants as ie
@@ -82,8 +81,8 @@ tlp_fits plan h bytes trusted x s u number m t = record { t_is = t }
 listed_fits : (plan : Plan) (h : History) (bytes : List ℕ) (trusted : Bool) (x : Lanes) (s : Sending) (number : ℕ)
     (n c : Bool)
     → s.trusted ≡ t_at plan h s.port (owner_read plan (owners_link plan s.port) (read_of bytes)) s.stream trusted
-    → AllByRecursion (SealFits plan h bytes trusted) (listed x s number n c)
-unfolding listed
+    → AllByRecursion (SealFits plan h bytes trusted) (listed_seals x s number n c)
+unfolding listed_seals
 listed_fits plan h bytes trusted x s number false false t =
     (tlp_fits plan h bytes trusted x s s.class _ (ends_unit x s) t, tt)
 listed_fits plan h bytes trusted x s number true false t = (
@@ -120,14 +119,13 @@ host_t : (a late trusted peer : Bool) → (a ≡ true → late ≡ false)
 host_t a late trusted peer other = grind arith
 
 own_t : (plan : Plan) (h : History) (port : PortName) (head : HeadView) (stream : ℕ) (trusted : Bool)
-    → SendsOwn plan port
-    → t_sealed plan h port head stream trusted
-    ≡ t_at plan h port (owner_at plan (owners_link plan port) head) stream trusted
+    → SendsOwn plan port → t_sealed plan h port head stream trusted
+    ≡ t_at plan h port (owner_site plan (owners_link plan port) head) stream trusted
 unfolding t_sealed
 own_t plan h port head stream trusted own = by port.side refl
   where
     owner : Option Site
-    owner = owner_at plan (owners_link plan port) head
+    owner = owner_site plan (owners_link plan port) head
 
     by : (side : Side) → port.side ≡ side
         → (if at_switch plan (record { side = side; line = port.line }) then trusted

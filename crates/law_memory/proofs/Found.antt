@@ -1,26 +1,24 @@
 -- Where a sealed packet comes from: the send that sealed it, and what was known then.
-use Rattle.law_sealing.proofs.Terms.{◌≡◌, ℕ, ◌+◌, ◌<◌, ◌≤◌, ◌==◌, ◌⊎◌, inl, inr, zero, suc, Bool, true, false, List}
-use Rattle.law_sealing.proofs.Terms.{[], ◌∷◌, ◌++◌, length, length-append, slice_get, Some, refl, ap, sym, subst}
-use Rattle.law_sealing.proofs.Terms.{arith, if◌then◌else◌, AllByRecursion, nat_tests, Plan, History, base, Event, Send}
+use Rattle.law_sealing.proofs.Terms.{◌≡◌, ℕ, ◌+◌, ◌<◌, ◌≤◌, ◌==◌, ◌⊎◌, inl, inr, zero, suc, Bool, true, false, List, []}
+use Rattle.law_sealing.proofs.Terms.{◌∷◌, ◌++◌, length, length-append, slice_get, Some, refl, ap, sym, subst, arith}
+use Rattle.law_sealing.proofs.Terms.{if◌then◌else◌, AllByRecursion, nat_tests, Plan, History, base, Event, Send}
 use Rattle.law_sealing.proofs.Terms.{Verdict, Sealed, SealedPacket, PortName, Packet, SealedList, ahead_of_packet}
-use Rattle.law_sealing.proofs.Terms.{with_sealed, open_unit, sub_stream_packets, sub_stream_of, eqb-refl}
-unfoldable use Rattle.law_sealing.proofs.Terms.{due}
-use Rattle.law_sealing.proofs.Terms.{CauseLaw, sealing_is, sealed_by_sealing, AllLive, all_live, sent_bytes}
-use Rattle.law_sealing.proofs.Terms.{sending_port, ◌∙◌}
+use Rattle.law_sealing.proofs.Terms.{with_sealed, open_unit, sub_stream_packets, sub_stream_of, eqb-refl, CauseLaw}
+use Rattle.law_sealing.proofs.Terms.{sealing_is, sealed_by_sealing, AllLive, all_live, sent_bytes, sending_port, ◌∙◌}
+unfoldable use Rattle.law_sealing.proofs.Terms.{due, sealed_packets, packet_of}
 use Rattle.ide_types.specs.declared.direction.Direction.{Direction}
 use Rattle.ide_types.specs.declared.direction.Direction.TheVariants.{Downstream, Upstream}
 use Rattle.ide_types.specs.Fits.{FitsPlan}
 use Rattle.spec_links.specs.Hops.{has_hop, leaving_end}
 use Rattle.spec_links.specs.Plan.{has_link}
 use Rattle.spec_links.specs.Due.{answer_first, outgoing_completion}
-use Rattle.spec_links.specs.Memory.{waiting}
+use Rattle.spec_links.specs.Memory.{waiting_reads}
 use Rattle.ide_types.specs.Ports.{host_port}
 use Rattle.law_reads.proofs.Forwarded.{forward_means}
 use Rattle.spec_links.proofs.Terms.{Device}
 unfoldable use Rattle.spec_links.proofs.Terms.{bytes_by}
 use Rattle.link_events.specs.declared.event.AccessEvent.TheVariants as ae
-unfoldable use Rattle.law_sealing.proofs.Terms.{sealed_packets, packet_of}
-use Rattle.spec_interfaces.specs.Sites.{Site, sites_on, sites_from, site_at}
+use Rattle.spec_interfaces.specs.Sites.{Site, sites_of_plans, sites_of_links, site_at}
 unfoldable use Rattle.spec_interfaces.specs.Sites.{sites}
 use Rattle.spec_interfaces.specs.Terms.{LinkPlan, InterfacePlan}
 use Rattle.spec_interfaces.specs.Cause.{InterfaceCause}
@@ -150,7 +148,7 @@ answers_link plan h link ds is = by (has_link plan link) refl is
   where
     by : (b : Bool) → has_link plan link ≡ b
         → Sealed ds ≡ (if b
-        then answer_first plan h (sending_port plan (event.Access (ae.Answer link))) (waiting plan h link)
+        then answer_first plan h (sending_port plan (event.Access (ae.Answer link))) (waiting_reads plan h link)
         (outgoing_completion plan h link) else v.Nothing) → has_link plan link ≡ true
     by true known is = known
     by false known is = absurd cc
@@ -279,13 +277,13 @@ one_more n link p xs rest test x is = by (test here) is
         (omega (arith, later.0), rw (number_above n x.number later.0) later.1)
 
 many_more : (n link : ℕ) (ps : List InterfacePlan) (xs : List Site) → FoundByNumber (n + length ps) xs
-    → FoundByNumber n (sites_on n link ps ++ xs)
+    → FoundByNumber n (sites_of_plans n link ps ++ xs)
 many_more n link [] xs rest = let e : n + 0 ≡ n = omega arith in rw e at rest
 many_more n link (p ∷ ps) xs rest =
     let e : n + suc (length ps) ≡ (n + 1) + length ps = omega arith in
-    one_more n link p (sites_on (n + 1) link ps ++ xs) (many_more (n + 1) link ps xs (rw e at rest))
+    one_more n link p (sites_of_plans (n + 1) link ps ++ xs) (many_more (n + 1) link ps xs (rw e at rest))
 
-all_found : (n link : ℕ) (ls : List LinkPlan) → FoundByNumber n (sites_from n link ls)
+all_found : (n link : ℕ) (ls : List LinkPlan) → FoundByNumber n (sites_of_links n link ls)
 all_found n link [] test x is = absurd cc
 all_found n link (l ∷ ls) test x is = many_more n link l.interfaces _
     (all_found (n + length l.interfaces) (link + 1) ls) test x is

@@ -35,8 +35,8 @@ use Rattle.trusted_memory.specs.Causes.{is_applied, write_effect}
 use Rattle.trusted_memory.specs.Admitted.{admitted_write}
 use Rattle.trusted_memory.specs.Memory.{bytes_from}
 use Rattle.trusted_memory.proofs.Admitted.{admitted_says}
-use Rattle.spec_links.specs.Memory.{unit_grant, host_effect, device_effect, payload_write, admitted, admitted_each}
-use Rattle.spec_links.specs.Memory.{unit_ended, plain_of, Policy, policy_at, waiting_then, effects_each}
+use Rattle.spec_links.specs.Memory.{unit_grant, host_effect, device_effect, payload_write, write_if_admitted}
+use Rattle.spec_links.specs.Memory.{admitted_each, unit_ended, plain_of, Policy, policy_at, waiting_then, effects_each}
 use Rattle.spec_links.specs.Memory.{writes, shown_if, effect_by, effects_of}
 unfoldable use Rattle.spec_interfaces.specs.Due.{interface_verdict_due as interface_due}
 use Rattle.law_memory.specs.Origin.{ShowsWrites, AppliesAdmitted, MemoryLaw}
@@ -108,7 +108,8 @@ device_says xs unit p (Ok head) = mmio_says xs p.prefix.t unit.stream unit.draw 
 -- a packet's effect is applied exactly if its write is admitted
 effect_says : (plan : Plan) (policy : Policy) (n : ℕ) (port : PortName) (unit : UnitName) (p : Packet)
     (payload : List ℕ)
-    → is_applied (effect_by plan policy n port unit p) ≡ is_some (admitted plan policy.grants port unit p payload)
+    → is_applied (effect_by plan policy n port unit p)
+    ≡ is_some (write_if_admitted plan policy.grants port unit p payload)
 effect_says plan policy n port unit p payload = by (is_sync_packet p) (at_switch plan port)
     (sent_direction port.side == 0)
   where
@@ -135,8 +136,7 @@ each_says plan policy n port unit plain (p ∷ ps) =
     (λ i. first i ∷ rest i)
 
 applies : (plan : Plan) (h : History) (e : Event) (port : PortName) (unit : UnitName) (effects : List Effect)
-    → Accepted port unit effects ≡ due plan h e
-    → AppliesAdmitted plan h e (Accepted port unit effects)
+    → Accepted port unit effects ≡ due plan h e → AppliesAdmitted plan h e (Accepted port unit effects)
 applies plan h e port unit effects is =
     let by = accepted_by plan h e port unit effects is in
     let same = unit_that_ends plan h e port unit by.packet by.came by.passed in

@@ -1,13 +1,12 @@
 -- Answers take the oldest read that waits, from memory as it is then: an answer that sealed passed each test of the
 -- rule, so its interface's view is Running, read and key are of draws from the floor on, and the completion's stream is
 -- the bound one. Its packets are those of a send of the completion.
-use Rattle.law_sealing.proofs.Terms.{◌≡◌, ℕ, ◌≤◌, ◌==◌, ◌&&◌, ◌*◌, ◌+◌, Ok, Bool, true, false, not, nat_lt, List}
-use Rattle.law_sealing.proofs.Terms.{[], ◌∷◌, ◌++◌, Option, Some, None, refl, ap, sym, subst, ◌∙◌, arith, nat_tests}
-use Rattle.law_sealing.proofs.Terms.{if◌then◌else◌, unwrap_or}
-use Rattle.law_sealing.proofs.Terms.{Plan, History, Event, Verdict, Sealed, PortName, SealedPacket, SealedList}
-use Rattle.law_sealing.proofs.Terms.{CauseLaw, AllByRecursion, DrawFacts, sent_bytes, sending_port, sealing_is, IsLive}
-use Rattle.law_sealing.proofs.Terms.{AllLive, all_live, sealed_packets, lane_out, live_key, KeyName, SubKind, Cpl}
-use Rattle.law_sealing.proofs.Terms.{lanes_at, Tlp, header, class_of, read_of}
+use Rattle.law_sealing.proofs.Terms.{◌≡◌, ℕ, ◌≤◌, ◌==◌, ◌&&◌, ◌*◌, ◌+◌, Ok, Bool, true, false, not, nat_lt, List, []}
+use Rattle.law_sealing.proofs.Terms.{◌∷◌, ◌++◌, Option, Some, None, refl, ap, sym, subst, ◌∙◌, arith, nat_tests}
+use Rattle.law_sealing.proofs.Terms.{if◌then◌else◌, unwrap_or, Plan, History, Event, Verdict, Sealed, PortName}
+use Rattle.law_sealing.proofs.Terms.{SealedPacket, SealedList, CauseLaw, AllByRecursion, DrawFacts, sent_bytes}
+use Rattle.law_sealing.proofs.Terms.{sending_port, sealing_is, IsLive, AllLive, all_live, sealed_packets, lane_out}
+use Rattle.law_sealing.proofs.Terms.{live_key, KeyName, SubKind, Cpl, lanes_at, Tlp, header, class_of, read_of}
 unfoldable use Rattle.law_sealing.proofs.Terms.{due}
 use Rattle.law_sealing.proofs.Sealings.{AllOf, all_of_sealing, live_at, from_at}
 use Rattle.tlp_layout.proofs.Readings.{read_spells_tlp}
@@ -17,9 +16,10 @@ use Rattle.tlp_layout.specs.Class.{layout_of, kind_with, kind_class}
 use Rattle.tlp_layout.specs.declared.head.Fields.{Fields}
 use Rattle.tlp_layout.specs.declared.head.Fields.TheVariants.{Memory, Config, Message, Completion}
 use Rattle.tlp_layout.specs.declared.head.Routing.{Routing}
-use Rattle.association.specs.Outgoing.{Outgoing, NoTlp, OnNone, OnStream, stream_taken}
+use Rattle.tlp_layout.specs.Outgoing.{Outgoing, NoTlp, OnNone, OnStream, stream_taken}
 use Rattle.spec_links.proofs.Terms.{Access, WaitingRead, Site, site_with, granted_to, answer_due, site_answer}
 use Rattle.spec_links.proofs.Terms.{completion_verdict, outgoing_completion, is_stream, is_before}
+use Rattle.spec_links.proofs.Terms.{binding_cause, judged_by, answer_judged}
 use Rattle.spec_links.specs.Due.{send_due, draw_of, first_that_holds, refusals}
 use Rattle.spec_links.specs.Memory.{writes}
 use Rattle.spec_links.specs.History.{no_packet}
@@ -31,7 +31,9 @@ use Rattle.spec_interfaces.specs.Cause.{SealFits, t_at, owner_read, owners_link}
 use Rattle.spec_interfaces.specs.Devices.{peer_t}
 use Rattle.spec_links.specs.Plan.{has_link}
 use Rattle.std.specs.Prelude.{length, nat_le}
+use Rattle.ide_types.specs.declared.binding.Binding.{Binding}
 use Rattle.ide_types.specs.declared.port.Side.TheVariants.{Host}
+use Rattle.link_verdicts.proofs.Admits.{Admits, binding_admits}
 use Rattle.link_verdicts.specs.declared.verdict.BlockCause.{BlockCause}
 use Rattle.link_verdicts.specs.declared.verdict.BlockCause.TheVariants as blocks
 use Rattle.link_events.specs.declared.event.AccessEvent.TheVariants as ae
@@ -104,23 +106,23 @@ send_sent plan h port OnNone = refl
 send_sent plan h port (OnStream t stream) = first_sent (refusals (lanes_at plan h port stream) (class_of (header t))) _
     (refl, (refl, (refl, (refl, (refl, (refl, (refl, (refl, tt)))))))) refl
 
-dropped_by : (plan : Plan) (h : History) (port : PortName) (i n draw : ℕ) (cause : BlockCause) (o : Option (ℕ × ℕ))
+dropped_by : (plan : Plan) (h : History) (port : PortName) (i n draw : ℕ) (cause : BlockCause) (o : Option Binding)
     (out : Outgoing) → v.Access (av.Dropped i cause) ≡ completion_verdict plan h port n draw o out → n ≡ i
 dropped_by plan h port i n draw cause None out is = dropped_number i n cause blocks.NotRunning is
 dropped_by plan h port i n draw cause (Some b) out is =
-    by (not (is_stream b.0 (stream_taken out))) (nat_lt draw b.1)
-    (is_before (live_key h port (lane_out port b.0 Cpl)) b.1) is
+    by (binding_cause b (stream_taken out) draw) is
   where
-    by : (p q r : Bool) → v.Access (av.Dropped i cause)
-        ≡ (if p then v.Access (av.Dropped n blocks.WrongStream)
-        else if q then v.Access (av.Dropped n blocks.Stale)
-        else if r
-        then v.Interface (iv.RefusedRefreshFirst (draw_of (live_key h port (lane_out port b.0 Cpl))) b.1)
+    admitted : (r : Bool) → v.Access (av.Dropped i cause)
+        ≡ (if r
+        then v.Interface (iv.RefusedRefreshFirst (draw_of (live_key h port (lane_out port b.stream Cpl))) b.floor)
         else send_due plan h port out false true) → n ≡ i
-    by true q r is = dropped_number i n cause blocks.WrongStream is
-    by false true r is = dropped_number i n cause blocks.Stale is
-    by false false true is = absurd cc
-    by false false false is = absurd (not_sent i cause _ (send_sent plan h port out) is)
+    admitted true is = absurd cc
+    admitted false is = absurd (not_sent i cause _ (send_sent plan h port out) is)
+
+    by : (c : Option BlockCause) → v.Access (av.Dropped i cause) ≡ answer_judged plan h port out (judged_by n b c)
+        → n ≡ i
+    by (Some c) is = dropped_number i n cause c is
+    by None is = admitted (is_before (live_key h port (lane_out port b.stream Cpl)) b.floor) is
 
 dropped_with : (plan : Plan) (h : History) (link i : ℕ) (cause : BlockCause)
     (first : First plan h link (v.Access (av.Dropped i cause)))
@@ -142,46 +144,46 @@ dropped plan h link i cause is =
 -- ---- sealed
 
 pub record Under (plan : Plan) (h : History) (link : ℕ) (ds : List SealedPacket) (x : Site) (draw : ℕ) : Type 0 where
-  pub bound : ℕ × ℕ
+  pub bound : Binding
   pub is : granted_to h (Some x) ≡ Some bound
-  pub stream : is_stream bound.0 (stream_taken (outgoing_completion plan h link)) ≡ true
-  pub fresh : nat_lt draw bound.1 ≡ false
+  pub stream : is_stream bound.stream (stream_taken (outgoing_completion plan h link)) ≡ true
+  pub fresh : nat_lt draw bound.floor ≡ false
   pub key : is_before (live_key h (sending_port plan (Access (ae.Answer link)))
-      (lane_out (sending_port plan (Access (ae.Answer link))) bound.0 Cpl)) bound.1 ≡ false
+      (lane_out (sending_port plan (Access (ae.Answer link))) bound.stream Cpl)) bound.floor ≡ false
   pub sent : Sealed ds ≡ send_due plan h (sending_port plan (Access (ae.Answer link))) (outgoing_completion plan h link)
       false
       true
 
-not_true : (b : Bool) → not b ≡ false → b ≡ true
-not_true true e = refl
-not_true false e = absurd cc
-
 pub under_means : (plan : Plan) (h : History) (link : ℕ) (ds : List SealedPacket) (x : Site) (draw : ℕ)
-    (o : Option (ℕ × ℕ)) → granted_to h (Some x) ≡ o
+    (o : Option Binding) → granted_to h (Some x) ≡ o
     → Sealed ds ≡ completion_verdict plan h (sending_port plan (Access (ae.Answer link))) x.number draw o
     (outgoing_completion plan h link)
     → Under plan h link ds x draw
 under_means plan h link ds x draw None bound is = absurd cc
 under_means plan h link ds x draw (Some b) bound is =
-    by (not (is_stream b.0 (stream_taken (outgoing_completion plan h link)))) (nat_lt draw b.1)
-    (is_before (live_key h (sending_port plan (Access (ae.Answer link)))
-    (lane_out (sending_port plan (Access (ae.Answer link))) b.0 Cpl)) b.1) refl refl refl is
+    by (binding_cause b (stream_taken (outgoing_completion plan h link)) draw) refl is
   where
-    by : (p q r : Bool) → not (is_stream b.0 (stream_taken (outgoing_completion plan h link))) ≡ p → nat_lt draw b.1 ≡ q
+    admitted : Admits b (stream_taken (outgoing_completion plan h link)) draw → (r : Bool)
         → is_before (live_key h (sending_port plan (Access (ae.Answer link)))
-        (lane_out (sending_port plan (Access (ae.Answer link))) b.0 Cpl)) b.1 ≡ r
-        → Sealed ds ≡ (if p then v.Access (av.Dropped x.number blocks.WrongStream)
-        else if q then v.Access (av.Dropped x.number blocks.Stale)
-        else if r then v.Interface
+        (lane_out (sending_port plan (Access (ae.Answer link))) b.stream Cpl)) b.floor ≡ r
+        → Sealed ds ≡ (if r then v.Interface
         (iv.RefusedRefreshFirst (draw_of (live_key h (sending_port plan (Access (ae.Answer link)))
-        (lane_out (sending_port plan (Access (ae.Answer link))) b.0 Cpl))) b.1)
+        (lane_out (sending_port plan (Access (ae.Answer link))) b.stream Cpl))) b.floor)
         else send_due plan h (sending_port plan (Access (ae.Answer link))) (outgoing_completion plan h link) false true)
         → Under plan h link ds x draw
-    by true q r s f k is = absurd cc
-    by false true r s f k is = absurd cc
-    by false false true s f k is = absurd cc
-    by false false false s f k is = record
-        { bound = b; is = bound; stream = not_true _ s; fresh = f; key = k; sent = is }
+    admitted a true k is = absurd cc
+    admitted a false k is = record
+        { bound = b; is = bound; stream = a.stream; fresh = a.fresh; key = k; sent = is }
+
+    by : (c : Option BlockCause) → binding_cause b (stream_taken (outgoing_completion plan h link)) draw ≡ c
+        → Sealed ds ≡ answer_judged plan h (sending_port plan (Access (ae.Answer link)))
+        (outgoing_completion plan h link) (judged_by x.number b c)
+        → Under plan h link ds x draw
+    by (Some c) blocked is = absurd cc
+    by None none is =
+        admitted (binding_admits b (stream_taken (outgoing_completion plan h link)) draw none)
+        (is_before (live_key h (sending_port plan (Access (ae.Answer link)))
+        (lane_out (sending_port plan (Access (ae.Answer link))) b.stream Cpl)) b.floor) refl is
 
 none_before : (o : Option KeyName) (key : KeyName) (floor : ℕ) → o ≡ Some key → is_before o floor ≡ false
     → floor ≤ key.draw
@@ -193,10 +195,10 @@ none_before (Some k) key floor is none =
 took : (out : Outgoing) (t : Tlp) (bound stream : ℕ) → out ≡ OnStream t stream
     → is_stream bound (stream_taken out) ≡ true → stream ≡ bound
 took out t bound stream comes is =
-    same_number stream bound (subst (λ (o : Outgoing). is_stream bound (stream_taken o) ≡ true) comes is)
+    sym (same_number bound stream (subst (λ (o : Outgoing). is_stream bound (stream_taken o) ≡ true) comes is))
 
-abbrev answering : ℕ → Event
-answering link = Access (ae.Answer link)
+abbrev answering_event : ℕ → Event
+answering_event link = Access (ae.Answer link)
 
 abbrev host_owner : Plan → History → ℕ → Option Site
 host_owner plan h link = owner_read plan (owners_link plan (record { side = Host; line = link }))
@@ -211,40 +213,40 @@ host_t plan h link owner stream has = by (nat_le 24 link) (nat_lt link (length p
         → (if late && not there then peer_t plan h owner stream else true) ≡ true
     by late there is = grind arith
 
-carried : (plan : Plan) (h : History) (link : ℕ) (x : Site) (bound : ℕ × ℕ) (port : PortName) (stream : ℕ)
-    (d : SealedPacket) → bound ≡ (x.plan.stream, floor_at h x)
-    → port ≡ sending_port plan (Access (ae.Answer link)) → stream ≡ bound.0
+carried : (plan : Plan) (h : History) (link : ℕ) (x : Site) (bound : Binding) (port : PortName) (stream : ℕ)
+    (d : SealedPacket) → bound ≡ record { stream = x.plan.stream; floor = floor_at h x }
+    → port ≡ sending_port plan (Access (ae.Answer link)) → stream ≡ bound.stream
     → is_before (live_key h (sending_port plan (Access (ae.Answer link)))
-    (lane_out (sending_port plan (Access (ae.Answer link))) bound.0 Cpl)) bound.1 ≡ false
+    (lane_out (sending_port plan (Access (ae.Answer link))) bound.stream Cpl)) bound.floor ≡ false
     → IsLive plan h port stream d → (d.sync ≡ false → d.sub ≡ Cpl)
     → has_link plan link ≡ true → SealFits plan h (sent_bytes plan h (Access (ae.Answer link))) true d
     → Carries h link x d
 carried plan h link x bound port stream d bound_is port_is stream_is key live class has fits = record {
   port_is = live.port_is ∙ port_is;
-  stream_is = live.stream_is ∙ (stream_is ∙ ap (λ (c : ℕ × ℕ). c.0) bound_is);
+  stream_is = live.stream_is ∙ (stream_is ∙ ap (λ (c : Binding). c.stream) bound_is);
   t_is = λ plain. fits.t_is ∙ ((λ i. if plain i then false
       else t_at plan h ((live.port_is ∙ port_is) i)
-      (owner_read plan (owners_link plan ((live.port_is ∙ port_is) i)) (read_of (sent_bytes plan h (answering link))))
+      (owner_read plan (owners_link plan ((live.port_is ∙ port_is) i))
+      (read_of (sent_bytes plan h (answering_event link))))
       d.stream true) ∙ host_t plan h link (host_owner plan h link) d.stream has);
   sub_is = class;
   draw_is = λ plain.
       let is_cpl = class plain in
       let there : live_key h (sending_port plan (Access (ae.Answer link)))
-      (lane_out (sending_port plan (Access (ae.Answer link))) bound.0 Cpl) ≡ Some live.key =
+      (lane_out (sending_port plan (Access (ae.Answer link))) bound.stream Cpl) ≡ Some live.key =
       sym (λ i. live_key h (port_is i) (lane_out (port_is i) (stream_is i) (is_cpl i))) ∙ live.live in
-      let up = none_before _ live.key bound.1 there key in
-      let floor = ap (λ (c : ℕ × ℕ). c.1) bound_is in
+      let up = none_before _ live.key bound.floor there key in
+      let floor : bound.floor ≡ floor_at h x = ap (λ (c : Binding). c.floor) bound_is in
       omega (arith, up, floor, live.draw);
 }
 
-all_carried : (plan : Plan) (h : History) (link : ℕ) (x : Site) (bound : ℕ × ℕ) (port : PortName) (stream : ℕ)
-    (ds : List SealedPacket) → bound ≡ (x.plan.stream, floor_at h x)
-    → port ≡ sending_port plan (Access (ae.Answer link)) → stream ≡ bound.0
+all_carried : (plan : Plan) (h : History) (link : ℕ) (x : Site) (bound : Binding) (port : PortName) (stream : ℕ)
+    (ds : List SealedPacket) → bound ≡ record { stream = x.plan.stream; floor = floor_at h x }
+    → port ≡ sending_port plan (Access (ae.Answer link)) → stream ≡ bound.stream
     → is_before (live_key h (sending_port plan (Access (ae.Answer link)))
-    (lane_out (sending_port plan (Access (ae.Answer link))) bound.0 Cpl)) bound.1 ≡ false
+    (lane_out (sending_port plan (Access (ae.Answer link))) bound.stream Cpl)) bound.floor ≡ false
     → AllLive plan h port stream ds → AllByRecursion (λ (d : SealedPacket). d.sync ≡ false → d.sub ≡ Cpl) ds
-    → has_link plan link ≡ true
-    → AllByRecursion (SealFits plan h (sent_bytes plan h (Access (ae.Answer link))) true) ds
+    → has_link plan link ≡ true → AllByRecursion (SealFits plan h (sent_bytes plan h (Access (ae.Answer link))) true) ds
     → AllByRecursion (Carries h link x) ds
 all_carried plan h link x bound port stream [] a b c key live class has fits = tt
 all_carried plan h link x bound port stream (d ∷ ds) a b c key live class has fits = (
@@ -308,13 +310,14 @@ answered_with plan facts h link ds cause due_is first owned under =
     let reads = subst (λ (bs : List ℕ). read_of bs ≡ Ok sealing.tlp) bytes sealing.reads in
     let class = sealing.class ∙ completion_class (byte_after (writes plan h)) first.read.read sealing.tlp reads in
     let t = sealing.sending in
-    let stream = took (outgoing_completion plan h link) sealing.tlp under.bound.0 t.stream sealing.comes under.stream in
+    let stream =
+    took (outgoing_completion plan h link) sealing.tlp under.bound.stream t.stream sealing.comes under.stream in
     record {
       of = oldest_of plan h link (Sealed ds) first owned;
       view = view.0;
       floor =
-          let f = ap (λ (c : ℕ × ℕ). c.1) view.1 in
-          let up = not_less first.read.draw under.bound.1 under.fresh in
+          let f : under.bound.floor ≡ floor_at h owned.site = ap (λ (c : Binding). c.floor) view.1 in
+          let up = not_less first.read.draw under.bound.floor under.fresh in
           omega (arith, f, up);
       bytes = bytes;
       tlp = sealing.tlp;

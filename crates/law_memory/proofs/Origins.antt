@@ -2,7 +2,7 @@
 -- It is a packet that was got, so packet m of what was got is packet m of what was sealed, with its header and its T.
 -- It has T since the device's port sealed it for that interface. While the manager's view is Running, each such packet
 -- of a draw from the floor on was sealed in RUN under the present lock.
-use Rattle.spec_links.specs.Plan.{has_stream}
+use Rattle.spec_links.specs.Plan.{has_stream, key_plan}
 use Rattle.spec_links.specs.Due.{due}
 use Rattle.spec_links.proofs.Causes.{accepted_by}
 use Rattle.ide_types.specs.Fits.{FitsPlan}
@@ -11,19 +11,20 @@ use Rattle.spec_links.specs.Ports.{at_switch, port_of}
 use Rattle.spec_links.proofs.Ends.{own_port}
 use Rattle.law_memory.proofs.OwnStreams.{own_stream}
 use Rattle.law_sealing.proofs.Terms.{◌≡◌, ℕ, ◌+◌, ◌≤◌, ◌==◌, ◌&&◌, zero, suc, Bool, true, false, not, List, [], ◌∷◌}
-use Rattle.law_sealing.proofs.Terms.{◌++◌, length, take, drop, slice_get, Option, Some, None, Result, Ok, Err, refl}
-use Rattle.law_sealing.proofs.Terms.{ap, ◌<◌, sym, ◌∙◌, arith, nat_tests, if◌then◌else◌, Plan, SubStream, History}
-use Rattle.law_sealing.proofs.Terms.{Event}
+use Rattle.law_sealing.proofs.Terms.{◌++◌, length, take, drop, slice_get, Option, Some, None, Result, Ok, Err, refl, ap}
+use Rattle.law_sealing.proofs.Terms.{◌<◌, sym, ◌∙◌, arith, nat_tests, if◌then◌else◌, Plan, SubStream, History, Event}
 use Rattle.law_sealing.proofs.Terms.{Send, Verdict, Sealed, Accepted, UnitName, Effect, SealedPacket, Packet, Prefix}
-use Rattle.law_sealing.proofs.Terms.{PortName, is_sync_packet, is_same-refl, received_in, sent, CauseLaw, NoForgery}
-use Rattle.law_sealing.proofs.Terms.{DrawFacts, StreamsFit, Tlp, header, head_bytes, read_of, sub_stream_of}
+use Rattle.law_sealing.proofs.Terms.{PortName, is_sync_packet, is_same-refl, received_in, sent_packets, CauseLaw}
+use Rattle.law_sealing.proofs.Terms.{NoForgery, DrawFacts, StreamsFit, Tlp, header, head_bytes, read_of, sub_stream_of}
 use Rattle.law_sealing.proofs.Terms.{sealed_same, eqb-refl}
 unfoldable use Rattle.law_sealing.proofs.Terms.{accepted_packets, sealed_packets, packet_of}
 use Rattle.std.proofs.lemmas.List.{length-take-le}
+use Rattle.std.proofs.lemmas.Option.{same_Some}
 use Rattle.std.specs.Option.{option_and_then}
 use Rattle.ide_types.specs.Sub.{sent_direction, received_direction}
 use Rattle.ide_types.specs.declared.port.Side.{Side}
 use Rattle.ide_types.specs.declared.port.Side.TheVariants.{Device}
+use Rattle.ide_types.specs.declared.binding.Binding.{Binding}
 use Rattle.ide_types.specs.declared.plan.Region.{Region}
 use Rattle.tlp_layout.specs.declared.head.HeadView.{HeadView}
 use Rattle.tlp_layout.specs.declared.fault.TlpFault.{TlpFault}
@@ -34,9 +35,9 @@ use Rattle.tlp_layout.proofs.Readings.{read_head_spells}
 use Rattle.trusted_memory.specs.Writes.{Write, memory_write}
 use Rattle.spec_links.specs.History.{head_in}
 unfoldable use Rattle.spec_links.specs.History.{sub_stream_packets}
-use Rattle.spec_links.specs.Plan.{key_plan}
 use Rattle.trusted_memory.specs.Admitted.{is_on_bound, if_placed}
-use Rattle.spec_links.specs.Memory.{requester_bound, payload_write, admitted, admitted_each, unit_ended, plain_of}
+use Rattle.spec_links.specs.Memory.{requester_bound, payload_write, write_if_admitted, admitted_each, unit_ended}
+use Rattle.spec_links.specs.Memory.{plain_of}
 use Rattle.law_key_facts.proofs.Given.{key_cause}
 use Rattle.law_sealing.proofs.Below.{is_read}
 use Rattle.law_sealing.proofs.Bounds.{prefix_is}
@@ -48,8 +49,8 @@ use Rattle.spec_interfaces.specs.Terms.{Running, View}
 use Rattle.spec_interfaces.specs.Sites.{Site, site_at, site_with}
 unfoldable use Rattle.spec_interfaces.specs.Sites.{sites}
 use Rattle.spec_interfaces.specs.Views.{view_at, floor_at, bound_if, granted_to, grant_at}
-use Rattle.spec_interfaces.specs.Devices.{locks_at}
-use Rattle.spec_interfaces.specs.Cause.{SealFits, owner_of, owner_at, owner_read}
+use Rattle.spec_interfaces.specs.Devices.{locks_accepted}
+use Rattle.spec_interfaces.specs.Cause.{SealFits, owner_id, owner_site, owner_read}
 use Rattle.spec_interfaces.specs.Laws.{IsTrusted, InRun}
 use Rattle.spec_interfaces.proofs.Views.{views_hold}
 use Rattle.law_memory.specs.Origin.{IsFrom, AreFrom, OriginLaw}
@@ -61,13 +62,13 @@ use Rattle.law_reads.proofs.Requesters.{requester_meets}
 
 -- ---- what it means that a write is admitted
 
-record Bound (stream draw : ℕ) (o : Option (ℕ × ℕ)) : Type 0 where
-  bound : ℕ × ℕ
+record Bound (stream draw : ℕ) (o : Option Binding) : Type 0 where
+  bound : Binding
   is : o ≡ Some bound
-  stream_is : bound.0 ≡ stream
-  floor : bound.1 ≤ draw
+  stream_is : bound.stream ≡ stream
+  floor : bound.floor ≤ draw
 
-bound_means : (stream draw : ℕ) (o : Option (ℕ × ℕ)) → is_on_bound stream draw o ≡ true → Bound stream draw o
+bound_means : (stream draw : ℕ) (o : Option Binding) → is_on_bound stream draw o ≡ true → Bound stream draw o
 bound_means stream draw None e = absurd cc
 bound_means stream draw (Some b) e = record
     { bound = b; is = refl; stream_is = grind (arith, nat_tests); floor = grind (arith, nat_tests) }
@@ -91,7 +92,7 @@ both true b e = (refl, e)
 both false b e = absurd cc
 
 pub admitted_means : (plan : Plan) (h : History) (port : PortName) (unit : UnitName) (p : Packet) (payload : List ℕ)
-    (w : Write) → admitted plan (grant_at plan h) port unit p payload ≡ Some w
+    (w : Write) → write_if_admitted plan (grant_at plan h) port unit p payload ≡ Some w
     → Admitted plan h port unit p
 admitted_means plan h port unit p payload w is = by (not (is_sync_packet p)) (at_switch plan port)
     (sent_direction port.side == 0) refl (read_head_of p.head) refl is
@@ -114,30 +115,31 @@ pub record For (plan : Plan) (h : History) (link stream draw : ℕ) (head : Head
   pub known : site_at plan site.number ≡ Some site
   pub own : FitsPlan plan → own_has_id (slice_get plan.links site.link) site.plan.stream ≡ true
   pub link_is : site.link ≡ link
-  pub owns : owner_at plan link head ≡ Some site
-  pub requester : owner_of head ≡ Some site.plan.requester
+  pub owns : owner_site plan link head ≡ Some site
+  pub requester : owner_id head ≡ Some site.plan.requester
   pub view : view_at h site ≡ Running
   pub stream_is : site.plan.stream ≡ stream
   pub floor : floor_at h site ≤ draw
 
-record Granted (h : History) (o : Option Site) (b : ℕ × ℕ) : Type 0 where
+record Granted (h : History) (o : Option Site) (b : Binding) : Type 0 where
   site : Site
   is : o ≡ Some site
   view : view_at h site ≡ Running
-  bound : b ≡ (site.plan.stream, floor_at h site)
+  bound : b ≡ record { stream = site.plan.stream; floor = floor_at h site }
 
-pub if_bound : (view : View) (stream floor : ℕ) (b : ℕ × ℕ) → bound_if view stream floor ≡ Some b → (view ≡ Running)
-    × (b ≡ (stream, floor))
-if_bound view stream floor b e = grind arith
+pub if_bound : (view : View) (stream floor : ℕ) (b : Binding) → bound_if view stream floor ≡ Some b → (view ≡ Running)
+    × (b ≡ record { stream = stream; floor = floor })
+if_bound Running stream floor b e = (refl, sym (same_Some _ b e))
+if_bound view stream floor b e = absurd cc
 
-granted_means : (h : History) (o : Option Site) (b : ℕ × ℕ) → granted_to h o ≡ Some b → Granted h o b
+granted_means : (h : History) (o : Option Site) (b : Binding) → granted_to h o ≡ Some b → Granted h o b
 granted_means h None b e = absurd cc
 granted_means h (Some x) b e =
     let is = if_bound (view_at h x) x.plan.stream (floor_at h x) b e in record
     { site = x; is = refl; view = is.0; bound = is.1 }
 
 -- of the requester
-pub owner_means : (plan : Plan) (h : History) (link stream draw : ℕ) (head : HeadView) (o : Option ℕ) → owner_of head
+pub owner_means : (plan : Plan) (h : History) (link stream draw : ℕ) (head : HeadView) (o : Option ℕ) → owner_id head
     ≡ o
     → is_on_bound stream draw (option_and_then (grant_at plan h link) o) ≡ true → For plan h link stream draw head
 owner_means plan h link stream draw head None named e = absurd cc
@@ -153,8 +155,10 @@ owner_means plan h link stream draw head (Some rid) named e =
       owns = ap (option_and_then (site_with plan link)) named ∙ g.is;
       requester = named ∙ ap (λ (r : ℕ). Some r) (sym meets.1);
       view = g.view;
-      stream_is = ap (λ (c : ℕ × ℕ). c.0) (sym g.bound) ∙ b.stream_is;
-      floor = let f = ap (λ (c : ℕ × ℕ). c.1) g.bound in omega (arith, f, b.floor);
+      stream_is = ap (λ (c : Binding). c.stream) (sym g.bound) ∙ b.stream_is;
+      floor =
+          let f : b.bound.floor ≡ floor_at h g.site = ap (λ (c : Binding). c.floor) g.bound in
+          omega (arith, f, b.floor);
     }
 
 -- what is admitted at the port of an end came at the port itself, on a stream of its link
@@ -162,7 +166,7 @@ pub at_port : (plan : Plan) → FitsPlan plan → (h : History) (port : PortName
     → has_stream plan port unit.stream ≡ true → Admitted plan h (port_of plan port) unit p → Admitted plan h port unit p
 at_port plan fits h port unit p known adm =
     let q = port_of plan port in
-    let for = owner_means plan h q.line unit.stream unit.draw adm.head (owner_of adm.head) refl adm.bound in
+    let for = owner_means plan h q.line unit.stream unit.draw adm.head (owner_id adm.head) refl adm.bound in
     let own : own_has_id (slice_get plan.links q.line) unit.stream ≡ true =
     subst (λ (l : ℕ). own_has_id (slice_get plan.links l) unit.stream ≡ true) for.link_is
     (subst (λ (n : ℕ). own_has_id (slice_get plan.links for.site.link) n ≡ true) for.stream_is (for.own fits)) in
@@ -183,7 +187,7 @@ record Each (plan : Plan) (h : History) (port : PortName) (unit : UnitName) (ps 
   packet : Packet
   payload : List ℕ
   stands : slice_get ps n ≡ Some packet
-  is : admitted plan (grant_at plan h) port unit packet payload ≡ o
+  is : write_if_admitted plan (grant_at plan h) port unit packet payload ≡ o
 
 each_at : (plan : Plan) (h : History) (port : PortName) (unit : UnitName) (plain : List ℕ) (ps : List Packet) (n : ℕ)
     (o : Option Write)
@@ -244,9 +248,8 @@ got_next plan h e port unit effects = rw (is_same-refl (received_in port unit), 
 pub sent_at : (plan : Plan) → StreamsFit plan → DrawFacts plan → (h : History) (e : Event) (port : PortName)
     (unit : UnitName) (effects : List Effect)
     → CauseLaw plan ((e, Accepted port unit effects) ∷ h) → NoForgery plan ((e, Accepted port unit effects) ∷ h)
-    → (n : ℕ) (p : Packet)
-    → slice_get (unit_ended plan h e port unit) n ≡ Some p
-    → slice_get (sent plan h (received_in port unit) unit.draw)
+    → (n : ℕ) (p : Packet) → slice_get (unit_ended plan h e port unit) n ≡ Some p
+    → slice_get (sent_packets plan h (received_in port unit) unit.draw)
     (length (accepted_packets plan h (received_in port unit) unit.draw) + n) ≡ Some p
 sent_at plan fits facts h e port unit effects cause forged n p is =
     let s = received_in port unit in
@@ -285,7 +288,7 @@ trusted_there plan h port unit p adm for d q older bytes trusted ds same stream 
       at_device = port_is ∙ ap (λ (l : ℕ). record { side = Device; line = l }) (sym for.link_is);
       on_stream = ap (λ (s : SubStream). s.stream) stream ∙ sym for.stream_is;
       has_t = has_t;
-      owned = ap (owner_read plan for.site.link) tlp.1 ∙ ((λ i. owner_at plan (for.link_is i) (tlp.2 i)) ∙ for.owns);
+      owned = ap (owner_read plan for.site.link) tlp.1 ∙ ((λ i. owner_site plan (for.link_is i) (tlp.2 i)) ∙ for.owns);
     }
 
 some_same : (p q : Packet) → Some p ≡ Some q → p ≡ q
@@ -296,13 +299,12 @@ pub origin_of : (plan : Plan) → FitsPlan plan → StreamsFit plan → DrawFact
     → (h : History) (e : Event) (port : PortName)
     (unit : UnitName) (effects : List Effect)
     → CauseLaw plan ((e, Accepted port unit effects) ∷ h) → NoForgery plan ((e, Accepted port unit effects) ∷ h)
-    → (n : ℕ) (p : Packet) → Admitted plan h port unit p
-    → slice_get (unit_ended plan h e port unit) n ≡ Some p
+    → (n : ℕ) (p : Packet) → Admitted plan h port unit p → slice_get (unit_ended plan h e port unit) n ≡ Some p
     → IsFrom plan h port unit p (length (accepted_packets plan h (received_in port unit) unit.draw) + n)
 origin_of plan whole fits facts h e port unit effects cause forged n p adm stands =
     let s = received_in port unit in
     let m = length (accepted_packets plan h s unit.draw) + n in
-    let for = owner_means plan h port.line unit.stream unit.draw adm.head (owner_of adm.head) refl adm.bound in
+    let for = owner_means plan h port.line unit.stream unit.draw adm.head (owner_id adm.head) refl adm.bound in
     let x = for.site in
     let at = sent_at plan fits facts h e port unit effects cause forged n p stands in
     let among = place_among (sealed_packets plan h) s unit.draw m p at in
@@ -323,12 +325,12 @@ origin_of plan whole fits facts h e port unit effects cause forged n p adm stand
     let is_trusted = trusted_there plan h port unit p adm for d among.sealed.1 seal.older seal.bytes
     seal.trusted seal.ds among.packet names.2 seal.new fit in
     let runs = (views_hold plan (key_plan plan) h (key_cause plan h cause.1) known x for.known).running for.view in
-    let since = trusted_before plan x (λ g d. floor_at h x ≤ d.draw → InRun plan x (locks_at plan h x) g)
+    let since = trusted_before plan x (λ g d. floor_at h x ≤ d.draw → InRun plan x (locks_accepted plan h x) g)
     ((Send seal.port seal.bytes seal.more seal.trusted, Sealed seal.ds) ∷ seal.older) h seal.came runs.since in
     let there = all_get (λ (y : SealedPacket). IsTrusted plan x seal.bytes y → floor_at h x ≤ y.draw
-    → InRun plan x (locks_at plan h x) seal.older) seal.ds seal.new.index d since.0 seal.new.listed in
+    → InRun plan x (locks_accepted plan h x) seal.older) seal.ds seal.new.index d since.0 seal.new.listed in
     let in_run = there is_trusted (omega (arith, for.floor, names.1)) in
-    let less = get_less (sent plan h s unit.draw) m p at in
+    let less = get_less (sent_packets plan h s unit.draw) m p at in
     record {
       interface = x;
       known = for.known;
@@ -345,7 +347,8 @@ origin_of plan whole fits facts h e port unit effects cause forged n p adm stand
           sealed = among.sealed;
           stands = among.stands;
           under = among.under;
-          number = sym (ap length among.before ∙ length-take-le m (sent plan h s unit.draw) (omega (arith, less)));
+          number = sym (ap length among.before ∙ length-take-le m (sent_packets plan h s unit.draw)
+              (omega (arith, less)));
         };
         event = Send seal.port seal.bytes seal.more seal.trusted;
         verdict = Sealed seal.ds;
@@ -383,8 +386,7 @@ are_from plan whole fits facts h e (Accepted port unit effects) cause forged = o
 are_from plan whole fits facts h e w cause forged = tt
 
 pub origin_law : (plan : Plan) → FitsPlan plan → StreamsFit plan → DrawFacts plan → (h : History) → CauseLaw plan h
-    → NoForgery plan h
-    → OriginLaw plan h
+    → NoForgery plan h → OriginLaw plan h
 origin_law plan whole fits facts [] cause forged = tt
 origin_law plan whole fits facts ((e, w) ∷ h) cause forged =
     (are_from plan whole fits facts h e w cause forged, origin_law plan whole fits facts h cause.1 forged.1)

@@ -9,7 +9,7 @@ use Rattle.ide_types.specs.declared.plan.LinkPlan.{LinkPlan}
 use Rattle.ide_types.specs.Plans.{has_selective, has_stream_id, is_selective}
 use Rattle.ide_types.specs.Fits.{FitsPlan, FitsLink, FitsInterface}
 use Rattle.ide_types.specs.Ends.{own_has_id}
-use Rattle.spec_interfaces.specs.Sites.{Site, site_with, sites_on, sites_from}
+use Rattle.spec_interfaces.specs.Sites.{Site, site_with, sites_of_plans, sites_of_links}
 unfoldable use Rattle.spec_interfaces.specs.Sites.{sites}
 
 -- its link has the stream
@@ -33,7 +33,7 @@ all_behind P (x ∷ xs) ys one two = (one.0, all_behind P xs ys one.1 two)
 
 on_one : (links : List LinkPlan) (l : LinkPlan) (number link : ℕ) (ps : List InterfacePlan)
     → slice_get links link ≡ Some l → All (FitsInterface l.streams) ps
-    → AllByRecursion (HasOwn links) (sites_on number link ps)
+    → AllByRecursion (HasOwn links) (sites_of_plans number link ps)
 on_one links l number link [] at each = tt
 on_one links l number link (p ∷ ps) at each = (
   ap (λ (o : Option LinkPlan). own_has_id o p.stream) at ∙ own_selective p.stream l.streams
@@ -43,10 +43,10 @@ on_one links l number link (p ∷ ps) at each = (
 
 on_all : (links : List LinkPlan) (ls : List LinkPlan) (number link : ℕ)
     → ((i : ℕ) (l : LinkPlan) → slice_get ls i ≡ Some l → slice_get links (link + i) ≡ Some l) → All FitsLink ls
-    → AllByRecursion (HasOwn links) (sites_from number link ls)
+    → AllByRecursion (HasOwn links) (sites_of_links number link ls)
 on_all links [] number link at each = tt
 on_all links (l ∷ ls) number link at each =
-    all_behind (HasOwn links) (sites_on number link l.interfaces) _
+    all_behind (HasOwn links) (sites_of_plans number link l.interfaces) _
     (on_one links l number link l.interfaces (first (at 0 l refl)) (each 0 l (omega arith)).each_interface)
     (on_all links ls (number + length l.interfaces) (link + 1) (λ i k is. next i k (at (suc i) k is))
     (λ k d lt. each (suc k) d (omega arith)))

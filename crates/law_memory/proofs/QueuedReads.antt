@@ -8,6 +8,7 @@ use Rattle.law_sealing.proofs.Terms.{unit_that_ends}
 use Rattle.law_sealing.proofs.Fits.{StreamsFit}
 use Rattle.std.specs.Option.{option_or}
 use Rattle.ide_types.specs.Sub.{sent_direction}
+use Rattle.ide_types.specs.declared.binding.Binding.{Binding}
 use Rattle.ide_types.specs.declared.plan.Region.{Region}
 use Rattle.tlp_layout.specs.declared.head.HeadView.{HeadView}
 use Rattle.tlp_layout.specs.declared.fault.TlpFault.{TlpFault}
@@ -34,7 +35,7 @@ first_none : (a b : Option BlockCause) → option_or a b ≡ None → a ≡ None
 first_none None b is = refl
 first_none (Some c) b is = absurd cc
 
-granted_on : (o : Option (ℕ × ℕ)) (stream draw : ℕ) → grant_cause o stream draw ≡ None
+granted_on : (o : Option Binding) (stream draw : ℕ) → grant_cause o stream draw ≡ None
     → is_on_bound stream draw o ≡ true
 granted_on None stream draw is = absurd cc
 granted_on (Some b) stream draw is = grind (arith, nat_tests)

@@ -1,11 +1,10 @@
 -- Trusted packets on streams between devices: each was sealed while its owner was in RUN and bound to the stream.
 use Rattle.std.specs.Prelude.{ℕ, ◌+◌, ◌<◌, ◌≤◌, ◌≡◌, ◌∷◌, Bool, true, List, [], length, Some, slice_get, nat_le}
-use Rattle.spec_links.specs.Terms.{PortName, Plan, Event, Verdict, Accepted, Sealed, SealedPacket, Packet}
-use Rattle.spec_links.specs.Terms.{History}
+use Rattle.spec_links.specs.Terms.{PortName, Plan, Event, Verdict, Accepted, Sealed, SealedPacket, Packet, History}
 use Rattle.spec_links.specs.Plan.{SubStream}
 use Rattle.spec_links.specs.History.{sealed_packets, accepted_packets, received_in}
 use Rattle.spec_links.specs.Memory.{unit_ended}
-use Rattle.spec_links.specs.Ordered.{StandsAt}
+use Rattle.spec_links.specs.Ordered.{IsPacketAtPlace}
 use Rattle.link_events.specs.declared.event.Event.TheVariants as event
 use Rattle.spec_interfaces.specs.Peers.{peer_end}
 use Rattle.spec_interfaces.specs.Laws.{OwnerIsBound}
@@ -15,7 +14,7 @@ use Rattle.law_memory.specs.Origin.{CameFrom}
 -- link, before which the owner of its TLP, an interface of that link, was in RUN and bound to the stream.
 pub record WasBound (plan : Plan) (h : History) (s : SubStream) (j m : ℕ) : Type 0 where
   pub place : ℕ
-  pub stands : StandsAt (sealed_packets plan h) s j m place
+  pub stands : IsPacketAtPlace (sealed_packets plan h) s j m place
   pub port : PortName
   pub bytes : List ℕ
   pub more : Bool
@@ -39,8 +38,7 @@ pub record IsBoundPacket (plan : Plan) (h : History) (s : SubStream) (j m : ℕ)
 abbrev pub AreBound : Plan → History → Event → Verdict → Type 0
 AreBound plan h e (Accepted port unit effects) =
     nat_le 24 port.line ≡ true → (n : ℕ) (p : Packet) → slice_get (unit_ended plan h e port unit) n ≡ Some p
-    → p.prefix.t ≡ true
-    → IsBoundPacket plan h (received_in port unit) unit.draw
+    → p.prefix.t ≡ true → IsBoundPacket plan h (received_in port unit) unit.draw
     (length (accepted_packets plan h (received_in port unit) unit.draw) + n) p
 AreBound plan h e w = Unit {0}
 

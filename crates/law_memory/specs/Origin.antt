@@ -1,18 +1,18 @@
 -- Trusted memory, and the origin of what stands in it.
 use Rattle.std.specs.Prelude.{ℕ, ◌+◌, ◌<◌, ◌≤◌, ◌≡◌, ◌++◌, ◌∷◌, true, [], length, map, Some, Ok, slice_get, is_some}
 use Rattle.spec_links.specs.Terms.{PortName, Plan, Event, Verdict, Accepted, UnitName, Packet, History, read_head_of}
-use Rattle.spec_links.specs.Terms.{owner_of}
+use Rattle.spec_links.specs.Terms.{owner_id}
 use Rattle.spec_links.specs.Plan.{SubStream}
 use Rattle.spec_links.specs.History.{sealed_packets, accepted_packets, received_in}
 use Rattle.spec_links.specs.Memory.{writes, unit_ended, accepted_unit_writes}
-use Rattle.spec_links.specs.Ordered.{StandsAt}
+use Rattle.spec_links.specs.Ordered.{IsPacketAtPlace}
 use Rattle.trusted_memory.specs.Writes.{Write, byte_after}
 use Rattle.trusted_memory.specs.Causes.{is_applied}
 use Rattle.spec_interfaces.specs.Sites.{Site, site_at}
 use Rattle.spec_interfaces.specs.Terms.{Running}
 use Rattle.spec_interfaces.specs.Views.{view_at, floor_at}
 use Rattle.tlp_layout.specs.declared.head.HeadView.{HeadView}
-use Rattle.spec_interfaces.specs.Devices.{runs_at, locks_at}
+use Rattle.spec_interfaces.specs.Devices.{runs_at, locks_accepted}
 use Rattle.link_verdicts.specs.declared.verdict.Verdict.TheVariants as v
 use Rattle.link_events.specs.declared.event.Event.TheVariants as event
 use Rattle.link_events.specs.declared.event.InterfaceEvent.TheVariants as ie
@@ -47,7 +47,7 @@ pub record CameFrom (g h : History) : Type 0 where
 -- in RUN, under as many locks as it has now.
 pub record HasOrigin (plan : Plan) (h : History) (x : Site) (s : SubStream) (j m : ℕ) : Type 0 where
   pub place : ℕ
-  pub stands : StandsAt (sealed_packets plan h) s j m place
+  pub stands : IsPacketAtPlace (sealed_packets plan h) s j m place
   pub event : Event
   pub verdict : Verdict
   pub older : History
@@ -55,7 +55,7 @@ pub record HasOrigin (plan : Plan) (h : History) (x : Site) (s : SubStream) (j m
   pub from : length (sealed_packets plan older) ≤ place
   pub until : place < length (sealed_packets plan ((event, verdict) ∷ older))
   pub runs : runs_at plan older x ≡ true
-  pub same_lock : locks_at plan older x ≡ locks_at plan h x
+  pub same_lock : locks_accepted plan older x ≡ locks_accepted plan h x
 
 -- A packet of an accepted unit was sealed by the interface that it is admitted for: that of its requester ID. It is
 -- packet m, from 0, of what was got in its sub-stream under its draw.
@@ -65,7 +65,7 @@ pub record IsFrom (plan : Plan) (h : History) (port : PortName) (unit : UnitName
   pub link : interface.link ≡ port.line
   pub head : HeadView
   pub reads : read_head_of p.head ≡ Ok head
-  pub requester : owner_of head ≡ Some interface.plan.requester
+  pub requester : owner_id head ≡ Some interface.plan.requester
   pub stream : interface.plan.stream ≡ unit.stream
   pub view : view_at h interface ≡ Running
   pub floor : floor_at h interface ≤ unit.draw

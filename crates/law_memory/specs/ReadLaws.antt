@@ -3,7 +3,7 @@ use Rattle.std.specs.Prelude.{ℕ, ◌+◌, ◌≤◌, ◌≡◌, ◌∷◌, tru
 use Rattle.spec_links.specs.Terms.{AllByRecursion, Host, Plan, Event, Access, Verdict, Accepted, Sealed, SealedPacket}
 use Rattle.spec_links.specs.Terms.{Packet, History, Tlp, read_of, byte_after, completion_bytes, WaitingRead}
 use Rattle.spec_links.specs.History.{sent_bytes, accepted_packets, received_in}
-use Rattle.spec_links.specs.Memory.{queued, writes, unit_ended}
+use Rattle.spec_links.specs.Memory.{queued_reads, writes, unit_ended}
 use Rattle.spec_links.specs.Sent.{reads_taken}
 use Rattle.spec_interfaces.specs.Sites.{Site, site_at}
 use Rattle.spec_interfaces.specs.Terms.{Running}
@@ -22,7 +22,7 @@ use Rattle.law_memory.specs.Origin.{IsFrom}
 -- the link's last reset it is the one behind those that answers took.
 pub record IsOldest (plan : Plan) (h : History) (link : ℕ) : Type 0 where
   pub read : WaitingRead
-  pub oldest : slice_get (queued plan h link) (reads_taken h link) ≡ Some read
+  pub oldest : slice_get (queued_reads plan h link) (reads_taken h link) ≡ Some read
   pub interface : Site
   pub known : site_at plan interface.number ≡ Some interface
   pub link_is : interface.link ≡ link

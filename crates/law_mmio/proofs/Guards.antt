@@ -1,11 +1,10 @@
 -- While a lock stands, a byte of a range that is not open changes only by a write that is stored in RUN.
-use Rattle.std.proofs.Common.{subst}
+use Rattle.std.proofs.Common.{subst, ◌≡◌, ◌≢◌, ℕ, ◌+◌, ◌≤◌, ◌==◌, ◌&&◌, ◌||◌, ◌∷◌, zero, suc, Bool, true, false, not}
+use Rattle.std.proofs.Common.{List, [], Option, Some, None, Result, Ok, Err, length, if◌then◌else◌, refl, sym, ap, ◌∙◌}
+use Rattle.std.proofs.Common.{inl, inr, arith}
 use Rattle.law_mmio.proofs.OnLinks.{no_switch}
 use Rattle.spec_links.specs.Ports.{at_switch, port_of}
-use Rattle.spec_links.specs.Admission.{effects_by}
-use Rattle.std.proofs.Common.{◌≡◌, ◌≢◌, ℕ, ◌+◌, ◌≤◌, ◌==◌, ◌&&◌, ◌||◌, ◌∷◌, zero, suc, Bool, true, false, not, List, []}
-use Rattle.std.proofs.Common.{Option, Some, None, Result, Ok, Err, length, if◌then◌else◌, refl, sym, ap, ◌∙◌, inl, inr}
-use Rattle.std.proofs.Common.{arith}
+use Rattle.spec_links.specs.Admission.{effects_under_policy}
 use Rattle.std.specs.Prelude.{slice_get, slice_index, take, drop}
 use Rattle.std.specs.Option.{option_map, option_map_or}
 use Rattle.std.proofs.lemmas.Bool.{and_parts, cases_Bool, true≢false, eqb-true, leb-true}
@@ -17,16 +16,15 @@ unfoldable use Rattle.spec_links.specs.Due.{due}
 use Rattle.spec_links.specs.Memory.{Policy, unit_ended, plain_of, policy_at, device_effect, effect_by, waiting_then}
 use Rattle.spec_links.specs.Memory.{effects_each, effects_of}
 use Rattle.spec_links.proofs.Tests.{same_port, eqb-refl}
-use Rattle.interface_state.specs.Machine.{all_bindings}
+use Rattle.interface_state.specs.Machine.{all_bindings, Tdi, Call, StopInterface, LevelReset, tdi_after}
 use Rattle.interface_state.specs.Bindings.{floor_on}
-use Rattle.guarded_memory.specs.Laws.{is_from_floor}
+use Rattle.guarded_memory.specs.Laws.{is_from_floor, is_guarded, is_admitted}
 use Rattle.spec_interfaces.specs.Sites.{Site, site_at}
 use Rattle.spec_interfaces.specs.Exchanges.{carries, changes_device}
 unfoldable use Rattle.spec_interfaces.specs.Devices.{devices}
 use Rattle.spec_interfaces.specs.Devices.{Around, around_at, interface_at, interface_if_called, next_interface}
-use Rattle.spec_interfaces.specs.Devices.{is_stream_left, is_run}
-use Rattle.spec_interfaces.specs.Devices.{runs_at}
-use Rattle.spec_interfaces.specs.Floors.{place_of, history_standings, device_standing, device_floor}
+use Rattle.spec_interfaces.specs.Devices.{is_stream_left, is_run, runs_at, reset_call}
+use Rattle.spec_interfaces.specs.Floors.{place_of, history_statuses, device_status, device_floor}
 use Rattle.spec_interfaces.specs.Laws.{IsLocked}
 use Rattle.spec_interfaces.proofs.Floors.{number_at, standing_placed}
 use Rattle.spec_interfaces.proofs.Locks.{layout_at}
@@ -34,9 +32,6 @@ use Rattle.interface_state.specs.declared.register_set.Registers.{Registers}
 use Rattle.interface_state.specs.declared.states.TdiState.{TdiState}
 use Rattle.interface_state.specs.declared.states.TdiState.TheVariants as tdi
 use Rattle.interface_state.specs.Bars.{bars_of, bar_moved}
-use Rattle.interface_state.specs.Machine.{Tdi, Call}
-use Rattle.interface_state.specs.Machine.{StopInterface, LevelReset, tdi_after}
-use Rattle.spec_interfaces.specs.Devices.{reset_call}
 use Rattle.ide_types.specs.declared.interface.BarPlan.{BarPlan}
 use Rattle.ide_types.specs.declared.interface.InterfacePlan.{InterfacePlan}
 use Rattle.trusted_memory.specs.declared.span.Span.{Span}
@@ -51,7 +46,6 @@ use Rattle.guarded_memory.specs.Claims.{claim_of}
 use Rattle.guarded_memory.specs.Causes.{mmio_cause, cause_effect, claim_effect, mmio_effect}
 use Rattle.guarded_memory.specs.Happenings.{WriteStored, contents_by}
 use Rattle.guarded_memory.specs.Stored.{write_happened, stored_by_claim, stored_unless, write_from}
-use Rattle.guarded_memory.specs.Laws.{is_guarded, is_admitted}
 use Rattle.guarded_memory.proofs.Guarding.{stays}
 use Rattle.law_mmio.specs.Stored.{write_read, if_claims, claimed_write, if_stored, unit_stored_writes, stores}
 use Rattle.ide_types.specs.Ports.{device_port}
@@ -285,7 +279,7 @@ shut_at p r (suc (suc (suc (suc (suc (suc n)))))) shut = refl
 
 guarded_at : (plan : Plan) (h : History) (x : Site) (bar : ℕ) → IsLocked plan h x → has_open_range x.plan.bars bar
     ≡ false
-    → is_guarded (device_standing plan h x) bar ≡ true
+    → is_guarded (device_status plan h x) bar ≡ true
 guarded_at plan h x bar held shut =
     let t = interface_at plan h x in
     let layout = layout_at plan h x in
@@ -311,7 +305,7 @@ floor_by None draw is = absurd (true≢false (sym is))
 floor_by (Some floor) draw is = record { floor = floor; is = refl; from = leb-true floor draw is }
 
 in_run : (plan : Plan) (h : History) (x : Site) (t : Bool) (stream draw : ℕ)
-    → is_admitted (device_standing plan h x) t stream draw ≡ true → IsInRun plan h x t stream draw
+    → is_admitted (device_status plan h x) t stream draw ≡ true → IsInRun plan h x t stream draw
 in_run plan h x t stream draw is =
     let state = (interface_at plan h x).state in
     let o = floor_on stream (all_bindings (device_floor plan h x) (interface_at plan h x)) in
@@ -337,12 +331,12 @@ stored_in_run : (plan : Plan) (h : History) (e : Event) (port : PortName) (unit 
     → IsStoredInRun plan h e (Accepted port unit effects) x bar offset
 stored_in_run plan h e port unit effects x bar offset is known held shut at es enabled same =
     let ps = unit_ended plan h e port unit in
-    let xs = history_standings plan h x.link in
+    let xs = history_statuses plan h x.link in
     let stands : slice_get (unit_stored_writes xs (place_of plan x) bar (plain_of plan port unit ps) effects ps)
     enabled.number
     ≡ Some (Some enabled.write) =
     rw same at enabled.stands in
-    let are = subst (λ (q : PortName). effects ≡ effects_by plan (policy_at plan h) q unit ps) at es in
+    let are = subst (λ (q : PortName). effects ≡ effects_under_policy plan (policy_at plan h) q unit ps) at es in
     let stored = stored_at xs (place_of plan x) bar (plain_of plan port unit ps) effects ps enabled.number enabled.write
     stands in
     let here : Some (device_effect_of xs unit stored.packet) ≡ Some effect.Stored =
@@ -354,7 +348,7 @@ stored_in_run plan h e port unit effects x bar offset is known held shut at es e
     let happening = head_stores xs unit stored.packet (place_of plan x) bar stored.payload enabled.write
     (read_head_of stored.packet.head) cause stored.claimed in
     let admitted = by_stays xs stored.packet.prefix.t unit.stream unit.draw (place_of plan x) bar offset enabled.write
-    (device_standing plan h x) happening enabled.enabled (standing_placed plan h x.number x known)
+    (device_status plan h x) happening enabled.enabled (standing_placed plan h x.number x known)
     (guarded_at plan h x bar held shut) in
     let run = in_run plan h x stored.packet.prefix.t unit.stream unit.draw admitted in
     record {

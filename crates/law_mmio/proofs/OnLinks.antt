@@ -7,6 +7,5 @@ use Rattle.spec_links.specs.Terms.{Plan}
 use Rattle.spec_links.specs.Ports.{at_switch}
 
 -- the port of an interface's device is at no switch
-pub no_switch : (plan : Plan) (x : Site) → site_at plan x.number ≡ Some x
-    → at_switch plan (device_port x.link) ≡ false
+pub no_switch : (plan : Plan) (x : Site) → site_at plan x.number ≡ Some x → at_switch plan (device_port x.link) ≡ false
 no_switch plan x known = rw (number_on_link plan x known) refl

@@ -7,8 +7,7 @@ use Rattle.spec_interfaces.specs.Terms.{Plan, Event, Verdict, History, Lock, Tdi
 use Rattle.spec_interfaces.specs.Sites.{Site}
 use Rattle.spec_interfaces.specs.Exchanges.{carries}
 use Rattle.spec_interfaces.specs.Devices.{Around, around_at, interface_if_called, lock_call, next_interface}
-use Rattle.spec_interfaces.specs.Devices.{accepts_lock, is_run}
-use Rattle.spec_interfaces.specs.Devices.{runs_at, interface_at, locks_at, is_stream_left}
+use Rattle.spec_interfaces.specs.Devices.{accepts_lock, is_run, runs_at, interface_at, locks_accepted, is_stream_left}
 unfoldable use Rattle.spec_interfaces.specs.Devices.{devices}
 use Rattle.interface_state.specs.Machine.{new_lock, interface_after_lock}
 use Rattle.link_events.specs.declared.event.Event.TheVariants as event
@@ -53,6 +52,6 @@ runs_unlocked plan h e w x runs = by (cases_Bool (accepts_lock (around_at plan h
 -- so it has as many locks as before
 pub same_locks : (plan : Plan) (h : History) (e : Event) (w : Verdict) (x : Site)
     → accepts_lock (around_at plan h x) x e w (interface_at plan h x) ≡ false
-    → locks_at plan ((e, w) ∷ h) x ≡ locks_at plan h x
+    → locks_accepted plan ((e, w) ∷ h) x ≡ locks_accepted plan h x
 unfolding devices
 same_locks plan h e w x none = rw none (omega arith)

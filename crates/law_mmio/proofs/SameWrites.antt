@@ -1,7 +1,7 @@
 -- What happened, by all pairs, left the writes that the effects in verdicts say.
 use Rattle.law_mmio.proofs.OnLinks.{no_switch}
 use Rattle.spec_links.specs.Ports.{at_switch, is_device_port, port_of}
-use Rattle.spec_links.specs.Admission.{effects_by}
+use Rattle.spec_links.specs.Admission.{effects_under_policy}
 use Rattle.std.specs.Prelude.{not, Option}
 use Rattle.std.proofs.Common.{◌≡◌, ℕ, ◌==◌, ◌&&◌, ◌∷◌, Bool, true, false, not, List, [], Option, Some, None}
 use Rattle.std.proofs.Common.{if◌then◌else◌, refl, sym, ap, ◌∙◌, subst, inl, inr}
@@ -16,12 +16,12 @@ unfoldable use Rattle.spec_links.specs.Due.{due}
 use Rattle.spec_links.specs.Memory.{unit_ended, plain_of, policy_at, effects_of, accepts_unit}
 use Rattle.spec_links.specs.Guarded.{stored_each, unit_happenings, happens_if, halted_at, reset_at, asked_happens}
 use Rattle.spec_links.specs.Guarded.{happens}
-unfoldable use Rattle.spec_links.specs.Guarded.{happened}
+unfoldable use Rattle.spec_links.specs.Guarded.{link_happenings}
 use Rattle.spec_links.proofs.Causes.{accepted_by, unit_that_ends}
 use Rattle.spec_links.proofs.Tests.{same_port, eqb-refl}
 use Rattle.spec_interfaces.specs.Sites.{Site, site_at}
 use Rattle.spec_interfaces.specs.Exchanges.{carries, changes_device}
-use Rattle.spec_interfaces.specs.Floors.{place_of, history_standings}
+use Rattle.spec_interfaces.specs.Floors.{place_of, history_statuses}
 use Rattle.spec_interfaces.proofs.Floors.{places_apart}
 use Rattle.guarded_memory.specs.declared.standing.InterfaceStatus.{InterfaceStatus}
 use Rattle.guarded_memory.specs.Standings.{has_open_range}
@@ -78,8 +78,7 @@ elsewhere h true false place bar older kept none = refl
 elsewhere h false c place bar older kept none = refl
 
 halted_clears : (plan : Plan) (w : Verdict) (x : Site) (bar i : ℕ) (older : List Happened)
-    → site_at plan x.number ≡ Some x
-    → Clears (halted_at plan w x.link (site_at plan i))
+    → site_at plan x.number ≡ Some x → Clears (halted_at plan w x.link (site_at plan i))
     ((i == x.number) && (carries w 1 && not (has_open_range x.plan.bars bar))) older (place_of plan x) bar
 halted_clears plan w x bar i older known = elim (cases_Bool (i == x.number)) [
   | inl same ↦
@@ -157,8 +156,7 @@ elsewhere_none xs plan port unit ps link is =
     by side.Device c false is = refl
 
 pub effects_there : (plan : Plan) (h : History) (e : Event) (port : PortName) (unit : UnitName) (effects : List Effect)
-    → Accepted port unit effects ≡ due plan h e
-    → effects ≡ effects_of plan h port unit (unit_ended plan h e port unit)
+    → Accepted port unit effects ≡ due plan h e → effects ≡ effects_of plan h port unit (unit_ended plan h e port unit)
 effects_there plan h e port unit effects is =
     let by = accepted_by plan h e port unit effects is in
     by.effects_are
@@ -168,10 +166,11 @@ effects_there plan h e port unit effects is =
 unit_there : (plan : Plan) (h : History) (e : Event) (port : PortName) (unit : UnitName) (effects : List Effect)
     (x : Site) (bar : ℕ) → site_at plan x.number ≡ Some x → Accepted port unit effects ≡ due plan h e
     → is_same_port (port_of plan port) (device_port x.link) ≡ true
-    → writes_since (newest_happened (happens plan h e (Accepted port unit effects) x.link) (happened plan h x.link))
+    → writes_since (newest_happened (happens plan h e (Accepted port unit effects) x.link)
+    (link_happenings plan h x.link))
     (place_of plan x) bar
     ≡ newest_first (stores plan h e (Accepted port unit effects) x bar)
-    (writes_since (happened plan h x.link) (place_of plan x) bar)
+    (writes_since (link_happenings plan h x.link) (place_of plan x) bar)
 unit_there plan h e port unit effects x bar known is same =
     by (port_of plan port) (same_port (port_of plan port) (device_port x.link) same) effects
     (effects_there plan h e port unit effects is)
@@ -183,37 +182,38 @@ unit_there plan h e port unit effects x bar known is same =
     plain = plain_of plan port unit ps
 
     by : (q : PortName) → q ≡ device_port x.link → (es : List Effect) → es
-        ≡ effects_by plan (policy_at plan h) q unit ps
+        ≡ effects_under_policy plan (policy_at plan h) q unit ps
         → writes_since (newest_happened (if q.line == x.link
-        then (if is_device_port plan q then stored_each (history_standings plan h q.line) unit plain ps else []) else
+        then (if is_device_port plan q then stored_each (history_statuses plan h q.line) unit plain ps else []) else
         [])
-        (happened plan h x.link)) (place_of plan x) bar
+        (link_happenings plan h x.link)) (place_of plan x) bar
         ≡ newest_first (if is_same_port q (device_port x.link)
-        then unit_stored_writes (history_standings plan h x.link) (place_of plan x) bar plain es ps else [])
-        (writes_since (happened plan h x.link) (place_of plan x) bar)
+        then unit_stored_writes (history_statuses plan h x.link) (place_of plan x) bar plain es ps else [])
+        (writes_since (link_happenings plan h x.link) (place_of plan x) bar)
     by q at es are =
         rw (at, eqb-refl x.link, no_switch plan x known) (subst (λ (fs : List Effect).
-        writes_since (newest_happened (stored_each (history_standings plan h x.link) unit plain ps)
-        (happened plan h x.link)) (place_of plan x) bar
-        ≡ newest_first (unit_stored_writes (history_standings plan h x.link) (place_of plan x) bar plain fs ps)
-        (writes_since (happened plan h x.link) (place_of plan x) bar))
+        writes_since (newest_happened (stored_each (history_statuses plan h x.link) unit plain ps)
+        (link_happenings plan h x.link)) (place_of plan x) bar
+        ≡ newest_first (unit_stored_writes (history_statuses plan h x.link) (place_of plan x) bar plain fs ps)
+        (writes_since (link_happenings plan h x.link) (place_of plan x) bar))
         (sym (rw at at are))
         (unit_stores plan (policy_at plan h) ((policy_at plan h).waiting x.link) x.link unit (place_of plan x) bar
-        plain ps (happened plan h x.link) (no_switch plan x known)))
+        plain ps (link_happenings plan h x.link) (no_switch plan x known)))
 
 unit_same : (plan : Plan) (h : History) (e : Event) (port : PortName) (unit : UnitName) (effects : List Effect)
     (x : Site) (bar : ℕ) → site_at plan x.number ≡ Some x → Accepted port unit effects ≡ due plan h e
-    → writes_since (newest_happened (happens plan h e (Accepted port unit effects) x.link) (happened plan h x.link))
+    → writes_since (newest_happened (happens plan h e (Accepted port unit effects) x.link)
+    (link_happenings plan h x.link))
     (place_of plan x) bar
     ≡ newest_first (stores plan h e (Accepted port unit effects) x bar)
-    (writes_since (happened plan h x.link) (place_of plan x) bar)
+    (writes_since (link_happenings plan h x.link) (place_of plan x) bar)
 unit_same plan h e port unit effects x bar known is =
     elim (cases_Bool (is_same_port (port_of plan port) (device_port x.link))) [
       | inl same ↦ unit_there plan h e port unit effects x bar known is same
       | inr other ↦
           rw (
             other,
-            elsewhere_none (history_standings plan h) plan port unit (unit_ended plan h e port unit) x.link
+            elsewhere_none (history_statuses plan h) plan port unit (unit_ended plan h e port unit) x.link
                 other,
           )
           refl
@@ -223,20 +223,20 @@ unit_same plan h e port unit effects x bar known is =
 
 abbrev PairSame : Plan → History → Event → Verdict → Site → ℕ → Type 0
 PairSame plan h e w x bar =
-    writes_since (newest_happened (happens plan h e w x.link) (happened plan h x.link)) (place_of plan x) bar
+    writes_since (newest_happened (happens plan h e w x.link) (link_happenings plan h x.link)) (place_of plan x) bar
     ≡ (if sets_to_zero e w x bar then []
-    else newest_first (stores plan h e w x bar) (writes_since (happened plan h x.link) (place_of plan x) bar))
+    else newest_first (stores plan h e w x bar) (writes_since (link_happenings plan h x.link) (place_of plan x) bar))
 
 -- which ends no unit
 other_same : (plan : Plan) (h : History) (e : Event) (w : Verdict) (x : Site) (bar : ℕ)
     → site_at plan x.number ≡ Some x → accepts_unit w ≡ false → PairSame plan h e w x bar
 other_same plan h (event.Reset l ends) (v.Reset k) x bar known none = by (l == x.link)
   where
-    by : (b : Bool) → Clears (happens_if b AllReset) b (happened plan h x.link) (place_of plan x) bar
+    by : (b : Bool) → Clears (happens_if b AllReset) b (link_happenings plan h x.link) (place_of plan x) bar
     by true = refl
     by false = refl
 other_same plan h e (Accepted port unit effects) x bar known none = absurd (true≢false none)
-other_same plan h e w x bar known none = asked_clears plan e w x bar (happened plan h x.link) known
+other_same plan h e w x bar known none = asked_clears plan e w x bar (link_happenings plan h x.link) known
 
 pair_same : (plan : Plan) (h : History) (e : Event) (w : Verdict) (x : Site) (bar : ℕ) → site_at plan x.number ≡ Some x
     → w ≡ due plan h e → PairSame plan h e w x bar
@@ -246,8 +246,8 @@ pair_same plan h e w x bar known is = other_same plan h e w x bar known refl
 
 -- the writes that stand in a range
 pub same_writes : (plan : Plan) (h : History) → CauseLaw plan h → (x : Site) (bar : ℕ) → site_at plan x.number ≡ Some x
-    → writes_since (happened plan h x.link) (place_of plan x) bar ≡ writes_since_zero plan h x bar
-unfolding happened writes_since_zero
+    → writes_since (link_happenings plan h x.link) (place_of plan x) bar ≡ writes_since_zero plan h x bar
+unfolding link_happenings writes_since_zero
 same_writes plan [] cause x bar known = refl
 same_writes plan ((e, w) ∷ h) cause x bar known =
     pair_same plan h e w x bar known cause.0

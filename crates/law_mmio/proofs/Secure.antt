@@ -6,7 +6,6 @@ use Rattle.std.proofs.Common.{◌≡◌, ℕ, ◌==◌, ◌&&◌, ◌∷◌, ◌
 use Rattle.std.proofs.Common.{refl, sym, ap, ◌∙◌, inl, inr, arith}
 use Rattle.std.proofs.lemmas.Bool.{true≢false}
 use Rattle.ide_types.specs.declared.sub.SubKind.TheVariants.{Pr, Npr, Cpl}
-use Rattle.ide_types.specs.declared.port.Side.TheVariants.{Device}
 use Rattle.spec_keys.specs.Keys.{Keys}
 use Rattle.spec_keys.specs.Places.{KeyPlace, key_place_at}
 use Rattle.spec_keys.specs.History.{History, touches, place_keys, has_key, has_all, history_status}
@@ -21,8 +20,7 @@ use Rattle.spec_links.proofs.KeyVerdicts.{interface_due_quiet}
 use Rattle.spec_interfaces.specs.Sites.{Site}
 unfoldable use Rattle.spec_interfaces.specs.Devices.{devices}
 use Rattle.spec_interfaces.specs.Devices.{around_at, interface_at, interface_if_called, next_interface, is_stream_left}
-use Rattle.spec_interfaces.specs.Devices.{is_secure}
-use Rattle.spec_interfaces.specs.Devices.{has_secure_stream}
+use Rattle.spec_interfaces.specs.Devices.{is_secure, has_secure_stream, reset_call}
 use Rattle.spec_interfaces.specs.Laws.{IsLocked}
 use Rattle.spec_interfaces.proofs.Binds.{accepts_secure}
 use Rattle.spec_interfaces.proofs.Locks.{Made, next_made}
@@ -30,7 +28,6 @@ use Rattle.interface_state.specs.declared.states.Lock.{Lock}
 use Rattle.interface_state.specs.declared.states.TdiState.{TdiState}
 use Rattle.interface_state.specs.declared.states.TdiState.TheVariants as tdi
 use Rattle.interface_state.specs.Machine.{Tdi, state_code, lock_of, after_failure, StreamLeft}
-use Rattle.spec_interfaces.specs.Devices.{reset_call}
 use Rattle.link_verdicts.specs.declared.verdict.Verdict.TheVariants as v
 use Rattle.link_events.specs.declared.event.Event.TheVariants as event
 
@@ -75,42 +72,42 @@ secure_parts f some all is = grind (arith, is)
 secure_by : (f some all : Bool) → f ≡ false → all ≡ true → is_secure (keyed_status f some all) ≡ true
 secure_by f some all none full = rw (none, full) refl
 
-all_same : (ks ls : KeyPlace → Keys) (side : Side) (link stream : ℕ)
-    → ((p : KeyPlace) → p.line ≡ link → ks p ≡ ls p) → has_all ks side link stream ≡ has_all ls side link stream
-all_same ks ls side link stream same =
+all_same : (ks ls : KeyPlace → Keys) (side : Side) (line stream : ℕ)
+    → ((p : KeyPlace) → p.line ≡ line → ks p ≡ ls p) → has_all ks side line stream ≡ has_all ls side line stream
+all_same ks ls side line stream same =
     rw (
-      same (key_place_at side link stream false Pr) refl,
-      same (key_place_at side link stream false Npr) refl,
-      same (key_place_at side link stream false Cpl) refl,
-      same (key_place_at side link stream true Pr) refl,
-      same (key_place_at side link stream true Npr) refl,
-      same (key_place_at side link stream true Cpl) refl,
+      same (key_place_at side line stream false Pr) refl,
+      same (key_place_at side line stream false Npr) refl,
+      same (key_place_at side line stream false Cpl) refl,
+      same (key_place_at side line stream true Pr) refl,
+      same (key_place_at side line stream true Npr) refl,
+      same (key_place_at side line stream true Cpl) refl,
     ) refl
 
 -- the pair touches no place of the link
 abbrev TouchesNone : History → Event → Verdict → ℕ → Type 0
-TouchesNone h e w link = (p : KeyPlace) → p.line ≡ link → touches (manager h).ops (draws h) e w p ≡ []
+TouchesNone h e w line = (p : KeyPlace) → p.line ≡ line → touches (manager h).ops (draws h) e w p ≡ []
 
 keys_same : (h : History) (e : Event) (w : Verdict) (p : KeyPlace) → touches (manager h).ops (draws h) e w p ≡ []
     → place_keys ((e, w) ∷ h) p ≡ place_keys h p
 unfolding moments
 keys_same h e w p none = rw none refl
 
-stays_whole : (h : History) (e : Event) (w : Verdict) (side : Side) (link stream : ℕ)
-    → fails_there side link stream w ≡ false → failed_there h side link stream ≡ false
-    → failed_there ((e, w) ∷ h) side link stream ≡ false
+stays_whole : (h : History) (e : Event) (w : Verdict) (side : Side) (line stream : ℕ)
+    → fails_there side line stream w ≡ false → failed_there h side line stream ≡ false
+    → failed_there ((e, w) ∷ h) side line stream ≡ false
 unfolding failed_there
-stays_whole h e w side link stream none whole = rw (none, whole) refl
+stays_whole h e w side line stream none whole = rw (none, whole) refl
 
-stays_secure : (h : History) (e : Event) (w : Verdict) (side : Side) (link stream : ℕ) → TouchesNone h e w link
-    → fails_there side link stream w ≡ false → is_secure (history_status h side link stream) ≡ true
-    → is_secure (history_status ((e, w) ∷ h) side link stream) ≡ true
-stays_secure h e w side link stream none fails is =
-    let parts = secure_parts (failed_there h side link stream) (has_key (place_keys h) side link stream)
-    (has_all (place_keys h) side link stream) is in
-    secure_by (failed_there ((e, w) ∷ h) side link stream) (has_key (place_keys ((e, w) ∷ h)) side link stream)
-    (has_all (place_keys ((e, w) ∷ h)) side link stream) (stays_whole h e w side link stream fails parts.0)
-    (all_same (place_keys ((e, w) ∷ h)) (place_keys h) side link stream (λ p at. keys_same h e w p (none p at))
+stays_secure : (h : History) (e : Event) (w : Verdict) (side : Side) (line stream : ℕ) → TouchesNone h e w line
+    → fails_there side line stream w ≡ false → is_secure (history_status h side line stream) ≡ true
+    → is_secure (history_status ((e, w) ∷ h) side line stream) ≡ true
+stays_secure h e w side line stream none fails is =
+    let parts = secure_parts (failed_there h side line stream) (has_key (place_keys h) side line stream)
+    (has_all (place_keys h) side line stream) is in
+    secure_by (failed_there ((e, w) ∷ h) side line stream) (has_key (place_keys ((e, w) ∷ h)) side line stream)
+    (has_all (place_keys ((e, w) ∷ h)) side line stream) (stays_whole h e w side line stream fails parts.0)
+    (all_same (place_keys ((e, w) ∷ h)) (place_keys h) side line stream (λ p at. keys_same h e w p (none p at))
     ∙ parts.1)
 
 -- ---- pairs that touch nothing
@@ -118,18 +115,17 @@ stays_secure h e w side link stream none fails is =
 quiet_came : (p : KeyPlace) (w : Verdict) → is_quiet w ≡ true → came p w ≡ []
 quiet_came p w quiet = grind (arith, quiet)
 
-quiet_fails : (side : Side) (link stream : ℕ) (w : Verdict) → is_quiet w ≡ true
-    → fails_there side link stream w ≡ false
-quiet_fails side link stream w quiet = grind (arith, quiet)
+quiet_fails : (side : Side) (line stream : ℕ) (w : Verdict) → is_quiet w ≡ true → fails_there side line stream w ≡ false
+quiet_fails side line stream w quiet = grind (arith, quiet)
 
 -- at an event on an interface a stream that is Secure at an end stays so
 pub interface_leaves_secure : (plan : Plan) (h : History) (e : InterfaceEvent) (w : Verdict) (side : Side)
-    (link stream : ℕ) → w ≡ due plan h (event.Interface e) → is_secure (history_status h side link stream) ≡ true
-    → is_secure (history_status ((event.Interface e, w) ∷ h) side link stream) ≡ true
-interface_leaves_secure plan h e w side link stream is secure =
+    (line stream : ℕ) → w ≡ due plan h (event.Interface e) → is_secure (history_status h side line stream) ≡ true
+    → is_secure (history_status ((event.Interface e, w) ∷ h) side line stream) ≡ true
+interface_leaves_secure plan h e w side line stream is secure =
     let quiet : is_quiet w ≡ true = ap (λ (u : Verdict). is_quiet u) is ∙ interface_due_quiet plan h e in
-    stays_secure h (event.Interface e) w side link stream (λ p at. quiet_came p w quiet)
-    (quiet_fails side link stream w quiet) secure
+    stays_secure h (event.Interface e) w side line stream (λ p at. quiet_came p w quiet)
+    (quiet_fails side line stream w quiet) secure
 
 -- ---- the pair
 

@@ -6,7 +6,7 @@ use Rattle.spec_links.specs.Terms.{Plan, Event, Verdict, History, bytes_from}
 unfoldable use Rattle.spec_links.specs.Terms.{byte_after}
 use Rattle.spec_links.specs.Cause.{CauseLaw}
 unfoldable use Rattle.spec_links.specs.Due.{due}
-use Rattle.spec_links.specs.Guarded.{happened, mmio_if, mmio_shown}
+use Rattle.spec_links.specs.Guarded.{link_happenings, mmio_if, mmio_shown}
 use Rattle.spec_interfaces.specs.Sites.{Site, site_at}
 use Rattle.spec_interfaces.specs.Floors.{place_of}
 use Rattle.spec_interfaces.proofs.Floors.{number_at}
@@ -36,11 +36,11 @@ if_shown b bytes shown is = grind arith
 
 -- of an interface of the topology
 shown_of : (plan : Plan) (h : History) (i bar offset len : ℕ) (bytes : List ℕ) → CauseLaw plan h → (o : Option Site)
-    → site_at plan i ≡ o → v.Access (access.Mmio bytes) ≡ mmio_shown plan (happened plan h) o bar offset len
+    → site_at plan i ≡ o → v.Access (access.Mmio bytes) ≡ mmio_shown plan (link_happenings plan h) o bar offset len
     → ShowsRange plan h i bar offset len bytes
 shown_of plan h i bar offset len bytes cause None at is = absurd cc
 shown_of plan h i bar offset len bytes cause (Some x) at is =
-    let shown = byte_shown (happened plan h x.link) (place_of plan x) bar in
+    let shown = byte_shown (link_happenings plan h x.link) (place_of plan x) bar in
     let same = if_shown (fits_range (4096 * slice_index (page_counts x.plan) bar) offset len) bytes
     (bytes_from shown offset len) is in
     let known : site_at plan x.number ≡ Some x = ap (site_at plan) (number_at plan i x at) ∙ at in

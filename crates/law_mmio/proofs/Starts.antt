@@ -9,21 +9,18 @@ use Rattle.spec_keys.specs.Keys.{Keyed, Off, Loaded, On, Keys, key_in, on_in, is
 use Rattle.spec_keys.specs.History.{History, place_keys, keeps_live, has_key, has_all, failed_there}
 use Rattle.spec_links.specs.Terms.{Plan, Event, Verdict}
 use Rattle.spec_links.specs.Cause.{CauseLaw}
-use Rattle.interface_state.specs.Machine.{BindStream, UnbindStream}
+use Rattle.interface_state.specs.Machine.{BindStream, UnbindStream, Tdi, Call, StartInterface, StopInterface}
+use Rattle.interface_state.specs.Machine.{WriteRegister, LevelReset, FirmwareUpdate, StreamLeft, tdi_after}
 use Rattle.spec_interfaces.specs.Sites.{Site}
 use Rattle.spec_interfaces.specs.Exchanges.{carries, changes_device}
 use Rattle.spec_interfaces.specs.Views.{is_number, number_in}
 unfoldable use Rattle.spec_interfaces.specs.Devices.{devices}
 use Rattle.spec_interfaces.specs.Devices.{Around, around_at, interface_at, interface_if_called, next_interface}
-use Rattle.spec_interfaces.specs.Devices.{is_stream_left, is_run}
-use Rattle.spec_interfaces.specs.Devices.{runs_at, has_secure_stream, lock_call}
+use Rattle.spec_interfaces.specs.Devices.{is_stream_left, is_run, runs_at, has_secure_stream, lock_call, reset_call}
 use Rattle.spec_interfaces.specs.Floors.{greatest_on, posted_receiver, draw_at_device, floor_after}
 unfoldable use Rattle.spec_interfaces.specs.Floors.{device_floor}
 use Rattle.interface_state.specs.declared.states.TdiState.{TdiState}
 use Rattle.interface_state.specs.declared.states.TdiState.TheVariants as tdi
-use Rattle.interface_state.specs.Machine.{Tdi, Call, StartInterface, StopInterface, WriteRegister, LevelReset}
-use Rattle.spec_interfaces.specs.Devices.{reset_call}
-use Rattle.interface_state.specs.Machine.{FirmwareUpdate, StreamLeft, tdi_after}
 use Rattle.interface_state.specs.declared.states.Lock.{Lock}
 use Rattle.law_mmio.specs.Mmio.{IsStartedUnder, KeepsFloors}
 use Rattle.law_mmio.proofs.SameWrites.{and_none}

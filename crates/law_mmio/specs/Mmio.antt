@@ -7,7 +7,7 @@ use Rattle.spec_links.specs.Terms.{PortName, Plan, Event, Effect, UnitName, Verd
 use Rattle.spec_links.specs.Memory.{unit_ended}
 use Rattle.spec_keys.specs.History.{draw_on_at}
 use Rattle.spec_interfaces.specs.Sites.{Site, site_at}
-use Rattle.spec_interfaces.specs.Devices.{interface_at, runs_at, locks_at}
+use Rattle.spec_interfaces.specs.Devices.{interface_at, runs_at, locks_accepted}
 use Rattle.spec_interfaces.specs.Floors.{posted_receiver, draw_at_device, device_floor}
 use Rattle.spec_interfaces.specs.Laws.{IsLocked}
 use Rattle.interface_state.specs.Machine.{all_bindings}
@@ -81,7 +81,7 @@ pub record IsStartedUnder (plan : Plan) (h : History) (x : Site) (floor : ℕ) :
   pub came : since ++ (event, verdict) ∷ older ≡ h
   pub rested : runs_at plan older x ≡ false
   pub runs : runs_at plan ((event, verdict) ∷ older) x ≡ true
-  pub same_lock : locks_at plan older x ≡ locks_at plan h x
+  pub same_lock : locks_accepted plan older x ≡ locks_accepted plan h x
   pub greatest : draw_at_device older x ≡ floor
   pub set : Bool
   pub on : draw_on_at older (posted_receiver x) set ≡ Some floor

@@ -10,7 +10,7 @@ use Rattle.spec_links.specs.Memory.{unit_ended, plain_of}
 use Rattle.tlp_layout.specs.declared.head.HeadView.{HeadView}
 use Rattle.spec_interfaces.specs.Sites.{Site}
 use Rattle.spec_interfaces.specs.Exchanges.{carries, changes_device}
-use Rattle.spec_interfaces.specs.Floors.{place_of, history_standings}
+use Rattle.spec_interfaces.specs.Floors.{place_of, history_statuses}
 use Rattle.guarded_memory.specs.declared.standing.InterfaceStatus.{InterfaceStatus}
 use Rattle.guarded_memory.specs.declared.claims.Claim.{Claim}
 use Rattle.guarded_memory.specs.Standings.{has_open_range}
@@ -57,7 +57,7 @@ unit_stored_writes xs place bar plain _ _ = []
 abbrev pub stores : Plan → History → Event → Verdict → Site → ℕ → List (Option Write)
 stores plan h e (Accepted port unit effects) x bar =
     if is_same_port (port_of plan port) (device_port x.link)
-    then unit_stored_writes (history_standings plan h x.link) (place_of plan x) bar
+    then unit_stored_writes (history_statuses plan h x.link) (place_of plan x) bar
     (plain_of plan port unit (unit_ended plan h e port unit)) effects (unit_ended plan h e port unit)
     else []
 stores plan h e w x bar = []

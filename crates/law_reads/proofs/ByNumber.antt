@@ -1,17 +1,18 @@
 -- Packets are named by their numbers, so that what events brought, and with it units, writes and reads, may be said by
 -- any list that begins with the packets that had been sealed.
 use Rattle.spec_links.specs.Ports.{port_of}
-use Rattle.spec_links.proofs.Terms.{◌≡◌, ℕ, ◌==◌, ◌&&◌, ◌-◌, Bool, true, false, List, [], ◌∷◌, ◌++◌, slice_get}
-use Rattle.spec_links.proofs.Terms.{Option, Some, None, refl, ap, sym, subst, ◌∙◌, append_assoc, if◌then◌else◌}
-use Rattle.spec_links.proofs.Terms.{Plan, History, Event, Verdict, Accepted, Held, UnitName, Effect, Packet, PortName}
-use Rattle.spec_links.proofs.Terms.{SubStream, CauseLaw, SealedList, SealedPacket, Arrival, arrived_packet, packet_at}
-use Rattle.spec_links.proofs.Terms.{packet_in, received_in, sealed_packets, Pass, Alter, Cut, Reset}
+use Rattle.spec_links.proofs.Terms.{◌≡◌, ℕ, ◌==◌, ◌&&◌, ◌-◌, Bool, true, false, List, [], ◌∷◌, ◌++◌, slice_get, Option}
+use Rattle.spec_links.proofs.Terms.{Some, None, refl, ap, sym, subst, ◌∙◌, append_assoc, if◌then◌else◌, Plan, History}
+use Rattle.spec_links.proofs.Terms.{Event, Verdict, Accepted, Held, UnitName, Effect, Packet, PortName, SubStream}
+use Rattle.spec_links.proofs.Terms.{CauseLaw, SealedList, SealedPacket, Arrival, arrived_packet, packet_by_number}
+use Rattle.spec_links.proofs.Terms.{arrival_packet, received_in, sealed_packets, Pass, Alter, Cut, Reset}
 unfoldable use Rattle.spec_links.proofs.Terms.{arrival_of_event, packets_in_hold}
 use Rattle.spec_links.proofs.Causes.{held_by, accepted_by}
 use Rattle.spec_links.proofs.Growth.{packets_grow, at_front}
 use Rattle.spec_links.specs.Terms.{newest_first, grant_at, option_and_then}
 use Rattle.std.specs.Prelude.{option_map}
-use Rattle.spec_links.specs.History.{arrived_in, arrival_at_partner, altered_arrival, shortened_arrival, is_of}
+use Rattle.spec_links.specs.History.{arrived_in, arrival_at_partner, altered_arrival, shortened_arrival}
+use Rattle.spec_links.specs.History.{is_received_under}
 use Rattle.spec_links.specs.Memory.{admitted_writes, unit_ended}
 unfoldable use Rattle.spec_links.specs.Memory.{writes}
 use Rattle.spec_links.specs.Sent.{unit_accepted, reads_by}
@@ -21,8 +22,8 @@ use Rattle.link_verdicts.specs.declared.verdict.Verdict.TheVariants as v
 
 -- ---- what an event brings
 
-packet_more : (xs more : SealedList) (n : ℕ) (x : SealedPacket × Packet) → packet_at xs n ≡ Some x
-    → packet_at (xs ++ more) n ≡ Some x
+packet_more : (xs more : SealedList) (n : ℕ) (x : SealedPacket × Packet) → packet_by_number xs n ≡ Some x
+    → packet_by_number (xs ++ more) n ≡ Some x
 packet_more xs more n x is = by (n == 0) is
   where
     by : (b : Bool) → (if b then None else slice_get xs (n - 1)) ≡ Some x
@@ -31,25 +32,26 @@ packet_more xs more n x is = by (n == 0) is
     by false is = (at_front xs more (n - 1) x is).0
 
 passed_more : (xs more : SealedList) (n : ℕ) (f : SealedPacket × Packet → Option Arrival) (a : Arrival)
-    (o : Option (SealedPacket × Packet)) → packet_at xs n ≡ o
-    → option_and_then f o ≡ Some a → option_and_then f (packet_at (xs ++ more) n) ≡ Some a
+    (o : Option (SealedPacket × Packet)) → packet_by_number xs n ≡ o
+    → option_and_then f o ≡ Some a → option_and_then f (packet_by_number (xs ++ more) n) ≡ Some a
 passed_more xs more n f a None found is = absurd cc
 passed_more xs more n f a (Some x) found is = ap (option_and_then f) (packet_more xs more n x found) ∙ is
 
 mapped_more : (xs more : SealedList) (n : ℕ) (f : SealedPacket × Packet → Arrival) (a : Arrival)
-    (o : Option (SealedPacket × Packet)) → packet_at xs n ≡ o
-    → option_map f o ≡ Some a → option_map f (packet_at (xs ++ more) n) ≡ Some a
+    (o : Option (SealedPacket × Packet)) → packet_by_number xs n ≡ o
+    → option_map f o ≡ Some a → option_map f (packet_by_number (xs ++ more) n) ≡ Some a
 mapped_more xs more n f a None found is = absurd cc
 mapped_more xs more n f a (Some x) found is = ap (option_map f) (packet_more xs more n x found) ∙ is
 
 arrived_more : (plan : Plan) (xs more : SealedList) (e : Event) (a : Arrival) → arrived_in plan xs e ≡ Some a
     → arrived_in plan (xs ++ more) e ≡ Some a
 arrived_more plan xs more (Pass n) a is = mapped_more xs more n
-    (λ (x : SealedPacket × Packet). arrival_at_partner plan x (packet_bytes x.1)) a (packet_at xs n) refl is
+    (λ (x : SealedPacket × Packet). arrival_at_partner plan x (packet_bytes x.1)) a (packet_by_number xs n) refl is
 arrived_more plan xs more (Alter n at mask) a is = passed_more xs more n (altered_arrival plan at mask) a
-    (packet_at xs n) refl
+    (packet_by_number xs n) refl
     is
-arrived_more plan xs more (Cut n len) a is = passed_more xs more n (shortened_arrival plan len) a (packet_at xs n) refl
+arrived_more plan xs more (Cut n len) a is =
+    passed_more xs more n (shortened_arrival plan len) a (packet_by_number xs n) refl
     is
 arrived_more plan xs more e a is = is
 
@@ -68,11 +70,11 @@ behind_earlier plan h e w xs behind =
 
 arrived_same : (plan : Plan) (h : History) (e : Event) (a : Arrival) (xs : SealedList) → arrival_of_event plan h e
     ≡ Some a
-    → IsBehind plan h xs → packet_in (arrived_in plan xs e) ≡ arrived_packet plan h e
+    → IsBehind plan h xs → arrival_packet (arrived_in plan xs e) ≡ arrived_packet plan h e
 unfolding arrival_of_event
 arrived_same plan h e a xs is behind =
     let there = arrived_more plan (sealed_packets plan h) behind.0 e a is in
-    ap packet_in (subst (λ (ys : SealedList). arrived_in plan ys e ≡ Some a) behind.1 there ∙ sym is)
+    ap arrival_packet (subst (λ (ys : SealedList). arrived_in plan ys e ≡ Some a) behind.1 there ∙ sym is)
 
 -- ---- units
 
@@ -85,7 +87,7 @@ held_same plan ((e, Held port unit) ∷ h) cause xs behind s j n =
     let before = held_same plan h cause.1 xs earlier s j n in
     let by = held_by plan h e port unit cause.0 in
     let same = arrived_same plan h e (record { port = port; bytes = by.came.bytes }) xs by.came.arrival earlier in
-    (λ i. if is_of s j port unit && (unit.unit == n) then before i ++ same i ∷ [] else before i)
+    (λ i. if is_received_under s j port unit && (unit.unit == n) then before i ++ same i ∷ [] else before i)
 held_same plan ((e, w) ∷ h) cause xs behind s j n = held_same plan h cause.1 xs (behind_earlier plan h e w xs behind) s
     j n
 

@@ -1,9 +1,7 @@
 -- Each pair changes what waits at a switch by one step.
-use Rattle.spec_links.proofs.Terms.{◌≡◌, ℕ, ◌+◌, ◌≤◌, Bool, true, false, List, [], ◌∷◌, ◌++◌, length, drop, refl, ap}
-use Rattle.spec_links.proofs.Terms.{sym}
-use Rattle.spec_links.proofs.Terms.{◌∙◌, arith, inl, inr, if◌then◌else◌, drop-append-le, Plan, History, Event}
-use Rattle.spec_links.proofs.Terms.{Verdict, Sealed, Accepted, UnitName, Effect, PortName, SealedPacket, CauseLaw}
-use Rattle.spec_links.proofs.Terms.{is_same_port, sealed_packets}
+use Rattle.spec_links.proofs.Terms.{◌≡◌, ℕ, ◌+◌, ◌≤◌, List, [], ◌∷◌, ◌++◌, drop, refl, ap, Bool, ◌∙◌, arith, inl, inr}
+use Rattle.spec_links.proofs.Terms.{if◌then◌else◌, drop-append-le, Plan, History, Event, Verdict, Sealed, Accepted}
+use Rattle.spec_links.proofs.Terms.{UnitName, Effect, PortName, SealedPacket, CauseLaw, is_same_port}
 use Rattle.std.proofs.Common.{zero, suc}
 use Rattle.std.proofs.lemmas.Bool.{cases_Bool}
 use Rattle.ide_types.specs.declared.direction.Direction.{Direction}
@@ -12,7 +10,7 @@ use Rattle.spec_links.specs.Hops.{HopTlp, entering_end, clears_hop, is_forward_o
 unfoldable use Rattle.spec_links.specs.Hops.{accepted_tlps_in, forwarded_count}
 use Rattle.spec_links.specs.Memory.{accepted_tlps, hop_waiting, unit_ended}
 use Rattle.link_verdicts.specs.declared.verdict.Verdict.TheVariants as v
-use Rattle.law_reads.specs.Waiting.{WaitingFollows, waiting_next, tlps_ended}
+use Rattle.law_reads.specs.Waiting.{WaitingFollows}
 use Rattle.law_reads.proofs.Taken.{here_after, taken_accepted, tlps_of}
 use Rattle.law_reads.proofs.Forwarded.{within}
 

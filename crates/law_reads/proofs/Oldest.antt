@@ -1,14 +1,13 @@
 -- An answer that takes a read found one that waits, the oldest.
-use Rattle.spec_links.proofs.Terms.{◌≡◌, ℕ, Bool, true, false, List, [], ◌∷◌, slice_get, Option, Some}
-use Rattle.spec_links.proofs.Terms.{refl, ap, sym, ◌∙◌, if◌then◌else◌, append-nil, Plan, History, Verdict}
-use Rattle.spec_links.proofs.Terms.{Sealed, CauseLaw, Access, WaitingRead, waiting, has_link, sending_port}
-use Rattle.spec_links.proofs.Terms.{sealed_packets, sent_bytes, site_with, answer_due, answer_first, site_answer}
-use Rattle.spec_links.proofs.Terms.{outgoing_completion}
+use Rattle.spec_links.proofs.Terms.{◌≡◌, ℕ, Bool, true, false, List, [], ◌∷◌, slice_get, Option, Some, refl, ap, sym}
+use Rattle.spec_links.proofs.Terms.{◌∙◌, if◌then◌else◌, append-nil, Plan, History, Verdict, Sealed, CauseLaw, Access}
+use Rattle.spec_links.proofs.Terms.{WaitingRead, waiting_reads, has_link, sending_port, sealed_packets, sent_bytes}
+use Rattle.spec_links.proofs.Terms.{site_with, answer_due, answer_first, site_answer, outgoing_completion}
 unfoldable use Rattle.spec_links.proofs.Terms.{bytes_by}
 use Rattle.std.specs.Option.{option_map_or}
 use Rattle.std.proofs.lemmas.Bool.{true≢false}
 use Rattle.spec_links.specs.Terms.{Write}
-use Rattle.spec_links.specs.Memory.{queued, writes}
+use Rattle.spec_links.specs.Memory.{queued_reads, writes}
 use Rattle.spec_links.specs.Sent.{reads_taken, writes_in}
 use Rattle.trusted_memory.specs.Writes.{byte_after}
 use Rattle.trusted_memory.specs.Completions.{completion_bytes}
@@ -31,26 +30,31 @@ clash w x a b is = true≢false (sym a ∙ ap takes is ∙ b)
 pub record First (plan : Plan) (h : History) (link : ℕ) (w : Verdict) : Type 0 where
   pub known : has_link plan link ≡ true
   pub read : WaitingRead
-  pub oldest : slice_get (queued plan h link) (reads_taken h link) ≡ Some read
+  pub oldest : slice_get (queued_reads plan h link) (reads_taken h link) ≡ Some read
   pub is : w ≡ site_answer plan h (sending_port plan (Access (ae.Answer link))) read.draw
       (site_with plan link read.read.requester) (outgoing_completion plan h link)
 
 pub first_means : (plan : Plan) (h : History) (link : ℕ) (w : Verdict) → takes w ≡ true → w ≡ answer_due plan h link
     → First plan h link w
-first_means plan h link w take is = by (has_link plan link) (waiting plan h link) refl refl is
+first_means plan h link w take is = by (has_link plan link) (waiting_reads plan h link) refl refl is
   where
-    by : (b : Bool) (rs : List WaitingRead) → has_link plan link ≡ b → waiting plan h link ≡ rs
+    by : (b : Bool) (rs : List WaitingRead) → has_link plan link ≡ b → waiting_reads plan h link ≡ rs
         → w ≡ (if b then answer_first plan h (sending_port plan (Access (ae.Answer link))) rs
         (outgoing_completion plan h link)
         else v.Nothing) → First plan h link w
     by false rs known waits is = absurd (clash w v.Nothing take refl is)
     by true [] known waits is = absurd (clash w (v.Access (av.Empty link)) take refl is)
-    by true (r ∷ rs) known waits is = record
-        { known = known; read = r; oldest = drop_first (reads_taken h link) (queued plan h link) r rs waits; is = is }
+    by true (r ∷ rs) known waits is = record {
+      known = known;
+      read = r;
+      oldest = drop_first (reads_taken h link) (queued_reads plan h link) r rs waits;
+      is =
+          is;
+    }
 
 -- the bytes that it seals: the completion, from what the writes so far left in memory
 pub bytes_are : (plan : Plan) (h : History) (link : ℕ) (read : WaitingRead) → CauseLaw plan h
-    → slice_get (queued plan h link) (reads_taken h link) ≡ Some read
+    → slice_get (queued_reads plan h link) (reads_taken h link) ≡ Some read
     → sent_bytes plan h (Access (ae.Answer link)) ≡ completion_bytes (byte_after (writes plan h)) read.read
 unfolding bytes_by
 bytes_are plan h link read cause oldest =

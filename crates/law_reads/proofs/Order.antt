@@ -6,7 +6,7 @@ use Rattle.spec_links.proofs.Terms.{◌≡◌, ℕ, ◌+◌, ◌<◌, ◌≤◌,
 use Rattle.spec_links.proofs.Terms.{length, Option, Some, None, Result, Ok, Err, refl, ap, sym, subst, ◌∙◌}
 use Rattle.spec_links.proofs.Terms.{arith, nat_tests, nat_le, if◌then◌else◌, length-append, append-nil, Plan, History}
 use Rattle.spec_links.proofs.Terms.{Event, Verdict, Sealed, Accepted, UnitName, Effect, Packet, PortName, SealedPacket}
-use Rattle.spec_links.proofs.Terms.{CauseLaw, Access, Reset, waiting, sealed_packets, effects_of}
+use Rattle.spec_links.proofs.Terms.{CauseLaw, Access, Reset, waiting_reads, sealed_packets, effects_of}
 unfoldable use Rattle.spec_links.proofs.Terms.{due}
 use Rattle.spec_links.proofs.Causes.{accepted_by, unit_that_ends}
 use Rattle.spec_links.proofs.Growth.{packets_grow, at_front}
@@ -30,7 +30,7 @@ use Rattle.guarded_memory.specs.declared.claims.Claim.{Claim}
 use Rattle.guarded_memory.specs.Claims.{claim_of}
 use Rattle.guarded_memory.specs.Causes.{mmio_cause, cause_effect, claim_effect, mmio_effect}
 use Rattle.spec_links.specs.Memory.{Policy, policy_at, effect_by, effects_each, waiting_then, unit_grant, host_effect}
-use Rattle.spec_links.specs.Memory.{device_effect, unit_ended, queued}
+use Rattle.spec_links.specs.Memory.{device_effect, unit_ended, queued_reads}
 unfoldable use Rattle.spec_links.specs.Sent.{reads_taken, queued_in}
 use Rattle.spec_links.specs.Sent.{is_answer_on, unit_accepted, reads_by, read_in, drawn_read}
 use Rattle.link_verdicts.specs.declared.verdict.BlockCause.{BlockCause}
@@ -45,7 +45,7 @@ use Rattle.law_reads.proofs.Oldest.{takes, first_means}
 use Rattle.law_reads.proofs.Requesters.{same_number}
 
 pub here_after : (plan : Plan) (h : History) (e : Event) (w : Verdict) → CauseLaw plan ((e, w) ∷ h) → (link : ℕ)
-    → queued_in plan (sealed_packets plan ((e, w) ∷ h)) h link ≡ queued plan h link
+    → queued_in plan (sealed_packets plan ((e, w) ∷ h)) h link ≡ queued_reads plan h link
 here_after plan h e w cause link =
     let grown = packets_grow plan h e w in
     queued_same plan h cause.1 (sealed_packets plan ((e, w) ∷ h)) (sealed_packets plan h) (grown.0, grown.1)
@@ -53,17 +53,17 @@ here_after plan h e w cause link =
 
 -- an answer that took a read found one
 found : (plan : Plan) (h : History) (e : Event) (w : Verdict) (link : ℕ) → CauseLaw plan ((e, w) ∷ h) → takes w ≡ true
-    → is_answer_on link e ≡ true → reads_taken h link < length (queued plan h link)
+    → is_answer_on link e ≡ true → reads_taken h link < length (queued_reads plan h link)
 unfolding due
 found plan h (Access (ae.Answer l)) w link cause take is =
     let same : l ≡ link = same_number l link is in
     let first = first_means plan h l w take cause.0 in
-    subst (λ (k : ℕ). reads_taken h k < length (queued plan h k)) same
-    (at_front (queued plan h l) [] (reads_taken h l) first.read first.oldest).1
+    subst (λ (k : ℕ). reads_taken h k < length (queued_reads plan h k)) same
+    (at_front (queued_reads plan h l) [] (reads_taken h l) first.read first.oldest).1
 found plan h e w link cause take is = absurd cc
 
 took_one : (plan : Plan) (h : History) (e : Event) (w : Verdict) (link n : ℕ) → CauseLaw plan ((e, w) ∷ h) → takes w
-    ≡ true → n ≡ length (queued plan h link) → reads_taken h link ≤ length (queued plan h link)
+    ≡ true → n ≡ length (queued_reads plan h link) → reads_taken h link ≤ length (queued_reads plan h link)
     → (if is_answer_on link e then reads_taken h link + 1 else reads_taken h link) ≤ n
 took_one plan h e w link n cause take same le = by (is_answer_on link e) refl
   where
@@ -238,7 +238,7 @@ unit_room plan policy port unit (p ∷ ps) n le = by (λ k few. unit_room plan p
 -- those that an accepted unit queues find room
 unit_few : (plan : Plan) (h : History) (e : Event) (port : PortName) (unit : UnitName) (effects : List Effect)
     → CauseLaw plan ((e, Accepted port unit effects) ∷ h) → (link : ℕ) → (port_of plan port).line ≡ link
-    → length (waiting plan h link) ≤ 64 → length (waiting plan h link) + length
+    → length (waiting_reads plan h link) ≤ 64 → length (waiting_reads plan h link) + length
     (reads_by unit.draw effects (unit_ended plan h e port unit)) ≤ 64
 unit_few plan h e port unit effects cause link same few =
     let by = accepted_by plan h e port unit effects cause.0 in
@@ -246,15 +246,16 @@ unit_few plan h e port unit effects cause link same few =
     let effects_are : effects ≡ effects_of plan h port unit (unit_ended plan h e port unit) = by.effects_are ∙ ap
     (λ (ps : List Packet). effects_of plan h port unit ps) (sym ends) in
     let room = unit_room plan (policy_at plan h) (port_of plan port) unit (unit_ended plan h e port unit)
-    (length (waiting plan h link)) few in
-    let at = ap (λ (l : ℕ). effects_each plan (policy_at plan h) (length (waiting plan h l)) (port_of plan port) unit
+    (length (waiting_reads plan h link)) few in
+    let at = ap (λ (l : ℕ). effects_each plan (policy_at plan h) (length (waiting_reads plan h l)) (port_of plan port)
+    unit
     (unit_ended plan h e port unit)) same in
-    subst (λ (es : List Effect). length (waiting plan h link) + length
+    subst (λ (es : List Effect). length (waiting_reads plan h link) + length
     (reads_by unit.draw es (unit_ended plan h e port unit)) ≤ 64) (sym (effects_are ∙ at)) room
 
 -- so many wait at most
 few_more : (plan : Plan) (h : History) → CauseLaw plan h → (link : ℕ)
-    → length (queued plan h link) ≤ reads_taken h link + 64
+    → length (queued_reads plan h link) ≤ reads_taken h link + 64
 unfolding reads_taken queued_in
 few_more plan [] cause link = omega arith
 few_more plan ((e, Sealed ds) ∷ h) cause link =
@@ -306,16 +307,16 @@ few_more plan ((e, Accepted port unit effects) ∷ h) cause link =
 
     by : (b : Bool) → ((port_of plan port).line == link) ≡ b → length
         (queued_in plan (sealed_packets plan ((e, Accepted port unit effects) ∷ h)) h link) ≤ reads_taken h link + 64
-        → length (queued plan h link) ≤ reads_taken h link + 64
+        → length (queued_reads plan h link) ≤ reads_taken h link + 64
         → length (queued_in plan (sealed_packets plan ((e, Accepted port unit effects) ∷ h)) h link)
-        ≡ length (queued plan h link)
+        ≡ length (queued_reads plan h link)
         → length (if b then queued_in plan (sealed_packets plan ((e, Accepted port unit effects) ∷ h)) h link
         ++ reads_by unit.draw effects
         (unit_accepted plan (sealed_packets plan ((e, Accepted port unit effects) ∷ h)) h e port unit)
         else queued_in plan (sealed_packets plan ((e, Accepted port unit effects) ∷ h)) h link) ≤ reads_taken h link +
         64
     by true here le few same =
-        let drops = length-drop (reads_taken h link) (queued plan h link) in
+        let drops = length-drop (reads_taken h link) (queued_reads plan h link) in
         let first = takes_first plan h cause.1 link in
         let room = unit_few plan h e port unit effects cause link (same_number (port_of plan port).line link here)
         (omega (arith, drops, few)) in
@@ -339,7 +340,8 @@ few_more plan ((e, w) ∷ h) cause link =
 
 few_wait : (plan : Plan) (h : History) → CauseLaw plan h → FewWait plan h
 few_wait plan h cause link =
-    let le = few_more plan h cause link in omega (arith, le, length-drop (reads_taken h link) (queued plan h link))
+    let le = few_more plan h cause link in omega
+    (arith, le, length-drop (reads_taken h link) (queued_reads plan h link))
 
 pub reads_in_order : ReadsInOrder
 reads_in_order plan h cause = (takes_first plan h cause, few_wait plan h cause)

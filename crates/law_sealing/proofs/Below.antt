@@ -2,8 +2,7 @@
 use Rattle.law_sealing.proofs.Terms.{◌≡◌, ℕ, ◌<◌, List, length, map, refl, All-from_recursion, AllByRecursion, All, Ok}
 use Rattle.law_sealing.proofs.Terms.{Tlp, SpellsHead, head_bytes, header, body, body_size, read_of, Packet, FitsPacket}
 use Rattle.law_sealing.proofs.Terms.{packet_bytes, authenticated_bytes, encrypted_bytes, packet_without_tag, IdePacket}
-use Rattle.law_sealing.proofs.Terms.{cut_of}
-use Rattle.law_sealing.proofs.Terms.{read_spells_tlp, one_list}
+use Rattle.law_sealing.proofs.Terms.{cut_of, read_spells_tlp, one_list}
 use Rattle.ide_prefix.proofs.Cuts.{cuts_iff}
 
 -- what was read has a header with a spelling, and as many bytes of payload as that says

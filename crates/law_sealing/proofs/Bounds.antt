@@ -2,34 +2,31 @@
 -- in a send packet by packet. The hard case is a posted packet within a unit, which is why a third bound goes along.
 -- The packets still to come in an open posted unit are counted beforehand, and when such a unit begins there is room
 -- for all of it, or the count is 0. When keys or Base change, what is new is empty.
-use Rattle.law_sealing.proofs.Terms.{◌≡◌, ℕ, ◌+◌, ◌<◌, ◌≤◌, ◌==◌, true, false, List, [], ◌∷◌, ◌++◌, length}
-use Rattle.law_sealing.proofs.Terms.{Option, Some, inl, inr, ◌⊎◌, refl, ap, sym, ◌∙◌, arith, length-append}
-use Rattle.law_sealing.proofs.Terms.{if◌then◌else◌, ◌&&◌, nat_le, is_some, after_last, and_parts, cases_Bool}
-use Rattle.law_sealing.proofs.Terms.{eqb-true, leb-true, nat_tests, SubKind, Pr, PortName, Event, Verdict}
-use Rattle.law_sealing.proofs.Terms.{SealedPacket, Packet, Prefix, Plan, SubStream, lane_out, aggregation_of}
-use Rattle.law_sealing.proofs.Terms.{stream_plan}
-use Rattle.law_sealing.proofs.Terms.{is_same, is_same_port, open_unit, History, base, ahead_of_packet, SealedList}
-use Rattle.law_sealing.proofs.Terms.{KeyName}
-use Rattle.law_sealing.proofs.Terms.{sealed_packets, with_sealed, packet_of, prefix_of, sub_stream_packets, posted_in}
-use Rattle.law_sealing.proofs.Terms.{posted_of, is_in, sub_stream_of, is_posted, CauseLaw, DrawFacts, NoneFrom}
+use Rattle.law_sealing.proofs.Terms.{◌≡◌, ℕ, ◌+◌, ◌<◌, ◌≤◌, ◌==◌, true, false, List, [], ◌∷◌, ◌++◌, length, Option}
+use Rattle.law_sealing.proofs.Terms.{Some, inl, inr, ◌⊎◌, refl, ap, sym, ◌∙◌, arith, length-append, if◌then◌else◌, ◌&&◌}
+use Rattle.law_sealing.proofs.Terms.{nat_le, is_some, after_last, and_parts, cases_Bool, eqb-true, leb-true, nat_tests}
+use Rattle.law_sealing.proofs.Terms.{SubKind, Pr, PortName, Event, Verdict, SealedPacket, Packet, Prefix, Plan}
+use Rattle.law_sealing.proofs.Terms.{SubStream, lane_out, aggregation_of, stream_plan, is_same, is_same_port, open_unit}
+use Rattle.law_sealing.proofs.Terms.{History, base, ahead_of_packet, SealedList, KeyName, sealed_packets, with_sealed}
+use Rattle.law_sealing.proofs.Terms.{packet_of, prefix_of, sub_stream_packets, posted_since_last, posted_lane}
+use Rattle.law_sealing.proofs.Terms.{is_sealed_since, sub_stream_of, is_posted, CauseLaw, DrawFacts, NoneFrom}
 use Rattle.law_sealing.proofs.Terms.{is_same_sub, same_sub, same_stream, same_port, open_unit-snoc}
-use Rattle.law_sealing.proofs.Terms.{sub_stream_packets-snoc}
-use Rattle.law_sealing.proofs.Terms.{posted-own, posted-more, sent_elsewhere, posted_elsewhere, any_out, is_out}
-use Rattle.law_sealing.proofs.Terms.{in_lane, sealing_is, StreamsFit, Sealed, sent_bytes, sending_port}
+use Rattle.law_sealing.proofs.Terms.{sub_stream_packets-snoc, posted-own, posted-more, sent_elsewhere, posted_elsewhere}
+use Rattle.law_sealing.proofs.Terms.{any_out, is_out, in_lane, sealing_is, StreamsFit, Sealed, sent_bytes, sending_port}
 use Rattle.law_sealing.proofs.Sums.{at_dropped, none_filtered}
 use Rattle.law_sealing.proofs.Sealings.{IsOf, AllOf, live_at, from_at, all_of_sealing}
 
 -- ---- of the plan
 
-pub aggregation_one : (plan : Plan) → StreamsFit plan → (link stream : ℕ) → 1 ≤ aggregation_of plan link stream
-aggregation_one plan fits link stream = grind (arith, fits.one link stream)
+pub aggregation_one : (plan : Plan) → StreamsFit plan → (line stream : ℕ) → 1 ≤ aggregation_of plan line stream
+aggregation_one plan fits line stream = grind (arith, fits.one line stream)
 
-aggregation_eight : (plan : Plan) → StreamsFit plan → (link stream : ℕ) → aggregation_of plan link stream ≤ 8
-aggregation_eight plan fits link stream = grind (arith, fits.eight link stream)
+aggregation_eight : (plan : Plan) → StreamsFit plan → (line stream : ℕ) → aggregation_of plan line stream ≤ 8
+aggregation_eight plan fits line stream = grind (arith, fits.eight line stream)
 
-pub id_byte : (plan : Plan) → StreamsFit plan → (link stream : ℕ) → is_some (stream_plan plan link stream) ≡ true
+pub id_byte : (plan : Plan) → StreamsFit plan → (line stream : ℕ) → is_some (stream_plan plan line stream) ≡ true
     → stream < 256
-id_byte plan fits link stream is = grind (arith, fits.id link stream)
+id_byte plan fits line stream is = grind (arith, fits.id line stream)
 
 -- ---- of one stream at the port that seals
 
@@ -40,11 +37,12 @@ pub record Bounds (plan : Plan) (port : PortName) (stream : ℕ) (live : SubKind
     (xs : SealedList) : Type 0 where
   pub room : (u : SubKind) (key : KeyName) → live u ≡ Some key
       → open_count port stream xs u key.draw < aggregation_of plan port.line stream
-  pub count : (u : SubKind) → is_posted u ≡ false → posted_in xs (lane_out port stream u) from ≤ 255
+  pub count : (u : SubKind) → is_posted u ≡ false → posted_since_last xs (lane_out port stream u) from ≤ 255
   -- the packets that are still to come in the open unit are counted beforehand
   pub open_room : (u : SubKind) → is_posted u ≡ false → (key : KeyName) → live Pr ≡ Some key
       → (open_count port stream xs Pr key.draw ≡ 0) ⊎
-      (posted_in xs (lane_out port stream u) from + aggregation_of plan port.line stream ≤ 255 + open_count port stream
+      (posted_since_last xs (lane_out port stream u) from + aggregation_of plan port.line stream ≤ 255
+      + open_count port stream
       xs Pr
       key.draw)
 
@@ -62,7 +60,7 @@ module _ (plan : Plan) (fits : StreamsFit plan) (port : PortName) (stream : ℕ)
   unfinished xs u j = open_count port stream xs u j
 
   abbrev count : SealedList → SubKind → ℕ
-  count xs u = posted_in xs (lane u) from
+  count xs u = posted_since_last xs (lane u) from
 
   abbrev aggregation : ℕ
   aggregation = aggregation_of plan port.line stream
@@ -174,14 +172,15 @@ all_out plan p port t stream live from class xs (d ∷ ds) all other =
 
 none_from : (plan : Plan) (h : History) (port : PortName) (stream : ℕ) (u : SubKind) (from : ℕ)
     → NoneFrom plan h port.line stream from
-    → posted_in (sealed_packets plan h) (lane_out port stream u) from ≡ 0
-unfolding posted_in
+    → posted_since_last (sealed_packets plan h) (lane_out port stream u) from ≡ 0
+unfolding posted_since_last
 none_from plan h port stream u from none =
-    ap length (none_filtered (is_in (posted_of s) from) (after_last (is_in s from) (sealed_packets plan h))
+    ap length (none_filtered (is_sealed_since (posted_lane s) from)
+    (after_last (is_sealed_since s from) (sealed_packets plan h))
     (λ i x is here.
     let at = at_dropped (sealed_packets plan h) _ i x is in
-    let parts = and_parts (is_same (sub_stream_of x.0) (posted_of s)) (nat_le from x.0.draw) here in
-    let same = same_stream (sub_stream_of x.0) (posted_of s) parts.0 in
+    let parts = and_parts (is_same (sub_stream_of x.0) (posted_lane s)) (nat_le from x.0.draw) here in
+    let same = same_stream (sub_stream_of x.0) (posted_lane s) parts.0 in
     omega (
       arith,
       none at.0 x at.2 (ap (λ (t : SubStream). t.line) same) (ap (λ (t : SubStream). t.stream) same),
@@ -197,8 +196,8 @@ moved : (plan : Plan) → StreamsFit plan → (port : PortName) (stream : ℕ) (
     → ((u : SubKind) (key : KeyName) → later u ≡ Some key
     → ((live u ≡ Some key) × (open_count port stream ys u key.draw ≡ open_count port stream xs u key.draw))
     ⊎ (open_count port stream ys u key.draw ≡ 0))
-    → ((u : SubKind) → let s = lane_out port stream u in (posted_in ys s next ≡ posted_in xs s from)
-    ⊎ (posted_in ys s next ≡ 0))
+    → ((u : SubKind) → let s = lane_out port stream u in (posted_since_last ys s next ≡ posted_since_last xs s from)
+    ⊎ (posted_since_last ys s next ≡ 0))
     → Bounds plan port stream live from xs → Bounds plan port stream later next ys
 moved plan fits port stream live later from next xs ys fronts counts bounds = record {
   room = λ u key is. grind (arith, fronts u key is, bounds.room u key, aggregation_one plan fits port.line stream);
@@ -227,10 +226,11 @@ keys_change plan fits facts h e w law port stream = moved plan fits port stream 
       | inr none ↦ inr (ap (λ (ps : List Packet). length (open_unit ps)) none)
     ]
 
-    counts : (u : SubKind) → let now = posted_in ys (lane_out port stream u) (base ((e, w) ∷ h) port.line stream) in
-        (now ≡ posted_in ys (lane_out port stream u) (base h port.line stream)) ⊎ (now ≡ 0)
+    counts : (u : SubKind) → let now = posted_since_last ys (lane_out port stream u)
+        (base ((e, w) ∷ h) port.line stream) in
+        (now ≡ posted_since_last ys (lane_out port stream u) (base h port.line stream)) ⊎ (now ≡ 0)
     counts u = elim (facts.base_fresh h e w law port.line stream) [
-      | inl same ↦ inl (ap (posted_in ys (lane_out port stream u)) same)
+      | inl same ↦ inl (ap (posted_since_last ys (lane_out port stream u)) same)
       | inr none ↦ inr (none_from plan ((e, w) ∷ h) port stream u _ none)
     ]
 
@@ -268,7 +268,7 @@ sealing_bounded plan fits facts h e ds law port stream before =
 pub bounded : (plan : Plan) → StreamsFit plan → DrawFacts plan → (h : History) → CauseLaw plan h
     → (port : PortName) (stream : ℕ) → Bounds plan port stream (live_at plan h port stream) (from_at plan h port stream)
     (sealed_packets plan h)
-unfolding sealed_packets sub_stream_packets open_unit posted_in
+unfolding sealed_packets sub_stream_packets open_unit posted_since_last
 bounded plan fits facts [] law port stream = record {
   room = λ u key is. aggregation_one plan fits port.line stream;
   count = λ u other. omega arith;

@@ -1,12 +1,10 @@
 -- Each packet that is not posted carries the number of posted packets after the last one of its sub-stream.
 use Rattle.law_sealing.proofs.Terms.{◌≡◌, ◌≢◌, ℕ, ◌≤◌, true, List, [], ◌∷◌, ◌++◌, Option, Some, slice_get, take, ap}
 use Rattle.law_sealing.proofs.Terms.{sym, ◌∙◌, inl, inr, AllByRecursion, ne_eqb, sub_bits, SubKind, PortName, Event}
-use Rattle.law_sealing.proofs.Terms.{Verdict, Sealed, SealedPacket, Prefix, Packet, Plan, SubStream, is_same}
-use Rattle.law_sealing.proofs.Terms.{lane_out, open_unit, History, base, ahead_of_packet, SealedList, KeyName}
-use Rattle.law_sealing.proofs.Terms.{sealed_packets, sub_stream_packets, with_sealed, packet_of, sub_stream_of}
-use Rattle.law_sealing.proofs.Terms.{posted_in}
-use Rattle.law_sealing.proofs.Terms.{CauseLaw, DrawFacts, BaseStays, same_stream, sealing_is, sent_bytes}
-use Rattle.law_sealing.proofs.Terms.{sending_port}
+use Rattle.law_sealing.proofs.Terms.{Verdict, Sealed, SealedPacket, Prefix, Packet, Plan, SubStream, is_same, lane_out}
+use Rattle.law_sealing.proofs.Terms.{open_unit, History, base, ahead_of_packet, SealedList, KeyName, sealed_packets}
+use Rattle.law_sealing.proofs.Terms.{sub_stream_packets, with_sealed, packet_of, sub_stream_of, posted_since_last}
+use Rattle.law_sealing.proofs.Terms.{CauseLaw, DrawFacts, BaseStays, same_stream, sealing_is, sent_bytes, sending_port}
 use Rattle.law_sealing.proofs.Sealings.{AllOf, live_at, from_at, all_of_sealing}
 use Rattle.law_sealing.proofs.Places.{last_place}
 use Rattle.law_sealing.proofs.Bounds.{prefix_is}
@@ -14,10 +12,10 @@ use Rattle.law_sealing.proofs.Bounds.{prefix_is}
 -- each packet of the sub-stream, of a draw from this one on, carries their number
 abbrev pub IsCounted : ℕ → SubStream → SealedList → Type 0
 IsCounted from s xs = (i : ℕ) (x : SealedPacket × Packet) → slice_get xs i ≡ Some x → is_same (sub_stream_of x.0) s
-    ≡ true → from ≤ x.0.draw → x.1.prefix.posted ≡ posted_in (take i xs) s from
+    ≡ true → from ≤ x.0.draw → x.1.prefix.posted ≡ posted_since_last (take i xs) s from
 
 counted-snoc : (from : ℕ) (s : SubStream) (xs : SealedList) (x : SealedPacket × Packet) → IsCounted from s xs
-    → (is_same (sub_stream_of x.0) s ≡ true → from ≤ x.0.draw → x.1.prefix.posted ≡ posted_in xs s from)
+    → (is_same (sub_stream_of x.0) s ≡ true → from ≤ x.0.draw → x.1.prefix.posted ≡ posted_since_last xs s from)
     → IsCounted from s (xs ++ x ∷ [])
 counted-snoc from s xs x before here i y is in_y up = elim (last_place xs x y i is) [
   | inl p ↦ rw p.1 (before i y p.0 in_y up)
@@ -43,7 +41,7 @@ all_counted plan h port stream live class ahead bytes from s other (d ∷ ds) xs
     all_counted plan h port stream live class ahead bytes from s other ds (xs ++ (d, p) ∷ []) (all.1 p) stays.1
     (counted-snoc from s xs (d, p) counted (λ here up. posted ∙ says here (stays.0 here up)))
   where
-    says : is_same (sub_stream_of d) s ≡ true → base h s.line s.stream ≡ from → d.posted ≡ posted_in xs s from
+    says : is_same (sub_stream_of d) s ≡ true → base h s.line s.stream ≡ from → d.posted ≡ posted_since_last xs s from
     says here is =
         let of = all.0 in
         let lane : lane_out port stream d.sub ≡ s = sym (λ i. lane_out (of.port_is i) (of.stream_is i) d.sub) ∙
@@ -51,7 +49,7 @@ all_counted plan h port stream live class ahead bytes from s other (d ∷ ds) xs
         let sub : d.sub ≡ s.sub = ap (λ (t : SubStream). t.sub) lane in
         let from_is : from_at plan h port stream ≡ from = ap (λ (t : SubStream). base h t.line t.stream) lane ∙ is in
         of.posted (ne_eqb (sub_bits d.sub) 0 (λ zero_is. other (sym (ap sub_bits sub) ∙ zero_is))) ∙
-        (λ i. posted_in xs (lane i) (from_is i))
+        (λ i. posted_since_last xs (lane i) (from_is i))
 
 later_stays : (plan : Plan) (s : SubStream) (from : ℕ) (e : Event) (w : Verdict) (h : History)
     → BaseStays plan s from ((e, w) ∷ h) → BaseStays plan s from h

@@ -1,8 +1,7 @@
 -- An operation begins with a draw only if the pool has one, so draws are never more than the pool has.
-use Rattle.law_sealing.proofs.Terms.{◌≡◌, ℕ, ◌<◌, ◌≤◌, Bool, true, false, [], ◌∷◌, length, Option, Some, None, inl}
-use Rattle.law_sealing.proofs.Terms.{inr, ◌⊎◌, refl, sym, subst, arith, ap, ◌∙◌, and_parts, ◌&&◌, if◌then◌else◌}
-use Rattle.law_sealing.proofs.Terms.{nat_lt, nat_tests}
-use Rattle.law_sealing.proofs.Terms.{History, Verdict, Pr, Npr, Cpl}
+use Rattle.law_sealing.proofs.Terms.{◌≡◌, ℕ, ◌<◌, ◌≤◌, Bool, true, false, [], ◌∷◌, length, Option, Some, None, inl, inr}
+use Rattle.law_sealing.proofs.Terms.{◌⊎◌, refl, sym, subst, arith, ap, ◌∙◌, and_parts, ◌&&◌, if◌then◌else◌, nat_lt}
+use Rattle.law_sealing.proofs.Terms.{nat_tests, History, Verdict, Pr, Npr, Cpl}
 use Rattle.ide_types.specs.declared.status.StreamStatus.{StreamStatus}
 use Rattle.ide_types.specs.declared.status.StreamStatus.TheVariants.{Secure}
 use Rattle.link_verdicts.specs.declared.verdict.Operation.{Operation}
@@ -54,59 +53,59 @@ establish_finds kp line next Idle w begins = drawn_finds kp next op.Establish w
 establish_finds kp line next (Establishing j n) w begins = absurd cc
 establish_finds kp line next _ w begins = inr refl
 
-open_finds : (pool next : ℕ) (ports : PortView) (link stream : ℕ) (set : Bool) (w : Verdict)
-    → FindsBy pool next op.Refresh w → FindsBy pool next op.Refresh (unless_open ports link stream set w)
-open_finds pool next ports link stream set w finds =
-    if_finds pool next op.Refresh (is_live_sender ports link stream set Pr) (v.RefusedUnitOpen Pr) _ refl
-    (if_finds pool next op.Refresh (is_live_sender ports link stream set Npr) (v.RefusedUnitOpen Npr) _ refl
-    (if_finds pool next op.Refresh (is_live_sender ports link stream set Cpl) (v.RefusedUnitOpen Cpl) w refl finds))
+open_finds : (pool next : ℕ) (ports : PortView) (line stream : ℕ) (set : Bool) (w : Verdict)
+    → FindsBy pool next op.Refresh w → FindsBy pool next op.Refresh (unless_open ports line stream set w)
+open_finds pool next ports line stream set w finds =
+    if_finds pool next op.Refresh (is_live_sender ports line stream set Pr) (v.RefusedUnitOpen Pr) _ refl
+    (if_finds pool next op.Refresh (is_live_sender ports line stream set Npr) (v.RefusedUnitOpen Npr) _ refl
+    (if_finds pool next op.Refresh (is_live_sender ports line stream set Cpl) (v.RefusedUnitOpen Cpl) w refl finds))
 
 secure_finds : (pool next : ℕ) (status : StreamStatus) (w : Verdict) → FindsBy pool next op.Refresh w
     → FindsBy pool next op.Refresh (if_secure status w)
 secure_finds pool next Secure w finds = finds
 secure_finds pool next _ w finds = inr refl
 
-refresh_finds : (kp : KeyPlan) (next : ℕ) (o : StreamStage) (host : StreamStatus) (ports : PortView) (link stream : ℕ)
+refresh_finds : (kp : KeyPlan) (next : ℕ) (o : StreamStage) (host : StreamStatus) (ports : PortView) (line stream : ℕ)
     (set : Bool) (w : Verdict) → (work_of op.Refresh o next).begins ≡ true
-    → FindsBy kp.pool next op.Refresh (may_refresh kp link next o host (unless_open ports link stream set) w)
-refresh_finds kp next (Up current j) host ports link stream set w begins =
+    → FindsBy kp.pool next op.Refresh (may_refresh kp line next o host (unless_open ports line stream set) w)
+refresh_finds kp next (Up current j) host ports line stream set w begins =
     secure_finds kp.pool next host _
-    (open_finds kp.pool next ports link stream set _ (drawn_finds kp next op.Refresh w))
-refresh_finds kp next (Refreshing current j n) host ports link stream set w begins = absurd cc
-refresh_finds kp next _ host ports link stream set w begins = inr refl
+    (open_finds kp.pool next ports line stream set _ (drawn_finds kp next op.Refresh w))
+refresh_finds kp next (Refreshing current j n) host ports line stream set w begins = absurd cc
+refresh_finds kp next _ host ports line stream set w begins = inr refl
 
-begun_within : (pool : ℕ) (m : Manager) (o : Operation) (link stream : ℕ) (r : Option Reach) → length m.begun ≤ pool
-    → ((work_of o (m.ops link stream) (length m.begun)).begins ≡ true → makes_draw o ≡ true
-    → Finds pool (length m.begun) r) → length (manager_after_operation m o link stream r).begun ≤ pool
-begun_within pool m o link stream None within finds = within
-begun_within pool m o link stream (Some r) within finds = by_test (w.begins && makes_draw w.operation) refl
+begun_within : (pool : ℕ) (m : Manager) (o : Operation) (line stream : ℕ) (r : Option Reach) → length m.begun ≤ pool
+    → ((work_of o (m.ops line stream) (length m.begun)).begins ≡ true → makes_draw o ≡ true
+    → Finds pool (length m.begun) r) → length (manager_after_operation m o line stream r).begun ≤ pool
+begun_within pool m o line stream None within finds = within
+begun_within pool m o line stream (Some r) within finds = by_test (w.begins && makes_draw w.operation) refl
   where
     w : Work
-    w = work_of o (m.ops link stream) (length m.begun)
+    w = work_of o (m.ops line stream) (length m.begun)
 
     by_test : (b : Bool) → (w.begins && makes_draw w.operation) ≡ b
-        → length (if b then record { line = link; stream = stream; set = w.set } ∷ m.begun else m.begun) ≤ pool
+        → length (if b then record { line = line; stream = stream; set = w.set } ∷ m.begun else m.begun) ≤ pool
     by_test false none = within
     by_test true is =
         let tests = and_parts w.begins (makes_draw w.operation) is in
-        let makes = ap makes_draw (sym (work_is o (m.ops link stream) (length m.begun))) ∙ tests.1 in
+        let makes = ap makes_draw (sym (work_is o (m.ops line stream) (length m.begun))) ∙ tests.1 in
         elim (finds tests.0 makes) [ inl less ↦ omega (arith, less) | inr none ↦ absurd cc ]
 
 pub draws_within : (kp : KeyPlan) (h : History) → KeyCauseLaw kp h → draws h ≤ kp.pool
 unfolding manager key_due
 draws_within kp [] cause = omega arith
-draws_within kp ((event.Establish link stream loss, w) ∷ h) cause =
-    begun_within kp.pool (manager h) op.Establish link stream (reach_of op.Establish w) (draws_within kp h cause.2)
+draws_within kp ((event.Establish line stream loss, w) ∷ h) cause =
+    begun_within kp.pool (manager h) op.Establish line stream (reach_of op.Establish w) (draws_within kp h cause.2)
     (λ begins makes. subst (FindsBy kp.pool (draws h) op.Establish) (sym cause.0)
-    (planned_finds kp.pool (draws h) op.Establish (kp.has_stream link stream) _
-    (establish_finds kp link (draws h) ((manager h).ops link stream) _ begins)))
-draws_within kp ((event.Refresh link stream loss, w) ∷ h) cause =
-    begun_within kp.pool (manager h) op.Refresh link stream (reach_of op.Refresh w) (draws_within kp h cause.2)
+    (planned_finds kp.pool (draws h) op.Establish (kp.has_stream line stream) _
+    (establish_finds kp line (draws h) ((manager h).ops line stream) _ begins)))
+draws_within kp ((event.Refresh line stream loss, w) ∷ h) cause =
+    begun_within kp.pool (manager h) op.Refresh line stream (reach_of op.Refresh w) (draws_within kp h cause.2)
     (λ begins makes. subst (FindsBy kp.pool (draws h) op.Refresh) (sym cause.0)
-    (planned_finds kp.pool (draws h) op.Refresh (has_refresh kp link stream) _
-    (refresh_finds kp (draws h) ((manager h).ops link stream) _ (ports_at h) link stream _ _ begins)))
-draws_within kp ((event.Stop link stream loss, w) ∷ h) cause =
-    begun_within kp.pool (manager h) op.Stop link stream (reach_of op.Stop w) (draws_within kp h cause.2)
+    (planned_finds kp.pool (draws h) op.Refresh (has_refresh kp line stream) _
+    (refresh_finds kp (draws h) ((manager h).ops line stream) _ (ports_at h) line stream _ _ begins)))
+draws_within kp ((event.Stop line stream loss, w) ∷ h) cause =
+    begun_within kp.pool (manager h) op.Stop line stream (reach_of op.Stop w) (draws_within kp h cause.2)
     (λ begins makes. absurd cc)
 draws_within kp ((event.Reset link ends, v.Reset l) ∷ h) cause = draws_within kp h cause.2
 draws_within kp ((event.Reset link ends, _) ∷ h) cause = draws_within kp h cause.2

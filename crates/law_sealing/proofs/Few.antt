@@ -2,13 +2,13 @@
 use Rattle.law_sealing.proofs.Terms.{◌≡◌, ℕ, ◌+◌, ◌*◌, ◌≤◌, Bool, List, [], ◌∷◌, ◌++◌, length, filter, arith}
 use Rattle.law_sealing.proofs.Terms.{length-append, PortName, SealedPacket, Packet, Plan, open_unit, History, base}
 use Rattle.law_sealing.proofs.Terms.{SealedList, sealed_packets, with_sealed, packet_of, sub_stream_packets}
-use Rattle.law_sealing.proofs.Terms.{sub_stream_of}
-use Rattle.law_sealing.proofs.Terms.{ahead_of_packet, total_in, ends_unit_in, lanes_at, CauseLaw, TotalsFit, listed}
-use Rattle.law_sealing.proofs.Terms.{sealed_by_is, IsSealing, sealing_is, Sealed, sent_bytes, sending_port}
+use Rattle.law_sealing.proofs.Terms.{sub_stream_of, ahead_of_packet, total_in, ends_unit_since, lanes_at, CauseLaw}
+use Rattle.law_sealing.proofs.Terms.{TotalsFit, listed_seals, sealed_by_is, IsSealing, sealing_is, Sealed, sent_bytes}
+use Rattle.law_sealing.proofs.Terms.{sending_port}
 
 three_sealed : (plan : Plan) (h : History) (port : PortName) (bytes : List ℕ) (ds : List SealedPacket)
     → IsSealing plan h port bytes ds → length ds ≤ 3
-unfolding listed
+unfolding listed_seals
 three_sealed plan h port bytes ds is = rw
     (is.list, sealed_by_is (lanes_at plan h is.sending.port is.sending.stream) is.sending is.number) (grind arith)
 
@@ -40,6 +40,6 @@ pub totals_fit : (plan : Plan) (h : History) → CauseLaw plan h → length h �
 unfolding total_in
 totals_fit plan [] law short = tt
 totals_fit plan ((e, w) ∷ h) law short = (
-  λ s from. omega (arith, filter_few (ends_unit_in s from) (sealed_packets plan h), sealed_few plan h law.1, short),
+  λ s from. omega (arith, filter_few (ends_unit_since s from) (sealed_packets plan h), sealed_few plan h law.1, short),
   totals_fit plan h law.1 (omega (arith, short)),
 )

@@ -2,16 +2,14 @@
 -- induction on the history: at the send that seals the first packet of the unit, the total is of what was sealed
 -- before, when no unit of this draw is finished and nothing is of a greater one; later events change no part of it
 -- (Fronts).
-use Rattle.law_sealing.proofs.Terms.{◌≡◌, ℕ, zero, suc, ◌+◌, ◌<◌, ◌≤◌, Bool, true, false, List, [], ◌∷◌, length}
-use Rattle.law_sealing.proofs.Terms.{take, slice_get, Some, refl, ap, sym, ◌∙◌, arith, inl, inr, AllByRecursion}
-use Rattle.law_sealing.proofs.Terms.{list_any, both_ways, cases_Bool, or_cases, take_at, nat_tests, PortName, Sealed}
-use Rattle.law_sealing.proofs.Terms.{SealedPacket, Packet, Plan, SubStream, is_same, units, History, base}
-use Rattle.law_sealing.proofs.Terms.{SealedList, sealed_packets, sent, sub_stream_packets, is_under, sub_stream_of}
-use Rattle.law_sealing.proofs.Terms.{total_in}
-use Rattle.law_sealing.proofs.Terms.{ahead_of_unit, ahead_sent, is_of_unit, ahead_of_packet, CauseLaw, DrawFacts}
-use Rattle.law_sealing.proofs.Terms.{StreamsFit}
-use Rattle.law_sealing.proofs.Terms.{same_stream, is_same-refl, IsLive, AllLive, sealing_is, all_live, sent_bytes}
-use Rattle.law_sealing.proofs.Terms.{sending_port}
+use Rattle.law_sealing.proofs.Terms.{◌≡◌, ℕ, zero, suc, ◌+◌, ◌<◌, ◌≤◌, Bool, true, false, List, [], ◌∷◌, length, take}
+use Rattle.law_sealing.proofs.Terms.{slice_get, Some, refl, ap, sym, ◌∙◌, arith, inl, inr, AllByRecursion, list_any}
+use Rattle.law_sealing.proofs.Terms.{both_ways, cases_Bool, or_cases, take_at, nat_tests, PortName, Sealed}
+use Rattle.law_sealing.proofs.Terms.{SealedPacket, Packet, Plan, SubStream, is_same, units, History, base, SealedList}
+use Rattle.law_sealing.proofs.Terms.{sealed_packets, sent_packets, sub_stream_packets, is_sealed_under, sub_stream_of}
+use Rattle.law_sealing.proofs.Terms.{total_in, ahead_of_unit, ahead_sent, is_of_unit, ahead_of_packet, CauseLaw}
+use Rattle.law_sealing.proofs.Terms.{DrawFacts, StreamsFit, same_stream, is_same-refl, IsLive, AllLive, sealing_is}
+use Rattle.law_sealing.proofs.Terms.{all_live, sent_bytes, sending_port}
 use Rattle.law_sealing.proofs.Places.{placed, unit_is}
 use Rattle.law_sealing.proofs.Totals.{total, total-same}
 use Rattle.law_sealing.proofs.Sums.{all_at, in_parts, units_within, total_is}
@@ -30,8 +28,7 @@ any_live plan h port stream q (d ∷ ds) all some = elim (or_cases (q d) (list_a
 ]
 
 draws_one : (plan : Plan) (h : History) (port : PortName) (stream : ℕ) (x : SealedPacket) (s : SubStream)
-    → IsLive plan h port stream x → sub_stream_of x ≡ s
-    → (ds : List SealedPacket) → AllLive plan h port stream ds
+    → IsLive plan h port stream x → sub_stream_of x ≡ s → (ds : List SealedPacket) → AllLive plan h port stream ds
     → AllByRecursion (λ (d : SealedPacket). is_same (sub_stream_of d) s ≡ true → d.draw ≡ x.draw) ds
 draws_one plan h port stream x s live here [] all = tt
 draws_one plan h port stream x s live here (d ∷ ds) all = (
@@ -54,14 +51,14 @@ pub last_none : (from j : ℕ) (f : ℕ → ℕ) → f j ≡ 0 → total from (s
 last_none from j f none = grind arith
 
 pub in_sent : (xs : SealedList) (p : ℕ) (x : SealedPacket × Packet) (s : SubStream) (j : ℕ) → slice_get xs p ≡ Some x
-    → is_under s j x ≡ true → 1 ≤ length (sub_stream_packets xs s j)
+    → is_sealed_under s j x ≡ true → 1 ≤ length (sub_stream_packets xs s j)
 unfolding sub_stream_packets
 in_sent [] p x s j is under = absurd cc
 in_sent (y ∷ xs) zero x s j is under = let same : y ≡ x = cc in rw (same, under) (omega arith)
 in_sent (y ∷ xs) (suc p) x s j is under = grind (arith, in_sent xs p x s j is under)
 
 abbrev pub units_sent : Plan → History → SubStream → ℕ → ℕ
-units_sent plan h s i = length (units (sent plan h s i))
+units_sent plan h s i = length (units (sent_packets plan h s i))
 
 abbrev pub sum_sent : Plan → History → SubStream → ℕ → ℕ → ℕ
 sum_sent plan h s from j = total from j (λ i. units_sent plan h s i)
@@ -97,7 +94,8 @@ front_is plan fits facts ((e, Sealed ds) ∷ h) law s j x up =
     base_is : base g s.line s.stream ≡ base h s.line s.stream
     base_is = base_kept plan facts h e (Sealed ds) law s j x up
 
-    moved : ((i : ℕ) → i < j → sent plan g s i ≡ sent plan h s i) → sum_sent plan h s (base h s.line s.stream) j
+    moved : ((i : ℕ) → i < j → sent_packets plan g s i ≡ sent_packets plan h s i)
+        → sum_sent plan h s (base h s.line s.stream) j
         ≡ sum_sent plan g s (base g s.line s.stream) j
     moved kept =
         total-same from j (λ i. units_sent plan h s i) (λ i. units_sent plan g s i)

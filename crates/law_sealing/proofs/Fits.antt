@@ -5,6 +5,6 @@ use Rattle.ide_types.specs.declared.stream.StreamPlan.{StreamPlan}
 use Rattle.spec_links.specs.Plan.{stream_plan}
 
 pub record StreamsFit (plan : Plan) : Type 0 where
-  pub id : (link stream : ℕ) (s : StreamPlan) → stream_plan plan link stream ≡ Some s → stream < 256
-  pub one : (link stream : ℕ) (s : StreamPlan) → stream_plan plan link stream ≡ Some s → 1 ≤ s.aggregation
-  pub eight : (link stream : ℕ) (s : StreamPlan) → stream_plan plan link stream ≡ Some s → s.aggregation ≤ 8
+  pub id : (line stream : ℕ) (s : StreamPlan) → stream_plan plan line stream ≡ Some s → stream < 256
+  pub one : (line stream : ℕ) (s : StreamPlan) → stream_plan plan line stream ≡ Some s → 1 ≤ s.aggregation
+  pub eight : (line stream : ℕ) (s : StreamPlan) → stream_plan plan line stream ≡ Some s → s.aggregation ≤ 8

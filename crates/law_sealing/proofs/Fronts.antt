@@ -1,14 +1,13 @@
 -- What stays while more is sealed. A packet keeps its place in the list of sealed packets. Sealed draws rise, so once
 -- one was sealed under, nothing of a smaller one follows (`sent_kept`). Base stays, since it moves only to a draw of
 -- which nothing was sealed (`base_kept`). The rest finds packets among those of the last send.
-use Rattle.law_sealing.proofs.Terms.{◌≡◌, ℕ, ◌<◌, ◌≤◌, Bool, true, List, [], ◌∷◌, ◌++◌, length, take}
-use Rattle.law_sealing.proofs.Terms.{slice_get, Some, refl, ap, sym, ◌∙◌, subst, arith, append_assoc, length-append}
-use Rattle.law_sealing.proofs.Terms.{inl, inr, ◌⊎◌, AllByRecursion, list_any, or_cases, or_left, or_right, nat_tests}
-use Rattle.law_sealing.proofs.Terms.{slice_get_cases, take-append-le, PortName, Event, Verdict}
-use Rattle.law_sealing.proofs.Terms.{SealedPacket, Packet, Plan, SubStream, is_same, lane_out, open_unit, History}
-use Rattle.law_sealing.proofs.Terms.{base, live_key, SealedList, KeyName, sealed_packets, with_sealed, packet_of}
-use Rattle.law_sealing.proofs.Terms.{sent, sub_stream_packets, is_under, sub_stream_of, CauseLaw, DrawFacts}
-use Rattle.law_sealing.proofs.Terms.{IsLive}
+use Rattle.law_sealing.proofs.Terms.{◌≡◌, ℕ, ◌<◌, ◌≤◌, Bool, true, List, [], ◌∷◌, ◌++◌, length, take, slice_get, Some}
+use Rattle.law_sealing.proofs.Terms.{refl, ap, sym, ◌∙◌, subst, arith, append_assoc, length-append, inl, inr, ◌⊎◌}
+use Rattle.law_sealing.proofs.Terms.{AllByRecursion, list_any, or_cases, or_left, or_right, nat_tests, slice_get_cases}
+use Rattle.law_sealing.proofs.Terms.{take-append-le, PortName, Event, Verdict, SealedPacket, Packet, Plan, SubStream}
+use Rattle.law_sealing.proofs.Terms.{is_same, lane_out, open_unit, History, base, live_key, SealedList, KeyName}
+use Rattle.law_sealing.proofs.Terms.{sealed_packets, with_sealed, packet_of, sent_packets, sub_stream_packets}
+use Rattle.law_sealing.proofs.Terms.{is_sealed_under, sub_stream_of, CauseLaw, DrawFacts, IsLive}
 use Rattle.law_sealing.proofs.Terms.{sub_stream_packets-snoc}
 pub use Rattle.spec_links.proofs.Growth.{with_grows, packets_grow, at_front}
 use Rattle.law_sealing.proofs.Places.{last_place, place_among}
@@ -19,7 +18,7 @@ pub record IsSealedIn (plan : Plan) (h : History) (s : SubStream) (j : ℕ) : Ty
   pub place : ℕ
   pub sealed : SealedPacket × Packet
   pub stands : slice_get (sealed_packets plan h) place ≡ Some sealed
-  pub under : is_under s j sealed ≡ true
+  pub under : is_sealed_under s j sealed ≡ true
 
 pub sealed_later : (plan : Plan) (h : History) (e : Event) (w : Verdict) (s : SubStream) (j : ℕ) → IsSealedIn plan h s j
     → IsSealedIn plan ((e, w) ∷ h) s j
@@ -36,7 +35,8 @@ sealed_later plan h e w s j x =
 
 -- from then on nothing of a smaller draw is sealed
 pub sent_kept : (plan : Plan) → DrawFacts plan → (h : History) (e : Event) (w : Verdict) → CauseLaw plan ((e, w) ∷ h)
-    → (s : SubStream) (i j : ℕ) → IsSealedIn plan h s j → i < j → sent plan ((e, w) ∷ h) s i ≡ sent plan h s i
+    → (s : SubStream) (i j : ℕ) → IsSealedIn plan h s j → i < j → sent_packets plan ((e, w) ∷ h) s i
+    ≡ sent_packets plan h s i
 unfolding sealed_later
 sent_kept plan facts h e w law s i j x less =
     let xs = sealed_packets plan h in
@@ -63,9 +63,9 @@ base_kept plan facts h e w law s j x up = elim (facts.base_fresh h e w law s.lin
 ]
 
 -- the first of them
-pub first_sealed : (plan : Plan) (h : History) (s : SubStream) (j : ℕ) → 1 ≤ length (sent plan h s j)
+pub first_sealed : (plan : Plan) (h : History) (s : SubStream) (j : ℕ) → 1 ≤ length (sent_packets plan h s j)
     → (x : IsSealedIn plan h s j) × (sub_stream_packets (take x.place (sealed_packets plan h)) s j ≡ [])
-first_sealed plan h s j some = elim (slice_get_cases (sent plan h s j) 0).1 [
+first_sealed plan h s j some = elim (slice_get_cases (sent_packets plan h s j) 0).1 [
   | inl here ↦
       let among = place_among (sealed_packets plan h) s j 0 here.0 here.2 in
       (record { place = among.place; sealed = among.sealed; stands = among.stands; under = among.under }, among.before)
@@ -137,8 +137,7 @@ one_draw plan h port stream d x one two same =
 pub others_kept : (plan : Plan) (ahead : SealedPacket → List ℕ) (bytes : List ℕ) (s : SubStream) (i j : ℕ) → i < j
     → (ds : List SealedPacket) (xs : SealedList) → AllByRecursion
     (λ (d : SealedPacket). is_same (sub_stream_of d) s ≡ true
-    → d.draw ≡ j) ds
-    → sub_stream_packets (with_sealed plan ahead bytes ds xs) s i ≡ sub_stream_packets xs s i
+    → d.draw ≡ j) ds → sub_stream_packets (with_sealed plan ahead bytes ds xs) s i ≡ sub_stream_packets xs s i
 others_kept plan ahead bytes s i j less [] xs each = refl
 others_kept plan ahead bytes s i j less (d ∷ ds) xs each =
     let x : SealedPacket × Packet =

@@ -1,13 +1,12 @@
 -- No key is used twice with one IV. Equal keys of the pool stand at one place in it, so they are of one draw, direction
 -- and sub-stream, and a draw is on one stream. Equal IVs are of one number, since a key seals fewer than 2 to the 64
 -- units. That number counts the units that were finished before.
-use Rattle.law_sealing.proofs.Terms.{◌≡◌, ℕ, suc, ◌+◌, ◌*◌, ◌<◌, ◌≤◌, Bool, true, false, List, [], ◌∷◌, ◌++◌}
-use Rattle.law_sealing.proofs.Terms.{length, filter, take, drop, slice_get, slice_index_or, Some, inl, inr, refl}
-use Rattle.law_sealing.proofs.Terms.{ap, sym, ◌∙◌, subst, arith, nat_tests, cases_lt, length-append}
-use Rattle.law_sealing.proofs.Terms.{sub_bits, SealedPacket, Packet, Plan, SubStream, is_same, units}
-use Rattle.law_sealing.proofs.Terms.{open_unit, History, SealedList, sealed_packets, sent, sub_stream_packets, is_under}
-use Rattle.law_sealing.proofs.Terms.{sub_stream_of, CauseLaw, same_stream, sub_stream_packets-snoc}
-use Rattle.law_sealing.proofs.Terms.{units-end}
+use Rattle.law_sealing.proofs.Terms.{◌≡◌, ℕ, suc, ◌+◌, ◌*◌, ◌<◌, ◌≤◌, Bool, true, false, List, [], ◌∷◌, ◌++◌, length}
+use Rattle.law_sealing.proofs.Terms.{filter, take, drop, slice_get, slice_index_or, Some, inl, inr, refl, ap, sym, ◌∙◌}
+use Rattle.law_sealing.proofs.Terms.{subst, arith, nat_tests, cases_lt, length-append, sub_bits, SealedPacket, Packet}
+use Rattle.law_sealing.proofs.Terms.{Plan, SubStream, is_same, units, open_unit, History, SealedList, sealed_packets}
+use Rattle.law_sealing.proofs.Terms.{sent_packets, sub_stream_packets, is_sealed_under, sub_stream_of, CauseLaw}
+use Rattle.law_sealing.proofs.Terms.{same_stream, sub_stream_packets-snoc, units-end}
 use Rattle.law_sealing.proofs.Sums.{in_parts, next_taken, units_within}
 use Rattle.law_sealing.proofs.Places.{Placed, placed, place_among, unit_is}
 use Rattle.law_sealing.proofs.OfPlans.{streams_fit}
@@ -94,7 +93,7 @@ same_sealed x y is = cc
 none_ends : (plan : Plan) (xs : SealedList) → Placed plan xs → (i k : ℕ) (x y : SealedPacket × Packet)
     → slice_get xs i ≡ Some x → slice_get xs k ≡ Some y → sub_stream_of y.0 ≡ sub_stream_of x.0 → y.0.draw ≡ x.0.draw
     → x.0.unit ≡ y.0.unit → (n : ℕ) (z : SealedPacket × Packet) → i ≤ n → n < k → slice_get xs n ≡ Some z
-    → is_under (sub_stream_of x.0) x.0.draw z ≡ true → z.1.prefix.m ≡ false
+    → is_sealed_under (sub_stream_of x.0) x.0.draw z ≡ true → z.1.prefix.m ≡ false
 none_ends plan xs placed i k x y at also stream draw unit n z le less stands under = by_end z.1.prefix.m refl
   where
     s : SubStream
@@ -131,11 +130,11 @@ module _ (plan : Plan) (fits : FitsPlan plan) (h : History) (law : CauseLaw plan
 
   counted : (s : SubStream) (j place : ℕ) (x : SealedPacket × Packet)
       → slice_get (sealed_of_draw plan h s j) place ≡ Some x
-      → x.0.unit ≡ length (units (take place (sent plan h s j))) + 1
+      → x.0.unit ≡ length (units (take place (sent_packets plan h s j))) + 1
   unfolding sub_stream_packets
   counted s j place x at =
       let among = place_among xs s j place x.1
-      (slice_get-map (λ (y : SealedPacket × Packet). y.1) (filter (is_under s j) xs) place ∙ rw at refl) in
+      (slice_get-map (λ (y : SealedPacket × Packet). y.1) (filter (is_sealed_under s j) xs) place ∙ rw at refl) in
       let same = same_sealed among.sealed x (sym among.listed ∙ at) in
       let names = in_parts s j among.sealed among.under in
       let unit = unit_is plan xs all_placed among.place among.sealed among.stands s j names.2 names.1 in

@@ -104,11 +104,11 @@ lines_fit plan fits =
 pub streams_fit : (plan : Plan) → FitsPlan plan → StreamsFit plan
 unfolding stream_plan
 streams_fit plan fits = record {
-  id = λ link stream s is. let own = of_plan link stream s is in omega (arith, own.0, own.1.id);
-  one = λ link stream s is. grind (arith, nat_tests, (of_plan link stream s is).1.aggregation);
-  eight = λ link stream s is. grind (arith, nat_tests, (of_plan link stream s is).1.aggregation);
+  id = λ line stream s is. let own = of_plan line stream s is in omega (arith, own.0, own.1.id);
+  one = λ line stream s is. grind (arith, nat_tests, (of_plan line stream s is).1.aggregation);
+  eight = λ line stream s is. grind (arith, nat_tests, (of_plan line stream s is).1.aggregation);
 }
   where
-    of_plan : (link stream : ℕ) (s : StreamPlan) → stream_plan plan link stream ≡ Some s → (s.id ≡ stream)
+    of_plan : (line stream : ℕ) (s : StreamPlan) → stream_plan plan line stream ≡ Some s → (s.id ≡ stream)
         × FitsStream s
-    of_plan link stream s is = of_streams (streams_of plan link) (lines_fit plan fits link) stream s is
+    of_plan line stream s is = of_streams (streams_of plan line) (lines_fit plan fits line) stream s is

@@ -4,16 +4,15 @@
 -- of a sub-stream and draw is then found in the list of all.
 use Rattle.law_sealing.proofs.Terms.{◌≡◌, ℕ, zero, suc, ◌+◌, ◌<◌, Bool, true, false, List, [], ◌∷◌, ◌++◌, length}
 use Rattle.law_sealing.proofs.Terms.{Option, Some, Ok, take, refl, ap, sym, ◌∙◌, subst, arith, inl, inr, ◌⊎◌}
-use Rattle.law_sealing.proofs.Terms.{if◌then◌else◌, slice_get, filter, map, All, AllByRecursion, cases_Bool}
-use Rattle.law_sealing.proofs.Terms.{nat_tests, nil_from_length, All-nil, SubKind, PortName, Sealed, SealedPacket}
-use Rattle.law_sealing.proofs.Terms.{Tlp, class_of, header, body, read_of, Prefix, Packet, FitsPrefix, FitsPacket}
-use Rattle.law_sealing.proofs.Terms.{length-masked_bytes, masked-bytes, length-tag_of, tag_of-bytes, Plan, SubStream}
-use Rattle.law_sealing.proofs.Terms.{lane_out, aggregation_of, units, open_unit, History, base, ahead_of_packet}
-use Rattle.law_sealing.proofs.Terms.{SealedList}
-use Rattle.law_sealing.proofs.Terms.{KeyName, sealed_packets, with_sealed, sent, sub_stream_packets, is_under}
-use Rattle.law_sealing.proofs.Terms.{sub_stream_of}
-use Rattle.law_sealing.proofs.Terms.{prefix_of, packet_of, untagged_packet, unit_tag, port_keys, is_posted, CauseLaw}
-use Rattle.law_sealing.proofs.Terms.{DrawFacts, on_live, lane_is, sealing_is, StreamsFit, sent_bytes, sending_port}
+use Rattle.law_sealing.proofs.Terms.{if◌then◌else◌, slice_get, filter, map, All, AllByRecursion, cases_Bool, nat_tests}
+use Rattle.law_sealing.proofs.Terms.{nil_from_length, All-nil, SubKind, PortName, Sealed, SealedPacket, Tlp, class_of}
+use Rattle.law_sealing.proofs.Terms.{header, body, read_of, Prefix, Packet, FitsPrefix, FitsPacket, length-masked_bytes}
+use Rattle.law_sealing.proofs.Terms.{masked-bytes, length-tag_of, tag_of-bytes, Plan, SubStream, lane_out}
+use Rattle.law_sealing.proofs.Terms.{aggregation_of, units, open_unit, History, base, ahead_of_packet, SealedList}
+use Rattle.law_sealing.proofs.Terms.{KeyName, sealed_packets, with_sealed, sent_packets, sub_stream_packets}
+use Rattle.law_sealing.proofs.Terms.{is_sealed_under, sub_stream_of, prefix_of, packet_of, untagged_packet, unit_tag}
+use Rattle.law_sealing.proofs.Terms.{port_keys, is_posted, CauseLaw, DrawFacts, on_live, lane_is, sealing_is}
+use Rattle.law_sealing.proofs.Terms.{StreamsFit, sent_bytes, sending_port}
 use Rattle.law_sealing.proofs.Sums.{all_at, in_parts}
 use Rattle.law_sealing.proofs.Below.{is_read}
 use Rattle.law_sealing.proofs.Sealings.{IsOf, AllOf, IsSyncOf, live_at, from_at, all_of_sealing}
@@ -37,8 +36,8 @@ pub record PlaceAmong (xs : SealedList) (s : SubStream) (j m : ℕ) (p : Packet)
   pub place : ℕ
   pub stands : slice_get xs place ≡ Some sealed
   pub packet : sealed.1 ≡ p
-  pub under : is_under s j sealed ≡ true
-  pub listed : slice_get (filter (is_under s j) xs) m ≡ Some sealed
+  pub under : is_sealed_under s j sealed ≡ true
+  pub listed : slice_get (filter (is_sealed_under s j) xs) m ≡ Some sealed
   pub before : sub_stream_packets (take place xs) s j ≡ take m (sub_stream_packets xs s j)
 
 pub place_among : (xs : SealedList) (s : SubStream) (j m : ℕ) (p : Packet) → slice_get (sub_stream_packets xs s j) m
@@ -46,11 +45,11 @@ pub place_among : (xs : SealedList) (s : SubStream) (j m : ℕ) (p : Packet) →
     → PlaceAmong xs s j m p
 unfolding sub_stream_packets
 place_among [] s j m p is = absurd cc
-place_among (x ∷ xs) s j m p is = by_test (is_under s j x) refl m is (place_among xs s j)
+place_among (x ∷ xs) s j m p is = by_test (is_sealed_under s j x) refl m is (place_among xs s j)
   where
-    by_test : (b : Bool) → is_under s j x ≡ b → (m : ℕ) → slice_get
+    by_test : (b : Bool) → is_sealed_under s j x ≡ b → (m : ℕ) → slice_get
         (map (λ (y : SealedPacket × Packet). y.1)
-        (if b then x ∷ filter (is_under s j) xs else filter (is_under s j) xs)) m ≡ Some p
+        (if b then x ∷ filter (is_sealed_under s j) xs else filter (is_sealed_under s j) xs)) m ≡ Some p
         → ((m : ℕ) (p : Packet) → slice_get (sub_stream_packets xs s j) m ≡ Some p → PlaceAmong xs s j m p)
         → PlaceAmong (x ∷ xs) s j m p
     by_test true here zero is more = record
@@ -215,25 +214,24 @@ pub record SentPlace (plan : Plan) (h : History) (s : SubStream) (j m : ℕ) (p 
   pub description : SealedPacket
   pub place : ℕ
   pub stands : slice_get (sealed_packets plan h) place ≡ Some (description, p)
-  pub before : sub_stream_packets (take place (sealed_packets plan h)) s j ≡ take m (sent plan h s j)
-  pub unit : description.unit ≡ length (units (take m (sent plan h s j))) + 1
+  pub before : sub_stream_packets (take place (sealed_packets plan h)) s j ≡ take m (sent_packets plan h s j)
+  pub unit : description.unit ≡ length (units (take m (sent_packets plan h s j))) + 1
   pub stream : sub_stream_of description ≡ s
   pub draw : description.draw ≡ j
   pub prefix : p.prefix ≡ prefix_of description
   pub fits : FitsPacket p
-  pub room : p.prefix.m ≡ false → length (open_unit (take m (sent plan h s j))) + 1 < aggregation_of plan s.line
+  pub room : p.prefix.m ≡ false → length (open_unit (take m (sent_packets plan h s j))) + 1 < aggregation_of plan s.line
       s.stream
 
 pub sent_place : (plan : Plan) → StreamsFit plan → DrawFacts plan → (h : History) → CauseLaw plan h
-    → (s : SubStream) (j m : ℕ) (p : Packet)
-    → slice_get (sent plan h s j) m ≡ Some p → SentPlace plan h s j m p
+    → (s : SubStream) (j m : ℕ) (p : Packet) → slice_get (sent_packets plan h s j) m ≡ Some p → SentPlace plan h s j m p
 sent_place plan fits facts h cause s j m p is =
     let among = place_among (sealed_packets plan h) s j m p is in
     let d = among.sealed.0 in
     let placed = placed plan fits facts h cause among.place among.sealed among.stands in
     let names = in_parts s j among.sealed among.under in
     let before : sub_stream_packets (take among.place (sealed_packets plan h)) (sub_stream_of d) d.draw
-    ≡ take m (sent plan h s j) = rw (names.1, names.2) among.before in
+    ≡ take m (sent_packets plan h s j) = rw (names.1, names.2) among.before in
     let prefix = ap (λ (q : Packet). q.prefix) (sym among.packet) ∙ placed.prefix in
     record {
       description = d;
@@ -247,13 +245,14 @@ sent_place plan fits facts h cause s j m p is =
       fits = subst FitsPacket among.packet placed.fits;
       room = λ more.
           let less = placed.room (sym (ap (λ (q : Prefix). q.m) prefix) ∙ more) in
-          subst (λ (t : SubStream). length (open_unit (take m (sent plan h s j))) + 1 < aggregation_of plan t.line
+          subst (λ (t : SubStream). length (open_unit (take m (sent_packets plan h s j)))
+          + 1 < aggregation_of plan t.line
           t.stream)
           names.2 (rw before at less);
     }
 
 -- all packets that were sealed have a spelling
 pub sent_fits : (plan : Plan) → StreamsFit plan → DrawFacts plan → (h : History) → CauseLaw plan h
-    → (s : SubStream) (j : ℕ) → AllByRecursion FitsPacket (sent plan h s j)
-sent_fits plan fits facts h cause s j = all_at FitsPacket (sent plan h s j)
+    → (s : SubStream) (j : ℕ) → AllByRecursion FitsPacket (sent_packets plan h s j)
+sent_fits plan fits facts h cause s j = all_at FitsPacket (sent_packets plan h s j)
     (λ m p is. (sent_place plan fits facts h cause s j m p is).fits)

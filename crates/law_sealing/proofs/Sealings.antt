@@ -4,14 +4,11 @@ use Rattle.law_sealing.proofs.Terms.{Option, Some, inl, inr, ◌⊎◌, refl, ap
 use Rattle.law_sealing.proofs.Terms.{if◌then◌else◌, not, nat_lt, nat_le, unwrap_or, eq-eqb, ltb-false, or_parts}
 use Rattle.law_sealing.proofs.Terms.{sub_bits, SubKind, Pr, Npr, Cpl, PortName, SealedPacket, Packet, Plan, SubStream}
 use Rattle.law_sealing.proofs.Terms.{lane_out, aggregation_of, units, open_unit, History, base, SealedList, KeyName}
-use Rattle.law_sealing.proofs.Terms.{sealed_packets, sub_stream_packets, posted_in, posted_count, live_key, Sending}
-use Rattle.law_sealing.proofs.Terms.{Lanes}
-use Rattle.law_sealing.proofs.Terms.{lanes_at, packets_under_key, described_seal, needs_sync, is_worn, is_keyless}
-use Rattle.law_sealing.proofs.Terms.{is_posted}
-use Rattle.law_sealing.proofs.Terms.{ends_unit}
-use Rattle.law_sealing.proofs.Terms.{begins_unit, sets_trusted, no_key, CauseLaw, DrawFacts, is_same_sub, eqb-refl}
-use Rattle.law_sealing.proofs.Terms.{sent-same, posted-own, posted-same, in_lane, has_key, on_live, listed}
-use Rattle.law_sealing.proofs.Terms.{sealed_by_is, and_false, needs_posted, IsSealing}
+use Rattle.law_sealing.proofs.Terms.{sealed_packets, sub_stream_packets, posted_since_last, posted_count, live_key}
+use Rattle.law_sealing.proofs.Terms.{Sending, Lanes, lanes_at, packets_under_key, described_seal, needs_sync, is_worn}
+use Rattle.law_sealing.proofs.Terms.{is_keyless, is_posted, ends_unit, begins_unit, sets_trusted, no_key, CauseLaw}
+use Rattle.law_sealing.proofs.Terms.{DrawFacts, is_same_sub, eqb-refl, sent-same, posted-own, posted-same, in_lane}
+use Rattle.law_sealing.proofs.Terms.{has_key, on_live, listed_seals, sealed_by_is, and_false, needs_posted, IsSealing}
 
 pub record IsSyncOf (d : SealedPacket) : Type 0 where
   pub sub : d.sub ≢ Pr
@@ -27,7 +24,7 @@ pub record IsOf (plan : Plan) (port : PortName) (stream : ℕ) (live : SubKind �
   pub counts : nat_le from d.draw ≡ true
   pub unit : d.unit ≡ length (units (sub_stream_packets xs (lane_out port stream d.sub) d.draw)) + 1
   pub none : is_posted d.sub ≡ true → d.posted ≡ 0
-  pub posted : is_posted d.sub ≡ false → d.posted ≡ posted_in xs (lane_out port stream d.sub) from
+  pub posted : is_posted d.sub ≡ false → d.posted ≡ posted_since_last xs (lane_out port stream d.sub) from
   pub more : d.m ≡ false →
       (length (open_unit (sub_stream_packets xs (lane_out port stream d.sub) d.draw)) + 1 == aggregation_of plan
       port.line
@@ -40,9 +37,10 @@ pub record IsOf (plan : Plan) (port : PortName) (stream : ℕ) (live : SubKind �
   -- if it begins a posted unit, no posted count gets too large within it
   pub clear : is_posted d.sub ≡ true → length (open_unit (sub_stream_packets xs (lane_out port stream d.sub) d.draw))
       ≡ 0
-      → (u : SubKind) → is_posted u ≡ false → posted_in xs (lane_out port stream u) from + aggregation_of plan port.line
+      → (u : SubKind) → is_posted u ≡ false → posted_since_last xs (lane_out port stream u) from
+      + aggregation_of plan port.line
       stream
-      ≤ 255 ⊎ (posted_in xs (lane_out port stream u) from ≡ 0)
+      ≤ 255 ⊎ (posted_since_last xs (lane_out port stream u) from ≡ 0)
 
 abbrev pub AllOf : Plan → PortName → ℕ → (SubKind → Option KeyName) → ℕ → SubKind → SealedList → List SealedPacket
     → Type 0
@@ -62,7 +60,7 @@ from_at plan h port stream = base h port.line stream
 -- what packets of other sub-streams leave
 record Same (port : PortName) (stream from : ℕ) (u : SubKind) (xs ys : SealedList) : Type 0 where
   sent : (j : ℕ) → sub_stream_packets ys (lane_out port stream u) j ≡ sub_stream_packets xs (lane_out port stream u) j
-  posted : posted_in ys (lane_out port stream u) from ≡ posted_in xs (lane_out port stream u) from
+  posted : posted_since_last ys (lane_out port stream u) from ≡ posted_since_last xs (lane_out port stream u) from
 
 not_pr : (u : SubKind) → is_posted u ≡ false → u ≢ Pr
 not_pr u other same = let posted : is_posted u ≡ true = ap is_posted same in absurd cc
@@ -84,7 +82,7 @@ module _ (plan : Plan) (facts : DrawFacts plan) (h : History) (law : CauseLaw pl
   abbrev Clear : SealedList → SubKind → Type 0
   Clear xs u =
       is_posted s.class ≡ true → begins_unit (x.lane s.class) ≡ true
-      → posted_in xs (lane u) from + aggregation ≤ 255 ⊎ (posted_in xs (lane u) from ≡ 0)
+      → posted_since_last xs (lane u) from + aggregation ≤ 255 ⊎ (posted_since_last xs (lane u) from ≡ 0)
 
   -- it has a key, with which a unit may begin
   abbrev MaySeal : SubKind → Type 0
@@ -168,15 +166,15 @@ module _ (plan : Plan) (facts : DrawFacts plan) (h : History) (law : CauseLaw pl
       (λ w behind. stays w ys)
     where
       room : is_posted s.class ≡ true → begins_unit (x.lane s.class) ≡ true
-          → posted_in ys (lane u) from + aggregation ≤ 255
+          → posted_since_last ys (lane u) from + aggregation ≤ 255
       room posted begins =
           let test : nat_lt 255 (posted_count plan h (lane u) + aggregation) ≡ false = rw (posted, begins) at none in
           rw same.posted (ltb-false 255 _ test)
 
   all_of : (number : ℕ) (n c : Bool) → needs_sync x s.class Npr ≡ n → needs_sync x s.class Cpl ≡ c
       → MaySeal s.class → (n ≡ true → (s.class ≡ Pr) × MaySeal Npr) → (c ≡ true → (s.class ≡ Pr) × MaySeal Cpl)
-      → All (sealed_packets plan h) (listed x s number n c)
-  unfolding listed
+      → All (sealed_packets plan h) (listed_seals x s number n c)
+  unfolding listed_seals
   all_of number n c n_is c_is may requests completions =
       let first : List SealedPacket = if n then described_seal x s Npr number true false true ∷ [] else [] in
       let second : List SealedPacket = if c then described_seal x s Cpl (number + length first) true false true

@@ -4,11 +4,11 @@
 use Rattle.law_sealing.proofs.Terms.{◌≡◌, ℕ, zero, suc, ◌+◌, ◌<◌, ◌≤◌, ◌==◌, ◌&&◌, Bool, true, List, [], ◌∷◌, ◌++◌}
 use Rattle.law_sealing.proofs.Terms.{length, map, filter, take, drop, sum_by, slice_get, Some, refl, ap, sym, ◌∙◌}
 use Rattle.law_sealing.proofs.Terms.{arith, length-append, if◌then◌else◌, AllByRecursion, nat_tests, append-nil}
-use Rattle.law_sealing.proofs.Terms.{map-append, take-append-drop, take-take, filter-append, sum_by-cons}
-use Rattle.law_sealing.proofs.Terms.{Accepted, SealedPacket, Packet, SubStream, is_same, units, units_after, open_unit}
-use Rattle.law_sealing.proofs.Terms.{History, SealedList, sub_stream_packets, is_under, sub_stream_of, received_in}
-use Rattle.law_sealing.proofs.Terms.{units_got}
-use Rattle.law_sealing.proofs.Terms.{draws_got, ends_unit_in, total_in, units_since, same_stream, units-append}
+use Rattle.law_sealing.proofs.Terms.{map-append, take-append-drop, take-take, filter-append, sum_by-cons, Accepted}
+use Rattle.law_sealing.proofs.Terms.{SealedPacket, Packet, SubStream, is_same, units, units_after, open_unit, History}
+use Rattle.law_sealing.proofs.Terms.{SealedList, sub_stream_packets, is_sealed_under, sub_stream_of, received_in}
+use Rattle.law_sealing.proofs.Terms.{units_got, draws_got, ends_unit_since, total_in, units_since, same_stream}
+use Rattle.law_sealing.proofs.Terms.{units-append}
 use Rattle.law_sealing.proofs.Totals.{total, total-le, total-same, total-none, joined, of_since, sealed_total}
 use Rattle.law_sealing.proofs.Totals.{sealed_least, first_and_rest}
 
@@ -53,7 +53,7 @@ pub none_filtered : {A : Type 0} (q : A → Bool) (xs : List A)
 none_filtered q [] never = refl
 none_filtered q (x ∷ xs) never = grind (arith, none_filtered q xs (λ i y is. never (suc i) y is), never 0 x refl)
 
-pub in_parts : (s : SubStream) (j : ℕ) (x : SealedPacket × Packet) → is_under s j x ≡ true
+pub in_parts : (s : SubStream) (j : ℕ) (x : SealedPacket × Packet) → is_sealed_under s j x ≡ true
     → (is_same (sub_stream_of x.0) s ≡ true) × (x.0.draw ≡ j) × (sub_stream_of x.0 ≡ s)
 in_parts s j x under = (grind arith, grind (arith, nat_tests), same_stream (sub_stream_of x.0) s (grind arith))
 
@@ -66,12 +66,12 @@ Rises xs =
 -- what is of a smaller draw was sealed before the place
 pub smaller_before : (xs : SealedList) (s : SubStream) (place d k : ℕ) (x : SealedPacket × Packet) → Rises xs
     → slice_get xs place ≡ Some x
-    → is_under s d x ≡ true → k < d → sub_stream_packets (take place xs) s k ≡ sub_stream_packets xs s k
+    → is_sealed_under s d x ≡ true → k < d → sub_stream_packets (take place xs) s k ≡ sub_stream_packets xs s k
 unfolding sub_stream_packets
 smaller_before xs s place d k x rises stands under less =
     let here = in_parts s d x under in
     let none : sub_stream_packets (drop place xs) s k ≡ [] = ap (map (λ (x : SealedPacket × Packet). x.1))
-    (none_filtered (is_under s k) (drop place xs) (λ i y is below.
+    (none_filtered (is_sealed_under s k) (drop place xs) (λ i y is below.
     let there = at_dropped xs place i y is in
     let tests = in_parts s k y below in
     let least = rises s place there.0 x y there.1 stands there.2 here.0 tests.0 in
@@ -108,7 +108,7 @@ count_all : (xs : SealedList) (s : SubStream) (from n : ℕ)
     ≡ total from n (λ k. length (units (sub_stream_packets xs s k)))
 count_all xs s from n = total-same from n _ _ (λ k up less. count_units (sub_stream_packets xs s k))
 
-count_ends : (s : SubStream) (from : ℕ) (xs : SealedList) → length (filter (ends_unit_in s from) xs)
+count_ends : (s : SubStream) (from : ℕ) (xs : SealedList) → length (filter (ends_unit_since s from) xs)
     ≡ sum_by (λ (x : SealedPacket × Packet). ends_one x.1) (filter (of_since from s) xs)
 count_ends s from [] = refl
 count_ends s from (x ∷ xs) = grind (

@@ -39,21 +39,19 @@ unfoldable pub use Rattle.spec_links.specs.Plan.{stream_plan}
 pub use Rattle.spec_links.specs.Units.{units_after}
 unfoldable pub use Rattle.spec_links.specs.Units.{open_unit, units}
 pub use Rattle.spec_keys.specs.History.{History, base}
-pub use Rattle.spec_links.specs.History.{ahead_of_packet, SealedList, KeyName, with_sealed, prefix_of, posted_of}
-pub use Rattle.spec_links.specs.History.{is_in}
-pub use Rattle.spec_links.specs.History.{sub_stream_of, ends_unit_in, sent, is_under, is_of_unit, live_key}
-pub use Rattle.spec_links.specs.History.{untagged_packet, unit_tag, port_keys, posted_count, received_in}
-pub use Rattle.spec_links.specs.History.{arrived_packet, is_of, ahead_due, pending_packets, Arrival, on_draw, failed}
-unfoldable pub use Rattle.spec_links.specs.History.{sealed_packets, packet_of, sub_stream_packets, posted_in, total_in}
-unfoldable pub use Rattle.spec_links.specs.History.{ahead_of_unit, ahead_sent, units_got, draws_got, units_since}
-unfoldable pub use Rattle.spec_links.specs.History.{packets_in_hold}
-unfoldable pub use Rattle.spec_links.specs.History.{accepted_packets, got_since, arrival_of_event, meets_counts}
+pub use Rattle.spec_links.specs.History.{ahead_of_packet, SealedList, KeyName, with_sealed, prefix_of, posted_lane}
+pub use Rattle.spec_links.specs.History.{is_sealed_since, sub_stream_of, ends_unit_since, sent_packets, is_sealed_under}
+pub use Rattle.spec_links.specs.History.{is_of_unit, live_key, untagged_packet, unit_tag, port_keys, posted_count}
+pub use Rattle.spec_links.specs.History.{received_in, arrived_packet, is_received_under, ahead_due, pending_packets}
+pub use Rattle.spec_links.specs.History.{Arrival, on_draw, has_failed}
+unfoldable pub use Rattle.spec_links.specs.History.{sealed_packets, packet_of, sub_stream_packets, posted_since_last}
+unfoldable pub use Rattle.spec_links.specs.History.{total_in, ahead_of_unit, ahead_sent, units_got, draws_got}
+unfoldable pub use Rattle.spec_links.specs.History.{units_since, packets_in_hold, accepted_packets, got_since}
+unfoldable pub use Rattle.spec_links.specs.History.{arrival_of_event, meets_counts}
 pub use Rattle.spec_links.specs.Due.{is_posted, Sending, Lanes, lanes_at, needs_sync, packets_under_key, described_seal}
 pub use Rattle.spec_links.specs.Due.{is_worn, is_keyless, ends_unit, begins_unit, sets_trusted, no_key}
-pub use Rattle.spec_links.specs.Due.{receiving_sub_stream}
-pub use Rattle.spec_links.specs.Due.{ended}
-pub use Rattle.spec_links.specs.Due.{unit_under, Ending, arrival_due, ending_due, under_keys, is_mixed, is_overfull}
-pub use Rattle.spec_links.specs.Due.{effects_of}
+pub use Rattle.spec_links.specs.Due.{receiving_sub_stream, unit_packets_ended, next_unit_name, Ending, arrival_due}
+pub use Rattle.spec_links.specs.Due.{ending_due, under_keys, is_mixed, is_overfull, effects_of}
 unfoldable pub use Rattle.spec_links.specs.Due.{due, before_tag, is_verified}
 pub use Rattle.spec_links.specs.Cause.{CauseLaw}
 pub use Rattle.spec_links.specs.KeyFacts.{DrawFacts, NoneFrom, BaseStays}
@@ -73,22 +71,20 @@ pub use Rattle.spec_keys.specs.Keys.{Keyed, On, key_in, on_in}
 pub use Rattle.tlp_layout.proofs.Readings.{read_spells_tlp}
 pub use Rattle.ide_prefix.proofs.Units.{one_list, not_sync}
 pub use Rattle.spec_links.proofs.Tests.{same_sub, same_stream, same_port, eqb-refl, is_same-refl}
-pub use Rattle.spec_links.proofs.UnitLemmas.{open_unit-snoc, units-append, joined, joined_units, units-end}
+pub use Rattle.spec_links.proofs.UnitLemmas.{open_unit-snoc, units-append, packets_of_units, joined_units, units-end}
 pub use Rattle.spec_links.proofs.UnitLemmas.{units-more, open_unit-end, open_unit-more, IsFront, open_unit-unfinished}
 pub use Rattle.spec_links.proofs.UnitLemmas.{EndsInM, EndsInM-snoc, All-snoc, units_all, units_end, unit_at}
 pub use Rattle.spec_links.proofs.UnitLemmas.{take_next, below, joined_take, joined-snoc}
 pub use Rattle.spec_links.proofs.Sealed.{sub_stream_packets-snoc, sent-same, posted-own, posted-more, sent_elsewhere}
 pub use Rattle.spec_links.proofs.Sealed.{posted_elsewhere, any_out, is_out, posted-same}
 pub use Rattle.spec_links.proofs.Senders.{in_lane, sealed_by_is, on_live, lane_is, has_key, and_false, needs_posted}
-unfoldable pub use Rattle.spec_links.proofs.Senders.{listed}
+unfoldable pub use Rattle.spec_links.proofs.Senders.{listed_seals}
 pub use Rattle.spec_links.specs.History.{sent_bytes}
-pub use Rattle.spec_links.proofs.SealingIs.{is_sealing, sealed_by_sealing, sealing_is, sending_port, IsSealing}
-pub use Rattle.spec_links.proofs.SealingIs.{IsLive, AllLive}
-pub use Rattle.spec_links.proofs.SealingIs.{all_live, sealed_same}
+pub use Rattle.spec_links.proofs.SealingIs.{is_sealing, sealed_by_sealing, sealing_is, sending_port, IsSealing, IsLive}
+pub use Rattle.spec_links.proofs.SealingIs.{AllLive, all_live, sealed_same}
 pub use Rattle.law_sealing.proofs.Fits.{StreamsFit}
 pub use Rattle.gcm_seal.proofs.Strings.{length-masked_bytes}
 pub use Rattle.gcm_seal.proofs.Sealing.{masked-bytes, length-tag_of, tag_of-bytes, length-open_of}
-pub use Rattle.gcm_seal.proofs.Sealing.{masked_bytes-masked_bytes}
-pub use Rattle.gcm_seal.proofs.Sealing.{masked_bytes-append, tag-verifies}
-pub use Rattle.spec_links.proofs.Causes.{ending, accepted_by, received_there, numbered, packet_that_came, AcceptedBy}
-pub use Rattle.spec_links.proofs.Causes.{Came, Passed, HeldBy, held_by, unit_that_ends}
+pub use Rattle.gcm_seal.proofs.Sealing.{masked_bytes-masked_bytes, masked_bytes-append, tag-verifies}
+pub use Rattle.spec_links.proofs.Causes.{unit_ending, accepted_by, received_there, numbered, packet_that_came}
+pub use Rattle.spec_links.proofs.Causes.{AcceptedBy, Came, Passed, HeldBy, held_by, unit_that_ends}

@@ -1,12 +1,10 @@
 -- Sums over the draws of a sub-stream.
 use Rattle.law_sealing.proofs.Terms.{◌≡◌, ℕ, zero, suc, ◌+◌, ◌<◌, ◌≤◌, ◌==◌, ◌&&◌, Bool, true, false, nat_le, nat_lt}
 use Rattle.law_sealing.proofs.Terms.{List, [], ◌∷◌, ◌++◌, filter, sum_by, refl, sym, arith, if◌then◌else◌}
-use Rattle.law_sealing.proofs.Terms.{AllByRecursion, nat_tests, sum_by-append, sum_by-cons}
-use Rattle.law_sealing.proofs.Terms.{Plan, SubStream, is_same, History, SealedList, sub_stream_packets, is_under}
-use Rattle.law_sealing.proofs.Terms.{sub_stream_of}
+use Rattle.law_sealing.proofs.Terms.{AllByRecursion, nat_tests, sum_by-append, sum_by-cons, Plan, SubStream, is_same}
+use Rattle.law_sealing.proofs.Terms.{History, SealedList, sub_stream_packets, is_sealed_under, sub_stream_of}
 use Rattle.law_sealing.proofs.Terms.{arrived_packet, received_in, packets_in_hold, accepted_packets, got_since}
-use Rattle.law_sealing.proofs.Terms.{draws_got, Accepted}
-use Rattle.law_sealing.proofs.Terms.{SealedPacket, Packet}
+use Rattle.law_sealing.proofs.Terms.{draws_got, Accepted, SealedPacket, Packet}
 
 -- ---- sums from one draw on, below another
 
@@ -46,7 +44,7 @@ of_since from s x = is_same (sub_stream_of x.0) s && nat_le from x.0.draw
 
 sent_more : (w : Packet → ℕ) (s : SubStream) (k : ℕ) (x : SealedPacket × Packet) (xs : SealedList)
     → sum_by w (sub_stream_packets (x ∷ xs) s k) ≡ sum_by w (sub_stream_packets xs s k) +
-    (if is_under s k x then w x.1 else 0)
+    (if is_sealed_under s k x then w x.1 else 0)
 unfolding sub_stream_packets
 sent_more w s k x xs = grind (arith, sum_by-cons w x.1 (sub_stream_packets xs s k))
 

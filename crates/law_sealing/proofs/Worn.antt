@@ -2,13 +2,11 @@
 -- that is open began when fewer were finished; by induction on the history, and in a send packet by packet.
 use Rattle.law_sealing.proofs.Terms.{◌≡◌, ℕ, ◌<◌, ◌≤◌, ◌==◌, Bool, true, false, List, [], ◌∷◌, ◌++◌, length, Option}
 use Rattle.law_sealing.proofs.Terms.{Some, inl, inr, ◌⊎◌, refl, sym, ◌∙◌, subst, arith, nat_tests, slice_get}
-use Rattle.law_sealing.proofs.Terms.{length-append, if◌then◌else◌}
-use Rattle.law_sealing.proofs.Terms.{SubKind, PortName, Sealed, SealedPacket, Packet, Plan, SubStream, lane_out}
-use Rattle.law_sealing.proofs.Terms.{units, open_unit, History, base, ahead_of_packet, SealedList, KeyName}
-use Rattle.law_sealing.proofs.Terms.{sealed_packets}
-use Rattle.law_sealing.proofs.Terms.{with_sealed, sub_stream_packets, is_under, sub_stream_of, packet_of, CauseLaw}
-use Rattle.law_sealing.proofs.Terms.{DrawFacts}
-use Rattle.law_sealing.proofs.Terms.{lane_is, sealing_is, sending_port, sent_bytes, sub_stream_packets-snoc, units-end}
+use Rattle.law_sealing.proofs.Terms.{length-append, if◌then◌else◌, SubKind, PortName, Sealed, SealedPacket, Packet}
+use Rattle.law_sealing.proofs.Terms.{Plan, SubStream, lane_out, units, open_unit, History, base, ahead_of_packet}
+use Rattle.law_sealing.proofs.Terms.{SealedList, KeyName, sealed_packets, with_sealed, sub_stream_packets}
+use Rattle.law_sealing.proofs.Terms.{is_sealed_under, sub_stream_of, packet_of, CauseLaw, DrawFacts, lane_is}
+use Rattle.law_sealing.proofs.Terms.{sealing_is, sending_port, sent_bytes, sub_stream_packets-snoc, units-end}
 use Rattle.law_sealing.proofs.Terms.{units-more, open_unit-end}
 use Rattle.law_sealing.proofs.Sums.{in_parts}
 use Rattle.law_sealing.proofs.Sealings.{IsOf, AllOf, live_at, from_at, all_of_sealing}
@@ -53,7 +51,7 @@ module _ (plan : Plan) (port : PortName) (stream : ℕ) (live : SubKind → Opti
         → Unworn plan.units_per_key xs → Unworn plan.units_per_key (xs ++ (d, p) ∷ [])
     one_lasts xs d p of before = record {
       lasts = λ s j. subst (Lasts plan.units_per_key) (sym (sub_stream_packets-snoc xs (d, p) s j))
-          (by_test s j (is_under s j (d, p)) refl);
+          (by_test s j (is_sealed_under s j (d, p)) refl);
       numbers = λ i x at. elim (last_place xs (d, p) x i at) [
         | inl old ↦ before.numbers i x old.0
         | inr new ↦ rw new.0 (omega (arith, of.unit, less))
@@ -66,7 +64,7 @@ module _ (plan : Plan) (port : PortName) (stream : ℕ) (live : SubKind → Opti
         less : length (units here) < plan.units_per_key
         less = room plan.units_per_key here (before.lasts (lane_out port stream d.sub) d.draw) of.unworn
 
-        by_test : (s : SubStream) (j : ℕ) (b : Bool) → is_under s j (d, p) ≡ b
+        by_test : (s : SubStream) (j : ℕ) (b : Bool) → is_sealed_under s j (d, p) ≡ b
             → Lasts plan.units_per_key (if b then sub_stream_packets xs s j ++ p ∷ [] else sub_stream_packets xs s j)
         by_test s j false other = before.lasts s j
         by_test s j true under =

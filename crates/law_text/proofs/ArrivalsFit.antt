@@ -27,16 +27,14 @@ use Rattle.ide_prefix.proofs.Cuts.{bounded}
 use Rattle.ide_prefix.proofs.Grammar.{bytes_of, spelled_whole}
 use Rattle.spec_keys.specs.Keys.{Keyed, Off, Loaded, On, key_in, on_in}
 use Rattle.spec_keys.specs.History.{History, base}
-use Rattle.spec_links.specs.Plan.{SubStream, has_port, has_stream, stream_plan}
+use Rattle.spec_links.specs.Plan.{SubStream, has_port, has_stream, stream_plan, partner}
 use Rattle.spec_links.specs.History.{SealedList, Arrival, arrival_of_event, altered_arrival, arrival_at_partner}
-use Rattle.spec_links.specs.History.{shortened_arrival, packet_at}
-use Rattle.spec_links.specs.History.{sealed_packets, ahead_of_packet, sub_stream_of, units_got, is_of, port_keys}
-use Rattle.spec_links.specs.History.{on_draw}
-use Rattle.spec_links.specs.History.{failed, meets_counts, received_in, sent_bytes}
-use Rattle.spec_links.specs.History.{sending_port}
+use Rattle.spec_links.specs.History.{shortened_arrival, packet_by_number, sealed_packets, ahead_of_packet}
+use Rattle.spec_links.specs.History.{sub_stream_of, units_got, is_received_under, port_keys, on_draw, has_failed}
+use Rattle.spec_links.specs.History.{meets_counts, received_in, sent_bytes, sending_port}
 use Rattle.spec_links.specs.Due.{Ending, dump_due, arrival_due, ending_due, before_tag, before_tag_of, under_keys}
-use Rattle.spec_links.specs.Due.{is_mixed, is_overfull, receiving_sub_stream, unit_under, is_verified, ended}
-use Rattle.spec_links.specs.Due.{effects_of}
+use Rattle.spec_links.specs.Due.{is_mixed, is_overfull, receiving_sub_stream, next_unit_name, is_verified}
+use Rattle.spec_links.specs.Due.{unit_packets_ended, effects_of, through_due}
 use Rattle.spec_links.specs.Cause.{CauseLaw}
 use Rattle.spec_links.proofs.SealingIs.{IsLive, sealing_is, all_live}
 use Rattle.law_key_facts.proofs.Draws.{draws as draws_hold}
@@ -50,11 +48,9 @@ use Rattle.law_text.proofs.FaultPlaces.{cut_place}
 use Rattle.law_text.proofs.PortsFit.{with_stream, there_is, reached_is}
 use Rattle.spec_links.specs.Ports.{port_of, goes_through}
 use Rattle.spec_links.specs.Packets.{arrival_at}
-use Rattle.spec_links.specs.Plan.{partner}
-use Rattle.spec_links.specs.Due.{through_due}
 use Rattle.spec_links.proofs.Ends.{stream_is_there}
 use Rattle.ide_types.specs.Lines.{is_port}
-use Rattle.ide_types.specs.Ends.{line_has, port_at}
+use Rattle.ide_types.specs.Ends.{line_has, port_beside_end}
 use Rattle.law_sealing.proofs.Few.{sealed_few}
 
 -- ---- what was sealed
@@ -84,11 +80,11 @@ all_known plan ((e, w) ∷ h) law i x is = all_known plan h law.1 i x is
 
 record Known (plan : Plan) (h : History) (n : ℕ) (x : SealedPacket × Packet) : Type 0 where
   number : n ≤ 3 * length h
-  port : is_port (port_at plan.peers (partner x.0.port)) ≡ true
+  port : is_port (port_beside_end plan.peers (partner x.0.port)) ≡ true
   fits : FitsPacket x.1
 
 known_at : (plan : Plan) → FitsPlan plan → (h : History) → CauseLaw plan h → (n : ℕ) (x : SealedPacket × Packet)
-    → packet_at (sealed_packets plan h) n ≡ Some x → Known plan h n x
+    → packet_by_number (sealed_packets plan h) n ≡ Some x → Known plan h n x
 known_at plan fits h cause n x is = by_number (n == 0) is
   where
     within : (xs : SealedList) (i : ℕ) → slice_get xs i ≡ Some x → i < length xs
@@ -147,26 +143,26 @@ brought_fits plan fits h n x bytes a known small is =
 if_brought : (plan : Plan) → FitsPlan plan → (h : History) (n : ℕ) (x : SealedPacket × Packet) (bytes : List ℕ)
     (a : Arrival)
     → Known plan h n x → length bytes ≤ length (packet_bytes x.1) → (b : Bool)
-    → (if b then Some (arrival_at_partner plan x bytes) else None) ≡ Some a
-    → FitsArrival plan a
+    → (if b then Some (arrival_at_partner plan x bytes) else None) ≡ Some a → FitsArrival plan a
 if_brought plan fits h n x bytes a known small true is = brought_fits plan fits h n x bytes a known small is
 if_brought plan fits h n x bytes a known small false is = absurd cc
 
 arrival_fits : (plan : Plan) → FitsPlan plan → (h : History) → CauseLaw plan h → (e : Event) → IsAllowed e
     → (a : Arrival) → arrival_of_event plan h e ≡ Some a → FitsArrival plan a
 unfolding arrival_of_event
-arrival_fits plan fits h cause (Pass n) allowed a is = by_packet (packet_at (sealed_packets plan h) n) refl is
+arrival_fits plan fits h cause (Pass n) allowed a is = by_packet (packet_by_number (sealed_packets plan h) n) refl is
   where
-    by_packet : (o : Option (SealedPacket × Packet)) → packet_at (sealed_packets plan h) n ≡ o
+    by_packet : (o : Option (SealedPacket × Packet)) → packet_by_number (sealed_packets plan h) n ≡ o
         → option_map (λ (x : SealedPacket × Packet). arrival_at_partner plan x (packet_bytes x.1)) o ≡ Some a
         → FitsArrival plan a
     by_packet None at is = absurd cc
     by_packet (Some x) at is = brought_fits plan fits h n x (packet_bytes x.1) a (known_at plan fits h cause n x at)
         (omega arith) is
-arrival_fits plan fits h cause (Alter n place mask) allowed a is = by_packet (packet_at (sealed_packets plan h) n) refl
+arrival_fits plan fits h cause (Alter n place mask) allowed a is =
+    by_packet (packet_by_number (sealed_packets plan h) n) refl
     is
   where
-    by_packet : (o : Option (SealedPacket × Packet)) → packet_at (sealed_packets plan h) n ≡ o
+    by_packet : (o : Option (SealedPacket × Packet)) → packet_by_number (sealed_packets plan h) n ≡ o
         → option_and_then (altered_arrival plan place mask) o ≡ Some a → FitsArrival plan a
     by_packet None at is = absurd cc
     by_packet (Some x) at is =
@@ -175,9 +171,10 @@ arrival_fits plan fits h cause (Alter n place mask) allowed a is = by_packet (pa
         (known_at plan fits h cause n x at)
         (omega (arith, length-set bytes place (bit_xor (slice_index bytes place) mask)))
         (nat_lt place (length bytes)) is
-arrival_fits plan fits h cause (Cut n size) allowed a is = by_packet (packet_at (sealed_packets plan h) n) refl is
+arrival_fits plan fits h cause (Cut n size) allowed a is =
+    by_packet (packet_by_number (sealed_packets plan h) n) refl is
   where
-    by_packet : (o : Option (SealedPacket × Packet)) → packet_at (sealed_packets plan h) n ≡ o
+    by_packet : (o : Option (SealedPacket × Packet)) → packet_by_number (sealed_packets plan h) n ≡ o
         → option_and_then (shortened_arrival plan size) o ≡ Some a → FitsArrival plan a
     by_packet None at is = absurd cc
     by_packet (Some x) at is =
@@ -192,13 +189,13 @@ arrival_fits plan fits h cause (Arrive port bytes) allowed a is = by_port (has_p
         (record { port = reached_is plan fits port bytes (there_is plan fits port here); size = allowed.1 })
 arrival_fits plan fits h cause (Send port bytes more trusted) allowed a is = absurd cc
 arrival_fits plan fits h cause (Dump n) allowed a is = absurd cc
-arrival_fits plan fits h cause (Establish link stream lose) allowed a is = absurd cc
-arrival_fits plan fits h cause (Refresh link stream lose) allowed a is = absurd cc
-arrival_fits plan fits h cause (Stop link stream lose) allowed a is = absurd cc
+arrival_fits plan fits h cause (Establish line stream lose) allowed a is = absurd cc
+arrival_fits plan fits h cause (Refresh line stream lose) allowed a is = absurd cc
+arrival_fits plan fits h cause (Stop line stream lose) allowed a is = absurd cc
 arrival_fits plan fits h cause (Reset link ends) allowed a is = absurd cc
 arrival_fits plan fits h cause (Forward link d) allowed a is = absurd cc
 arrival_fits plan fits h cause Absent allowed a is = absurd cc
-arrival_fits plan fits h cause (Status link stream) allowed a is = absurd cc
+arrival_fits plan fits h cause (Status line stream) allowed a is = absurd cc
 arrival_fits plan fits h cause (Interface e) allowed a is = absurd cc
 arrival_fits plan fits h cause (Access e) allowed a is = absurd cc
 
@@ -207,7 +204,7 @@ arrival_fits plan fits h cause (Access e) allowed a is = absurd cc
 got_few : (h : History) (s : SubStream) (j : ℕ) → units_got h s j ≤ length h
 unfolding units_got
 got_few [] s j = omega arith
-got_few ((e, v.Accepted port unit effects) ∷ h) s j = by_test (is_of s j port unit) (got_few h s j)
+got_few ((e, v.Accepted port unit effects) ∷ h) s j = by_test (is_received_under s j port unit) (got_few h s j)
   where
     by_test : (b : Bool) → units_got h s j ≤ length h → (if b then units_got h s j + 1 else units_got h s j) ≤ suc
         (length h)
@@ -235,15 +232,15 @@ under_fits plan h port p there few stream (Some j) other is =
     by_tests (is_mixed plan h (receiving_sub_stream port p) other
     || is_overfull plan h (receiving_sub_stream port p) j p.prefix.m) p.prefix.m
   where
-    unit : Fits plan (v.Held port (unit_under h (receiving_sub_stream port p) j))
+    unit : Fits plan (v.Held port (next_unit_name h (receiving_sub_stream port p) j))
     unit =
         let s = receiving_sub_stream port p in
         let draw = on_below h port s p.prefix.k j (on_is (key_in (port_keys h port s) p.prefix.k) j is) in
         ((there, stream), omega (arith, few, draw), omega (arith, few, got_few h s j))
 
     by_tests : (bad m : Bool) → FitsStep plan port (if bad then Err (v.Fail port p.prefix.stream p.prefix.sub fail.Unit)
-        else if m then Ok (record { packet = p; unit = unit_under h (receiving_sub_stream port p) j }) else Err
-        (v.Held port (unit_under h (receiving_sub_stream port p) j)))
+        else if m then Ok (record { packet = p; unit = next_unit_name h (receiving_sub_stream port p) j }) else Err
+        (v.Held port (next_unit_name h (receiving_sub_stream port p) j)))
     by_tests true m = (there, stream)
     by_tests false true = unit
     by_tests false false = unit
@@ -253,7 +250,7 @@ cut_step_fits : (plan : Plan) → FitsPlan plan → (h : History) (a : Arrival) 
 cut_step_fits plan plan_fits h a fits few (Err f) cut = (fits.port, omega (arith, fits.size, cut_place a.bytes f cut))
 cut_step_fits plan plan_fits h a fits few (Ok PlainTlp) cut = fits.port
 cut_step_fits plan plan_fits h a fits few (Ok (IdePacket p)) cut = by_tests (has_stream plan a.port p.prefix.stream)
-    (failed h a.port p.prefix.stream) refl
+    (has_failed h a.port p.prefix.stream) refl
   where
     stream : p.prefix.stream < 2 ^ 64
     stream = omega (arith, (cut_fits a.bytes p cut).prefix.stream)
@@ -280,12 +277,12 @@ settled_fits : (plan : Plan) (h : History) (port : PortName) (r : Result Ending 
     → Fits plan (ending_due plan h port r)
 settled_fits plan h port (Err w) step = step
 settled_fits plan h port (Ok x) step = by_tests (is_verified plan h port x)
-    (meets_counts plan h (received_in port x.unit) (ended plan h port x))
+    (meets_counts plan h (received_in port x.unit) (unit_packets_ended plan h port x))
   where
     by_tests : (verified counts : Bool) → Fits plan
         (if not verified then v.Fail port x.unit.stream x.unit.sub fail.Tag
         else if not counts then v.Fail port x.unit.stream x.unit.sub fail.Order
-        else v.Accepted port x.unit (effects_of plan h port x.unit (ended plan h port x)))
+        else v.Accepted port x.unit (effects_of plan h port x.unit (unit_packets_ended plan h port x)))
     by_tests false counts = step.0
     by_tests true false = step.0
     by_tests true true = step
@@ -301,7 +298,8 @@ arrival_due_fits plan fits h cause few e allowed (Some a) is =
     (cut_step_fits plan fits h a arrives few (cut_of a.bytes) refl))
 
 pub dump_due_fits : (plan : Plan) → FitsPlan plan → (h : History) → CauseLaw plan h → length h < 2 ^ 28
-    → (n : ℕ) (o : Option (SealedPacket × Packet)) → packet_at (sealed_packets plan h) n ≡ o → Fits plan (dump_due n o)
+    → (n : ℕ) (o : Option (SealedPacket × Packet)) → packet_by_number (sealed_packets plan h) n ≡ o
+    → Fits plan (dump_due n o)
 dump_due_fits plan fits h cause few n None is = tt
 dump_due_fits plan fits h cause few n (Some x) is =
     let known = known_at plan fits h cause n x is in

@@ -11,8 +11,7 @@ use Rattle.link_verdicts.specs.declared.verdict.Verdict.{Verdict}
 use Rattle.link_verdicts.specs.declared.verdict.Verdict.TheVariants as v
 use Rattle.spec_keys.specs.Keys.{On, key_in}
 use Rattle.spec_keys.specs.Operations.{StreamStage, Idle, Establishing, Up, Refreshing, Stopping, Work, Reach, Manager}
-use Rattle.spec_keys.specs.Operations.{Begun}
-use Rattle.spec_keys.specs.Operations.{work_of, reach_of, manager_after_operation, manager_after, makes_draw}
+use Rattle.spec_keys.specs.Operations.{Begun, work_of, reach_of, manager_after_operation, manager_after, makes_draw}
 use Rattle.spec_keys.specs.Operations.{begun_after_work}
 use Rattle.spec_keys.specs.History.{History, op_of, draws, manager}
 use Rattle.spec_keys.proofs.Owners.{begun_below, manager_owned, owner}
@@ -22,27 +21,27 @@ use Rattle.law_key_facts.proofs.SealedKeys.{on_is_owned}
 
 -- ---- draws that were made
 
-one_more : (bs : List Begun) (link stream : ℕ) (w : Work) → length (begun_after_work bs link stream w) ≤ length bs + 1
-one_more bs link stream w = by_test (w.begins && makes_draw w.operation)
+one_more : (bs : List Begun) (line stream : ℕ) (w : Work) → length (begun_after_work bs line stream w) ≤ length bs + 1
+one_more bs line stream w = by_test (w.begins && makes_draw w.operation)
   where
-    by_test : (b : Bool) → length (if b then record { line = link; stream = stream; set = w.set } ∷ bs else bs) ≤ length
+    by_test : (b : Bool) → length (if b then record { line = line; stream = stream; set = w.set } ∷ bs else bs) ≤ length
         bs + 1
     by_test true = omega arith
     by_test false = omega arith
 
-one_operation : (m : Manager) (o : Operation) (link stream : ℕ) (r : Option Reach) (n : ℕ) → length m.begun ≤ n
-    → length (manager_after_operation m o link stream r).begun ≤ suc n
-one_operation m o link stream None n few = omega (arith, few)
-one_operation m o link stream (Some r) n few = omega
-    (arith, few, one_more m.begun link stream (work_of o (m.ops link stream) (length m.begun)))
+one_operation : (m : Manager) (o : Operation) (line stream : ℕ) (r : Option Reach) (n : ℕ) → length m.begun ≤ n
+    → length (manager_after_operation m o line stream r).begun ≤ suc n
+one_operation m o line stream None n few = omega (arith, few)
+one_operation m o line stream (Some r) n few = omega
+    (arith, few, one_more m.begun line stream (work_of o (m.ops line stream) (length m.begun)))
 
 one_event : (m : Manager) (e : Event) (verdict : Verdict) (n : ℕ) → length m.begun ≤ n
     → length (manager_after m e verdict).begun ≤ suc n
-one_event m (event.Establish link stream loss) verdict n few = one_operation m op.Establish link stream
+one_event m (event.Establish line stream loss) verdict n few = one_operation m op.Establish line stream
     (reach_of op.Establish verdict) n few
-one_event m (event.Refresh link stream loss) verdict n few = one_operation m op.Refresh link stream
+one_event m (event.Refresh line stream loss) verdict n few = one_operation m op.Refresh line stream
     (reach_of op.Refresh verdict) n few
-one_event m (event.Stop link stream loss) verdict n few = one_operation m op.Stop link stream (reach_of op.Stop verdict)
+one_event m (event.Stop line stream loss) verdict n few = one_operation m op.Stop line stream (reach_of op.Stop verdict)
     n few
 one_event m (event.Reset link ends) (v.Reset l) n few = omega (arith, few)
 one_event m (event.Reset link ends) _ n few = omega (arith, few)
@@ -69,21 +68,21 @@ op_draw (Up set j) = j
 op_draw (Refreshing set j n) = j
 op_draw (Stopping n) = 0
 
-op_below : (h : History) (link stream : ℕ) (q : StreamStage) → op_of h link stream ≡ q → op_draw q ≤ draws h
-op_below h link stream Idle is = omega arith
-op_below h link stream (Establishing j n) is =
-    let below : j < draws h = begun_below (manager h).begun j (owner link stream false)
-    (rw is at (manager_owned h link stream)) in
+op_below : (h : History) (line stream : ℕ) (q : StreamStage) → op_of h line stream ≡ q → op_draw q ≤ draws h
+op_below h line stream Idle is = omega arith
+op_below h line stream (Establishing j n) is =
+    let below : j < draws h = begun_below (manager h).begun j (owner line stream false)
+    (rw is at (manager_owned h line stream)) in
     omega (arith, below)
-op_below h link stream (Up set j) is =
-    let below : j < draws h = begun_below (manager h).begun j (owner link stream set)
-    (rw is at (manager_owned h link stream)) in
+op_below h line stream (Up set j) is =
+    let below : j < draws h = begun_below (manager h).begun j (owner line stream set)
+    (rw is at (manager_owned h line stream)) in
     omega (arith, below)
-op_below h link stream (Refreshing set j n) is =
-    let below : j < draws h = begun_below (manager h).begun j (owner link stream set)
-    (rw is at (manager_owned h link stream)) in
+op_below h line stream (Refreshing set j n) is =
+    let below : j < draws h = begun_below (manager h).begun j (owner line stream set)
+    (rw is at (manager_owned h line stream)) in
     omega (arith, below)
-op_below h link stream (Stopping n) is = omega arith
+op_below h line stream (Stopping n) is = omega arith
 
 work_below : (o : Operation) (q : StreamStage) (next : ℕ) → op_draw q ≤ next → (work_of o q next).draw ≤ next
 work_below op.Establish (Establishing j n) next le = le
@@ -103,11 +102,11 @@ work_below op.Stop (Up set j) next le = omega arith
 work_below op.Stop (Refreshing set j n) next le = omega arith
 
 -- the draw of an operation at an event
-pub few_work : (h : History) (o : Operation) (link stream : ℕ)
-    → (work_of o (op_of h link stream) (draws h)).draw ≤ length h
-few_work h o link stream = omega (
+pub few_work : (h : History) (o : Operation) (line stream : ℕ)
+    → (work_of o (op_of h line stream) (draws h)).draw ≤ length h
+few_work h o line stream = omega (
   arith,
-  work_below o (op_of h link stream) (draws h) (op_below h link stream (op_of h link stream) refl),
+  work_below o (op_of h line stream) (draws h) (op_below h line stream (op_of h line stream) refl),
   few_draws
       h,
 )

@@ -7,7 +7,7 @@ use Rattle.tlp_layout.specs.declared.fault.TlpFault.{TlpFault}
 use Rattle.tlp_layout.specs.declared.fault.TlpFault.TheVariants as tlps
 use Rattle.tlp_layout.specs.Reading.{read_of}
 use Rattle.tlp_layout.specs.Causes.{cause_at, fault_at, head_size}
-use Rattle.tlp_layout.specs.Class.{kind_at}
+use Rattle.tlp_layout.specs.Class.{kind_of_byte}
 use Rattle.tlp_layout.specs.Faults.{place_in}
 use Rattle.tlp_layout.proofs.Readings.{read_refuses}
 use Rattle.ide_prefix.specs.declared.fault.PacketFault.{PacketFault}
@@ -50,7 +50,7 @@ moved_by_four (tlps.Trailing place) = refl
 
 early_within : (place : ℕ) (s : List ℕ) (b : ℕ) → packet_place (early_cause place s b) ≤ place
 early_within place s b = by_tests (place == 1) (place == 4) (b / 8 % 4 == 0) (begins_sync (prefix_read s).sub b)
-    (is_some (kind_at b)) refl refl
+    (is_some (kind_of_byte b)) refl refl
   where
     by_tests : (one four clear sync kind : Bool) → (place == 1) ≡ one → (place == 4) ≡ four
         → packet_place (if one then (if clear then packets.SubStream 1 else packets.Reserved 1)

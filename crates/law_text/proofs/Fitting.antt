@@ -3,7 +3,7 @@ use Rattle.std.proofs.Common.{refl}
 use Rattle.link_events.specs.declared.event.Event.TheVariants.{Send, Pass, Alter, Cut, Arrive, Dump, Establish, Refresh}
 use Rattle.link_events.specs.declared.event.Event.TheVariants.{Stop, Reset, Status, Interface, Access, Forward, Absent}
 use Rattle.link_events.specs.declared.event.AccessEvent.TheVariants as ae
-use Rattle.spec_links.specs.History.{arrival_of_event, packet_at, sealed_packets}
+use Rattle.spec_links.specs.History.{arrival_of_event, packet_by_number, sealed_packets}
 use Rattle.spec_links.specs.Due.{due}
 use Rattle.spec_links.specs.Memory.{memory_due}
 use Rattle.law_text.specs.Statements.{DueFits}
@@ -22,13 +22,13 @@ unfolding due arrival_of_event
 due_fits plan fits h cause few (Send port bytes more trusted) allowed = send_due_fits plan fits h cause few port bytes
     more trusted allowed.2
 due_fits plan fits h cause few (Dump n) allowed = dump_due_fits plan fits h cause few n
-    (packet_at (sealed_packets plan h) n) refl
-due_fits plan fits h cause few (Establish link stream lose) allowed = establish_due_fits plan fits h few link stream
+    (packet_by_number (sealed_packets plan h) n) refl
+due_fits plan fits h cause few (Establish line stream lose) allowed = establish_due_fits plan fits h few line stream
     lose
-due_fits plan fits h cause few (Refresh link stream lose) allowed = refresh_due_fits plan fits h few link stream lose
-due_fits plan fits h cause few (Stop link stream lose) allowed = stop_due_fits plan fits h few link stream lose
+due_fits plan fits h cause few (Refresh line stream lose) allowed = refresh_due_fits plan fits h few line stream lose
+due_fits plan fits h cause few (Stop line stream lose) allowed = stop_due_fits plan fits h few line stream lose
 due_fits plan fits h cause few (Reset link ends) allowed = reset_due_fits plan fits h link ends
-due_fits plan fits h cause few (Status link stream) allowed = status_due_fits plan fits h link stream
+due_fits plan fits h cause few (Status line stream) allowed = status_due_fits plan fits h line stream
 due_fits plan fits h cause few (Interface e) allowed = interface_fits plan fits h cause few e (memory_due plan h e)
     (memory_fits plan h cause e)
 due_fits plan fits h cause few (Access (ae.Answer link)) allowed = answer_due_fits plan fits h cause few link

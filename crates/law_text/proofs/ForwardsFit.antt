@@ -1,8 +1,7 @@
 -- The verdicts of forwards fit: what waits at a switch is sent on the hop's stream.
 use Rattle.std.proofs.Common.{◌≡◌, ◌∙◌, ℕ, ◌+◌, ◌<◌, ◌^◌, Bool, true, false, List, [], ◌∷◌, length, Option, Some, None}
-use Rattle.std.proofs.Common.{refl}
-use Rattle.std.proofs.Common.{sym, ap, subst, arith, if◌then◌else◌}
-use Rattle.std.specs.Prelude.{is_some, nat_lt, slice_get}
+use Rattle.std.proofs.Common.{refl, sym, ap, subst, arith, if◌then◌else◌}
+use Rattle.std.specs.Prelude.{is_some, slice_get}
 use Rattle.std.proofs.lemmas.Bool.{and_parts, ltb-true, eq-eqb}
 use Rattle.ide_types.specs.Lines.{is_link_line}
 use Rattle.ide_types.specs.declared.direction.Direction.{Direction}
@@ -24,7 +23,7 @@ use Rattle.spec_links.specs.Due.{forward_first}
 use Rattle.spec_links.specs.History.{sealed_packets}
 use Rattle.spec_links.specs.Hops.{HopTlp, has_hop, leaving_end}
 use Rattle.spec_links.specs.Memory.{hop_waiting}
-use Rattle.spec_links.specs.Plan.{lone_stream, with_id}
+use Rattle.spec_links.specs.Plan.{with_id}
 unfoldable use Rattle.spec_links.specs.Plan.{stream_plan}
 use Rattle.law_hops.proofs.Sends.{forward_sends, leaving_row}
 use Rattle.law_sealing.proofs.Few.{sealed_few}

@@ -8,7 +8,7 @@ use Rattle.std.specs.Option.{option_map, option_map_or}
 use Rattle.std.proofs.Math.Nat.{div-le_self}
 use Rattle.std.proofs.lemmas.Bool.{leb-true, eqb-true}
 use Rattle.hex.specs.Hex.{IsBytes}
-use Rattle.ide_types.specs.Lines.{is_peer_line}
+use Rattle.ide_types.specs.Lines.{is_peer_line, peer_line}
 use Rattle.ide_types.specs.declared.plan.Plan.{Plan}
 use Rattle.ide_types.specs.declared.interface.InterfacePlan.{InterfacePlan}
 use Rattle.ide_types.specs.Fits.{AreBytes, FitsPlan}
@@ -37,20 +37,17 @@ use Rattle.interface_state.proofs.KeptReports.{kept_short}
 use Rattle.spec_keys.specs.History.{History, op_of, draws}
 use Rattle.spec_keys.specs.Due.{lost_at}
 use Rattle.spec_interfaces.specs.Sites.{Site, site_at}
-use Rattle.spec_interfaces.specs.Views.{Managed, on_lock, on_report, on_start, on_halt, on_state, on_bind}
-use Rattle.spec_interfaces.specs.Views.{on_operation}
-use Rattle.spec_interfaces.specs.Views.{managed_after, managed, stream_draw, number_in, view_broken}
-use Rattle.spec_interfaces.specs.Due.{AskedState, standing_at, unless_lost, if_unlocked, verdict_of_lock, lock_due}
+use Rattle.spec_interfaces.specs.Views.{Managed, on_lock, on_report, on_start, on_halt, on_state, on_bind, on_operation}
+use Rattle.spec_interfaces.specs.Views.{managed_after, managed_view, stream_draw, number_in, view_broken}
+use Rattle.spec_interfaces.specs.Due.{AskedState, asked_state, unless_lost, if_unlocked, verdict_of_lock, lock_due}
 use Rattle.spec_interfaces.specs.Due.{if_locked_or_running, portions, reported_as, if_locked, if_reported, started_as}
-use Rattle.spec_interfaces.specs.Due.{verdict_of_bind, unbound_as, bind_due, unbind_due, op_status}
+use Rattle.spec_interfaces.specs.Due.{verdict_of_bind, unbound_as, bind_due, unbind_due, op_status, start_due}
+use Rattle.spec_interfaces.specs.Due.{asked_due, interface_due, on_site, with_number, interface_verdict_due as own_due}
 use Rattle.spec_interfaces.specs.Peers.{has_peer}
 unfoldable use Rattle.spec_interfaces.specs.Peers.{peer_end}
-use Rattle.ide_types.specs.Lines.{peer_line}
 use Rattle.ide_types.specs.Ports.{host_port, device_port}
 use Rattle.ide_types.specs.declared.port.PortName.{PortName}
 use Rattle.ide_types.specs.declared.plan.PeerPlan.{PeerPlan}
-use Rattle.spec_interfaces.specs.Due.{start_due, asked_due, interface_due, on_site, with_number}
-use Rattle.spec_interfaces.specs.Due.{interface_verdict_due as own_due}
 use Rattle.spec_links.specs.Cause.{CauseLaw}
 use Rattle.spec_links.specs.Memory.{memory_due}
 unfoldable use Rattle.spec_links.specs.Due.{due}
@@ -218,8 +215,7 @@ bind_code : (t : Tdi) (stream : ℕ) (live : Option ℕ) (code : ℕ) → bind_a
 bind_code t stream live code is = grind arith
 
 bind_fits : (plan : Plan) (x : Site) (s : AskedState) (line stream : ℕ) (loss : Option Loss) → SiteFits x
-    → StandingFits s
-    → is_peer_line line ≡ true → Fits plan (bind_due x s line stream loss)
+    → StandingFits s → is_peer_line line ≡ true → Fits plan (bind_due x s line stream loss)
 bind_fits plan x s line stream loss site stands at =
     let answer = bind_answer s.tdi stream (s.around.live stream) in
     viewed_fits plan s.managed.view _ (secure_fits plan (op_status (s.peer_op line stream)) _
@@ -327,33 +323,33 @@ one_needs : (h : History) (x : Site) (e : Event) (w : Verdict) (m : Managed) (n 
     → (managed_after (op_of h) (draws h) x e w m).needs ≤ n
 one_needs h x (event.Interface e) w m n few made = needs_if _ (on_operation (draws h) e w m) m n
     (operation_needs (draws h) e w m n few made) few
-one_needs h x (event.Stop link stream loss) w m n few made = needs_if _ _ m n few few
+one_needs h x (event.Stop line stream loss) w m n few made = needs_if _ _ m n few few
 one_needs h x (event.Reset link ends) (v.Reset l) m n few made = needs_if _ _ m n few few
 one_needs h x e w m n few made = few
 
-needs_few : (h : History) (x : Site) → (managed h x).needs ≤ length h
-unfolding managed
+needs_few : (h : History) (x : Site) → (managed_view h x).needs ≤ length h
+unfolding managed_view
 needs_few [] x = omega arith
-needs_few ((e, w) ∷ h) x = omega (arith, one_needs h x e w (managed h x) (length h) (needs_few h x) (few_draws h))
+needs_few ((e, w) ∷ h) x = omega (arith, one_needs h x e w (managed_view h x) (length h) (needs_few h x) (few_draws h))
 
 number_if : (b : Bool) (m n : ℕ) → m < 2 ^ 64 → n < 2 ^ 64 → (if b then m else n) < 2 ^ 64
 number_if true m n one two = one
 number_if false m n one two = two
 
-draw_fits : (plan : Plan) → FitsPlan plan → (h : History) → CauseLaw plan h → length h < 2 ^ 28 → (link stream : ℕ)
-    → stream_draw h link stream < 2 ^ 64
+draw_fits : (plan : Plan) → FitsPlan plan → (h : History) → CauseLaw plan h → length h < 2 ^ 28 → (line stream : ℕ)
+    → stream_draw h line stream < 2 ^ 64
 unfolding stream_draw
-draw_fits plan fits [] cause few link stream = omega arith
-draw_fits plan fits ((event.Establish l s loss, w) ∷ h) cause few link stream =
-    number_if _ (draws h) (stream_draw h link stream) (omega (arith, few, few_draws h))
-    (draw_fits plan fits h cause.1 (omega (arith, few)) link stream)
-draw_fits plan fits ((event.Refresh l s loss, v.Refreshed a b j) ∷ h) cause few link stream =
+draw_fits plan fits [] cause few line stream = omega arith
+draw_fits plan fits ((event.Establish l s loss, w) ∷ h) cause few line stream =
+    number_if _ (draws h) (stream_draw h line stream) (omega (arith, few, few_draws h))
+    (draw_fits plan fits h cause.1 (omega (arith, few)) line stream)
+draw_fits plan fits ((event.Refresh l s loss, v.Refreshed a b j) ∷ h) cause few line stream =
     let shown = subst (Fits plan) (sym cause.0) (refresh_due_fits plan fits h (omega (arith, few)) l s loss) in
-    number_if _ j (stream_draw h link stream) shown.2 (draw_fits plan fits h cause.1 (omega (arith, few)) link stream)
-draw_fits plan fits (_ ∷ h) cause few link stream = draw_fits plan fits h cause.1 (omega (arith, few)) link stream
+    number_if _ j (stream_draw h line stream) shown.2 (draw_fits plan fits h cause.1 (omega (arith, few)) line stream)
+draw_fits plan fits (_ ∷ h) cause few line stream = draw_fits plan fits h cause.1 (omega (arith, few)) line stream
 
 standing_fits : (plan : Plan) → FitsPlan plan → (h : History) → CauseLaw plan h → length h < 2 ^ 28 → (x : Site)
-    → StandingFits (standing_at plan h x)
+    → StandingFits (asked_state plan h x)
 standing_fits plan fits h cause few x = record {
   nonce = λ nonce is. nonce_bytes plan fits x.link _ nonce is;
   needs = omega (arith, few, needs_few h x);
@@ -372,7 +368,7 @@ interface_fits plan fits h cause few e given known = by_number (number_in e)
     by_site : (o : Option Site) → ((x : Site) → o ≡ Some x → SiteFits x)
         → Fits plan (on_site (λ x. interface_due plan h x e) o)
     by_site None site = tt
-    by_site (Some x) site = asked_fits plan fits x (standing_at plan h x) e (site x refl)
+    by_site (Some x) site = asked_fits plan fits x (asked_state plan h x) e (site x refl)
         (standing_fits plan fits h cause few x)
 
     by_number : (o : Option ℕ) → Fits plan (with_number plan h e o given)
@@ -406,8 +402,7 @@ start_floor plan m (v.Interface (iv.Started i draw)) shown few = shown.1
 start_floor plan m w shown few = grind arith
 
 operation_floor : (plan : Plan) (drawn : ℕ) (e : InterfaceEvent) (w : Verdict) (m : Managed) → Fits plan w
-    → m.floor < 2 ^ 64
-    → (on_operation drawn e w m).floor < 2 ^ 64
+    → m.floor < 2 ^ 64 → (on_operation drawn e w m).floor < 2 ^ 64
 operation_floor plan drawn (ie.Lock i loss) w m shown few = omega (arith, lock_floor m w, few)
 operation_floor plan drawn (ie.Report i loss) w m shown few = omega (arith, report_floor m w, few)
 operation_floor plan drawn (ie.Start i loss) w m shown few = start_floor plan m w shown few
@@ -421,7 +416,7 @@ one_floor : (plan : Plan) (h : History) (x : Site) (e : Event) (w : Verdict) (m 
     → (managed_after (op_of h) (draws h) x e w m).floor < 2 ^ 64
 one_floor plan h x (event.Interface e) w m shown few = floor_if _ (on_operation (draws h) e w m) m
     (operation_floor plan (draws h) e w m (shown e refl) few) few
-one_floor plan h x (event.Stop link stream loss) w m shown few = floor_if _ (record m { view = view_broken m.view }) m
+one_floor plan h x (event.Stop line stream loss) w m shown few = floor_if _ (record m { view = view_broken m.view }) m
     few
     few
 one_floor plan h x (event.Reset link ends) (v.Reset l) m shown few = floor_if _ (record m { view = view_broken m.view })
@@ -430,11 +425,11 @@ one_floor plan h x e w m shown few = few
 
 pub floor_fits : (plan : Plan) → FitsPlan plan
     → ((h : History) → CauseLaw plan h → (e : InterfaceEvent) → Fits plan (memory_due plan h e))
-    → (h : History) → CauseLaw plan h → length h < 2 ^ 28 → (x : Site) → (managed h x).floor < 2 ^ 64
-unfolding managed due
+    → (h : History) → CauseLaw plan h → length h < 2 ^ 28 → (x : Site) → (managed_view h x).floor < 2 ^ 64
+unfolding managed_view due
 floor_fits plan fits known [] cause few x = omega arith
 floor_fits plan fits known ((e, w) ∷ h) cause few x =
-    one_floor plan h x e w (managed h x) (shown e w cause.0)
+    one_floor plan h x e w (managed_view h x) (shown e w cause.0)
     (floor_fits plan fits known h cause.1 (omega (arith, few)) x)
   where
     shown : (e : Event) (w : Verdict) → w ≡ due plan h e → (i : InterfaceEvent) → e ≡ event.Interface i → Fits plan w

@@ -35,9 +35,8 @@ use Rattle.spec_keys.specs.History.{History}
 use Rattle.spec_interfaces.specs.Views.{grant_at}
 use Rattle.spec_links.specs.History.{arrived_packet, packets_in_hold, received_in}
 use Rattle.trusted_memory.specs.Admitted.{is_placed, if_placed, is_on_bound}
-use Rattle.spec_links.specs.Memory.{Grants, requester_bound, payload_write, admitted, admitted_each, unit_ended}
-use Rattle.spec_links.specs.Memory.{plain_of}
-use Rattle.spec_links.specs.Memory.{accepted_unit_writes, shown_if, memory_due}
+use Rattle.spec_links.specs.Memory.{Grants, requester_bound, payload_write, write_if_admitted, admitted_each}
+use Rattle.spec_links.specs.Memory.{unit_ended, plain_of, accepted_unit_writes, shown_if, memory_due}
 unfoldable use Rattle.spec_links.specs.Memory.{writes}
 use Rattle.spec_links.specs.Cause.{CauseLaw}
 use Rattle.spec_links.specs.Due.{due}
@@ -85,7 +84,7 @@ placed_bytes regions b (Some w) bytes = by (b && is_placed regions w.span)
     by false = tt
 
 admitted_bytes : (plan : Plan) (grants : Grants) (port : PortName) (unit : UnitName) (p : Packet) (payload : List ℕ)
-    → AreOctets payload → OfBytes (admitted plan grants port unit p payload)
+    → AreOctets payload → OfBytes (write_if_admitted plan grants port unit p payload)
 admitted_bytes plan grants port unit p payload bytes = by_test _
   where
     by_head : (r : Result HeadView TlpFault) → OfBytes (payload_write plan grants port unit p.prefix.t payload r)

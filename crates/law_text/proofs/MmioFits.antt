@@ -31,12 +31,11 @@ use Rattle.guarded_memory.specs.Stored.{stored_unless, stored_by_claim, write_ha
 use Rattle.spec_keys.specs.History.{History}
 use Rattle.spec_interfaces.specs.Sites.{Site, site_at}
 use Rattle.spec_interfaces.specs.Exchanges.{carries, changes_device}
-use Rattle.spec_interfaces.specs.Floors.{place_of, history_standings}
+use Rattle.spec_interfaces.specs.Floors.{place_of, history_statuses}
 use Rattle.spec_links.specs.Memory.{unit_ended, plain_of}
 use Rattle.spec_links.specs.Guarded.{tlp_happened, stored_packet, stored_each, unit_happenings, happens_if, halted_at}
-use Rattle.spec_links.specs.Guarded.{reset_at}
-use Rattle.spec_links.specs.Guarded.{asked_happens, happens, mmio_if, mmio_shown, mmio_due}
-unfoldable use Rattle.spec_links.specs.Guarded.{happened}
+use Rattle.spec_links.specs.Guarded.{reset_at, asked_happens, happens, mmio_if, mmio_shown, mmio_due}
+unfoldable use Rattle.spec_links.specs.Guarded.{link_happenings}
 use Rattle.spec_links.specs.Cause.{CauseLaw}
 use Rattle.spec_links.specs.Due.{due}
 use Rattle.law_text.proofs.MemoryFits.{IsByte, AreOctets, OfBytes, Payloads, plain_bytes, write_bytes, unit_fits}
@@ -131,8 +130,8 @@ pair_bytes : (plan : Plan) (h : History) → CauseLaw plan h → (e : Event) (w 
 pair_bytes plan h cause e (v.Accepted port unit effects) is link =
     let ps = unit_ended plan h e port unit in
     let at = (port_of plan port).line in
-    if_list (at == link) (unit_happenings (history_standings plan h at) plan port unit ps)
-    (unit_bytes (history_standings plan h at) plan port unit ps (unit_fits plan h cause e port unit effects is))
+    if_list (at == link) (unit_happenings (history_statuses plan h at) plan port unit ps)
+    (unit_bytes (history_statuses plan h at) plan port unit ps (unit_fits plan h cause e port unit effects is))
 pair_bytes plan h cause (event.Reset l ends) (v.Reset k) is link = if_bytes (l == link) AllReset tt
 pair_bytes plan h cause e w is link = asked_bytes plan e w link
 
@@ -143,11 +142,11 @@ newest_bytes (None ∷ os) older each all = newest_bytes os older each.1 all
 newest_bytes (Some h ∷ os) older each all = newest_bytes os (h ∷ older) each.1 (each.0, all)
 
 happened_bytes : (plan : Plan) (h : History) → CauseLaw plan h → (link : ℕ)
-    → AllByRecursion OfHappened (happened plan h link)
-unfolding happened
+    → AllByRecursion OfHappened (link_happenings plan h link)
+unfolding link_happenings
 happened_bytes plan [] cause link = tt
 happened_bytes plan ((e, w) ∷ h) cause link =
-    newest_bytes (happens plan h e w link) (happened plan h link) (pair_bytes plan h cause.1 e w cause.0 link)
+    newest_bytes (happens plan h e w link) (link_happenings plan h link) (pair_bytes plan h cause.1 e w cause.0 link)
     (happened_bytes plan h cause.1 link)
 
 -- ---- what is shown
@@ -180,14 +179,15 @@ shown_bytes plan true bytes are = are
 shown_bytes plan false bytes are = tt
 
 site_bytes : (plan : Plan) (h : History) → CauseLaw plan h → (o : Option Site) (bar offset len : ℕ)
-    → Fits plan (mmio_shown plan (happened plan h) o bar offset len)
+    → Fits plan (mmio_shown plan (link_happenings plan h) o bar offset len)
 site_bytes plan h cause None bar offset len = tt
 site_bytes plan h cause (Some x) bar offset len =
     let place = place_of plan x in
-    let ws = writes_since (happened plan h x.link) place bar in
-    shown_bytes plan _ (bytes_from (byte_shown (happened plan h x.link) place bar) offset len)
-    (from_bytes (byte_shown (happened plan h x.link) place bar)
-    (byte_small ws (since_bytes (happened plan h x.link) place bar (happened_bytes plan h cause x.link))) offset len)
+    let ws = writes_since (link_happenings plan h x.link) place bar in
+    shown_bytes plan _ (bytes_from (byte_shown (link_happenings plan h x.link) place bar) offset len)
+    (from_bytes (byte_shown (link_happenings plan h x.link) place bar)
+    (byte_small ws (since_bytes (link_happenings plan h x.link) place bar (happened_bytes plan h cause x.link))) offset
+    len)
 
 pub mmio_fits : (plan : Plan) (h : History) → CauseLaw plan h → (i bar offset len : ℕ)
     → Fits plan (mmio_due plan h i bar offset len)

@@ -9,7 +9,7 @@ use Rattle.link_events.specs.declared.event.Event.{Event}
 use Rattle.link_events.specs.Spells.{IsAllowed}
 use Rattle.link_verdicts.specs.declared.verdict.Verdict.{Verdict}
 use Rattle.link_verdicts.specs.Lines.{line_of}
-use Rattle.link_verdicts.specs.Shown.{shown}
+use Rattle.link_verdicts.specs.Shown.{verdict_by_ports}
 use Rattle.link_verdicts.proofs.Spellings.{lines_apart}
 use Rattle.spec_keys.specs.History.{History}
 use Rattle.spec_links.specs.Due.{due}
@@ -47,7 +47,7 @@ tells : (plan : Plan) → FitsPlan plan → (h : History) (later : List Event) (
     → lines_told plan h ++ rest ≡ text_on plan [] (events_told h ++ later) ++ last → Tells plan h later rest last
 tells plan plan_fits [] later rest last events fits same = record { cause = tt; left = same }
 tells plan plan_fits ((e, v) ∷ h) later rest last events fits same =
-    let line = line_of (length h + 1) (shown plan.peers v) in
+    let line = line_of (length h + 1) (verdict_by_ports plan.peers v) in
     let order : (events_told h ++ e ∷ []) ++ later ≡ events_told h
     ++ (e ∷ later) = append_assoc (events_told h) (e ∷ []) later in
     let all = subst AreAllowed order events in
@@ -55,7 +55,7 @@ tells plan plan_fits ((e, v) ∷ h) later rest last events fits same =
     (same ∙ ap (λ (es : List Event). text_on plan [] es ++ last) order) in
     let before = tells plan plan_fits h (e ∷ later) (line ++ rest) last all fits.1 text in
     let few : length h < 2 ^ 28 = omega (arith, all.few, length-append (events_told h) (e ∷ later), length-events h) in
-    let due_line = line_of (length h + 1) (shown plan.peers (due plan h e)) in
+    let due_line = line_of (length h + 1) (verdict_by_ports plan.peers (due plan h e)) in
     let lines = before.left ∙ append_assoc due_line (text_on plan (history_with plan h e) later) last in
     let number : length h + 1 < 2 ^ 64 = omega (arith, few) in
     let apart = lines_apart plan plan_fits (length h + 1) (length h + 1) v (due plan h e) rest
@@ -77,7 +77,7 @@ due_lines : (plan : Plan) (h : History) (es : List Event) → lines_told plan (h
     ++ text_on plan h es
 due_lines plan h [] = sym (append-nil (lines_told plan h))
 due_lines plan h (e ∷ es) = due_lines plan (history_with plan h e) es ∙ append_assoc (lines_told plan h)
-    (line_of (length h + 1) (shown plan.peers (due plan h e))) (text_on plan (history_with plan h e) es)
+    (line_of (length h + 1) (verdict_by_ports plan.peers (due plan h e))) (text_on plan (history_with plan h e) es)
 
 due_verdicts : (plan : Plan) → FitsPlan plan → (h : History) (es : List Event) → CauseLaw plan h → VerdictsFit plan h
     → length h + length es < 2 ^ 28 → AllByRecursion IsAllowed es → VerdictsFit plan (history_on plan h es)

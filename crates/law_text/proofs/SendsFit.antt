@@ -18,26 +18,24 @@ use Rattle.link_verdicts.specs.Apart.{Fits, FitPackets, FitsSealed}
 use Rattle.tlp_layout.specs.Class.{class_of}
 use Rattle.tlp_layout.specs.declared.tlp.Tlp.{Tlp}
 use Rattle.tlp_layout.specs.Tlp.{header}
-use Rattle.association.specs.Outgoing.{Outgoing, NoTlp, OnNone, OnStream, outgoing_of}
-use Rattle.association.proofs.Outgoing.{no_tlp_reads}
+use Rattle.tlp_layout.specs.Outgoing.{Outgoing, NoTlp, OnNone, OnStream, outgoing_of}
+use Rattle.tlp_layout.proofs.Outgoing.{no_tlp_reads}
 use Rattle.ide_prefix.specs.Packet.{Packet}
 use Rattle.spec_keys.specs.History.{History, base}
 use Rattle.spec_links.specs.Plan.{SubStream, has_link, has_port, lane_out, streams_of}
 use Rattle.spec_links.specs.Units.{units, units_after}
-use Rattle.spec_links.specs.History.{KeyName, SealedList, sealed_packets, sub_stream_packets, is_under, port_keys}
-use Rattle.spec_links.specs.History.{live_key, is_in}
-use Rattle.spec_links.specs.History.{posted_in, posted_of}
+use Rattle.spec_links.specs.History.{KeyName, SealedList, sealed_packets, sub_stream_packets, is_sealed_under}
+use Rattle.spec_links.specs.History.{port_keys, live_key, is_sealed_since, posted_since_last, posted_lane}
 use Rattle.spec_links.specs.Due.{Sending, Lanes, Lane, lanes_at, packets_under_key, due, send_due, bytes_due, t_sealed}
+use Rattle.spec_links.specs.Due.{refusals, first_that_holds, sealed_with_syncs, described_seal, needs_sync, no_key}
+use Rattle.spec_links.specs.Due.{is_posted, ends_unit, sets_trusted}
 use Rattle.spec_links.specs.Ports.{port_of, at_switch, may_send, sealing_end}
 use Rattle.ide_types.specs.Lines.{is_port}
 use Rattle.std.proofs.lemmas.Bool.{and_parts}
 use Rattle.law_text.proofs.PortsFit.{sealing_is}
-use Rattle.spec_links.specs.Due.{refusals, first_that_holds, sealed_with_syncs, described_seal, needs_sync, no_key}
-use Rattle.spec_links.specs.Due.{is_posted}
-use Rattle.spec_links.specs.Due.{ends_unit, sets_trusted}
 use Rattle.spec_links.specs.Cause.{CauseLaw}
 use Rattle.spec_links.proofs.Choices.{stream_known}
-use Rattle.spec_links.proofs.Senders.{listed, sealed_by_is, on_live}
+use Rattle.spec_links.proofs.Senders.{listed_seals, sealed_by_is, on_live}
 use Rattle.law_sealing.proofs.Few.{sealed_few, filter_few}
 use Rattle.law_text.proofs.Draws.{on_below}
 use Rattle.law_text.proofs.FaultPlaces.{tlp_place}
@@ -58,20 +56,20 @@ under_few plan h s (Some key) =
     omega (
       arith,
       units_few [] (sub_stream_packets xs s key.draw),
-      length-map (filter (is_under s key.draw) xs)
+      length-map (filter (is_sealed_under s key.draw) xs)
           (λ (x : SealedPacket × Packet). x.1),
-      filter_few (is_under s key.draw) xs,
+      filter_few (is_sealed_under s key.draw) xs,
     )
 
-posted_few : (xs : SealedList) (s : SubStream) (from : ℕ) → posted_in xs s from ≤ length xs
-unfolding posted_in
+posted_few : (xs : SealedList) (s : SubStream) (from : ℕ) → posted_since_last xs s from ≤ length xs
+unfolding posted_since_last
 posted_few xs s from =
-    let last = after_last (is_in s from) xs in
+    let last = after_last (is_sealed_since s from) xs in
     omega (
       arith,
-      filter_few (is_in (posted_of s) from) last,
+      filter_few (is_sealed_since (posted_lane s) from) last,
       length-drop
-          (length xs - suffix_len (λ (y : SealedPacket × Packet). not (is_in s from y)) xs) xs,
+          (length xs - suffix_len (λ (y : SealedPacket × Packet). not (is_sealed_since s from y)) xs) xs,
     )
 
 pub live_few : (h : History) (port : PortName) (s : SubStream) (o : Option KeyName) → live_key h port s ≡ o
@@ -117,8 +115,8 @@ described_fits plan x s u number m t sync fits at small = (
 )
 
 listed_fits : (plan : Plan) (x : Lanes) (s : Sending) (number : ℕ) (n c : Bool) → ((u : SubKind) → LaneFits (x.lane u))
-    → FitsStream plan s.port.line s.stream → number < 2 ^ 63 → FitPackets plan (listed x s number n c)
-unfolding listed
+    → FitsStream plan s.port.line s.stream → number < 2 ^ 63 → FitPackets plan (listed_seals x s number n c)
+unfolding listed_seals
 listed_fits plan x s number false false fits at small = (
   described_fits plan x s s.class _ (ends_unit x s) (sets_trusted s.port s.trusted) false (fits s.class) at
       (omega (arith, small)),
@@ -166,8 +164,7 @@ first_holds P (x ∷ xs) last all ends = by_test x.0 (first_holds P xs last all.
     by_test false rest = rest
 
 pub sent_fits : (plan : Plan) → FitsPlan plan → (h : History) → CauseLaw plan h → length h < 2 ^ 28 → (s : Sending)
-    → FitsStream plan s.port.line s.stream → (number : ℕ) → number < 2 ^ 63
-    → let x = lanes_at plan h s.port s.stream in
+    → FitsStream plan s.port.line s.stream → (number : ℕ) → number < 2 ^ 63 → let x = lanes_at plan h s.port s.stream in
     Fits plan (unwrap_or (first_that_holds (refusals x s.class)) (v.Sealed (sealed_with_syncs x s number)))
 sent_fits plan fits h cause few s at number small =
     let x = lanes_at plan h s.port s.stream in
@@ -197,8 +194,7 @@ on_stream_fits plan fits h cause few port bytes more trusted t stream comes =
 
 outgoing_fits : (plan : Plan) → FitsPlan plan → (h : History) → CauseLaw plan h → length h < 2 ^ 28
     → (port : PortName) (bytes : List ℕ) (more trusted : Bool) → length bytes < 2 ^ 64
-    → is_port (port_of plan port) ≡ true
-    → (o : Outgoing) → outgoing_of (streams_of plan port.line) port.side bytes ≡ o
+    → is_port (port_of plan port) ≡ true → (o : Outgoing) → outgoing_of (streams_of plan port.line) port.side bytes ≡ o
     → Fits plan (send_due plan h port o more trusted)
 outgoing_fits plan fits h cause few port bytes more trusted small link (NoTlp f) comes =
     let reads = no_tlp_reads (streams_of plan port.line) port.side bytes f comes in

@@ -15,7 +15,7 @@ use Rattle.ide_types.specs.declared.stream.StreamPlan.{StreamPlan}
 use Rattle.ide_types.specs.Fits.{AreBytes, IsKey, FitsInterface, FitsLink, FitsPlan}
 use Rattle.ide_types.proofs.Limits.{few_interfaces}
 use Rattle.interface_state.specs.Held.{FitsTdi}
-use Rattle.spec_interfaces.specs.Sites.{Site, sites_on, sites_from, site_at, nonce_behind}
+use Rattle.spec_interfaces.specs.Sites.{Site, sites_of_plans, sites_of_links, site_at, nonce_behind}
 unfoldable use Rattle.spec_interfaces.specs.Sites.{sites}
 
 -- ---- numbers, and what is laid out
@@ -38,7 +38,7 @@ one_fits streams number link p few fits = record {
 
 on_fits : (streams : List StreamPlan) (number link : ℕ) (ps : List InterfacePlan) (xs : List Site)
     → number + length ps ≤ 64 → AllByRecursion (FitsInterface streams) ps → AllFit xs
-    → AllFit (sites_on number link ps ++ xs)
+    → AllFit (sites_of_plans number link ps ++ xs)
 on_fits streams number link [] xs few fits rest = rest
 on_fits streams number link (p ∷ ps) xs few fits rest = (
   one_fits streams number link p (omega (arith, few)) fits.0,
@@ -47,7 +47,7 @@ on_fits streams number link (p ∷ ps) xs few fits rest = (
 )
 
 from_fits : (number link : ℕ) (ls : List LinkPlan) → number + sum_by (λ l. length l.interfaces) ls ≤ 64
-    → AllByRecursion FitsLink ls → AllFit (sites_from number link ls)
+    → AllByRecursion FitsLink ls → AllFit (sites_of_links number link ls)
 from_fits number link [] few fits = tt
 from_fits number link (l ∷ ls) few fits =
     let sum = sum_by-cons (λ (l : LinkPlan). length l.interfaces) l ls in

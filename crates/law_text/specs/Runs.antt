@@ -8,7 +8,7 @@ use Rattle.link_verdicts.specs.declared.verdict.Effect.{Effect}
 use Rattle.link_verdicts.specs.declared.verdict.Effect.TheVariants.{Blocked}
 use Rattle.link_verdicts.specs.declared.verdict.Totals.{Totals}
 use Rattle.link_verdicts.specs.Lines.{line_of}
-use Rattle.link_verdicts.specs.Shown.{shown}
+use Rattle.link_verdicts.specs.Shown.{verdict_by_ports}
 use Rattle.spec_keys.specs.History.{History}
 use Rattle.spec_links.specs.Due.{due}
 
@@ -24,7 +24,7 @@ history_on plan h (event ∷ events) = history_on plan (history_with plan h even
 -- the verdict lines of events in order, numbered on
 abbrev pub text_on : Plan → History → List Event → List ℕ
 text_on plan h [] = []
-text_on plan h (event ∷ events) = line_of (length h + 1) (shown plan.peers (due plan h event))
+text_on plan h (event ∷ events) = line_of (length h + 1) (verdict_by_ports plan.peers (due plan h event))
     ++ text_on plan (history_with plan h event) events
 
 -- ---- totals

@@ -5,7 +5,7 @@ use Rattle.link_events.specs.declared.event.Event.{Event}
 use Rattle.link_events.specs.Spells.{IsAllowed}
 use Rattle.link_verdicts.specs.Apart.{Fits}
 use Rattle.link_verdicts.specs.Lines.{line_of}
-use Rattle.link_verdicts.specs.Shown.{shown}
+use Rattle.link_verdicts.specs.Shown.{verdict_by_ports}
 use Rattle.ide_types.specs.declared.plan.Plan.{Plan}
 use Rattle.spec_keys.specs.History.{History}
 
@@ -17,7 +17,8 @@ events_told ((event, verdict) ∷ h) = events_told h ++ event ∷ []
 -- the verdicts' lines in their order, numbered from 1
 abbrev pub lines_told : Plan → History → List ℕ
 lines_told plan [] = []
-lines_told plan ((event, verdict) ∷ h) = lines_told plan h ++ line_of (length h + 1) (shown plan.peers verdict)
+lines_told plan ((event, verdict) ∷ h) = lines_told plan h
+    ++ line_of (length h + 1) (verdict_by_ports plan.peers verdict)
 
 -- each verdict names what the topology has, and its numbers and bytes are such as the types hold
 abbrev pub VerdictsFit : Plan → History → Type 0

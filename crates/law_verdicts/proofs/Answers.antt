@@ -1,23 +1,19 @@
 -- An answer is the completion of its read.
-use Rattle.std.proofs.Common.{◌≡◌, ℕ, ◌+◌, Bool, true, false, List, [], ◌∷◌, ◌++◌, length, Ok, Some, refl, ap, sym}
-use Rattle.std.proofs.Common.{◌∙◌}
+use Rattle.std.proofs.Common.{◌≡◌, ℕ, ◌+◌, Bool, true, false, List, [], ◌∷◌, ◌++◌, length, Ok, Some, refl, ap, sym, ◌∙◌}
 use Rattle.std.specs.Prelude.{unwrap_or}
-use Rattle.spec_links.proofs.Terms.{Plan, History, Event, Verdict, Sealed, SealedPacket, SealedList, Packet}
-use Rattle.spec_links.proofs.Terms.{PortName, sent_bytes, sending_port, with_sealed, ahead_of_packet, open_unit}
+use Rattle.spec_links.proofs.Terms.{Plan, History, Event, Verdict, Sealed, SealedPacket, SealedList, Packet, PortName}
+use Rattle.spec_links.proofs.Terms.{sent_bytes, sending_port, with_sealed, ahead_of_packet, open_unit}
 use Rattle.spec_links.proofs.Terms.{sub_stream_packets, sub_stream_of, base, lanes_at, Sending, Lanes, described_seal}
-use Rattle.spec_links.proofs.Terms.{ends_unit}
-use Rattle.spec_links.proofs.Terms.{sets_trusted, CauseLaw, Npr, Cpl, sealed_with_syncs, Access, outgoing_completion}
-use Rattle.spec_links.proofs.Terms.{site_with}
-use Rattle.spec_links.proofs.Terms.{granted_to}
+use Rattle.spec_links.proofs.Terms.{ends_unit, sets_trusted, CauseLaw, Npr, Cpl, sealed_with_syncs, Access}
+use Rattle.spec_links.proofs.Terms.{outgoing_completion, site_with, granted_to}
 use Rattle.spec_links.specs.Terms.{header, Tlp, read_of, masked_bytes, iv_of, body}
 use Rattle.tlp_layout.specs.Class.{class_of}
 use Rattle.tlp_layout.specs.Head.{head_bytes}
 use Rattle.std.specs.List.{AllByRecursion}
 unfoldable use Rattle.spec_links.proofs.Terms.{due, sealed_packets, packet_of}
 use Rattle.spec_links.specs.Plan.{key_of}
-use Rattle.spec_links.specs.Due.{send_due, t_sealed, first_that_holds, refusals}
-use Rattle.association.specs.Outgoing.{Outgoing, NoTlp, OnNone, OnStream}
-use Rattle.spec_links.specs.Due.{sync_before}
+use Rattle.spec_links.specs.Due.{send_due, t_sealed, first_that_holds, refusals, sync_before}
+use Rattle.tlp_layout.specs.Outgoing.{Outgoing, NoTlp, OnNone, OnStream}
 use Rattle.tlp_layout.proofs.Readings.{read_spells_tlp}
 use Rattle.ide_prefix.specs.Units.{encrypted_bytes}
 use Rattle.law_locks.proofs.{draws, first_means, owned_means, read_law, under_means}
@@ -109,14 +105,12 @@ send_ends plan h port (OnStream t stream) trusted =
 -- ---- its header and payload
 
 head_is : (plan : Plan) (ahead bytes : List ℕ) (d : SealedPacket) (unfinished : List Packet) (t : Tlp)
-    → d.sync ≡ false → read_of bytes ≡ Ok t
-    → (packet_of plan ahead bytes d unfinished).head ≡ head_bytes (header t)
+    → d.sync ≡ false → read_of bytes ≡ Ok t → (packet_of plan ahead bytes d unfinished).head ≡ head_bytes (header t)
 unfolding packet_of
 head_is plan ahead bytes d unfinished t sync reads = rw (sync, reads) refl
 
 body_is : (plan : Plan) (ahead bytes : List ℕ) (d : SealedPacket) (unfinished : List Packet) (t : Tlp)
-    → d.sync ≡ false → read_of bytes ≡ Ok t
-    → (packet_of plan ahead bytes d unfinished).body
+    → d.sync ≡ false → read_of bytes ≡ Ok t → (packet_of plan ahead bytes d unfinished).body
     ≡ masked_bytes (key_of plan d.draw (sub_stream_of d)) (iv_of d.sub d.unit) (length (encrypted_bytes unfinished))
     (body t)
 unfolding packet_of
@@ -124,8 +118,7 @@ body_is plan ahead bytes d unfinished t sync reads = rw (sync, reads) refl
 
 -- ---- the pair
 
-sealed_now : (plan : Plan) (h : History) (e : Event) (ds : List SealedPacket)
-    → sealed_packets plan ((e, Sealed ds) ∷ h)
+sealed_now : (plan : Plan) (h : History) (e : Event) (ds : List SealedPacket) → sealed_packets plan ((e, Sealed ds) ∷ h)
     ≡ with_sealed plan (ahead_of_packet plan (sealed_packets plan h) (base h)) (sent_bytes plan h e) ds
     (sealed_packets plan h)
 unfolding sealed_packets

@@ -10,6 +10,7 @@ use Rattle.std.specs.Option.{option_or}
 use Rattle.ide_types.specs.Sub.{sent_direction}
 use Rattle.ide_types.specs.declared.port.Side.{Side}
 use Rattle.ide_types.specs.declared.port.Side.TheVariants.{Host, Device}
+use Rattle.ide_types.specs.declared.binding.Binding.{Binding}
 use Rattle.ide_types.specs.declared.plan.Region.{Region}
 use Rattle.tlp_layout.specs.declared.head.HeadView.{HeadView}
 use Rattle.tlp_layout.specs.declared.fault.TlpFault.{TlpFault}
@@ -37,9 +38,8 @@ use Rattle.spec_links.specs.Admission.{switch_effect}
 use Rattle.spec_links.specs.Memory.{Policy, policy_at, unit_grant, host_effect, device_effect, effect_by}
 use Rattle.spec_links.specs.Memory.{effects_each, waiting_then, unit_ended}
 use Rattle.law_verdicts.specs.Effects.{is_queued, is_full, asks_granted_read, packet_asks_read, asks_read, before_64}
-use Rattle.law_verdicts.specs.Effects.{behind_64}
-use Rattle.law_verdicts.specs.Effects.{takes_as, takes_claimed, takes_claim, takes_span, takes_write, is_waiting_effect}
-use Rattle.law_verdicts.specs.Effects.{waits_at, HasExactEffects}
+use Rattle.law_verdicts.specs.Effects.{behind_64, takes_as, takes_claimed, takes_claim, takes_span, takes_write}
+use Rattle.law_verdicts.specs.Effects.{is_waiting_effect, waits_at, HasExactEffects}
 use Rattle.link_verdicts.specs.declared.verdict.BlockCause.{BlockCause}
 use Rattle.link_verdicts.specs.declared.verdict.BlockCause.TheVariants as blocks
 use Rattle.ide_types.specs.declared.interface.BarPlan.{BarPlan}
@@ -74,14 +74,13 @@ granted true false true false f n says = says
 not_less : (m n : ℕ) → nat_le m n ≡ not (nat_lt n m)
 not_less m n = grind (arith, nat_tests)
 
-bound_says : (o : Option (ℕ × ℕ)) (stream draw : ℕ) (inside across : Bool) (f : Option BlockCause) (n : ℕ)
-    → Says (read_effect f) true n
-    → Says (read_effect (option_or (option_or (grant_cause o stream draw)
+bound_says : (o : Option Binding) (stream draw : ℕ) (inside across : Bool) (f : Option BlockCause) (n : ℕ)
+    → Says (read_effect f) true n → Says (read_effect (option_or (option_or (grant_cause o stream draw)
     (if not inside then Some blocks.Outside else if across then Some blocks.Crosses else None)) f))
     (is_on_bound stream draw o && (inside && not across)) n
 bound_says None stream draw inside across f n says = record { queued = refl; full = refl }
 bound_says (Some b) stream draw inside across f n says =
-    rw (not_less b.1 draw) (granted (b.0 == stream) (nat_lt draw b.1) inside across f n says)
+    rw (not_less b.floor draw) (granted (b.stream == stream) (nat_lt draw b.floor) inside across f n says)
 
 read_says : (regions : List Region) (s : Span) (g : Grant) (n : ℕ)
     → Says (read_effect (read_cause regions s g n)) (is_on_bound g.stream g.draw g.bound && is_placed regions s) n
@@ -103,11 +102,11 @@ write_neither regions t g None = (refl, refl)
 write_neither regions false g (Some s) = (refl, refl)
 write_neither regions true g (Some s) = by g.bound (in_one_region regions s.address (span_byte_count s)) (crosses s)
   where
-    by : (o : Option (ℕ × ℕ)) (inside across : Bool) → IsNeither
+    by : (o : Option Binding) (inside across : Bool) → IsNeither
         (block_effect (option_or (grant_cause o g.stream g.draw)
         (if not inside then Some blocks.Outside else if across then Some blocks.Crosses else None)))
     by None inside across = (refl, refl)
-    by (Some b) inside across = in_turn (b.0 == g.stream) (nat_lt g.draw b.1) inside across
+    by (Some b) inside across = in_turn (b.stream == g.stream) (nat_lt g.draw b.floor) inside across
       where
         in_turn : (e l inside across : Bool) → IsNeither (block_effect (option_or
             (if not e then Some blocks.WrongStream else if l then Some blocks.Stale else None)

@@ -1,22 +1,22 @@
 -- A failed stream is dead at its port.
-use Rattle.spec_links.proofs.Terms.{◌≡◌, ℕ, ◌∷◌, Bool, true, false, not, List, [], Option, Some, None, Result, Ok}
-use Rattle.spec_links.proofs.Terms.{Err}
-use Rattle.spec_links.proofs.Terms.{refl, ap, sym, subst, ◌∙◌, arith, if◌then◌else◌, unwrap_or, is_some, nat_lt}
-use Rattle.spec_links.proofs.Terms.{AllByRecursion, Plan, PortName, Event, Verdict, SealedPacket, Packet, History}
-use Rattle.spec_links.proofs.Terms.{Send, Access, Dump, Establish, Refresh, Stop, Reset, Status, Interface, Pass}
-use Rattle.spec_links.proofs.Terms.{Alter, Arrive, Cut, UnitName, failed, is_quiet, first_that_holds, refusals}
-use Rattle.spec_links.proofs.Terms.{lanes_at}
-use Rattle.spec_links.proofs.Terms.{send_due, answer_first, site_answer, completion_verdict, outgoing_completion}
-use Rattle.spec_links.proofs.Terms.{is_stream}
-use Rattle.spec_links.proofs.Terms.{is_before, WaitingRead, waiting, Site, site_with, granted_to, live_key, lane_out}
-use Rattle.spec_links.proofs.Terms.{Cpl, Arrival, arrival_due, before_tag_of, has_link, sending_port, arrival_of_event}
-use Rattle.spec_links.proofs.Terms.{packet_at, sealed_packets, dump_due, stream_plan}
+use Rattle.spec_links.proofs.Terms.{◌≡◌, ℕ, ◌∷◌, Bool, true, false, List, [], Option, Some, None, Result, Ok, Err, refl}
+use Rattle.spec_links.proofs.Terms.{ap, sym, subst, ◌∙◌, arith, if◌then◌else◌, unwrap_or, is_some, AllByRecursion, Plan}
+use Rattle.spec_links.proofs.Terms.{PortName, Event, Verdict, SealedPacket, Packet, History, Send, Access, Dump}
+use Rattle.spec_links.proofs.Terms.{Establish, Refresh, Stop, Reset, Status, Interface, Pass, Alter, Arrive, Cut}
+use Rattle.spec_links.proofs.Terms.{UnitName, has_failed, is_quiet, first_that_holds, refusals, lanes_at, send_due}
+use Rattle.spec_links.proofs.Terms.{answer_first, site_answer, completion_verdict, outgoing_completion, judged_by}
+use Rattle.spec_links.proofs.Terms.{answer_judged, binding_cause, is_before, WaitingRead, waiting_reads, Site}
+use Rattle.spec_links.proofs.Terms.{site_with, granted_to, live_key, lane_out, Cpl, Arrival, arrival_due, before_tag_of}
+use Rattle.spec_links.proofs.Terms.{has_link, sending_port, arrival_of_event, packet_by_number, sealed_packets}
+use Rattle.spec_links.proofs.Terms.{dump_due, stream_plan}
 use Rattle.spec_links.specs.Terms.{CutValue, PacketFault}
 unfoldable use Rattle.spec_links.proofs.Terms.{due, key_due, before_tag}
 use Rattle.spec_links.specs.Due.{through_due, ending_due, forward_first, forward_out}
 use Rattle.spec_links.specs.Hops.{HopTlp, has_hop, leaving_end}
 use Rattle.spec_links.specs.Memory.{hop_waiting}
+use Rattle.ide_types.specs.declared.binding.Binding.{Binding}
 use Rattle.ide_types.specs.declared.direction.Direction.{Direction}
+use Rattle.link_verdicts.specs.declared.verdict.BlockCause.{BlockCause}
 use Rattle.link_events.specs.declared.event.Event.TheVariants.{Forward, Absent}
 use Rattle.spec_links.specs.Ports.{may_send, outgoing_at, sealing_end, goes_through}
 use Rattle.spec_links.proofs.Causes.{held_by, accepted_by, Passed}
@@ -24,7 +24,7 @@ use Rattle.spec_links.proofs.SealingIs.{sealing_is, AllLive, all_live}
 use Rattle.spec_links.proofs.KeyVerdicts.{establish_due_quiet, refresh_due_quiet, stop_due_quiet, interface_due_quiet}
 use Rattle.spec_links.proofs.KeyVerdicts.{if_quiet, mmio_quiet}
 use Rattle.spec_links.specs.History.{sent_bytes}
-use Rattle.association.specs.Outgoing.{Outgoing, NoTlp, OnNone, OnStream, stream_taken}
+use Rattle.tlp_layout.specs.Outgoing.{Outgoing, NoTlp, OnNone, OnStream, stream_taken}
 use Rattle.ide_prefix.specs.Reading.{PlainTlp, IdePacket, cut_of}
 use Rattle.tlp_layout.specs.Class.{class_of}
 use Rattle.tlp_layout.specs.Tlp.{header}
@@ -35,14 +35,14 @@ use Rattle.link_verdicts.specs.declared.verdict.Verdict.TheVariants as v
 -- ---- what is sealed
 
 all_whole : (plan : Plan) (h : History) (port : PortName) (stream : ℕ) (ds : List SealedPacket)
-    → failed h port stream ≡ false → AllLive plan h port stream ds
-    → AllByRecursion (λ (d : SealedPacket). failed h d.port d.stream ≡ false) ds
+    → has_failed h port stream ≡ false → AllLive plan h port stream ds
+    → AllByRecursion (λ (d : SealedPacket). has_failed h d.port d.stream ≡ false) ds
 all_whole plan h port stream [] whole live = tt
 all_whole plan h port stream (d ∷ ds) whole live =
-    ((λ i. failed h (live.0.port_is i) (live.0.stream_is i)) ∙ whole, all_whole plan h port stream ds whole live.1)
+    ((λ i. has_failed h (live.0.port_is i) (live.0.stream_is i)) ∙ whole, all_whole plan h port stream ds whole live.1)
 
 sealed_whole : (plan : Plan) (h : History) (e : Event) (ds : List SealedPacket) → v.Sealed ds ≡ due plan h e
-    → AllByRecursion (λ (d : SealedPacket). failed h d.port d.stream ≡ false) ds
+    → AllByRecursion (λ (d : SealedPacket). has_failed h d.port d.stream ≡ false) ds
 sealed_whole plan h e ds is =
     let sealing = sealing_is plan h e ds is in
     all_whole plan h sealing.sending.port sealing.sending.stream ds sealing.free.0
@@ -51,14 +51,14 @@ sealed_whole plan h e ds is =
 -- ---- what arrives
 
 passed_whole : (plan : Plan) (h : History) (port : PortName) (p : Packet) (unit : UnitName)
-    → Passed plan h port p unit → failed h port unit.stream ≡ false
+    → Passed plan h port p unit → has_failed h port unit.stream ≡ false
 passed_whole plan h port p unit passed =
-    ap (λ (u : UnitName). failed h port u.stream) passed.named ∙ passed.secure
+    ap (λ (u : UnitName). has_failed h port u.stream) passed.named ∙ passed.secure
 
 -- ---- what fails
 
 abbrev Fails : History → Verdict → Type 0
-Fails h (v.Fail port stream sub cause) = failed h port stream ≡ false
+Fails h (v.Fail port stream sub cause) = has_failed h port stream ≡ false
 Fails h w = Unit {0}
 
 quiet_fails : (h : History) (w : Verdict) → is_quiet w ≡ true → Fails h w
@@ -84,14 +84,18 @@ send_fails plan h port (OnStream t stream) more trusted =
     first_fails h (refusals (lanes_at plan h port stream) (class_of (header t))) _
     (tt, (tt, (tt, (tt, (tt, (tt, (tt, (tt, tt)))))))) tt
 
-answer_by_fails : (plan : Plan) (h : History) (port : PortName) (interface draw : ℕ) (o : Option (ℕ × ℕ))
+judged_fails : (plan : Plan) (h : History) (port : PortName) (interface : ℕ) (bound : Binding) (o : Option BlockCause)
+    (out : Outgoing) → Fails h (answer_judged plan h port out (judged_by interface bound o))
+judged_fails plan h port interface bound (Some c) out = tt
+judged_fails plan h port interface bound None out =
+    if_fails h (is_before (live_key h port (lane_out port bound.stream Cpl)) bound.floor) _ _ tt
+    (send_fails plan h port out false true)
+
+answer_by_fails : (plan : Plan) (h : History) (port : PortName) (interface draw : ℕ) (o : Option Binding)
     (out : Outgoing) → Fails h (completion_verdict plan h port interface draw o out)
 answer_by_fails plan h port interface draw None out = tt
 answer_by_fails plan h port interface draw (Some bound) out =
-    if_fails h (not (is_stream bound.0 (stream_taken out))) _ _ tt
-    (if_fails h (nat_lt draw bound.1) _ _ tt
-    (if_fails h (is_before (live_key h port (lane_out port bound.0 Cpl)) bound.1) _ _ tt
-    (send_fails plan h port out false true)))
+    judged_fails plan h port interface bound (binding_cause bound (stream_taken out) draw) out
 
 answer_of_fails : (plan : Plan) (h : History) (port : PortName) (draw : ℕ) (o : Option Site) (out : Outgoing)
     → Fails h (site_answer plan h port draw o out)
@@ -147,16 +151,16 @@ fails plan h (Send port bytes more trusted) =
     tt
 fails plan h (Access (ae.Answer link)) =
     if_fails h (has_link plan link) _ v.Nothing
-    (answer_first_fails plan h (sending_port plan (Access (ae.Answer link))) (waiting plan h link)
+    (answer_first_fails plan h (sending_port plan (Access (ae.Answer link))) (waiting_reads plan h link)
     (outgoing_completion plan h link)) tt
 fails plan h (Access (ae.Mmio i bar offset len)) = quiet_fails h _ (mmio_quiet plan h i bar offset len)
-fails plan h (Dump n) = quiet_fails h _ (dump_quiet n (packet_at (sealed_packets plan h) n))
-fails plan h (Establish link stream lose) = quiet_fails h _ (establish_due_quiet plan h link stream lose)
-fails plan h (Refresh link stream lose) = quiet_fails h _ (refresh_due_quiet plan h link stream lose)
-fails plan h (Stop link stream lose) = quiet_fails h _ (stop_due_quiet plan h link stream lose)
+fails plan h (Dump n) = quiet_fails h _ (dump_quiet n (packet_by_number (sealed_packets plan h) n))
+fails plan h (Establish line stream lose) = quiet_fails h _ (establish_due_quiet plan h line stream lose)
+fails plan h (Refresh line stream lose) = quiet_fails h _ (refresh_due_quiet plan h line stream lose)
+fails plan h (Stop line stream lose) = quiet_fails h _ (stop_due_quiet plan h line stream lose)
 fails plan h (Reset link ends) = quiet_fails h _ (if_quiet (has_link plan link) (v.Reset link) v.Nothing refl refl)
-fails plan h (Status link stream) =
-    quiet_fails h _ (if_quiet (is_some (stream_plan plan link stream)) _ v.Nothing refl refl)
+fails plan h (Status line stream) =
+    quiet_fails h _ (if_quiet (is_some (stream_plan plan line stream)) _ v.Nothing refl refl)
 fails plan h (Interface e) = quiet_fails h _ (interface_due_quiet plan h e)
 fails plan h (Pass n) = arrival_fails plan h (arrival_of_event plan h (Pass n))
 fails plan h (Alter n at mask) = arrival_fails plan h (arrival_of_event plan h (Alter n at mask))

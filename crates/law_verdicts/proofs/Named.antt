@@ -1,31 +1,31 @@
 -- A verdict is `none` exactly if something that its event names does not exist.
 use Rattle.spec_links.proofs.Terms.{Bool, Option, arith, false, refl, true, ℕ, ◌≡◌, StreamStatus, Loss, PortView}
-use Rattle.spec_links.proofs.Terms.{done, may_establish, may_refresh, operation_verdict, ports_at, inl, inr, ap, ◌∙◌}
-use Rattle.spec_links.proofs.Terms.{unless_open, draws, op_of, StreamStage, Work, work_of, key_plan, stream_plan}
-use Rattle.spec_links.proofs.Terms.{History}
-use Rattle.spec_links.proofs.Terms.{Host}
-use Rattle.spec_links.proofs.Terms.{KeyPlan, Plan, Event, Verdict, if◌then◌else◌, is_some, history_status, has_link}
+use Rattle.spec_links.proofs.Terms.{finished_verdict, may_establish, may_refresh, operation_verdict, ports_at, inl, inr}
+use Rattle.spec_links.proofs.Terms.{ap, ◌∙◌, unless_open, draws, op_of, StreamStage, Work, work_of, key_plan}
+use Rattle.spec_links.proofs.Terms.{stream_plan, History, Host, KeyPlan, Plan, Event, Verdict, if◌then◌else◌, is_some}
+use Rattle.spec_links.proofs.Terms.{history_status, has_link, List, [], ◌∷◌, Some, None, Result, Ok, Err, length, not}
+use Rattle.spec_links.proofs.Terms.{unwrap_or, InterfaceEvent, AllByRecursion, PortName, Packet, SealedPacket, CauseLaw}
+use Rattle.spec_links.proofs.Terms.{Arrival, arrival_due, before_tag_of, Access, WaitingRead, waiting_reads, send_due}
+use Rattle.spec_links.proofs.Terms.{answer_first, site_answer, completion_verdict, outgoing_completion, is_before}
+use Rattle.spec_links.proofs.Terms.{judged_by, answer_judged, binding_cause, first_that_holds, refusals, lanes_at}
+use Rattle.spec_links.proofs.Terms.{live_key, lane_out, Cpl, dump_due, Site, granted_to, site_with, sending_port}
+use Rattle.spec_links.proofs.Terms.{sealed_packets, packet_by_number}
 unfoldable use Rattle.spec_links.proofs.Terms.{due, key_due, before_tag, arrival_of_event}
-use Rattle.spec_links.proofs.Terms.{List, [], ◌∷◌, Some, None, Result, Ok, Err, length, not, unwrap_or, nat_lt}
-use Rattle.spec_links.proofs.Terms.{InterfaceEvent, AllByRecursion, PortName, Packet, SealedPacket}
-use Rattle.spec_links.proofs.Terms.{CauseLaw, Arrival, arrival_due, before_tag_of, Access, WaitingRead, waiting}
-use Rattle.spec_links.proofs.Terms.{send_due, answer_first, site_answer, completion_verdict, outgoing_completion}
-use Rattle.spec_links.proofs.Terms.{is_stream, is_before}
-use Rattle.spec_links.proofs.Terms.{first_that_holds, refusals, lanes_at, live_key, lane_out, Cpl, dump_due, Site}
-use Rattle.spec_links.proofs.Terms.{granted_to, site_with, sending_port, sealed_packets, packet_at}
 use Rattle.spec_links.specs.Terms.{CutValue, IdePacket, PlainTlp, PacketFault, cut_of, in_one_region}
 use Rattle.spec_links.specs.Due.{through_due, ending_due, forward_first, forward_out}
 use Rattle.spec_links.specs.Hops.{HopTlp, has_hop, leaving_end}
-use Rattle.spec_links.specs.Memory.{hop_waiting, queued, shown_if}
-use Rattle.spec_links.specs.Guarded.{mmio_if, mmio_shown, happened}
+use Rattle.spec_links.specs.Memory.{hop_waiting, queued_reads, shown_if}
+use Rattle.spec_links.specs.Guarded.{mmio_if, mmio_shown, link_happenings}
 use Rattle.spec_links.specs.Sent.{reads_taken}
 use Rattle.spec_links.specs.Plan.{has_port}
 use Rattle.spec_links.specs.Ports.{may_send, outgoing_at, sealing_end, goes_through}
 use Rattle.spec_links.specs.Packets.{arrival_at}
-use Rattle.association.specs.Outgoing.{Outgoing, NoTlp, OnNone, OnStream, stream_taken}
+use Rattle.tlp_layout.specs.Outgoing.{Outgoing, NoTlp, OnNone, OnStream, stream_taken}
 use Rattle.tlp_layout.specs.Class.{class_of}
 use Rattle.tlp_layout.specs.Tlp.{header}
+use Rattle.ide_types.specs.declared.binding.Binding.{Binding}
 use Rattle.ide_types.specs.declared.direction.Direction.{Direction}
+use Rattle.link_verdicts.specs.declared.verdict.BlockCause.{BlockCause}
 use Rattle.spec_keys.proofs.Performs.{is_cut, performed_is}
 use Rattle.std.specs.Option.{option_map, option_map_or}
 use Rattle.std.specs.Prelude.{nat_le, ◌&&◌}
@@ -34,11 +34,11 @@ use Rattle.spec_keys.specs.Due.{lost_at, has_refresh, if_secure}
 use Rattle.spec_interfaces.specs.Terms.{View, has_register, kept_report, lock_of, start_answer, bind_answer}
 use Rattle.spec_interfaces.specs.Terms.{unbind_answer}
 use Rattle.spec_interfaces.specs.Sites.{site_at}
-use Rattle.spec_interfaces.specs.Views.{managed, stream_draw, number_in}
+use Rattle.spec_interfaces.specs.Views.{managed_view, stream_draw, number_in}
 use Rattle.spec_interfaces.specs.Devices.{around_at, interface_at}
 use Rattle.spec_interfaces.specs.Peers.{has_peer}
 use Rattle.spec_interfaces.specs.Due.{unless_lost, host_status, if_unlocked, verdict_of_lock, lock_answer_at, lock_due}
-use Rattle.spec_interfaces.specs.Due.{standing_at, if_locked_or_running, portions, reported_as, if_locked, if_reported}
+use Rattle.spec_interfaces.specs.Due.{asked_state, if_locked_or_running, portions, reported_as, if_locked, if_reported}
 use Rattle.spec_interfaces.specs.Due.{if_fresh, started_as, interface_due, on_site}
 use Rattle.spec_interfaces.specs.Due.{verdict_of_bind, unbound_as, op_status}
 unfoldable use Rattle.spec_interfaces.specs.Due.{interface_verdict_due}
@@ -70,24 +70,24 @@ if_either false x y one two = two
 cut_some : (x : Verdict) → is_cut x ≡ true → IsSome x
 cut_some x cut = grind arith
 
-done_some : (link stream : ℕ) (w : Work) → IsSome (done link stream w)
-done_some link stream w = grind arith
+done_some : (line stream : ℕ) (w : Work) → IsSome (finished_verdict line stream w)
+done_some line stream w = grind arith
 
-performed_some : (ports : PortView) (link stream : ℕ) (loss : Option Loss) (w : Work)
-    → IsSome (operation_verdict ports link stream loss w)
-performed_some ports link stream loss w = elim (performed_is ports link stream loss w) [
-  | inl ended ↦ ap is_none_at_all ended ∙ done_some link stream w
-  | inr cut ↦ cut_some (operation_verdict ports link stream loss w) cut
+performed_some : (ports : PortView) (line stream : ℕ) (loss : Option Loss) (w : Work)
+    → IsSome (operation_verdict ports line stream loss w)
+performed_some ports line stream loss w = elim (performed_is ports line stream loss w) [
+  | inl ended ↦ ap is_none_at_all ended ∙ done_some line stream w
+  | inr cut ↦ cut_some (operation_verdict ports line stream loss w) cut
 ]
 
 establish_some : (kp : KeyPlan) (line : ℕ) (q : StreamStage) (next : ℕ) (x : Verdict) → IsSome x
     → IsSome (may_establish kp line next q x)
 establish_some kp line q next x is = grind arith
 
-refresh_some : (kp : KeyPlan) (q : StreamStage) (next : ℕ) (host : StreamStatus) (ports : PortView) (link stream : ℕ)
+refresh_some : (kp : KeyPlan) (q : StreamStage) (next : ℕ) (host : StreamStatus) (ports : PortView) (line stream : ℕ)
     (set : Bool) (x : Verdict) → IsSome x
-    → IsSome (may_refresh kp link next q host (unless_open ports link stream set) x)
-refresh_some kp q next host ports link stream set x is = grind arith
+    → IsSome (may_refresh kp line next q host (unless_open ports line stream set) x)
+refresh_some kp q next host ports line stream set x is = grind arith
 
 -- ---- on interfaces
 
@@ -100,8 +100,8 @@ unless_some (Some loss) n x is = if_either (nat_le 1 loss.exchange && nat_le los
     (lost_at loss.lost loss.exchange) x (lost_some loss.lost loss.exchange) is
 
 lock_some : (plan : Plan) (h : History) (x : Site) (loss : Option Loss)
-    → IsSome (lock_due x (standing_at plan h x) loss)
-lock_some plan h x loss = by (managed h x).view (history_status h Host x.link x.plan.stream)
+    → IsSome (lock_due x (asked_state plan h x) loss)
+lock_some plan h x loss = by (managed_view h x).view (history_status h Host x.link x.plan.stream)
     (lock_answer_at (around_at plan h x) x (interface_at plan h x))
   where
     as_some : (answer : Result (List ℕ) ℕ) → IsSome (verdict_of_lock x answer)
@@ -149,10 +149,10 @@ unbind_some x view line loss answer =
 own_exact : (plan : Plan) (h : History) (x : Site) (e : InterfaceEvent) (i : ℕ) → number_in e ≡ Some i
     → is_none_at_all (interface_due plan h x e) ≡ not (has_named plan e x)
 own_exact plan h x (ie.Lock i loss) n is = lock_some plan h x loss
-own_exact plan h x (ie.Report i loss) n is = report_some plan x (managed h x).view loss
+own_exact plan h x (ie.Report i loss) n is = report_some plan x (managed_view h x).view loss
     (option_map (kept_report x.plan) (lock_of (interface_at plan h x).state))
 own_exact plan h x (ie.Start i loss) n is =
-    let m = managed h x in
+    let m = managed_view h x in
     let draw = stream_draw h x.link x.plan.stream in
     start_some x m.view m.reported (host_status h x) draw m.needs loss
     (start_answer (interface_at plan h x).state m.nonce)
@@ -160,11 +160,12 @@ own_exact plan h x (ie.Halt i loss) n is = unless_some loss 1 _ refl
 own_exact plan h x (ie.State i loss) n is = unless_some loss 1 _ refl
 own_exact plan h x (ie.Bind i line stream loss) n is =
     exact_if (has_peer plan.peers x.link line stream) _
-    (bind_some x (managed h x).view (op_status (op_of h line stream)) (stream_draw h line stream) (managed h x).needs
+    (bind_some x (managed_view h x).view (op_status (op_of h line stream)) (stream_draw h line stream)
+    (managed_view h x).needs
     line loss (bind_answer (interface_at plan h x) stream ((around_at plan h x).live stream)))
 own_exact plan h x (ie.Unbind i line stream loss) n is =
     exact_if (has_peer plan.peers x.link line stream) _
-    (unbind_some x (managed h x).view line loss (unbind_answer (interface_at plan h x) stream))
+    (unbind_some x (managed_view h x).view line loss (unbind_answer (interface_at plan h x) stream))
 own_exact plan h x (ie.View i) n is = refl
 own_exact plan h x (ie.Write i register value) n is = exact_if (has_register x.plan register) _ refl
 own_exact plan h x (ie.Flr i) n is = refl
@@ -191,7 +192,7 @@ mmio_exact true bytes = refl
 mmio_exact false bytes = refl
 
 range_exact : (plan : Plan) (h : History) (o : Option Site) (bar offset len : ℕ)
-    → is_none_at_all (mmio_shown plan (happened plan h) o bar offset len)
+    → is_none_at_all (mmio_shown plan (link_happenings plan h) o bar offset len)
     ≡ not (option_map_or (range_named bar offset len) o false)
 range_exact plan h None bar offset len = refl
 range_exact plan h (Some x) bar offset len = mmio_exact (range_named bar offset len x) _
@@ -218,14 +219,18 @@ forward_some plan h link d [] = refl
 forward_some plan h link d (x ∷ xs) =
     send_some plan h (leaving_end link d) (forward_out plan h link d) false x.t
 
-answer_by_some : (plan : Plan) (h : History) (port : PortName) (interface draw : ℕ) (o : Option (ℕ × ℕ))
+judged_some : (plan : Plan) (h : History) (port : PortName) (interface : ℕ) (bound : Binding) (o : Option BlockCause)
+    (out : Outgoing) → IsSome (answer_judged plan h port out (judged_by interface bound o))
+judged_some plan h port interface bound (Some c) out = refl
+judged_some plan h port interface bound None out =
+    if_either (is_before (live_key h port (lane_out port bound.stream Cpl)) bound.floor) _ _ refl
+    (send_some plan h port out false true)
+
+answer_by_some : (plan : Plan) (h : History) (port : PortName) (interface draw : ℕ) (o : Option Binding)
     (out : Outgoing) → IsSome (completion_verdict plan h port interface draw o out)
 answer_by_some plan h port interface draw None out = refl
 answer_by_some plan h port interface draw (Some bound) out =
-    if_either (not (is_stream bound.0 (stream_taken out))) _ _ refl
-    (if_either (nat_lt draw bound.1) _ _ refl
-    (if_either (is_before (live_key h port (lane_out port bound.0 Cpl)) bound.1) _ _ refl
-    (send_some plan h port out false true)))
+    judged_some plan h port interface bound (binding_cause bound (stream_taken out) draw) out
 
 answer_of_some : (plan : Plan) (h : History) (port : PortName) (draw : ℕ) (o : Option Site) (out : Outgoing)
     → is_some o ≡ true → IsSome (site_answer plan h port draw o out)
@@ -235,20 +240,20 @@ answer_of_some plan h port draw (Some x) out is =
 
 -- the requester of the oldest read is an interface of the link
 answer_some : (plan : Plan) (h : History) (link : ℕ) → CauseLaw plan h
-    → IsSome (answer_first plan h (sending_port plan (Access (ae.Answer link))) (waiting plan h link)
+    → IsSome (answer_first plan h (sending_port plan (Access (ae.Answer link))) (waiting_reads plan h link)
     (outgoing_completion plan h link))
-answer_some plan h link cause = by (waiting plan h link) refl
+answer_some plan h link cause = by (waiting_reads plan h link) refl
   where
     port : PortName
     port = sending_port plan (Access (ae.Answer link))
 
-    by : (rs : List WaitingRead) → waiting plan h link ≡ rs
+    by : (rs : List WaitingRead) → waiting_reads plan h link ≡ rs
         → IsSome (answer_first plan h port rs (outgoing_completion plan h link))
     by [] is = refl
     by (r ∷ rs) is =
         answer_of_some plan h port r.draw (site_with plan link r.read.requester) (outgoing_completion plan h link)
         (reader_there plan h cause link (reads_taken h link) r
-        (drop_first (reads_taken h link) (queued plan h link) r rs is))
+        (drop_first (reads_taken h link) (queued_reads plan h link) r rs is))
 
 -- ---- arrivals
 
@@ -294,19 +299,19 @@ port_some false a = refl
 due_exact : (plan : Plan) (h : History) (e : Event) → CauseLaw plan h
     → is_none_at_all (due plan h e) ≡ not (names_exist plan h e)
 unfolding due key_due interface_verdict_due arrival_of_event
-due_exact plan h (event.Establish link stream lose) cause =
-    exact_if (is_some (stream_plan plan link stream)) _
-    (establish_some (key_plan plan) link (op_of h link stream) (draws h) _
-    (performed_some (ports_at h) link stream lose (work_of op.Establish (op_of h link stream) (draws h))))
-due_exact plan h (event.Refresh link stream lose) cause =
-    exact_if (has_refresh (key_plan plan) link stream) _
-    (refresh_some (key_plan plan) (op_of h link stream) (draws h) (history_status h Host link stream) (ports_at h) link
-    stream (work_of op.Refresh (op_of h link stream) (draws h)).set _ (performed_some (ports_at h) link stream lose
-    (work_of op.Refresh (op_of h link stream) (draws h))))
-due_exact plan h (event.Stop link stream lose) cause =
-    exact_if (is_some (stream_plan plan link stream)) _
-    (performed_some (ports_at h) link stream lose (work_of op.Stop (op_of h link stream) (draws h)))
-due_exact plan h (event.Status link stream) cause = exact_if (is_some (stream_plan plan link stream)) _ refl
+due_exact plan h (event.Establish line stream lose) cause =
+    exact_if (is_some (stream_plan plan line stream)) _
+    (establish_some (key_plan plan) line (op_of h line stream) (draws h) _
+    (performed_some (ports_at h) line stream lose (work_of op.Establish (op_of h line stream) (draws h))))
+due_exact plan h (event.Refresh line stream lose) cause =
+    exact_if (has_refresh (key_plan plan) line stream) _
+    (refresh_some (key_plan plan) (op_of h line stream) (draws h) (history_status h Host line stream) (ports_at h) line
+    stream (work_of op.Refresh (op_of h line stream) (draws h)).set _ (performed_some (ports_at h) line stream lose
+    (work_of op.Refresh (op_of h line stream) (draws h))))
+due_exact plan h (event.Stop line stream lose) cause =
+    exact_if (is_some (stream_plan plan line stream)) _
+    (performed_some (ports_at h) line stream lose (work_of op.Stop (op_of h line stream) (draws h)))
+due_exact plan h (event.Status line stream) cause = exact_if (is_some (stream_plan plan line stream)) _ refl
 due_exact plan h (event.Reset link ends) cause = exact_if (has_link plan link) _ refl
 due_exact plan h (event.Interface (ie.Memory at len)) cause = shown_exact (in_one_region plan.memory at len) _
 due_exact plan h (event.Interface (ie.Lock i loss)) cause = site_exact plan h (ie.Lock i loss) i refl
@@ -333,7 +338,7 @@ due_exact plan h (event.Send port bytes more trusted) cause =
     exact_if (may_send plan port) _
     (send_some plan h (sealing_end plan port bytes) (outgoing_at plan (sealing_end plan port bytes) bytes) more
     trusted)
-due_exact plan h (event.Dump n) cause = dump_exact n (packet_at (sealed_packets plan h) n)
+due_exact plan h (event.Dump n) cause = dump_exact n (packet_by_number (sealed_packets plan h) n)
 due_exact plan h (event.Pass n) cause = arrival_exact plan h (arrival_of_event plan h (event.Pass n))
 due_exact plan h (event.Alter n at mask) cause = arrival_exact plan h (arrival_of_event plan h (event.Alter n at mask))
 due_exact plan h (event.Cut n len) cause = arrival_exact plan h (arrival_of_event plan h (event.Cut n len))

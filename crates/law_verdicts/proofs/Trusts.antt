@@ -1,8 +1,7 @@
 -- A host's port sets T as it is asked.
 use Rattle.spec_links.proofs.Terms.{◌≡◌, ℕ, ◌+◌, ◌∷◌, ◌&&◌, Bool, true, false, not, List, [], Option, refl, sym, ap}
-use Rattle.spec_links.proofs.Terms.{◌∙◌, arith}
-use Rattle.spec_links.proofs.Terms.{nat_tests, if◌then◌else◌, AllByRecursion, Plan, PortName, Event, Verdict}
-use Rattle.spec_links.proofs.Terms.{SealedPacket, History, nat_le, nat_lt, length}
+use Rattle.spec_links.proofs.Terms.{◌∙◌, arith, nat_tests, if◌then◌else◌, AllByRecursion, Plan, PortName, Event}
+use Rattle.spec_links.proofs.Terms.{Verdict, SealedPacket, History, nat_le, nat_lt, length}
 unfoldable use Rattle.spec_links.proofs.Terms.{due}
 use Rattle.ide_types.specs.Lines.{is_hosted}
 use Rattle.ide_types.specs.declared.port.Side.{Side}
@@ -49,8 +48,7 @@ all_asked plan h port bytes more trusted [] fits = tt
 all_asked plan h port bytes more trusted (d ∷ ds) fits =
     (asked plan h port bytes more trusted d fits.0, all_asked plan h port bytes more trusted ds fits.1)
 
-all_answered : (link : ℕ) (ds : List SealedPacket)
-    → AllByRecursion (IsTrustAsked (event.Access (ae.Answer link))) ds
+all_answered : (link : ℕ) (ds : List SealedPacket) → AllByRecursion (IsTrustAsked (event.Access (ae.Answer link))) ds
 all_answered link [] = tt
 all_answered link (d ∷ ds) = (λ there has. refl, all_answered link ds)
 

@@ -4,7 +4,7 @@ use Rattle.spec_links.specs.Terms.{Plan, Event, Access, Verdict, Sealed, SealedP
 use Rattle.spec_links.specs.Terms.{byte_after, completion_bytes, masked_bytes, iv_of}
 use Rattle.spec_links.specs.Plan.{key_of}
 use Rattle.spec_links.specs.History.{SealedList, sealed_packets, sub_stream_of}
-use Rattle.spec_links.specs.Memory.{queued, writes}
+use Rattle.spec_links.specs.Memory.{queued_reads, writes}
 use Rattle.spec_links.specs.Sent.{reads_taken}
 use Rattle.law_locks.specs.Fronts.{AtPairs}
 use Rattle.link_events.specs.declared.event.AccessEvent.TheVariants as ae
@@ -14,7 +14,7 @@ use Rattle.link_events.specs.declared.event.AccessEvent.TheVariants as ae
 -- packet's key and unit.
 pub record SealsCompletion (plan : Plan) (h : History) (link : ℕ) (ds : List SealedPacket) : Type 0 where
   pub read : WaitingRead
-  pub oldest : slice_get (queued plan h link) (reads_taken h link) ≡ Some read
+  pub oldest : slice_get (queued_reads plan h link) (reads_taken h link) ≡ Some read
   pub ahead : List SealedPacket
   pub last : SealedPacket
   pub ends : ds ≡ ahead ++ last ∷ []

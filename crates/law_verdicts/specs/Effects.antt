@@ -4,9 +4,9 @@ use Rattle.std.specs.Prelude.{◌≡◌, ℕ, ◌+◌, ◌&&◌, ◌||◌, ◌�
 use Rattle.std.specs.Prelude.{length, map, Option, Some, None, Result, Ok, Err}
 use Rattle.spec_links.specs.Terms.{PortName, Plan, Event, Effect, UnitName, Verdict, Accepted, Packet, History}
 use Rattle.spec_links.specs.Terms.{is_sync_packet, read_head_of, TlpFault, MemReadView, memory_read, Grant, grant_at}
-use Rattle.spec_links.specs.Terms.{write_span, history_standings, is_on_bound}
+use Rattle.spec_links.specs.Terms.{write_span, history_statuses, is_on_bound}
 use Rattle.spec_links.specs.Ports.{port_of, at_switch, is_host_port, is_device_port}
-use Rattle.spec_links.specs.Memory.{Grants, unit_grant, unit_ended, waiting}
+use Rattle.spec_links.specs.Memory.{Grants, unit_grant, unit_ended, waiting_reads}
 use Rattle.tlp_layout.specs.declared.head.HeadView.{HeadView}
 use Rattle.trusted_memory.specs.declared.span.Span.{Span}
 use Rattle.trusted_memory.specs.Spans.{crosses}
@@ -67,9 +67,9 @@ asks_by_packet plan h e port unit = map (asks_read plan (grant_at plan h) (port_
 pub record QueuesAsked (plan : Plan) (h : History) (e : Event) (port : PortName) (unit : UnitName)
     (effects : List Effect) : Type 0 where
   pub queued : map is_queued effects
-      ≡ before_64 (length (waiting plan h (port_of plan port).line)) (asks_by_packet plan h e port unit)
+      ≡ before_64 (length (waiting_reads plan h (port_of plan port).line)) (asks_by_packet plan h e port unit)
   pub full : map is_full effects
-      ≡ behind_64 (length (waiting plan h (port_of plan port).line)) (asks_by_packet plan h e port unit)
+      ≡ behind_64 (length (waiting_reads plan h (port_of plan port).line)) (asks_by_packet plan h e port unit)
 
 -- ---- stores
 
@@ -99,7 +99,7 @@ takes_write plan standings port unit p =
 
 abbrev pub StoresTaken : Plan → History → Event → PortName → UnitName → List Effect → Type 0
 StoresTaken plan h e port unit effects = map is_stored effects
-    ≡ map (takes_write plan (history_standings plan h) (port_of plan port) unit) (unit_ended plan h e port unit)
+    ≡ map (takes_write plan (history_statuses plan h) (port_of plan port) unit) (unit_ended plan h e port unit)
 
 -- ---- what waits at switches
 

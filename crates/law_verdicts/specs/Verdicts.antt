@@ -8,12 +8,11 @@ use Rattle.spec_interfaces.specs.Peers.{has_peer}
 use Rattle.spec_interfaces.specs.Views.{number_in}
 use Rattle.spec_interfaces.specs.{fits_range, page_counts}
 use Rattle.spec_links.specs.Terms.{AllByRecursion, Plan, PortName, Event, InterfaceEvent, SealedPacket, Verdict}
-use Rattle.spec_links.specs.Terms.{History}
-use Rattle.spec_links.specs.Terms.{in_one_region}
+use Rattle.spec_links.specs.Terms.{History, in_one_region}
 use Rattle.spec_links.specs.Plan.{has_link, has_port, stream_plan}
 use Rattle.spec_links.specs.Ports.{may_send}
 use Rattle.spec_links.specs.Hops.{has_hop}
-use Rattle.spec_links.specs.History.{failed, arrival_of_event, packet_at, sealed_packets}
+use Rattle.spec_links.specs.History.{has_failed, arrival_of_event, packet_by_number, sealed_packets}
 use Rattle.spec_keys.specs.Places.{is_host}
 use Rattle.law_locks.specs.Fronts.{AtPairs}
 use Rattle.link_events.specs.declared.event.Event.TheVariants as event
@@ -25,10 +24,10 @@ use Rattle.link_verdicts.specs.declared.verdict.Verdict.TheVariants as v
 
 -- a verdict of a packet is of a stream that is not failed at the packet's port
 abbrev pub IsOfWhole : History → Event → Verdict → Type 0
-IsOfWhole h e (v.Sealed ds) = AllByRecursion (λ (d : SealedPacket). failed h d.port d.stream ≡ false) ds
-IsOfWhole h e (v.Held port unit) = failed h port unit.stream ≡ false
-IsOfWhole h e (v.Accepted port unit effects) = failed h port unit.stream ≡ false
-IsOfWhole h e (v.Fail port stream sub cause) = failed h port stream ≡ false
+IsOfWhole h e (v.Sealed ds) = AllByRecursion (λ (d : SealedPacket). has_failed h d.port d.stream ≡ false) ds
+IsOfWhole h e (v.Held port unit) = has_failed h port unit.stream ≡ false
+IsOfWhole h e (v.Accepted port unit effects) = has_failed h port unit.stream ≡ false
+IsOfWhole h e (v.Fail port stream sub cause) = has_failed h port stream ≡ false
 IsOfWhole h e w = Unit {0}
 
 abbrev pub FailedLaw : Plan → History → Type 0
@@ -82,10 +81,10 @@ range_named bar offset len x = fits_range (4096 * slice_index (page_counts x.pla
 -- All that an event names exists: the topology has its line with the stream, its link, hop, port, interface or bytes;
 -- and the packet was sealed, with the byte in it.
 abbrev pub names_exist : Plan → History → Event → Bool
-names_exist plan h (event.Establish link stream loss) = is_some (stream_plan plan link stream)
-names_exist plan h (event.Refresh link stream loss) = is_link_line link && is_some (stream_plan plan link stream)
-names_exist plan h (event.Stop link stream loss) = is_some (stream_plan plan link stream)
-names_exist plan h (event.Status link stream) = is_some (stream_plan plan link stream)
+names_exist plan h (event.Establish line stream loss) = is_some (stream_plan plan line stream)
+names_exist plan h (event.Refresh line stream loss) = is_link_line line && is_some (stream_plan plan line stream)
+names_exist plan h (event.Stop line stream loss) = is_some (stream_plan plan line stream)
+names_exist plan h (event.Status line stream) = is_some (stream_plan plan line stream)
 names_exist plan h (event.Reset link ends) = has_link plan link
 names_exist plan h (event.Interface e) = is_interface_named plan e
 names_exist plan h (event.Access (ae.Answer link)) = has_link plan link
@@ -93,7 +92,7 @@ names_exist plan h (event.Access (ae.Mmio i bar offset len)) =
     option_map_or (range_named bar offset len) (site_at plan i) false
 names_exist plan h (event.Forward link d) = has_hop plan link
 names_exist plan h (event.Send port bytes more trusted) = may_send plan port
-names_exist plan h (event.Dump n) = is_some (packet_at (sealed_packets plan h) n)
+names_exist plan h (event.Dump n) = is_some (packet_by_number (sealed_packets plan h) n)
 names_exist plan h (event.Pass n) = is_some (arrival_of_event plan h (event.Pass n))
 names_exist plan h (event.Alter n at mask) = is_some (arrival_of_event plan h (event.Alter n at mask))
 names_exist plan h (event.Cut n len) = is_some (arrival_of_event plan h (event.Cut n len))

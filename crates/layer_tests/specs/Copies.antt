@@ -8,14 +8,14 @@ use Rattle.link_events.specs.Words.{line_limit}
 use Rattle.line_runs.specs.Gain.{Text}
 use Rattle.line_runs.specs.Outcome.{IsWholeLines}
 
-abbrev pub copied : {S : Type 0} → S → ℕ → Text → Result (S × Text) LineFault
-copied s n line = if nat_lt line_limit (length line) then Err TooLong else Ok (s, line ++ 10 ∷ [])
+abbrev pub copied_line : {S : Type 0} → S → ℕ → Text → Result (S × Text) LineFault
+copied_line s n line = if nat_lt line_limit (length line) then Err TooLong else Ok (s, line ++ 10 ∷ [])
 
 pub long_copy : {S : Type 0} (s : S) (n : ℕ) (line : Text) → nat_lt line_limit (length line) ≡ true
-    → copied s n line ≡ Err TooLong
+    → copied_line s n line ≡ Err TooLong
 long_copy s n line long = rw long refl
 
-pub whole_copy : {S : Type 0} (s : S) (n : ℕ) (line : Text) → IfOk (copied s n line) (λ came. IsWholeLines came.1)
+pub whole_copy : {S : Type 0} (s : S) (n : ℕ) (line : Text) → IfOk (copied_line s n line) (λ came. IsWholeLines came.1)
 whole_copy {S} s n line = by_test (nat_lt line_limit (length line))
   where
     by_test : (b : Bool)

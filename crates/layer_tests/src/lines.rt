@@ -1,7 +1,7 @@
 //! A file that is read and run line by line, over a shelf and a sink in memory.
 ghost use Rattle.std.specs.Prelude.{◌≡◌, ◌∷◌, [], ◌++◌, codes, IfOk};
 ghost use Rattle.line_runs.specs.declared.ends.End.TheVariants as end;
-ghost use Rattle.layer_tests.specs.Copies.{copied as copied_of, long_copy, whole_copy};
+ghost use Rattle.layer_tests.specs.Copies.{copied_line as copied_of, long_copy, whole_copy};
 
 use cli_files::{MemShelf, MemSink, NamedFile};
 use ide_types::{Bytes, OutOfMemory};

@@ -2,20 +2,18 @@
 -- then; at any other device they stay, and so does what it says of its streams to others.
 use Rattle.join_arrivals.proofs.{◌≡◌, ℕ, suc, zero, ◌+◌, ◌-◌, ◌<◌, ◌==◌, true, false, List, [], ◌∷◌, refl, ap, sym, ◌∙◌}
 use Rattle.join_arrivals.proofs.{subst, arith, nat_tests, Option, Some, None, option_map, slice_get, same_Some}
-use Rattle.join_arrivals.proofs.{none-some}
-use Rattle.join_arrivals.proofs.{length, Side, Host, Device, PortName, Plan, PortEnd, LinkEnds, PairEnds, EndsView}
-use Rattle.join_arrivals.proofs.{with_port, pair_port, with_pair_port, changed_at, settled_link, settled_ends}
-use Rattle.join_arrivals.proofs.{peer_live}
-use Rattle.join_arrivals.proofs.{line_place, with_port_at, with_port_on, AreLinks, seen_same, LineIs, OfLink, NearHop}
-use Rattle.join_arrivals.proofs.{FarHop, Between, line_of, port_own, near_port, far_port, between_port, IsOnWay}
+use Rattle.join_arrivals.proofs.{none-some, length, Side, Host, Device, PortName, Plan, PortEnd, LinkEnds, PairEnds}
+use Rattle.join_arrivals.proofs.{EndsView, with_port, pair_port, with_pair_port, changed_at, settled_link, settled_ends}
+use Rattle.join_arrivals.proofs.{peer_live, line_place, with_port_at, with_port_on, AreLinks, seen_same, LineIs, OfLink}
+use Rattle.join_arrivals.proofs.{NearHop, FarHop, Between, line_of, port_own, near_port, far_port, between_port}
+use Rattle.join_arrivals.proofs.{IsOnWay}
 use Rattle.join_arrivals.specs.{LinePlace, Link, Near, Pair, KeeperView, secure_with, live_of, live_at_port}
-use Rattle.join_arrivals.specs.{settled_by_side}
-use Rattle.join_arrivals.specs.{way_of}
+use Rattle.join_arrivals.specs.{settled_by_side, way_of}
 use Rattle.std.proofs.Common.{inl, inr, ⊎_elim}
 use Rattle.std.specs.Prelude.{nat_lt, nat_le}
 use Rattle.ide_types.specs.declared.direction.Direction.TheVariants.{Downstream, Upstream}
 use Rattle.std.specs.Option.{option_and_then}
-use Rattle.std.proofs.lemmas.Bool.{cases_Bool, eqb-true}
+use Rattle.std.proofs.lemmas.Bool.{cases_Bool, eqb-true, lt-ltb}
 use Rattle.ide_types.specs.Ports.{host_port, device_port}
 use Rattle.ide_types.specs.declared.plan.PeerPlan.{PeerPlan}
 use Rattle.ide_types.specs.Ends.{peer_link}
@@ -23,9 +21,8 @@ use Rattle.spec_interfaces.specs.Peers.{peer_end}
 use Rattle.join_interfaces.proofs.PeerEnds.{peer_end_is}
 use Rattle.spec_links.specs.Plan.{has_port}
 use Rattle.spec_links.specs.Ports.{port_of}
-use Rattle.interface_device.specs.Replies.{DeviceTdis, settled_interfaces}
+use Rattle.interface_ends.specs.Replies.{DeviceTdis, settled_interfaces}
 use Rattle.line_arrivals.specs.Follows.{IsSettledOrSame, AllFollow}
-use Rattle.std.proofs.lemmas.Bool.{lt-ltb}
 use Rattle.spec_links.specs.Hops.{entering_end}
 use Rattle.ide_types.specs.declared.direction.Direction.{Direction}
 
@@ -127,8 +124,7 @@ live_same v s k e j id other = by (peer_end v.peers 0 j id) refl
         (ap (λ (t : Side). peer_link t r.peer) side ∙ r.at_link))
 
 live_put : (v : EndsView) (s : Side) (place : LinePlace) (e : PortEnd) (j id : ℕ)
-    → ((k : ℕ) → place ≡ Pair k → IsElsewhere v s k j)
-    → peer_live (with_port_at v s place e) j id ≡ peer_live v j id
+    → ((k : ℕ) → place ≡ Pair k → IsElsewhere v s k j) → peer_live (with_port_at v s place e) j id ≡ peer_live v j id
 live_put v s (Link i) e j id other = refl
 live_put v s (Near i) e j id other = refl
 live_put v s (Pair k) e j id other = live_same v s k e j id (other k refl)

@@ -4,18 +4,14 @@ use Rattle.join_arrivals.proofs.{◌≡◌, ℕ, ◌+◌, ◌<◌, ◌==◌, Boo
 use Rattle.join_arrivals.proofs.{◌∙◌, subst, arith, nat_tests, Option, Some, None, slice_get, slice_set, if◌then◌else◌}
 use Rattle.join_arrivals.proofs.{none-some, same_Some, append-nil, length-set, map, Side, Host, Device, PortName, Plan}
 use Rattle.join_arrivals.proofs.{PortEnd, LinkEnds, EndsView, BesidePorts, LinkPacket, LinkState, Packet, port_on}
-use Rattle.join_arrivals.proofs.{with_port_on}
-use Rattle.join_arrivals.proofs.{settled_link, AreLinks, rows_of, state_of, UnitName, take_step, port_in, pair_port}
-use Rattle.join_arrivals.proofs.{port_at_place, line_place, PairEnds, ◌≤◌, unit_agrees, writes_agree}
-use Rattle.join_arrivals.proofs.{switch_admits_none}
-use Rattle.join_arrivals.proofs.{own_tlps, waits_open, turn_at, rests_all, StandsAt, Apart, OnWay, IsApart, IsOnWay}
-use Rattle.join_arrivals.proofs.{stands_at, reached_there, hop_aggregation, LineIs, OfLink, NearHop, FarHop, Between}
-use Rattle.join_arrivals.proofs.{line_of}
-use Rattle.join_arrivals.proofs.{switched_few, few_queued, queued_behind, switched_opens, switched_reads, there, wired}
-use Rattle.join_arrivals.proofs.{port_is, Keeps, Grows, end_kept, end_grows, settled_kept, settled_grows, settled_rows}
-use Rattle.join_arrivals.proofs.{grows_then, bounded_then, stays_all}
-use Rattle.std.specs.Prelude.{option_map}
-use Rattle.std.specs.Prelude.{IsSome}
+use Rattle.join_arrivals.proofs.{with_port_on, settled_link, AreLinks, rows_of, state_of, UnitName, take_step, port_in}
+use Rattle.join_arrivals.proofs.{pair_port, port_at_place, line_place, PairEnds, ◌≤◌, unit_agrees, writes_agree}
+use Rattle.join_arrivals.proofs.{switch_admits_none, own_tlps, waits_open, turn_at, rests_all, StandsAt, Apart, OnWay}
+use Rattle.join_arrivals.proofs.{IsApart, IsOnWay, stands_at, reached_there, hop_aggregation, LineIs, OfLink, NearHop}
+use Rattle.join_arrivals.proofs.{FarHop, Between, line_of, switched_few, few_queued, queued_behind, switched_opens}
+use Rattle.join_arrivals.proofs.{switched_reads, there, wired, port_is, Keeps, Grows, end_kept, end_grows, settled_kept}
+use Rattle.join_arrivals.proofs.{settled_grows, settled_rows, grows_then, bounded_then, stays_all}
+use Rattle.std.specs.Prelude.{option_map, IsSome, Result, Ok, Err, IfOk, is_some}
 use Rattle.std.proofs.Common.{inr, ⊎_elim}
 use Rattle.std.proofs.lemmas.Bool.{cases_Bool}
 use Rattle.ide_types.specs.Lines.{is_link_line}
@@ -30,7 +26,7 @@ use Rattle.join_arrivals.specs.{effects_from, packet_write, unit_writes, KeeperV
 use Rattle.join_arrivals.specs.{arrival_verdict, switched_each, unit_waits, InterfacesView, AreLeftBy, AccessesTurn}
 use Rattle.join_arrivals.specs.{IsBounded, carried_next, same_floors, way_of, settled_by_side, LinePlace, Link, Near}
 use Rattle.join_arrivals.specs.{Pair}
-use Rattle.join_arrivals.specs.Accesses.{standings_of_ends}
+use Rattle.join_arrivals.specs.Accesses.{statuses_of_ends, Brings, policy_in}
 use Rattle.ide_prefix.specs.Reading.{cut_of}
 use Rattle.link_events.specs.declared.event.Event.{Event}
 use Rattle.link_verdicts.specs.declared.verdict.Verdict.{Verdict}
@@ -45,21 +41,20 @@ use Rattle.trusted_memory.specs.{MemoryContents, Leads, Write, newest_first, IsL
 use Rattle.guarded_memory.specs.Contents.{mmio_byte}
 use Rattle.spec_keys.proofs.Tests.{same-true}
 use Rattle.spec_links.specs.Plan.{has_port, is_same_port}
-use Rattle.spec_links.specs.Ports.{port_of, at_switch, goes_through, reached}
+use Rattle.spec_links.specs.Ports.{port_of, at_switch, goes_through, end_reached}
 use Rattle.spec_links.specs.History.{Arrival}
 use Rattle.spec_links.specs.Hops.{entering_end, tlps_with}
 use Rattle.spec_links.specs.Guarded.{happens_by, unit_happenings}
-use Rattle.spec_links.specs.Memory.{Policy, Grants, effects_by, plain_of}
+use Rattle.spec_links.specs.Memory.{Policy, Grants, effects_under_policy, plain_of}
 use Rattle.join_interfaces.specs.{stepped_arrival, stepped_cut, unit_tlps, waiting_reads_after, unit_in}
 use Rattle.ide_port.specs.Arrivals.{TakeStep}
 use Rattle.ide_port.specs.declared.answer.Arrival.{Arrival as Came}
 use Rattle.ide_port.specs.declared.answer.Arrival.TheVariants as came
 use Rattle.link_stores.specs.declared.link.LinkAccesses.{LinkAccesses}
-use Rattle.join_arrivals.specs.Accesses.{Brings, policy_in}
+use Rattle.ide_port.proofs.Units.{taken-units}
 use Rattle.join_arrivals.proofs.Arrivals.{take_keeps, end_of, Opens, opens_each, effects_at, arrives_as}
 use Rattle.join_arrivals.proofs.Accesses.{arrival_turns}
 use Rattle.ide_types.specs.declared.memory.OutOfMemory.{OutOfMemory}
-use Rattle.std.specs.Prelude.{Result, Ok, Err, IfOk, is_some}
 use Rattle.std.proofs.lemmas.Option.{slice_get_within}
 use Rattle.line_arrivals.specs.Follows.{AllFollow}
 use Rattle.line_arrivals.specs.Landing.{ComesTo, IsQuiet, arrival_on, HasEffects, Lands}
@@ -179,10 +174,10 @@ opens_at : (plan : Plan) (m : InterfacesView) (old : EndsView) (xs : List LinkAc
     → HasEffects plan m old xs b → Opens b end (effects_at regions m port l a)
 opens_at plan m old xs regions end port b l a l_is a_is at apart same effects unit key iv n ps =
     let policy : Policy = policy_in m old xs in
-    (λ i. effects_from (same i) policy.grants (standings_of_ends (sym l_is i) (sym a_is i))
+    (λ i. effects_from (same i) policy.grants (statuses_of_ends (sym l_is i) (sym a_is i))
     (length (option_map_or (λ (x : LinkAccesses). x.reads) (sym a_is i) [])) port unit (opened_from_byte key iv n ps))
     ∙ (opens_each plan policy port unit apart (policy.waiting port.line) key iv n ps
-    ∙ ((λ i. effects_by plan policy (sym at i) unit ps) ∙ (λ i. sym effects i end unit ps)))
+    ∙ ((λ i. effects_under_policy plan policy (sym at i) unit ps) ∙ (λ i. sym effects i end unit ps)))
 
 apart_at : (plan : Plan) (fits : FitsPlan plan) (end : PortName) → way_of end ≡ None → StandsAt plan fits end
     → IsApart plan fits end
@@ -194,14 +189,19 @@ not_through : (plan : Plan) (end : PortName) (bytes : List ℕ) (b : BesidePorts
     → stepped_arrival plan b st (Some (record { port = end; bytes = bytes })) ≡ stepped_cut plan b st end (cut_of bytes)
 not_through plan end bytes b st stays = rw stays refl
 
+all_through : (plan : Plan) (end : PortName) (bytes : List ℕ) (b : BesidePorts) (st : LinkState)
+    → goes_through plan end bytes ≡ true
+    → stepped_arrival plan b st (Some (record { port = end; bytes = bytes })) ≡ (v.Through (port_of plan end), st)
+all_through plan end bytes b st through = rw through refl
+
 pub lands_taken : (plan : Plan) (m : InterfacesView) (end0 : PortName) (bytes : List ℕ) (verdict : Verdict)
     (old : EndsView) (c : MemoryContents) (xs : List LinkAccesses) (new : EndsView) (d : MemoryContents)
-    (ys : List LinkAccesses) → let end = reached plan end0 bytes in let port = port_of plan end in
+    (ys : List LinkAccesses) → let end = end_reached plan end0 bytes in let port = port_of plan end in
     goes_through plan end bytes ≡ false → way_of end ≡ None → IsSome (port_on old end) → port.line < length old.links
     → length xs ≡ length old.links → Brings m end port bytes verdict old c xs new d ys
     → Lands plan m end0 bytes verdict old c xs new d ys
 lands_taken plan m end0 bytes verdict old c xs new d ys stays none here less many brought =
-    let end : PortName = reached plan end0 bytes in
+    let end : PortName = end_reached plan end0 bytes in
     let port : PortName = port_of plan end in
     let f = some_is (port_on old end) here in
     let e : PortEnd = f.0 in
@@ -212,7 +212,7 @@ lands_taken plan m end0 bytes verdict old c xs new d ys stays none here less man
     let keeps : Keeps e t.port = take_keeps e (cut_of bytes) in
     let w : EndsView = with_port_on old end t.port in
     let grows : Grows 1 old new = subst (λ (z : EndsView). Grows 1 old z) (sym x.new_is)
-    (settled_more port.side port.line old w (end_grows old end e t.port f.1 keeps.calls)) in
+    (settled_more port.side port.line old w (end_grows old end e t.port f.1 (taken-units e (cut_of bytes)))) in
     record {
       bounded = λ packets steps bounded.
           bounded_then 1 old new packets packets steps (omega arith) bounded grows bounded.sealed_here;
@@ -279,8 +279,7 @@ none_behind Upstream Downstream q = refl
 none_behind Upstream Upstream q = append-nil (queue_of q Upstream).tlps
 
 -- the end that TLPs enter by
-one_way : (link : ℕ) (d way : Direction) (xs : List HopTlp) (q : HopQueues)
-    → queued_behind d xs q way
+one_way : (link : ℕ) (d way : Direction) (xs : List HopTlp) (q : HopQueues) → queued_behind d xs q way
     ≡ (if is_same_port (entering_end link d) (entering_end link way) then (queue_of q way).tlps ++ xs
     else (queue_of q way).tlps)
 one_way link Downstream Downstream xs q =
@@ -409,11 +408,11 @@ module _ (plan : Plan) (end : PortName) (link : ℕ) (d : Direction) (end_is : e
 
 pub lands_waiting : (plan : Plan) (m : InterfacesView) (end0 : PortName) (bytes : List ℕ) (verdict : Verdict)
     (old : EndsView) (c : MemoryContents) (xs : List LinkAccesses) (new : EndsView) (ys : List LinkAccesses)
-    (w : ℕ × Direction) → let end = reached plan end0 bytes in
+    (w : ℕ × Direction) → let end = end_reached plan end0 bytes in
     goes_through plan end bytes ≡ false → way_of end ≡ Some w → IsSome (port_on old end) → w.0 < length xs
     → ComesTo old end bytes w.0 w.1 verdict xs new ys → Lands plan m end0 bytes verdict old c xs new c ys
 lands_waiting plan m end0 bytes verdict old c xs new ys w stays way here less comes =
-    let end : PortName = reached plan end0 bytes in
+    let end : PortName = end_reached plan end0 bytes in
     let f = some_is (port_on old end) here in
     let e : PortEnd = f.0 in
     let a = there xs w.0 less in
@@ -422,7 +421,7 @@ lands_waiting plan m end0 bytes verdict old c xs new ys w stays way here less co
     let t : TakeStep = take_step e (cut_of bytes) in
     let keeps : Keeps e t.port = take_keeps e (cut_of bytes) in
     let grows : Grows 1 old new = subst (λ (z : EndsView). Grows 1 old z) (sym x.new_is)
-    (end_grows old end e t.port f.1 keeps.calls) in
+    (end_grows old end e t.port f.1 (taken-units e (cut_of bytes))) in
     record {
       bounded = λ packets steps bounded.
           bounded_then 1 old new packets packets steps (omega arith) bounded grows bounded.sealed_here;
@@ -450,7 +449,8 @@ lands_waiting plan m end0 bytes verdict old c xs new ys w stays way here less co
                 let policy : Policy = policy_in m old xs in
                 let opens : Opens b end (λ unit ps. switched_each ps) = λ unit key iv n ps.
                 switched_opens plan policy end unit at.switch (policy.waiting end.line) key iv n ps
-                ∙ ((λ i. effects_by plan policy (sym at.port_is i) unit ps) ∙ (λ i. sym effects i end unit ps)) in
+                ∙ ((λ i. effects_under_policy plan policy (sym at.port_is i) unit ps)
+                ∙ (λ i. sym effects i end unit ps)) in
                 let as_machine = arrives_as b plan end end at.port_is (λ unit ps. switched_each ps) opens old k packets
                 (wired plan old k links) e f.1 at_port (cut_of bytes) in
                 (λ i. (x.verdict_is i, state_of plan (x.new_is i) k packets))
@@ -540,12 +540,22 @@ ends_there plan v k links end has = by (line_of plan links.fits end has)
         (let less = slice_get_within plan.peers n at.plan_of at.there in omega (arith, less, links.pairs_many))))
 
 module _ (plan : Plan) (m : InterfacesView) (end0 : PortName) (bytes : List ℕ) (old : EndsView) (c : MemoryContents)
-    (xs : List LinkAccesses) (end : PortName) (end_is : end ≡ reached plan end0 bytes) where
+    (xs : List LinkAccesses) (end : PortName) (end_is : end ≡ end_reached plan end0 bytes) where
+  pub land_through : (port : PortName) → true ≡ goes_through plan end bytes → port ≡ port_of plan end
+      → Lands plan m end0 bytes (v.Through port) old c xs old c xs
+  land_through port through port_is = unread_lands plan m end0 bytes (Some port) old c xs (λ k packets links has b.
+      let st : LinkState = state_of plan old k packets in
+      let at : goes_through plan (end_reached plan end0 bytes) bytes ≡ true =
+      ap (λ (p : PortName). goes_through plan p bytes) (sym end_is) ∙ sym through in
+      ap (λ (p : PortName). (v.Through p, st)) (port_is ∙ ap (port_of plan) end_is)
+      ∙ sym (all_through plan (end_reached plan end0 bytes) bytes b st at))
+
   -- no such end: these are not the ends of the plan
   not_there : false ≡ is_some (port_on old end) → (k : KeeperView) → AreLinks plan old k → has_port plan end0 ≡ true
       → ⊥
   not_there gone k links has =
-      let some = ends_there plan old k links (reached plan end0 bytes) (reached_there plan links.fits end0 bytes has) in
+      let some = ends_there plan old k links (end_reached plan end0 bytes)
+      (reached_there plan links.fits end0 bytes has) in
       let here : is_some (port_on old end) ≡ true = subst (λ (p : PortName). IsSome (port_on old p)) (sym end_is) some
       in
       let never : false ≡ true = gone ∙ here in absurd cc
@@ -557,15 +567,15 @@ module _ (plan : Plan) (m : InterfacesView) (end0 : PortName) (bytes : List ℕ)
   pub land_off_way : (w : ℕ × Direction) → Some w ≡ way_of end → length old.links ≤ w.0
       → Lands plan m end0 bytes v.Nothing old c xs old c xs
   land_off_way w way most = lands_nowhere plan m end0 bytes old c xs (λ k links has.
-      let at = on_way plan links.fits (reached plan end0 bytes) w (ap way_of (sym end_is) ∙ sym way)
-      (stands_at plan links.fits (reached plan end0 bytes) (reached_there plan links.fits end0 bytes has)) in
+      let at = on_way plan links.fits (end_reached plan end0 bytes) w (ap way_of (sym end_is) ∙ sym way)
+      (stands_at plan links.fits (end_reached plan end0 bytes) (reached_there plan links.fits end0 bytes has)) in
       let less = at.less in let many = links.many in let never : ⊥ = omega (arith, less, many, most) in never)
 
   pub land_off_port : (port : PortName) → None ≡ way_of end → port ≡ port_of plan end → length old.links ≤ port.line
       → Lands plan m end0 bytes v.Nothing old c xs old c xs
   land_off_port port none port_is most = lands_nowhere plan m end0 bytes old c xs (λ k links has.
-      let at = apart_at plan links.fits (reached plan end0 bytes) (ap way_of (sym end_is) ∙ sym none)
-      (stands_at plan links.fits (reached plan end0 bytes) (reached_there plan links.fits end0 bytes has)) in
+      let at = apart_at plan links.fits (end_reached plan end0 bytes) (ap way_of (sym end_is) ∙ sym none)
+      (stands_at plan links.fits (end_reached plan end0 bytes) (reached_there plan links.fits end0 bytes has)) in
       let less = at.port.less in let many = links.many in
       let link = ap (λ (p : PortName). p.line) (port_is ∙ ap (port_of plan) end_is) in
       let never : ⊥ = omega (arith, less, many, most, link) in never)
@@ -588,12 +598,12 @@ module _ (plan : Plan) (m : InterfacesView) (end0 : PortName) (bytes : List ℕ)
       → IfOk r (λ u. Lands plan m end0 bytes u old c xs new d ys)
   land_take (Ok u) new d ys port stays none port_is less many brings = ⊎_elim
       (λ here.
-      let at : port ≡ port_of plan (reached plan end0 bytes) = port_is ∙ ap (port_of plan) end_is in
+      let at : port ≡ port_of plan (end_reached plan end0 bytes) = port_is ∙ ap (port_of plan) end_is in
       lands_taken plan m end0 bytes u old c xs new d ys
       (ap (λ (p : PortName). goes_through plan p bytes) (sym end_is) ∙ sym stays) (ap way_of (sym end_is) ∙ sym none)
       (ap (λ (p : PortName). is_some (port_on old p)) (sym end_is) ∙ here)
       (subst (λ (p : PortName). p.line < length old.links) at less) many
-      (subst (λ (p : PortName). Brings m (reached plan end0 bytes) p bytes u old c xs new d ys) at
+      (subst (λ (p : PortName). Brings m (end_reached plan end0 bytes) p bytes u old c xs new d ys) at
       (subst (λ (p : PortName). Brings m p port bytes u old c xs new d ys) end_is brings)))
       (λ gone.
       let left = brings.absent gone in

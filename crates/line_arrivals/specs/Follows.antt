@@ -1,6 +1,6 @@
 -- What keys and packets make of the interfaces of devices.
 use Rattle.std.specs.Prelude.{ℕ, ◌≡◌, ◌⊎◌, slice_get, Some}
-use Rattle.interface_device.specs.Replies.{settled_interfaces}
+use Rattle.interface_ends.specs.Replies.{settled_interfaces}
 use Rattle.join_arrivals.specs.{secure_with, LinkEnds, EndsView, peer_live}
 
 -- Of link `i`: they are settled by the ends of the device's streams as these are afterwards; or the device is as

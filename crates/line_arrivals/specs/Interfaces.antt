@@ -2,7 +2,7 @@
 use Rattle.std.specs.Prelude.{ℕ, Bool, true, false, nat_lt, nat_le, if◌then◌else◌, List, length, slice_get, Option}
 use Rattle.std.specs.Prelude.{Some, None}
 use Rattle.std.specs.List.{slice_index_or}
-use Rattle.std.specs.Option.{option_and_then, option_map}
+use Rattle.std.specs.Option.{option_and_then}
 use Rattle.ide_types.specs.declared.register.Register.{Register}
 use Rattle.ide_types.specs.declared.verdict.InterfaceVerdict.TheVariants as iv
 use Rattle.ide_types.specs.RegisterNames.{has_register}
@@ -12,7 +12,7 @@ use Rattle.link_events.specs.declared.event.InterfaceEvent.TheVariants as ie
 use Rattle.link_verdicts.specs.declared.verdict.Verdict.{Verdict}
 use Rattle.link_verdicts.specs.declared.verdict.Verdict.TheVariants as verdict
 use Rattle.interface_state.specs.Machine.{Tdi, WriteRegister, LevelReset, FirmwareUpdate}
-use Rattle.interface_device.specs.Replies.{DeviceTdis}
+use Rattle.interface_ends.specs.Replies.{DeviceTdis}
 use Rattle.interface_host.specs.declared.operation.InterfaceOperation.{InterfaceOperation}
 use Rattle.interface_host.specs.declared.operation.InterfaceOperation.TheVariants as op
 use Rattle.interface_host.specs.Views.{HostTdi, view_of}
@@ -33,15 +33,10 @@ abbrev pub interface_named : InterfaceManagerView → List LinkEnds → ℕ → 
 interface_named m ends n =
     if nat_lt n (length m.interfaces) then (if nat_le n 255 then place_on_links 0 n ends else None) else None
 
--- the link that it is on
-abbrev pub link_named : InterfaceManagerView → List LinkEnds → ℕ → Option ℕ
-link_named m ends n = option_map (λ (at : ℕ × ℕ). at.0) (interface_named m ends n)
-
 -- ---- what the manager asks
 
 abbrev pub ended_on : HostKeeper → EndsView → ℕ → InterfaceOperation → Option Loss → ℕ → Option LinkEnds
-    → Option HostTdi
-    → Option Ended
+    → Option HostTdi → Option Ended
 ended_on k v i o loss link (Some l) (Some x) =
     Some (operated_on i o loss k.keys (peer_live v link) k.interfaces l x)
 ended_on k v i o loss link l x = None

@@ -10,11 +10,10 @@ use Rattle.spec_links.specs.Plan.{has_port}
 use Rattle.spec_links.specs.Ports.{port_of}
 use Rattle.spec_links.specs.Packets.{arrival_at}
 use Rattle.spec_links.specs.History.{Arrival}
-use Rattle.spec_links.specs.Memory.{effects_by}
+use Rattle.spec_links.specs.Memory.{effects_under_policy}
 use Rattle.spec_links.specs.Guarded.{asked_happens, happens_by}
 use Rattle.join_interfaces.specs.{BesidePorts, LinkPacket, stepped_arrival, PortsStandFor, unit_tlps}
-use Rattle.join_interfaces.specs.{waiting_reads_after}
-use Rattle.join_interfaces.specs.{unit_in}
+use Rattle.join_interfaces.specs.{waiting_reads_after, unit_in}
 use Rattle.join_arrivals.specs.{carried_next, KeeperView, grants_in, writes_by, InterfacesView, EndsView, WaitsAt}
 use Rattle.join_arrivals.specs.{AreLinks, IsBounded, state_of}
 use Rattle.trusted_memory.specs.{MemoryContents, Leads}
@@ -51,7 +50,7 @@ arrival_on plan end bytes = Some (arrival_at plan end bytes)
 -- effects are by what the manager says, by the reads that wait and by how the devices' interfaces stand
 abbrev pub HasEffects : Plan → InterfacesView → EndsView → List LinkAccesses → BesidePorts → Type 0
 HasEffects plan m old xs b =
-    b.effects ≡ (λ port. effects_by plan (policy_in m old xs) (port_of plan port))
+    b.effects ≡ (λ port. effects_under_policy plan (policy_in m old xs) (port_of plan port))
 
 -- if the ends are those of the plan, and stand for some history
 pub record LandsOn (plan : Plan) (m : InterfacesView) (end : PortName) (bytes : List ℕ) (verdict : Verdict)

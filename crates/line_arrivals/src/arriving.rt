@@ -2,7 +2,7 @@
 
 ghost use Rattle.std.specs.Prelude.{◌≡◌, ◌<◌, ◌≤◌, ◌^◌, IfOk, IsSome, OnErr, Some, length};
 ghost use Rattle.spec_links.specs.Ports.{port_of as port_of_end};
-ghost use Rattle.join_arrivals.specs.{port_on, CallsBelow, way_of};
+ghost use Rattle.join_arrivals.specs.{port_on, EndsUnitsAtMost, way_of};
 ghost use Rattle.join_arrivals.specs.Accesses.{AccessesStay, Brings};
 ghost use Rattle.line_arrivals.specs.Landing.{ComesTo, Lands};
 
@@ -51,7 +51,7 @@ fn wait_at(
     accesses: &mut Accesses,
 ) -> Result<Verdict, OutOfMemory>
     requires here { IsSome (port_on ends.old end) }
-    requires few { CallsBelow (2 ^ 40) ends.old }
+    requires few { EndsUnitsAtMost (2 ^ 40) ends.old }
     requires link { way.0 < length accesses.old }
     ensures comes { IfOk result (λ v. ComesTo ends.old end arriving.now.bytes.now way.0 way.1 v accesses.old ends.new
         accesses.new) }
@@ -74,7 +74,7 @@ pub fn land(
     trusted: &mut Trusted,
     accesses: &mut Accesses,
 ) -> Result<Verdict, OutOfMemory>
-    requires few { CallsBelow (2 ^ 40) ends.old }
+    requires few { EndsUnitsAtMost (2 ^ 40) ends.old }
     requires many { length accesses.old ≡ length ends.old.links }
     ensures lands { IfOk result (λ v. Lands arriving.now.plan.now arriving.now.keeper.now arriving.now.end
         arriving.now.bytes.now v ends.old trusted.old.contents accesses.old ends.new trusted.new.contents

@@ -14,30 +14,30 @@ use link_verdicts::{Operation, Verdict};
 use tsm_host::{NamedOperation, StreamOutcome, StreamRefusal, StreamResult};
 
 /// An operation on a stream of a line.
-pub fn named_op(operation: Operation, link: u8, stream: u8) -> NamedOperation
-    ensures { op_name result ≡ record { operation = operation; line = link; stream = stream } }
+pub fn named_op(operation: Operation, line: u8, stream: u8) -> NamedOperation
+    ensures { op_name result ≡ record { operation = operation; line = line; stream = stream } }
 {
     match operation {
-        Operation::Establish => NamedOperation::Establish(link, stream),
-        Operation::Refresh => NamedOperation::Refresh(link, stream),
-        Operation::Stop => NamedOperation::Stop(link, stream),
+        Operation::Establish => NamedOperation::Establish(line, stream),
+        Operation::Refresh => NamedOperation::Refresh(line, stream),
+        Operation::Stop => NamedOperation::Stop(line, stream),
     }
 }
 
 // What an operation shows at its end, if that is what it can show.
-fn shown_verdict(operation: Operation, link: u8, stream: u8, shown: StreamResult) -> Option<Verdict>
-    ensures { result ≡ verdict_shown operation link stream shown }
+fn shown_verdict(operation: Operation, line: u8, stream: u8, shown: StreamResult) -> Option<Verdict>
+    ensures { result ≡ verdict_shown operation line stream shown }
 {
     match (operation, shown) {
         (Operation::Establish, StreamResult::Draw(draw)) => {
-            Some(Verdict::Established { link, stream, draw })
+            Some(Verdict::Established { line, stream, draw })
         }
         (Operation::Refresh, StreamResult::Draw(draw)) => Some(Verdict::Refreshed {
-            link,
+            line,
             stream,
             draw,
         }),
-        (Operation::Stop, StreamResult::Stopped) => Some(Verdict::Stopped { link, stream }),
+        (Operation::Stop, StreamResult::Stopped) => Some(Verdict::Stopped { line, stream }),
         _ => None,
     }
 }
@@ -79,16 +79,16 @@ fn refusal_verdict(line: u8, loss: Option<Loss>, refusal: StreamRefusal) -> Opti
 /// neither at its end nor refused, for a bad reply, and for an exchange that is lost without the loss of a message.
 pub fn operated_verdict(
     operation: Operation,
-    link: u8,
+    line: u8,
     stream: u8,
     loss: Option<Loss>,
     outcome: StreamOutcome,
 ) -> Option<Verdict>
-    ensures { result ≡ verdict_of operation link stream loss outcome }
+    ensures { result ≡ verdict_of operation line stream loss outcome }
 {
     match outcome {
         StreamOutcome::Next => None,
-        StreamOutcome::Done(shown) => shown_verdict(operation, link, stream, shown),
-        StreamOutcome::Refused(refusal) => refusal_verdict(link, loss, refusal),
+        StreamOutcome::Done(shown) => shown_verdict(operation, line, stream, shown),
+        StreamOutcome::Refused(refusal) => refusal_verdict(line, loss, refusal),
     }
 }

@@ -1,9 +1,7 @@
 -- The streams of a line, as they are looked up of a plan.
-use Rattle.spec_links.proofs.Terms.{◌≡◌, ◌∙◌, ◌-◌, ◌<◌, ◌≤◌, ◌&&◌, ℕ, zero, suc, List, [], ◌∷◌, Bool, true}
-use Rattle.spec_links.proofs.Terms.{false, Option, Some, None, nat_lt, is_some, slice_get, length, map, arith, refl}
-use Rattle.spec_links.proofs.Terms.{sym}
-use Rattle.spec_links.proofs.Terms.{ap, nat_tests, not, slice_get_within, Plan, PortName}
-use Rattle.spec_links.proofs.Terms.{streams_of}
+use Rattle.spec_links.proofs.Terms.{◌≡◌, ◌∙◌, ◌-◌, ◌<◌, ◌≤◌, ◌&&◌, ℕ, zero, suc, List, [], ◌∷◌, Bool, true, false}
+use Rattle.spec_links.proofs.Terms.{Option, Some, None, nat_lt, is_some, slice_get, length, map, arith, refl, sym, ap}
+use Rattle.spec_links.proofs.Terms.{nat_tests, not, slice_get_within, Plan, PortName, streams_of}
 use Rattle.std.specs.List.{slice_index_or}
 use Rattle.ide_types.specs.declared.plan.LinkPlan.{LinkPlan}
 use Rattle.ide_types.specs.declared.plan.HopPlan.{HopPlan}
@@ -12,7 +10,7 @@ use Rattle.ide_types.specs.declared.stream.StreamPlan.{StreamPlan}
 use Rattle.ide_types.specs.Ends.{link_hop, line_has}
 use Rattle.ide_types.specs.Fits.{FitsPlan}
 use Rattle.tlp_layout.specs.Reading.{read_of}
-use Rattle.association.specs.Outgoing.{outgoing_of}
+use Rattle.tlp_layout.specs.Outgoing.{outgoing_of}
 use Rattle.spec_links.specs.Plan.{has_link, has_line, hop_by_link, hop_streams, lone_stream, peer_streams}
 use Rattle.spec_links.specs.Plan.{streams_by_link, behind_links, behind_near}
 unfoldable use Rattle.spec_links.specs.Plan.{streams_by_line}

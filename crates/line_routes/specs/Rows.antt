@@ -1,5 +1,5 @@
 -- What the code looks up of a plan, by the number of a line.
-use Rattle.std.specs.Prelude.{ℕ, ◌-◌, ◌&&◌, nat_lt, not, is_some, length, slice_get, if◌then◌else◌, Bool, true, false}
+use Rattle.std.specs.Prelude.{ℕ, ◌-◌, ◌&&◌, nat_lt, not, is_some, length, slice_get, if◌then◌else◌, Bool, false}
 use Rattle.std.specs.Prelude.{List, Option, Some, None}
 use Rattle.ide_types.specs.declared.port.PortName.{PortName}
 use Rattle.ide_types.specs.declared.port.Side.{Side}
@@ -8,9 +8,7 @@ use Rattle.ide_types.specs.declared.plan.Plan.{Plan}
 use Rattle.ide_types.specs.Plans.{hop_has_id}
 use Rattle.ide_types.specs.Ends.{link_hop}
 use Rattle.tlp_layout.specs.Reading.{read_of}
-use Rattle.association.specs.declared.choice.Choice.{Choice}
-use Rattle.association.specs.declared.choice.Choice.TheVariants.{Plain}
-use Rattle.association.specs.Outgoing.{outgoing_of}
+use Rattle.tlp_layout.specs.Outgoing.{outgoing_of}
 use Rattle.spec_links.specs.Plan.{has_link}
 use Rattle.spec_links.specs.Ports.{takes_none, hop_lists}
 
@@ -21,11 +19,6 @@ has_line_by plan line =
     else if nat_lt line 16 then is_some (link_hop (slice_get plan.links (line - 8)))
     else if nat_lt line 24 then is_some (link_hop (slice_get plan.links (line - 16)))
     else nat_lt (line - 24) (length plan.peers)
-
--- no stream is chosen
-abbrev pub is_no_choice : Choice → Bool
-is_no_choice Plain = true
-is_no_choice choice = false
 
 -- what is sent at this side of a link goes to its hop
 abbrev pub is_left_to_hop : Option LinkPlan → Side → List ℕ → Bool

@@ -4,7 +4,7 @@ ghost use Rattle.std.specs.Prelude.{◌≡◌, ◌≤◌, length, slice_get};
 ghost use Rattle.ide_types.specs.Plans.{has_stream_id, hop_has_id as hop_has_its};
 ghost use Rattle.ide_types.specs.Ends.{end_on as end_on_port, peer_end as end_of_peer};
 ghost use Rattle.ide_types.specs.Ends.{link_hop, own_has_id as own_has_its, peer_end_at as end_of_peer_at};
-ghost use Rattle.spec_links.specs.Ports.{id_in as id_of, reached as reached_by, goes_through as is_through};
+ghost use Rattle.spec_links.specs.Ports.{id_in as id_of, end_reached as reached_by, goes_through as is_through};
 ghost use Rattle.line_routes.specs.Rows.{hop_line_has as hop_line_has_id, lacks_hop_stream};
 
 use crate::ports::{at_switch, hop, port_of};
@@ -107,7 +107,7 @@ fn end_on(plan: &Plan, port: PortName, id: u8) -> PortName
 /// The end that bytes meet which arrive at the port of this one: that of the line that has their stream, first of the
 /// link, then of its hop, then of a stream between devices; the port if there is none. At a switch nothing is looked up
 /// (PCI Express Base 6.0 section 6.33, in this profile).
-#[tactic(auto, unfolding(spec_links::specs::Ports::reached))]
+#[tactic(auto, unfolding(spec_links::specs::Ports::end_reached))]
 pub fn reached(plan: &ValidPlan, end: PortName, bytes: &[u8]) -> PortName
     ensures { result ≡ reached_by plan.now end bytes.now }
 {

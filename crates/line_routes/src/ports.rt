@@ -12,13 +12,13 @@ use ide_types::{HopPlan, Plan, PortName, Side, ValidPlan, port_at};
 pub fn partner(end: PortName) -> PortName
     ensures { result ≡ partner_of end }
 {
-    let PortName { side, line: link } = end;
+    let PortName { side, line } = end;
     PortName {
         side: match side {
             Side::Host => Side::Device,
             Side::Device => Side::Host,
         },
-        line: link,
+        line,
     }
 }
 

@@ -2,25 +2,15 @@
 
 ghost use Rattle.std.specs.Prelude.{◌≡◌, ◌&&◌, ◌<◌};
 ghost use Rattle.tlp_layout.specs.Reading.{read_of};
-ghost use Rattle.association.specs.Choice.{chosen_stream};
-ghost use Rattle.association.specs.Outgoing.{outgoing_of, outgoing_on};
+ghost use Rattle.tlp_layout.specs.Choice.{chosen_stream};
+ghost use Rattle.tlp_layout.specs.Outgoing.{outgoing_of, outgoing_on};
 ghost use Rattle.ide_types.specs.Plans.{is_among};
 ghost use Rattle.ide_types.specs.Ends.{hop_end as end_of_hop};
 ghost use Rattle.spec_links.specs.Ports.{takes_none, hop_lists, sealing_end as sealing_end_of};
-ghost use Rattle.line_routes.specs.Rows.{goes_to_hop_by, is_no_choice};
+ghost use Rattle.line_routes.specs.Rows.{goes_to_hop_by};
 
-use association::{Choice, choose};
 use ide_types::{HopPlan, LinkPlan, Plan, PortName, Side, ValidPlan};
-use tlp_layout::read;
-
-fn is_plain(choice: Choice) -> bool
-    ensures { result ≡ is_no_choice choice }
-{
-    match choice {
-        Choice::Plain => true,
-        _ => false,
-    }
-}
+use tlp_layout::{choose, read};
 
 fn is_among(class: u8, classes: &[u8]) -> bool
     ensures { result ≡ is_among class classes.now }
@@ -35,7 +25,7 @@ fn lists(hop: &HopPlan, class: u8) -> bool
 }
 
 // No stream of the link takes the TLP with these bytes at this side, and its hop does.
-#[tactic(auto, unfolding(association::specs::Outgoing::outgoing_of))]
+#[tactic(auto, unfolding(tlp_layout::specs::Outgoing::outgoing_of))]
 fn is_left(link: &LinkPlan, side: Side, bytes: &[u8]) -> bool
     ensures { result ≡ (takes_none (outgoing_of link.now.streams side bytes.now)
         && hop_lists link.now.hop (read_of bytes.now)) }
@@ -44,13 +34,9 @@ fn is_left(link: &LinkPlan, side: Side, bytes: &[u8]) -> bool
         Err(_) => false,
         Ok(tlp) => {
             let head = tlp.head();
-            if is_plain(choose(&link.streams, side, &head)) {
-                match &link.hop {
-                    None => false,
-                    Some(hop) => lists(hop, head.lead.tc),
-                }
-            } else {
-                false
+            match (choose(&link.streams, side, &head), &link.hop) {
+                (None, Some(hop)) => lists(hop, head.lead.tc),
+                _ => false,
             }
         }
     }

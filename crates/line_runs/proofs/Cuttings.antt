@@ -1,6 +1,5 @@
 -- The bytes that lines are cut from.
-use Rattle.std.proofs.Common.{◌≡◌, ℕ, ◌≤◌, length, sym}
-use Rattle.std.proofs.Common.{take_all}
+use Rattle.std.proofs.Common.{◌≡◌, ℕ, ◌≤◌, length, sym, take_all}
 use Rattle.std.proofs.lemmas.List.{get_or_past}
 use Rattle.line_runs.specs.Gain.{Text}
 use Rattle.line_runs.specs.Lines.{bytes_for_lines}

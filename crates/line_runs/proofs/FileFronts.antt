@@ -23,13 +23,10 @@ use Rattle.line_runs.specs.Front.{Gave, bytes_of, IsReadIn, IsReadOf, IsWholeIn,
 use Rattle.line_runs.specs.Gain.{Text, Gained, GainedMore, IsFront}
 use Rattle.line_runs.specs.Outcome.{Due, EndsDue, EndsOn, Quiet, IsWholeLines, Ran, RanOn, SomeFront}
 use Rattle.line_runs.specs.Lines.{after, bytes_for_lines, cut_text, file_due, file_limit, go_on, is_over, process}
-use Rattle.line_runs.specs.Lines.{refusal}
-use Rattle.line_runs.specs.Lines.{unended}
+use Rattle.line_runs.specs.Lines.{refusal, unended_due}
 use Rattle.line_runs.specs.Gathering.{GainedAt, IsPartGathered, GoesOn, NoFurther, ReadAsFar, ReadAsFarOf, SoFar}
-use Rattle.line_runs.specs.Gathering.{WroteEnded}
-use Rattle.line_runs.specs.Gathering.{WroteEndedIn, WroteEndedOf, pieces_after, due_behind, ended_text, last_piece}
-use Rattle.line_runs.specs.Gathering.{limit_due}
-use Rattle.line_runs.specs.Gathering.{open_line, waiting_at}
+use Rattle.line_runs.specs.Gathering.{WroteEnded, WroteEndedIn, WroteEndedOf, pieces_after, due_behind, ended_text}
+use Rattle.line_runs.specs.Gathering.{last_piece, limit_due, open_line, waiting_at}
 use Rattle.line_runs.proofs.Cuttings.{cut_short}
 use Rattle.line_runs.proofs.Fronts.{start}
 use Rattle.line_runs.proofs.Gains.{gained_more}
@@ -88,8 +85,7 @@ piece_ahead advance closing first told name at n s before piece o0 o1 f = record
 pub file_goes_on : {S : Type 0} (advance : S → ℕ → Text → Result (S × Text) LineFault) (closing : S → Due) (first : S)
     (told : Option Contents) (name : Text) (at n m k : ℕ) (s t : S) (before now piece : Text) (o0 o1 o2 : SinkSeen)
     → (f : FileSoFar advance closing first told name at n s before o0 o1) → IsReadOf told name (f.front ++ piece)
-    → length piece ≡ k
-    → SoFar (λ over left. due_behind advance closing over n s before (piece ++ left))
+    → length piece ≡ k → SoFar (λ over left. due_behind advance closing over n s before (piece ++ left))
     (λ over left. due_behind advance closing over m t now left) [] o1 o2
     → FileSoFar advance closing first told name (at + k) m t now o0 o2
 file_goes_on advance closing first told name at n m k s t before now piece o0 o1 o2 f read size more =
@@ -237,12 +233,12 @@ cut_seam limit front rest byte size =
     by_feed file there short long = rw (there, short, long) refl
 
 unended_at : {S : Type 0} (advance : S → ℕ → Text → Result (S × Text) LineFault) (closing : S → Due) (n : ℕ) (s : S)
-    (before : Text) → due_behind advance closing true n s before [] ≡ unended n before
-unended_at advance closing n s before = ap (unended n) (append-nil before)
+    (before : Text) → due_behind advance closing true n s before [] ≡ unended_due n before
+unended_at advance closing n s before = ap (unended_due n) (append-nil before)
 
 unended_by : {S : Type 0} (advance : S → ℕ → Text → Result (S × Text) LineFault) (closing : S → Due) (n : ℕ) (s : S)
     (before : Text) (byte : ℕ) → (byte == 10) ≡ false
-    → due_behind advance closing true n s before (byte ∷ []) ≡ unended n (before ++ byte ∷ [])
+    → due_behind advance closing true n s before (byte ∷ []) ≡ unended_due n (before ++ byte ∷ [])
 unended_by advance closing n s before byte is =
     let one : pieces (byte ∷ []) ≡ (byte ∷ []) ∷ [] = rw is refl in
     ap (λ (ps : List Text). process advance closing true n s (pieces_after before ps)) one
@@ -251,17 +247,17 @@ limit_ran : {S : Type 0} (advance : S → ℕ → Text → Result (S × Text) Li
     (told : Option Contents) (name : Text) (at n : ℕ) (s : S) (before : Text) (byte : ℕ) (o0 o1 o2 : SinkSeen)
     (r : Result End Fault)
     → (f : FileSoFar advance closing first told name at n s before o0 o1) → (b : Bool) → (byte == 10) ≡ b
-    → Ran (unended n (if b then before else before ++ byte ∷ [])) o1 o2 r
+    → Ran (unended_due n (if b then before else before ++ byte ∷ [])) o1 o2 r
     → Ran (process advance closing true 1 first (pieces (if b then f.front else f.front ++ byte ∷ []))) o0 o2 r
 limit_ran advance closing first told name at n s before byte o0 o1 o2 r f true is ran =
     let P : Text → Type 0 = λ t. Ran (process advance closing true 1 first (pieces t)) o0 o2 r in
     subst P (append-nil f.front)
     (ends (λ over left. process advance closing over 1 first (pieces (f.front ++ left)))
-    (λ over left. due_behind advance closing over n s before left) [] (unended n before) o0 o1 o2 r true [] f.so_far
+    (λ over left. due_behind advance closing over n s before left) [] (unended_due n before) o0 o1 o2 r true [] f.so_far
     (unended_at advance closing n s before) ran)
 limit_ran advance closing first told name at n s before byte o0 o1 o2 r f false is ran =
     ends (λ over left. process advance closing over 1 first (pieces (f.front ++ left)))
-    (λ over left. due_behind advance closing over n s before left) [] (unended n (before ++ byte ∷ [])) o0 o1 o2 r
+    (λ over left. due_behind advance closing over n s before left) [] (unended_due n (before ++ byte ∷ [])) o0 o1 o2 r
     true (byte ∷ []) f.so_far
     (unended_by advance closing n s before byte is) ran
 
@@ -288,8 +284,7 @@ pub end_at_limit : {S : Type 0} (advance : S → ℕ → Text → Result (S × T
     (name : Text) (at n : ℕ) (s : S) (before : Text) (byte : ℕ) (s0 s1 : ShelfSeen) (o0 o1 o2 : SinkSeen)
     (r : Result End Fault)
     → (f : FileSoFar advance closing first s0.contents name at n s before o0 o1) → at ≡ file_limit
-    → IsReadOf s0.contents name (f.front ++ byte ∷ []) → s1.faults ≡ s0.faults
-    → Ran (limit_due n before byte) o1 o2 r
+    → IsReadOf s0.contents name (f.front ++ byte ∷ []) → s1.faults ≡ s0.faults → Ran (limit_due n before byte) o1 o2 r
     → RanOn (λ contents. option_map (file_due advance closing first) (contents name)) s0 s1 o0 o2 r
 end_at_limit advance closing first name at n s before byte s0 s1 o0 o1 o2 r f is read same ran = by_told s0.contents
     read
@@ -320,7 +315,7 @@ ended_there : {S : Type 0} (advance : S → ℕ → Text → Result (S × Text) 
     → (f : FileSoFar advance closing first told name at n s before o0 o1) → length before ≤ 20000
     → process advance closing true 1 first (pieces f.front) ≡ after f.so_far.text unended_short
 ended_there advance closing first told name at n s before o0 o1 f short =
-    let none : unended n before ≡ unended_short = rw (le-ltb 20000 (length before) short) refl in
+    let none : unended_due n before ≡ unended_short = rw (le-ltb 20000 (length before) short) refl in
     ap (λ (t : Text). process advance closing true 1 first (pieces t)) (sym (append-nil f.front)) ∙ f.so_far.goes_on
     true [] ∙ ap (after f.so_far.text) (unended_at advance closing n s before ∙ none)
 

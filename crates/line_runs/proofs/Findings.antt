@@ -14,10 +14,8 @@ use Rattle.line_runs.specs.declared.ends.End.TheVariants as end
 use Rattle.line_runs.specs.Gain.{Text}
 use Rattle.line_runs.proofs.Cuts.{HasFirst, some}
 use Rattle.line_runs.specs.Judging.{ClaimsOther, DiffersAt, DueThere, Finding, Same, Differs, LacksLine, Tells}
-use Rattle.line_runs.specs.Judging.{finding_at_end}
-use Rattle.line_runs.specs.Judging.{finding, finding_due, found_after, begins_with_line, judged, last_line_of}
-use Rattle.line_runs.specs.Judging.{last_text_piece}
-use Rattle.line_runs.specs.Judging.{verdicts_limit}
+use Rattle.line_runs.specs.Judging.{finding_at_end, first_finding, finding_due, found_after, begins_with_line}
+use Rattle.line_runs.specs.Judging.{judgement_due, last_line_of, last_text_piece, verdicts_limit}
 
 -- ---- pieces and texts
 
@@ -187,8 +185,7 @@ last_means due claimed lines rest last false is left = left_other due claimed li
         cc
 
 end_means : (due claimed : Text) (lines : ℕ) (rest : Text) (parts : List Text)
-    → Left due claimed lines (rest ∷ []) parts
-    → parts ≢ [] → Means due claimed (finding_at_end lines rest parts)
+    → Left due claimed lines (rest ∷ []) parts → parts ≢ [] → Means due claimed (finding_at_end lines rest parts)
 end_means due claimed lines rest [] left goes_on = absurd (goes_on refl)
 end_means due claimed lines rest (last ∷ []) left goes_on = last_means due claimed lines rest last (bytes_eq rest last)
     refl left
@@ -224,7 +221,7 @@ some_pieces a e =
     let there : first.first ∷ first.rest ≡ [] = sym first.is ∙ e in
     cc
 
-pub finding_means : (due claimed : Text) → Means due claimed (finding due claimed)
+pub finding_means : (due claimed : Text) → Means due claimed (first_finding due claimed)
 finding_means due claimed = found_means due claimed 0 (pieces due) (pieces claimed)
     (record { alike = []; lines_are = refl; due_is = refl; claimed_is = refl }) (some_pieces due) (some_pieces claimed)
 
@@ -261,10 +258,10 @@ found_tells due claimed (Differs number line) means = record {
 }
 
 by_length : (due claimed : Text) (b : Bool) → nat_lt verdicts_limit (length claimed) ≡ b
-    → Tells due claimed (if b then (end.TooLong, []) else finding_due (finding due claimed)).0
-    (if b then (end.TooLong, []) else finding_due (finding due claimed)).1
+    → Tells due claimed (if b then (end.TooLong, []) else finding_due (first_finding due claimed)).0
+    (if b then (end.TooLong, []) else finding_due (first_finding due claimed)).1
 by_length due claimed true is = (grind (arith, nat_tests), refl)
-by_length due claimed false is = found_tells due claimed (finding due claimed) (finding_means due claimed)
+by_length due claimed false is = found_tells due claimed (first_finding due claimed) (finding_means due claimed)
 
-pub judged_tells : (due claimed : Text) → Tells due claimed (judged due claimed).0 (judged due claimed).1
+pub judged_tells : (due claimed : Text) → Tells due claimed (judgement_due due claimed).0 (judgement_due due claimed).1
 judged_tells due claimed = by_length due claimed (nat_lt verdicts_limit (length claimed)) refl

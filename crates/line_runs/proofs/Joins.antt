@@ -1,7 +1,6 @@
 -- One file after another, and what is due of a file in other words.
 use Rattle.std.proofs.Common.{◌≡◌, ◌≤◌, ◌+◌, ◌++◌, ◌∙◌, ℕ, [], length, length-take, take, Option, Some, None, Result}
-use Rattle.std.proofs.Common.{Ok}
-use Rattle.std.proofs.Common.{Err, refl, sym, ap, subst, arith, append_assoc, option_map}
+use Rattle.std.proofs.Common.{Ok, Err, refl, sym, ap, subst, arith, append_assoc, option_map}
 use Rattle.std.specs.Prelude.{IfErr, IfOk}
 use Rattle.std.proofs.lemmas.List.{append-nil, append_cancel_left}
 use Rattle.cli_files.specs.Outside.{Contents, Rose, ShelfSeen, SinkSeen}

@@ -1,7 +1,6 @@
 -- A file that is judged: its first bytes, one more than those that count, give what the whole file gives.
 use Rattle.std.proofs.Common.{◌≡◌, ◌≢◌, ◌≤◌, ◌<◌, ◌∙◌, ℕ, [], length, take, true, false, Bool, Option, Some, None}
-use Rattle.std.proofs.Common.{Result}
-use Rattle.std.proofs.Common.{Ok, Err, refl, sym, ap, arith, option_map}
+use Rattle.std.proofs.Common.{Result, Ok, Err, refl, sym, ap, arith, option_map}
 use Rattle.std.specs.Prelude.{IfErr, IfOk, nat_lt}
 use Rattle.std.proofs.lemmas.Bool.Decides.{nat_tests}
 use Rattle.std.proofs.lemmas.List.{length-take-le, take_all}
@@ -16,25 +15,25 @@ use Rattle.line_runs.specs.Gathering.{GainedAt}
 use Rattle.line_runs.specs.Outcome.{Due, Ran}
 use Rattle.line_runs.proofs.WholeFiles.{IsDue}
 use Rattle.line_runs.proofs.Joins.{some_gained}
-use Rattle.line_runs.specs.Judging.{judged, verdicts_limit}
+use Rattle.line_runs.specs.Judging.{judgement_due, verdicts_limit}
 
 -- one byte more than those that count tells what the whole file gives
 same_judged : (due whole : Text) (b : Bool) → nat_lt verdicts_limit (length whole) ≡ b
-    → judged due (take 1073741825 whole) ≡ judged due whole
+    → judgement_due due (take 1073741825 whole) ≡ judgement_due due whole
 same_judged due whole true over =
     let longer : nat_lt verdicts_limit (length (take 1073741825 whole))
     ≡ true = let n = length-take-le 1073741825 whole (grind (arith, nat_tests)) in grind (arith, nat_tests) in
     rw (over, longer) refl
-same_judged due whole false over = ap (judged due) (take_all 1073741825 whole (grind (arith, nat_tests)))
+same_judged due whole false over = ap (judgement_due due) (take_all 1073741825 whole (grind (arith, nat_tests)))
 
 front_in : (due : Text) (file : Option Text) (read : Text) → FrontIn 1073741825 file read
-    → option_map (judged due) file ≡ Some (judged due read)
+    → option_map (judgement_due due) file ≡ Some (judgement_due due read)
 front_in due None read is = absurd is
 front_in due (Some whole) read is = ap (λ (d : Due). Some d)
-    (sym (ap (judged due) is ∙ same_judged due whole (nat_lt verdicts_limit (length whole)) refl))
+    (sym (ap (judgement_due due) is ∙ same_judged due whole (nat_lt verdicts_limit (length whole)) refl))
 
 pub judged_front : (due : Text) (told : Option Contents) (name read : Text) → FrontOf told name 1073741825 read
-    → IsDue told (λ contents. option_map (judged due) (contents name)) (judged due read)
+    → IsDue told (λ contents. option_map (judgement_due due) (contents name)) (judgement_due due read)
 judged_front due None name read is = tt
 judged_front due (Some contents) name read is = front_in due (contents name) read is
 

@@ -180,8 +180,7 @@ begins due later sink is = record {
 -- one more text came, and was gathered
 pub comes : (due mid later : Bool → Text → Due) (gathered now w : Text) (o0 o1 o2 : SinkSeen)
     → SoFar due mid gathered o0 o1 → ((over : Bool) (left : Text) → mid over left ≡ after w (later over left))
-    → IsWholeLines w
-    → IsPartGathered (gathered ++ w) now o1 o2 → SoFar due later now o0 o2
+    → IsWholeLines w → IsPartGathered (gathered ++ w) now o1 o2 → SoFar due later now o0 o2
 comes due mid later gathered now w o0 o1 o2 so_far goes whole more =
     let was = so_far.gained in
     let spelled : (was.0 ++ more.0) ++ now ≡ so_far.text ++ w =

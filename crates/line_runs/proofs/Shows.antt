@@ -4,7 +4,7 @@ use Rattle.std.proofs.Common.{Result}
 use Rattle.ide_prefix.specs.declared.fault.PacketFault.{PacketFault}
 use Rattle.ide_prefix.specs.Reading.{CutValue, cut_of}
 use Rattle.ide_prefix.specs.Packet.{Packet}
-use Rattle.ide_types.specs.Names.{Text, joined}
+use Rattle.ide_types.specs.Names.{Text, joined_words}
 use Rattle.line_runs.specs.Showing.{carried_words, cut_words, packet_words, prefix_words, shown_words}
 
 pub cut_shows : (bytes : List ℕ) (r : Result CutValue PacketFault) → (length bytes == 0) ≡ false → r ≡ cut_of bytes
@@ -14,8 +14,9 @@ cut_shows (b ∷ bytes) r some e = rw e refl
 
 -- the line of a packet, part by part
 pub parts_join : (number ide prefix whole : Text) (p : Packet) → ide ≡ number ++ codes " ide"
-    → ((after : List Text) → prefix ++ joined after ≡ ide ++ joined (prefix_words p.prefix after))
-    → whole ≡ prefix ++ joined (carried_words p) → whole ≡ number ++ joined (packet_words p)
+    → ((after : List Text) → prefix ++ joined_words after ≡ ide ++ joined_words (prefix_words p.prefix after))
+    → whole ≡ prefix ++ joined_words (carried_words p) → whole ≡ number ++ joined_words (packet_words p)
 parts_join number ide prefix whole p e f g =
-    g ∙ f (carried_words p) ∙ ap (λ (t : Text). t ++ joined (prefix_words p.prefix (carried_words p))) e ∙ append_assoc
-    number (codes " ide") (joined (prefix_words p.prefix (carried_words p)))
+    g ∙ f (carried_words p) ∙ ap (λ (t : Text). t ++ joined_words (prefix_words p.prefix (carried_words p))) e
+    ∙ append_assoc
+    number (codes " ide") (joined_words (prefix_words p.prefix (carried_words p)))

@@ -1,7 +1,7 @@
 -- The first bytes of a file.
 use Rattle.std.specs.Prelude.{ℕ, ◌+◌, ◌≤◌, ◌≡◌, ◌⊎◌, [], length, max, take, unwrap_or, Option, Some, None, Result, Ok}
 use Rattle.std.specs.Prelude.{Err}
-use Rattle.cli_files.specs.Outside.{Contents, Rose, Lacks, counted}
+use Rattle.cli_files.specs.Outside.{Contents, Rose, Lacks, capped_count}
 use Rattle.line_runs.specs.declared.front.Stop.{Stop}
 use Rattle.line_runs.specs.declared.front.Stop.TheVariants as stop
 use Rattle.line_runs.specs.Gain.{Text, IsFront}
@@ -27,7 +27,7 @@ ReadCause before now told name (Err e) = StopCause before now told name e
 
 -- n bytes were given: the count rose by n, or up to its last value
 abbrev pub Gave : ℕ → ℕ → ℕ → Type 0
-Gave before n now = (counted before n ≤ now) × (now ≤ before + n)
+Gave before n now = (capped_count before n ≤ now) × (now ≤ before + n)
 
 -- no more than so many bytes were given
 abbrev pub GaveAtMost : ℕ → ℕ → ℕ → Type 0

@@ -11,7 +11,7 @@ use Rattle.line_runs.specs.declared.ends.Fault.{Fault}
 use Rattle.line_runs.specs.declared.ends.Fault.TheVariants as fault
 use Rattle.line_runs.specs.Front.{Gave, bytes_of}
 use Rattle.line_runs.specs.Gain.{Text, Gained, GainedMore}
-use Rattle.line_runs.specs.Lines.{after, process, unended}
+use Rattle.line_runs.specs.Lines.{after, process, unended_due}
 use Rattle.line_runs.specs.Outcome.{CutOff, Due, IsWholeLines, Ran}
 
 -- ---- what is gathered
@@ -73,7 +73,7 @@ PieceRan follows due later before now (Err e) = (over : Bool) (left : Text) → 
 
 -- what is due of a line that has begun, at the first byte that counts no more: a line feed there ends nothing
 abbrev pub limit_due : ℕ → Text → ℕ → Due
-limit_due n before byte = unended n (if byte == 10 then before else before ++ byte ∷ [])
+limit_due n before byte = unended_due n (if byte == 10 then before else before ++ byte ∷ [])
 
 -- ---- if a fault ends the run
 

@@ -1,7 +1,6 @@
 -- A text that is claimed, judged by the one that is due.
 use Rattle.std.specs.Prelude.{ℕ, ◌≡◌, ◌≢◌, ◌+◌, ◌<◌, ◌==◌, nat_lt, Bool, false, List, [], ◌∷◌, ◌++◌, drop, length}
-use Rattle.std.specs.Prelude.{Option}
-use Rattle.std.specs.Prelude.{Some, None, codes, if◌then◌else◌, unwrap_or}
+use Rattle.std.specs.Prelude.{Option, Some, None, codes, if◌then◌else◌, unwrap_or}
 use Rattle.std.specs.Fmt.{decimal}
 use Rattle.std.specs.Str.{bytes_eq}
 use Rattle.line_runs.specs.Pieces.{pieces}
@@ -45,8 +44,8 @@ found_after lines (line ∷ next ∷ due) claimed =
     if begins_with_line line claimed then found_after (lines + 1) (next ∷ due) (drop 1 claimed)
     else Differs (lines + 1) (Some line)
 
-abbrev pub finding : (due claimed : Text) → Finding
-finding due claimed = found_after 0 (pieces due) (pieces claimed)
+abbrev pub first_finding : (due claimed : Text) → Finding
+first_finding due claimed = found_after 0 (pieces due) (pieces claimed)
 
 -- ---- what is written
 
@@ -65,8 +64,9 @@ finding_due (Same lines) = (end.Done, same_text lines)
 finding_due (Differs number line) = (end.Differs, differs_text number (shown_due line))
 
 -- the end and the text of a file that is judged
-abbrev pub judged : (due file : Text) → Due
-judged due file = if nat_lt verdicts_limit (length file) then (end.TooLong, []) else finding_due (finding due file)
+abbrev pub judgement_due : (due file : Text) → Due
+judgement_due due file = if nat_lt verdicts_limit (length file) then (end.TooLong, [])
+    else finding_due (first_finding due file)
 
 -- ---- what it means
 

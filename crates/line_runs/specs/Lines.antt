@@ -41,8 +41,8 @@ go_on n (Ok came) later = after came.1 (later came.0)
 go_on n (Err fault) later = refusal n fault
 
 -- a line that does not end where the bytes that count do
-abbrev pub unended : ℕ → Text → Due
-unended n piece = if nat_lt line_limit (length piece) then refusal n line.TooLong else (TooLong, [])
+abbrev pub unended_due : ℕ → Text → Due
+unended_due n piece = if nat_lt line_limit (length piece) then refusal n line.TooLong else (TooLong, [])
 
 -- The end and the text of the pieces between line feeds, by what a line of each number gives (a state and a text, or a
 -- fault) and by the end and the text after the last one. The last piece is a line if it has bytes.
@@ -50,7 +50,7 @@ abbrev pub process : {S : Type 0} → (S → ℕ → Text → Result (S × Text)
     → List Text → Due
 process advance closing over n s [] = closing s
 process advance closing over n s (piece ∷ []) =
-    if over then unended n piece
+    if over then unended_due n piece
     else if length piece == 0 then closing s
     else go_on n (advance s n piece) closing
 process advance closing over n s (piece ∷ next ∷ rest) = go_on n (advance s n piece) (λ t. process advance closing over

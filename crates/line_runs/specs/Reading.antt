@@ -4,9 +4,8 @@ use Rattle.std.specs.List.{list_all}
 use Rattle.std.specs.Option.{ok_or, option_map}
 use Rattle.link_events.specs.declared.fault.LineFault.{LineFault}
 use Rattle.link_events.specs.declared.fault.LineFault.TheVariants.{Hex, TooLong, NotAscii}
-use Rattle.ide_types.specs.Names.{Text}
+use Rattle.ide_types.specs.Names.{Text, is_printable}
 use Rattle.link_events.specs.Words.{line_limit, words_in, bytes_in}
-use Rattle.ide_types.specs.Names.{is_printable}
 
 -- one word of bytes; no words are no bytes to be shown
 abbrev pub only_bytes : List Text → Result (Option Text) LineFault

@@ -19,7 +19,7 @@ use Rattle.ide_prefix.specs.Faults.{packet_place}
 use Rattle.ide_prefix.specs.Packet.{Packet, is_sync_packet}
 use Rattle.ide_prefix.specs.Reading.{CutValue, PlainTlp, IdePacket, cut_of}
 use Rattle.ide_prefix.specs.FaultWords.{packet_word, tlp_word}
-use Rattle.ide_types.specs.Names.{Text, joined, substream_word, fault_word}
+use Rattle.ide_types.specs.Names.{Text, joined_words, substream_word, fault_word}
 use Rattle.link_verdicts.specs.Lines.{bit_of}
 
 -- ---- names
@@ -80,4 +80,4 @@ shown_words (b ∷ bytes) = cut_words (b ∷ bytes) (cut_of (b ∷ bytes))
 
 -- the line of some bytes after the number of their line
 abbrev pub line_shown : ℕ → Text → Text
-line_shown number bytes = decimal number ++ joined (shown_words bytes)
+line_shown number bytes = decimal number ++ joined_words (shown_words bytes)

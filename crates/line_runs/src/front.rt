@@ -1,6 +1,6 @@
 //! The first bytes of a file.
 ghost use Rattle.std.specs.Prelude.{◌≡◌, ◌≤◌, ◌<◌, ◌+◌, ◌^◌, length, IfOk, OnErr};
-ghost use Rattle.cli_files.specs.Outside.{AsksFor, counted};
+ghost use Rattle.cli_files.specs.Outside.{AsksFor, capped_count};
 ghost use Rattle.line_runs.specs.Front.{AskedPieces, FrontOf, Gave, GaveBehind, GaveOf, IsReadOf, ReadCause, ReadsOn};
 
 use cli_files::Shelf;
@@ -34,7 +34,7 @@ fn read_on<S: Shelf>(
     ensures bytes { IsReadOf (S.seen shelf.old).contents name.now bytes.old.items → ReadsOn (S.seen shelf.old).contents
         name.now
         bytes.new.items result }
-    ensures given { IfOk result (λ n. (S.seen shelf.new).given ≡ counted (S.seen shelf.old).given n) }
+    ensures given { IfOk result (λ n. (S.seen shelf.new).given ≡ capped_count (S.seen shelf.old).given n) }
     ensures cap { (S.seen shelf.new).given ≤ (S.seen shelf.old).given + length piece.old }
     ensures names { AsksFor name.now (S.seen shelf.old).asked (S.seen shelf.new).asked }
     ensures read_pieces { AskedPieces (S.seen shelf.old).longest (S.seen shelf.new).longest }

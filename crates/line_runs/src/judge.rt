@@ -4,7 +4,7 @@ ghost use Rattle.cli_files.specs.Outside.{AsksFor};
 ghost use Rattle.line_runs.specs.Front.{AskedPieces, Gave, GaveAtMost, GaveOf};
 ghost use Rattle.line_runs.specs.Gathering.{GainedAt};
 ghost use Rattle.line_runs.specs.Outcome.{Ran, RanOn};
-ghost use Rattle.line_runs.specs.Judging.{judged, verdicts_limit};
+ghost use Rattle.line_runs.specs.Judging.{judgement_due, verdicts_limit};
 
 use crate::compare::compare;
 use crate::{End, Fault, Stop, finish, read_front};
@@ -20,7 +20,7 @@ fn judge_front<O: Sink>(alloc: Global, due: &[u8], front: &[u8], out: &mut O) ->
     ensures present { IfOk result (λ e. e ≢ End.NoEvent) }
     ensures long { IfOk result (λ e. e ≡ End.TooLong → verdicts_limit < length front.now) }
     ensures few { IfOk result (λ e. e ≢ End.TooLong → length front.now ≤ verdicts_limit) }
-    ensures ran { Ran (judged due.now front.now) (O.seen out.old) (O.seen out.new) result }
+    ensures ran { Ran (judgement_due due.now front.now) (O.seen out.old) (O.seen out.new) result }
 {
     if front.len() > VERDICTS_LIMIT {
         return Ok(End::TooLong);
@@ -44,7 +44,7 @@ pub fn judge_file<S: Shelf, O: Sink>(
 ) -> Result<End, Fault>
     ensures end { IfOk result (λ e. e ≢ End.Usage) }
     ensures present { IfOk result (λ e. e ≢ End.NoEvent) }
-    ensures answers { RanOn (λ contents. option_map (judged due.now) (contents name.now)) (S.seen shelf.old)
+    ensures answers { RanOn (λ contents. option_map (judgement_due due.now) (contents name.now)) (S.seen shelf.old)
         (S.seen shelf.new) (O.seen out.old) (O.seen out.new) result }
     ensures so_far { IfErr result (λ e. GainedAt e (O.seen out.old).held (O.seen out.new).held []) }
     ensures names { AsksFor name.now (S.seen shelf.old).asked (S.seen shelf.new).asked }

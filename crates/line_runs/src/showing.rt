@@ -6,7 +6,7 @@ ghost use Rattle.ide_prefix.specs.Cut.{packet_of_view};
 ghost use Rattle.ide_prefix.specs.Packet.{is_sync_packet};
 ghost use Rattle.ide_prefix.specs.Faults.{packet_place};
 ghost use Rattle.ide_prefix.specs.FaultWords.{packet_word as packet_word_of};
-ghost use Rattle.ide_types.specs.Names.{Text, joined, fault_word};
+ghost use Rattle.ide_types.specs.Names.{Text, joined_words, fault_word};
 ghost use Rattle.line_runs.specs.Showing.{carried_header, carried_word, carried_words, head_words, packet_words};
 ghost use Rattle.line_runs.specs.Showing.{plain_words, prefix_words, line_shown};
 
@@ -17,7 +17,7 @@ use std::alloc::{AllocError, Global};
 use tlp_layout::{HeadView, TlpFault, read};
 
 fn plain_fault_text(alloc: Global, number: u64, fault: TlpFault) -> Result<String, AllocError>
-    ensures { IfOk result (λ s. string_bytes s ≡ decimal number ++ joined (plain_words (Err fault))) }
+    ensures { IfOk result (λ s. string_bytes s ≡ decimal number ++ joined_words (plain_words (Err fault))) }
 {
     let place = fault.place();
     let fault = tlp_word(fault);
@@ -25,7 +25,7 @@ fn plain_fault_text(alloc: Global, number: u64, fault: TlpFault) -> Result<Strin
 }
 
 fn plain_head_text(alloc: Global, number: u64, head: &HeadView) -> Result<String, AllocError>
-    ensures { IfOk result (λ s. string_bytes s ≡ decimal number ++ joined (codes "plain" ∷ head_words head.now)) }
+    ensures { IfOk result (λ s. string_bytes s ≡ decimal number ++ joined_words (codes "plain" ∷ head_words head.now)) }
 {
     let kind = kind_name(head.kind());
     let size = head.size();
@@ -34,7 +34,7 @@ fn plain_head_text(alloc: Global, number: u64, head: &HeadView) -> Result<String
 }
 
 fn plain_text(alloc: Global, number: u64, bytes: &[u8]) -> Result<String, AllocError>
-    ensures { IfOk result (λ s. string_bytes s ≡ decimal number ++ joined (plain_words (read_of bytes.now))) }
+    ensures { IfOk result (λ s. string_bytes s ≡ decimal number ++ joined_words (plain_words (read_of bytes.now))) }
 {
     match read(bytes) {
         Ok(tlp) => plain_head_text(alloc, number, &tlp.head()),
@@ -43,7 +43,7 @@ fn plain_text(alloc: Global, number: u64, bytes: &[u8]) -> Result<String, AllocE
 }
 
 fn packet_fault_text(alloc: Global, number: u64, fault: PacketFault) -> Result<String, AllocError>
-    ensures { IfOk result (λ s. string_bytes s ≡ decimal number ++ joined (codes "ide"
+    ensures { IfOk result (λ s. string_bytes s ≡ decimal number ++ joined_words (codes "ide"
         ∷ fault_word (packet_word_of fault) ∷ decimal (packet_place fault) ∷ [])) }
 {
     let place = fault.place();
@@ -60,8 +60,8 @@ fn carried_kind(packet: &PacketView<'_>) -> &'static str
 }
 
 fn push_prefix(text: &mut String, prefix: &Prefix) -> Result<(), AllocError>
-    ensures { OnOk result ((after : List Text) → string_bytes text.new ++ joined after ≡ string_bytes text.old
-        ++ joined (prefix_words prefix.now after)) }
+    ensures { OnOk result ((after : List Text) → string_bytes text.new ++ joined_words after ≡ string_bytes text.old
+        ++ joined_words (prefix_words prefix.now after)) }
 {
     let Prefix {
         m,
@@ -80,7 +80,7 @@ fn push_prefix(text: &mut String, prefix: &Prefix) -> Result<(), AllocError>
 fn push_carried(text: &mut String, packet: &PacketView<'_>) -> Result<(), AllocError>
     requires { packet.now.sync ≡ is_sync_packet (packet_of_view packet.now) }
     ensures { OnOk result (string_bytes text.new ≡ string_bytes text.old
-        ++ joined (carried_words (packet_of_view packet.now))) }
+        ++ joined_words (carried_words (packet_of_view packet.now))) }
 {
     let kind = carried_kind(packet);
     let head = packet.head.len();
@@ -90,7 +90,8 @@ fn push_carried(text: &mut String, packet: &PacketView<'_>) -> Result<(), AllocE
 
 fn packet_text(alloc: Global, number: u64, packet: &PacketView<'_>) -> Result<String, AllocError>
     requires { packet.now.sync ≡ is_sync_packet (packet_of_view packet.now) }
-    ensures { IfOk result (λ s. string_bytes s ≡ decimal number ++ joined (packet_words (packet_of_view packet.now))) }
+    ensures { IfOk result (λ s. string_bytes s ≡ decimal number
+        ++ joined_words (packet_words (packet_of_view packet.now))) }
 {
     let mut text = format!(in alloc; "{number} ide")?;
     push_prefix(&mut text, &packet.prefix)?;

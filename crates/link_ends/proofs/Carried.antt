@@ -1,18 +1,14 @@
 -- What an exchange makes of the manager and of both ends, whether its request reaches the device or is lost.
 use Rattle.link_ends.proofs.Terms.{◌≡◌, ℕ, Bool, true, false, List, [], sym, ◌∙◌, arith, Option, Some, None}
 use Rattle.link_ends.proofs.Terms.{if◌then◌else◌, slice_get, slice_set, Side, nat_tests, PlaceCall, call_of, is_done}
-use Rattle.link_ends.proofs.Terms.{reply_bytes, spelling, Loss, Judged, Expected, Refused, Bad}
-use Rattle.link_ends.proofs.Terms.{StreamOutcome, NextExchange, is_last_receiver_go, StreamView, asked_of_unfinished}
-use Rattle.link_ends.proofs.Terms.{exchange_asked}
+use Rattle.link_ends.proofs.Terms.{reply_bytes, object_spelling, Loss, Judged, Expected, Refused, Bad, StreamOutcome}
+use Rattle.link_ends.proofs.Terms.{NextExchange, is_last_receiver_go, StreamView, asked_of_unfinished, exchange_asked}
 use Rattle.link_ends.proofs.Terms.{request_asked, outcome_of, taken_stream, taken_calls, ManagerView, current}
-use Rattle.link_ends.proofs.Terms.{current_in, current_at, current_asked}
-use Rattle.link_ends.proofs.Terms.{asking_after, IsAsked, StreamState, all_called_at, StreamEnds, Exchanged}
-use Rattle.link_ends.proofs.Terms.{exchange_outcome, exchanged_unless_lost, exchange_if_lost, came_to}
-use Rattle.link_ends.proofs.Terms.{ends_after_exchange}
-use Rattle.link_ends.proofs.Terms.{shown_stream, port_called, goes, judged_bytes, Found, DeviceEnd}
-use Rattle.link_ends.proofs.Terms.{asked_device, reply_given, LinkEnds, lost_message, Pool, KeeperView, HasStream}
-use Rattle.link_ends.proofs.Terms.{IsAtBothEnds}
-use Rattle.link_ends.proofs.Terms.{DiffersInStream, IsExchanged, ap, subst}
+use Rattle.link_ends.proofs.Terms.{current_in, current_at, current_asked, asking_after, IsAsked, StreamState}
+use Rattle.link_ends.proofs.Terms.{all_called_at, StreamEnds, Exchanged, exchange_outcome, exchanged_unless_lost}
+use Rattle.link_ends.proofs.Terms.{exchange_if_lost, came_to, ends_after_exchange, shown_stream, port_called, goes}
+use Rattle.link_ends.proofs.Terms.{judged_bytes, Found, DeviceEnd, asked_device, reply_given, LinkEnds, lost_message}
+use Rattle.link_ends.proofs.Terms.{Pool, KeeperView, HasStream, IsAtBothEnds, DiffersInStream, IsExchanged, ap, subst}
 use Rattle.key_slots.specs.{is_one}
 use Rattle.ide_types.specs.Lines.{is_hosted}
 use Rattle.link_events.specs.declared.event.Lost.{Lost}
@@ -24,8 +20,7 @@ use Rattle.link_ends.proofs.Exchanges.{DeviceGoes, device_goes}
 -- ---- the stream that is asked
 
 pub keeper_read : (m0 m : ManagerView) (l0 l : LinkEnds) (place id : ℕ) (host device : Found) (e : StreamEnds)
-    → IsAtBothEnds m0 l0 place id host device
-    → DiffersInStream m0 l0 place id e m l
+    → IsAtBothEnds m0 l0 place id host device → DiffersInStream m0 l0 place id e m l
     → slice_get m.streams place ≡ Some e.keeper
 keeper_read m0 m l0 l place id host device e on st = ap (λ (vs : List StreamView). slice_get vs place) st.streams ∙
     read_set m0.streams place e.keeper on.within
@@ -83,11 +78,11 @@ pub record IsDelivered (l0 : LinkEnds) (id : ℕ) (a : NextExchange) (e : Stream
 pub is_delivered : (m0 m : ManagerView) (l0 l : LinkEnds) (place id : ℕ) (host device : Found) (e : StreamEnds)
     (a : NextExchange) (after : DeviceEnd) (reply : List ℕ)
     → IsAtBothEnds m0 l0 place id host device → DiffersInStream m0 l0 place id e m l → IsAsked true (Some a)
-    → after ≡ asked_device l.device (spelling (request_asked true a e.keeper)) a.draw → reply
-    ≡ reply_given l.device (spelling (request_asked true a e.keeper)) a.draw
+    → after ≡ asked_device l.device (object_spelling (request_asked true a e.keeper)) a.draw → reply
+    ≡ reply_given l.device (object_spelling (request_asked true a e.keeper)) a.draw
     → IsDelivered l0 id a e after reply
 is_delivered m0 m l0 l place id host device e a after reply on st asked after_is reply_is =
-    let request : List ℕ = spelling (request_asked true a e.keeper) in
+    let request : List ℕ = object_spelling (request_asked true a e.keeper) in
     let went : DeviceGoes l0.device.port id e.device request a.draw l.device.port =
     device_goes l0.device.port l.device.port id device e.device a e.keeper on.device_side on.device_found st.device
     st.id_is asked in
@@ -127,8 +122,7 @@ pub exchange_ends : (m0 m m' : ManagerView) (l0 l l' : LinkEnds) (place id : ℕ
     (a : NextExchange) (loss : Option Loss)
     (result : StreamOutcome) (j : Judged) (y : StreamState)
     → IsAtBothEnds m0 l0 place id host device → DiffersInStream m0 l0 place id e m l
-    → exchange_outcome loss l0.device.requester a e ≡ record { judged = j; device = y }
-    → result ≡ outcome_of true a j
+    → exchange_outcome loss l0.device.requester a e ≡ record { judged = j; device = y } → result ≡ outcome_of true a j
     → m' ≡ record {
       streams = slice_set m.streams place (taken_stream true a j e.keeper);
       asking = asking_after place

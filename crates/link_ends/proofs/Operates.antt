@@ -1,20 +1,14 @@
 -- An operation on one stream, from where the manager begins it or goes on with it.
 use Rattle.link_ends.proofs.Terms.{◌≡◌, ℕ, Bool, true, false, [], refl, sym, ◌∙◌, arith, Option, Some, None, Ok, Err}
 use Rattle.link_ends.proofs.Terms.{option_map, option_and_then, if◌then◌else◌, slice_set, Side, Pool, live_set}
-use Rattle.link_ends.proofs.Terms.{six_keys, Loss, Operation, Work, work}
-use Rattle.link_ends.proofs.Terms.{work_of, op_standing, makes_draw, StreamOutcome, op_name, programs, StreamView}
-use Rattle.link_ends.proofs.Terms.{HostView}
-use Rattle.link_ends.proofs.Terms.{host_view, asked_of_unfinished, refusal_of, ok_unless, begun_stream, begun_calls}
-use Rattle.link_ends.proofs.Terms.{ManagerView}
-use Rattle.link_ends.proofs.Terms.{Named, named, begin_refusal}
-use Rattle.link_ends.proofs.Terms.{begun_manager, pool_begun, calls_begun, IsAsked, pair_at, stream_status}
-use Rattle.link_ends.proofs.Terms.{all_called_at, halts}
-use Rattle.link_ends.proofs.Terms.{WalkedEnds, walk_on, walked_ends_unless, begun_ends, event_walk, PortEnd, Found}
-use Rattle.link_ends.proofs.Terms.{found_stream}
-use Rattle.link_ends.proofs.Terms.{port_stream_status, live_in_port, LinkEnds}
-use Rattle.link_ends.proofs.Terms.{KeeperView, HasStream, IsAtBothEnds, DiffersInStream, IsWalked, Walks, IsOperated}
-use Rattle.link_ends.proofs.Terms.{ends_found, ap}
-use Rattle.link_ends.proofs.Terms.{subst}
+use Rattle.link_ends.proofs.Terms.{six_keys, Loss, Operation, Work, work, work_of, op_at_exchange, makes_draw}
+use Rattle.link_ends.proofs.Terms.{StreamOutcome, op_name, programs, StreamView, HostView, host_view}
+use Rattle.link_ends.proofs.Terms.{asked_of_unfinished, refusal_of, ok_unless, begun_stream, begun_calls, ManagerView}
+use Rattle.link_ends.proofs.Terms.{Named, named_stream, begin_refusal, begun_manager, pool_begun, calls_begun, IsAsked}
+use Rattle.link_ends.proofs.Terms.{pair_at, stream_status, all_called_at, stream_stop_calls, WalkedEnds, walk_on}
+use Rattle.link_ends.proofs.Terms.{walked_ends_unless, begun_ends, event_walk, PortEnd, Found, found_stream}
+use Rattle.link_ends.proofs.Terms.{port_stream_status, live_in_port, LinkEnds, KeeperView, HasStream, IsAtBothEnds}
+use Rattle.link_ends.proofs.Terms.{DiffersInStream, IsWalked, Walks, IsOperated, ends_found, ap, subst}
 use Rattle.ide_types.specs.declared.sub.SubKind.{SubKind}
 use Rattle.tsm_host.specs.declared.operation.NamedOperation.{NamedOperation}
 use Rattle.tsm_host.specs.declared.operation.StreamOutcome.TheVariants as outcome
@@ -24,15 +18,16 @@ use Rattle.join_keys.proofs.Works.{begun_id, begun_link}
 use Rattle.ide_types.specs.Lines.{is_hosted}
 use Rattle.tsm_host.specs.Streams.{has_host}
 use Rattle.ide_types.proofs.Places.{set_read}
-use Rattle.link_ends.proofs.Ports.{AllAt, PortMoves, all_there, programs_at, halts_at, stream_stands}
+use Rattle.link_ends.proofs.Ports.{AllAt, PortMoves, all_there, programs_at, stream_stop_calls_at, stream_stands}
 use Rattle.link_ends.proofs.Names.{IsNamed, named_stands}
 
 -- what the manager reads of the host's port
-abbrev pub seen : PortEnd → ℕ → HostView
-seen e id = host_view (λ port stream. port_stream_status port stream) (λ port stream sub. live_in_port port stream sub)
+abbrev pub host_port_view : PortEnd → ℕ → HostView
+host_port_view e id = host_view (λ port stream. port_stream_status port stream)
+    (λ port stream sub. live_in_port port stream sub)
     e id
 
-pub host_seen : (e : PortEnd) (id : ℕ) (f : Found) → found_stream e.plans e.states id ≡ Some f → seen e id
+pub host_seen : (e : PortEnd) (id : ℕ) (f : Found) → found_stream e.plans e.states id ≡ Some f → host_port_view e id
     ≡ host_of f.state
 host_seen e id f is =
     ap (λ (o : Option Found). let v : HostView = record {
@@ -51,7 +46,7 @@ not_refused o is = grind arith
 -- ---- what it asks when it begins, or goes on
 
 standing_first : (o : Operation) (set : Bool) (draw f : ℕ) (b : Bool)
-    → IsAsked true (asked_of_unfinished (op_standing (work o set draw f b) 1))
+    → IsAsked true (asked_of_unfinished (op_at_exchange (work o set draw f b) 1))
 standing_first o set draw f b = grind arith
 
 begun_asked : (w : Work) (pool : Pool) (s : StreamView) → IsAsked true (asked_of_unfinished s.op)
@@ -62,24 +57,26 @@ begun_at : (id : ℕ) (w : Work) (pool : Pool) → AllAt id (begun_calls true w 
 begun_at id w pool = by_tests w.begins (makes_draw w.operation)
   where
     by_tests : (b makes : Bool) → AllAt id
-        (if b then (if makes then programs id w.set (six_keys pool.keys w.draw) w.draw else halts id) else [])
+        (if b then (if makes then programs id w.set (six_keys pool.keys w.draw) w.draw else stream_stop_calls id)
+        else [])
     by_tests true true = programs_at id w.set (six_keys pool.keys w.draw) w.draw
-    by_tests true false = halts_at id
+    by_tests true false = stream_stop_calls_at id
     by_tests false makes = tt
 
 -- ---- an operation of the name
 
 module _ (k : KeeperView) (m1 : ManagerView) (pool1 : Pool) (l : LinkEnds) (host1 : PortEnd) (op : NamedOperation)
     (loss : Option Loss) (n : Named) (host device : Found)
-    (is : named k.manager (op_name op).line (op_name op).stream ≡ Some n)
+    (is : named_stream k.manager (op_name op).line (op_name op).stream ≡ Some n)
     (hosted : has_host n.stream ≡ true) (on : IsAtBothEnds k.manager l n.place (op_name op).stream host device)
-    (manager_is : m1 ≡ begun_manager k.manager (op_name op).operation (seen l.host n.stream.id) k.pool n)
-    (pool_is : pool1 ≡ pool_begun (op_name op).operation (seen l.host n.stream.id) k.pool n)
-    (moves : PortMoves l.host (calls_begun (op_name op).operation (seen l.host n.stream.id) k.pool n) host1) where
+    (manager_is : m1 ≡ begun_manager k.manager (op_name op).operation (host_port_view l.host n.stream.id) k.pool n)
+    (pool_is : pool1 ≡ pool_begun (op_name op).operation (host_port_view l.host n.stream.id) k.pool n)
+    (moves : PortMoves l.host (calls_begun (op_name op).operation (host_port_view l.host n.stream.id) k.pool n)
+    host1) where
   at_name : IsNamed k.manager (op_name op).line (op_name op).stream n
   at_name = named_stands k.manager (op_name op).line (op_name op).stream n is
 
-  view : seen l.host n.stream.id ≡ host_of host.state
+  view : host_port_view l.host n.stream.id ≡ host_of host.state
   view = host_seen l.host n.stream.id host
       (ap (λ (i : ℕ). found_stream l.host.plans l.host.states i) at_name.id_is ∙ on.host_found)
 
@@ -89,7 +86,8 @@ module _ (k : KeeperView) (m1 : ManagerView) (pool1 : Pool) (l : LinkEnds) (host
   abbrev begun_work : Work
   begun_work = work_of (op_name op).operation n.stream.op k.pool.draws
 
-  walk_by : (o : Option StreamRefusal) → begin_refusal (op_name op).operation (seen l.host n.stream.id) k.pool n ≡ o
+  walk_by : (o : Option StreamRefusal) → begin_refusal (op_name op).operation (host_port_view l.host n.stream.id) k.pool
+      n ≡ o
       → event_walk (op_name op).operation (host_of host.state) k.pool loss l.device.requester (ends_found n host device)
       ≡ walked_ends_unless o (ends_found n host device)
       (walk_on 13 loss l.device.requester (begun_ends begun_work k.pool (ends_found n host device)))
@@ -99,12 +97,12 @@ module _ (k : KeeperView) (m1 : ManagerView) (pool1 : Pool) (l : LinkEnds) (host
       (ap (λ (v : HostView). refusal_of (op_name op).operation n.stream.op v k.pool) (sym view) ∙ refusal)
 
   pub operate_refused : (r : StreamRefusal) → Err r ≡ ok_unless
-      (begin_refusal (op_name op).operation (seen l.host n.stream.id) k.pool n)
+      (begin_refusal (op_name op).operation (host_port_view l.host n.stream.id) k.pool n)
       → IsOperated k l op loss n host device (outcome.Refused r) (record { manager = m1; pool = pool1 })
       (record { host = host1; device = l.device })
   operate_refused r answer =
-      let refusal : begin_refusal (op_name op).operation (seen l.host n.stream.id) k.pool n ≡ Some r =
-      refused_by (begin_refusal (op_name op).operation (seen l.host n.stream.id) k.pool n) r answer in
+      let refusal : begin_refusal (op_name op).operation (host_port_view l.host n.stream.id) k.pool n ≡ Some r =
+      refused_by (begin_refusal (op_name op).operation (host_port_view l.host n.stream.id) k.pool n) r answer in
       let same_manager : m1 ≡ k.manager = rw refusal at manager_is in
       let same_host : host1 ≡ l.host = rw refusal at moves in
       let st : DiffersInStream k.manager l n.place (op_name op).stream (ends_found n host device) m1
@@ -126,13 +124,13 @@ module _ (k : KeeperView) (m1 : ManagerView) (pool1 : Pool) (l : LinkEnds) (host
 
   pub operate_goes : (m2 : ManagerView) (pool2 : Pool) (l2 : LinkEnds) (result : StreamOutcome)
       → IsAsked true (asked_of_unfinished n.stream.op)
-      → Ok tt ≡ ok_unless (begin_refusal (op_name op).operation (seen l.host n.stream.id) k.pool n)
+      → Ok tt ≡ ok_unless (begin_refusal (op_name op).operation (host_port_view l.host n.stream.id) k.pool n)
       → Walks 13 loss m1 (record { host = host1; device = l.device }) result m2 l2 → pool2 ≡ pool1
       → IsOperated k l op loss n host device result (record { manager = m2; pool = pool2 }) l2
   operate_goes m2 pool2 l2 result asked answer walks pool_same =
       let id : ℕ = (op_name op).stream in
-      let refusal : begin_refusal (op_name op).operation (seen l.host n.stream.id) k.pool n ≡ None =
-      not_refused (begin_refusal (op_name op).operation (seen l.host n.stream.id) k.pool n) answer in
+      let refusal : begin_refusal (op_name op).operation (host_port_view l.host n.stream.id) k.pool n ≡ None =
+      not_refused (begin_refusal (op_name op).operation (host_port_view l.host n.stream.id) k.pool n) answer in
       let after : m1 ≡ record {
         streams = slice_set k.manager.streams n.place (begun_stream true begun_work k.pool n.stream);
         asking = Some

@@ -1,14 +1,13 @@
 -- What an exchange makes of the manager and of both ends of a line that is keyed by messages at both, whether its
 -- request reaches its end or is lost.
-use Rattle.link_ends.proofs.Terms.{◌≡◌, ℕ, false, List, [], sym, refl, ◌∙◌, arith, Option, Some, None}
-use Rattle.link_ends.proofs.Terms.{slice_get, slice_set, slice_range, Side, PlaceCall, Place}
-use Rattle.link_ends.proofs.Terms.{call_of, is_done, reply_bytes, spelling, Loss, Judged, StreamOutcome}
-use Rattle.link_ends.proofs.Terms.{NextExchange, Operation, StreamView, asked_of_unfinished, request_asked, outcome_of}
-use Rattle.link_ends.proofs.Terms.{taken_stream}
-use Rattle.link_ends.proofs.Terms.{taken_calls, ManagerView, asking_after, IsAsked, StreamState, shown_stream}
-use Rattle.link_ends.proofs.Terms.{port_called, judged_bytes, Found, found_stream, PortEnd, lost_message, HasStream}
-use Rattle.link_ends.proofs.Terms.{WireKeys}
+use Rattle.link_ends.proofs.Terms.{◌≡◌, ℕ, false, List, [], sym, refl, ◌∙◌, arith, Option, Some, None, slice_get}
+use Rattle.link_ends.proofs.Terms.{slice_set, slice_range, Side, PlaceCall, Place, call_of, is_done, reply_bytes}
+use Rattle.link_ends.proofs.Terms.{object_spelling, Loss, Judged, StreamOutcome, NextExchange, Operation, StreamView}
+use Rattle.link_ends.proofs.Terms.{asked_of_unfinished, request_asked, outcome_of, taken_stream, taken_calls}
+use Rattle.link_ends.proofs.Terms.{ManagerView, asking_after, IsAsked, StreamState, shown_stream, port_called}
+use Rattle.link_ends.proofs.Terms.{judged_bytes, Found, found_stream, PortEnd, lost_message, HasStream, WireKeys}
 use Rattle.link_ends.proofs.Terms.{exchange_of, selector_of, request_of, same-true, sends_in, called_port, ap, subst}
+use Rattle.link_ends.proofs.Terms.{Pool, KeeperView, current, current_asked}
 use Rattle.std.specs.Int.{w64, from_le_bytes}
 use Rattle.key_slots.specs.{KeySet}
 use Rattle.ide_types.specs.Lines.{is_hosted}
@@ -22,29 +21,27 @@ use Rattle.tsm_host.specs.declared.exchange.Exchange.TheVariants as exchange
 use Rattle.join_keys.specs.Paired.{PairEnds as PairStreams, PairExchanged, pair_exchanged, pair_after, came_to_end}
 use Rattle.join_keys.specs.Paired.{pair_unless_lost}
 use Rattle.join_keys.proofs.PairTurns.{PairTurn, pair_puts, pair_goes, pair_stops, pair_turn}
-use Rattle.link_ends.specs.LineEnds.{turned, at_end, shown_end, line_end_after, answered_end, end_reply, end_in}
+use Rattle.link_ends.specs.LineEnds.{own_direction, at_end, shown_end, line_end_after, answered_end, end_reply, end_in}
 use Rattle.link_ends.specs.LineEnds.{with_end}
 use Rattle.link_ends.specs.declared.end.LineEnd.{LineEnd}
 use Rattle.link_ends.specs.declared.pair.PairEnds.{PairEnds}
 use Rattle.link_ends.specs.PairKeepers.{IsAtBoth, DiffersInPair, IsPairExchanged}
-use Rattle.link_ends.proofs.Terms.{Pool, KeeperView, current, current_asked}
 use Rattle.link_ends.proofs.Carried.{current_is}
 use Rattle.ide_types.proofs.Places.{read_set, set_again}
-use Rattle.link_ends.proofs.Ports.{IsAt, PortMoves, called_there, found_there, moved}
+use Rattle.link_ends.proofs.Ports.{IsAt, PortMoves, called_there, found_there, state_moved}
 use Rattle.link_ends.proofs.Exchanges.{CallAt, SameShown, same_done, program_at, lane_at}
 
 pub pair_keeper_read : (m0 m : ManagerView) (l0 l : PairEnds) (place id : ℕ) (near far : Found) (e : PairStreams)
-    → IsAtBoth m0 l0 place id near far → DiffersInPair m0 l0 place id e m l
-    → slice_get m.streams place ≡ Some e.keeper
+    → IsAtBoth m0 l0 place id near far → DiffersInPair m0 l0 place id e m l → slice_get m.streams place ≡ Some e.keeper
 pair_keeper_read m0 m l0 l place id near far e on st = ap (λ (vs : List StreamView). slice_get vs place) st.streams ∙
     read_set m0.streams place e.keeper on.within
 
 -- ---- the call of a request is at the stream
 
 pair_turn_at : (id draw : ℕ) (keys : WireKeys) (i : ℕ) (o : Operation) (set : KeySet) (n : ℕ) → PairTurn o set n
-    → CallAt id (call_of (spelling (request_of id keys i (exchange_of false o set n))) draw)
+    → CallAt id (call_of (object_spelling (request_of id keys i (exchange_of false o set n))) draw)
 pair_turn_at id draw keys i o set n (pair_puts side lane lt makes is at e) =
-    let request : List ℕ = spelling (request_of id keys i (exchange.Program set lane)) in
+    let request : List ℕ = object_spelling (request_of id keys i (exchange.Program set lane)) in
     rw e (program_at id (selector_of set lane) draw (slice_range request 8 40)
     (from_le_bytes w64 (slice_range request 40 48)) (lane_at id set lane lt) (objects.fault_of request))
 pair_turn_at id draw keys i o set n (pair_goes side lane lt makes is at e) = rw e (lane_at id set lane lt)
@@ -52,7 +49,7 @@ pair_turn_at id draw keys i o set n (pair_stops side k lane lt is at e) = rw e (
 
 -- ---- an end shows the stream as a device does
 
-sends_turned : (side : Side) (d : Direction) → sends_in side (turned side d) ≡ sends_in Device d
+sends_turned : (side : Side) (d : Direction) → sends_in side (own_direction side d) ≡ sends_in Device d
 sends_turned Device d = refl
 sends_turned Host Downstream = refl
 sends_turned Host Upstream = refl
@@ -85,7 +82,7 @@ moved_end e e' id f x (Some call) named is has at =
     c
   where
     sent_same : e.port.name.side ≡ e'.side
-        → moved (record call { place = at_end e'.side call.place }) e.port.name.side x ≡ port_called (Some call) x
+        → state_moved (record call { place = at_end e'.side call.place }) e.port.name.side x ≡ port_called (Some call) x
     sent_same named = rw (named, sends_turned e'.side call.place.direction) refl
 
 same_side : (e : LineEnd) (call : Option PlaceCall) → (line_end_after e call).side ≡ e.side
@@ -95,18 +92,18 @@ same_side e (Some call) = refl
 end_goes : (e e' : LineEnd) (id : ℕ) (f : Found) (x : StreamState) (a : NextExchange) (keeper : StreamView)
     → e.port.name.side ≡ e'.side → found_stream e.port.plans e.port.states id ≡ Some f → HasStream e.port id x e'.port
     → keeper.id ≡ id → IsAsked false (Some a)
-    → EndGoes e id x (spelling (request_asked false a keeper)) a.draw e'
+    → EndGoes e id x (object_spelling (request_asked false a keeper)) a.draw e'
 end_goes e e' id f x a keeper named is has name asked =
     let named' : e'.port.name.side ≡ e'.side = ap (λ (p : PortEnd). p.name.side) has ∙ named in
     let shows : SameShown id (λ place. shown_end e' place) (shown_stream id x) = end_there e' id _ named'
     (found_there e.port e'.port id f x is has) in
-    let at : CallAt id (call_of (spelling (request_asked false a keeper)) a.draw) =
+    let at : CallAt id (call_of (object_spelling (request_asked false a keeper)) a.draw) =
     rw name (pair_turn_at id a.draw keeper.keys (wire_asked false a) a.operation a.set a.exchange
     (pair_turn a.operation a.set a.exchange asked.0 asked.1)) in
     record {
       done = same_done id _ _ _ shows at;
       port = moved_end e e' id f x _ named is has at;
-      stays = same_side e' (call_of (spelling (request_asked false a keeper)) a.draw);
+      stays = same_side e' (call_of (object_spelling (request_asked false a keeper)) a.draw);
     }
 
 -- ---- the request reached its end
@@ -129,11 +126,11 @@ module _ (m0 m : ManagerView) (l0 l : PairEnds) (place id : ℕ) (near far : Fou
     (asked : IsAsked false (Some a)) where
   pub is_pair_delivered : (side : Side) → end_asked false a ≡ side
       → after ≡ with_end side
-      (answered_end (end_in side l) (spelling (request_asked false a e.keeper)) a.draw) l
-      → reply ≡ end_reply (end_in side l) (spelling (request_asked false a e.keeper)) a.draw
+      (answered_end (end_in side l) (object_spelling (request_asked false a e.keeper)) a.draw) l
+      → reply ≡ end_reply (end_in side l) (object_spelling (request_asked false a e.keeper)) a.draw
       → IsPairDelivered l0 id a e after reply
   is_pair_delivered Host at after_is reply_is =
-      let request : List ℕ = spelling (request_asked false a e.keeper) in
+      let request : List ℕ = object_spelling (request_asked false a e.keeper) in
       let went : EndGoes l0.near id e.near request a.draw l.near =
       end_goes l0.near l.near id near e.near a e.keeper (on.near_named ∙ sym (st.near_stays ∙ on.near_side))
       on.near_found st.near st.id_is asked in
@@ -155,7 +152,7 @@ module _ (m0 m : ManagerView) (l0 l : PairEnds) (place id : ℕ) (near far : Fou
         far_stays = rw after_is st.far_stays;
       }
   is_pair_delivered Device at after_is reply_is =
-      let request : List ℕ = spelling (request_asked false a e.keeper) in
+      let request : List ℕ = object_spelling (request_asked false a e.keeper) in
       let went : EndGoes l0.far id e.far request a.draw l.far =
       end_goes l0.far l.far id far e.far a e.keeper (on.far_named ∙ sym (st.far_stays ∙ on.far_side))
       on.far_found st.far st.id_is asked in
@@ -191,15 +188,13 @@ no_calls a j id = grind arith
 pub pair_exchange_ends : (m0 m m' : ManagerView) (l0 l' : PairEnds) (place id : ℕ) (near far : Found) (e : PairStreams)
     (a : NextExchange) (loss : Option Loss) (result : StreamOutcome) (j : Judged) (x y : StreamState)
     → (streams : m.streams ≡ slice_set m0.streams place e.keeper) → e.keeper.id ≡ id → has_host e.keeper ≡ false
-    → pair_exchanged loss 0 a e ≡ record { judged = j; near = x; far = y }
-    → result ≡ outcome_of false a j
+    → pair_exchanged loss 0 a e ≡ record { judged = j; near = x; far = y } → result ≡ outcome_of false a j
     → m' ≡ record {
       streams = slice_set m.streams place (taken_stream false a j e.keeper);
       asking = asking_after place (outcome_of false a j);
     }
     → HasStream l0.near.port id x l'.near.port → HasStream l0.far.port id y l'.far.port
-    → l'.near.side ≡ l0.near.side → l'.far.side ≡ l0.far.side
-    → IsPairExchanged m0 l0 place id loss a e result m' l'
+    → l'.near.side ≡ l0.near.side → l'.far.side ≡ l0.far.side → IsPairExchanged m0 l0 place id loss a e result m' l'
 pair_exchange_ends m0 m m' l0 l' place id near far e a loss result j x y streams id_is paired is result_is after
     near_is far_is near_stays far_stays =
     let stands : DiffersInPair m0 l0 place id (pair_after a (record { judged = j; near = x; far = y }) e) m' l' =

@@ -1,13 +1,11 @@
 -- An operation on one stream of a line that is keyed by messages at both ends, from where the manager begins it or goes
 -- on with it.
 use Rattle.link_ends.proofs.Terms.{◌≡◌, ℕ, Bool, false, List, [], refl, sym, ◌∙◌, arith, Option, Some, None, Ok, Err}
-use Rattle.link_ends.proofs.Terms.{slice_set, Pool, Loss, Operation, Work, work, work_of, op_standing, StreamOutcome}
-use Rattle.link_ends.proofs.Terms.{op_name}
-use Rattle.link_ends.proofs.Terms.{StreamView, HostView, asked_of_unfinished, refusal_of, ok_unless, begun_stream}
-use Rattle.link_ends.proofs.Terms.{begun_calls}
-use Rattle.link_ends.proofs.Terms.{ManagerView, Named, named, begin_refusal, begun_manager, pool_begun, calls_begun}
-use Rattle.link_ends.proofs.Terms.{IsAsked}
-use Rattle.link_ends.proofs.Terms.{PortEnd, Found, found_stream, KeeperView, HasStream, PlaceCall, ap, subst}
+use Rattle.link_ends.proofs.Terms.{slice_set, Pool, Loss, Operation, Work, work, work_of, op_at_exchange, StreamOutcome}
+use Rattle.link_ends.proofs.Terms.{op_name, StreamView, HostView, asked_of_unfinished, refusal_of, ok_unless}
+use Rattle.link_ends.proofs.Terms.{begun_stream, begun_calls, ManagerView, Named, named_stream, begin_refusal}
+use Rattle.link_ends.proofs.Terms.{begun_manager, pool_begun, calls_begun, IsAsked, PortEnd, Found, found_stream}
+use Rattle.link_ends.proofs.Terms.{KeeperView, HasStream, PlaceCall, ap, subst}
 use Rattle.tsm_host.specs.declared.operation.NamedOperation.{NamedOperation}
 use Rattle.tsm_host.specs.declared.operation.StreamOutcome.TheVariants as outcome
 use Rattle.tsm_host.specs.declared.operation.StreamRefusal.{StreamRefusal}
@@ -20,12 +18,12 @@ use Rattle.link_ends.specs.PairKeepers.{IsAtBoth, DiffersInPair, IsPairWalked, P
 use Rattle.ide_types.proofs.Places.{set_read}
 use Rattle.link_ends.proofs.Ports.{PortMoves, stream_stands}
 use Rattle.link_ends.proofs.Names.{IsNamed, named_stands}
-use Rattle.link_ends.proofs.Operates.{seen, host_seen, refused_by, not_refused}
+use Rattle.link_ends.proofs.Operates.{host_port_view, host_seen, refused_by, not_refused}
 
 -- ---- what it asks when it begins, or goes on
 
 standing_first : (o : Operation) (set : Bool) (draw f : ℕ) (b : Bool)
-    → IsAsked false (asked_of_unfinished (op_standing (work o set draw f b) 1))
+    → IsAsked false (asked_of_unfinished (op_at_exchange (work o set draw f b) 1))
 standing_first o set draw f b = grind arith
 
 begun_asked : (w : Work) (pool : Pool) (s : StreamView) → IsAsked false (asked_of_unfinished s.op)
@@ -45,16 +43,17 @@ pair_begun_id w pool s = grind arith
 
 module _ (k : KeeperView) (m1 : ManagerView) (pool1 : Pool) (l : PairEnds) (near1 : PortEnd) (op : NamedOperation)
     (loss : Option Loss) (n : Named) (near far : Found)
-    (is : named k.manager (op_name op).line (op_name op).stream ≡ Some n)
+    (is : named_stream k.manager (op_name op).line (op_name op).stream ≡ Some n)
     (paired : has_host n.stream ≡ false) (on : IsAtBoth k.manager l n.place (op_name op).stream near far)
-    (manager_is : m1 ≡ begun_manager k.manager (op_name op).operation (seen l.near.port n.stream.id) k.pool n)
-    (pool_is : pool1 ≡ pool_begun (op_name op).operation (seen l.near.port n.stream.id) k.pool n)
-    (moves : PortMoves l.near.port (calls_begun (op_name op).operation (seen l.near.port n.stream.id) k.pool n) near1)
+    (manager_is : m1 ≡ begun_manager k.manager (op_name op).operation (host_port_view l.near.port n.stream.id) k.pool n)
+    (pool_is : pool1 ≡ pool_begun (op_name op).operation (host_port_view l.near.port n.stream.id) k.pool n)
+    (moves : PortMoves l.near.port (calls_begun (op_name op).operation (host_port_view l.near.port n.stream.id) k.pool
+    n) near1)
   where
     at_name : IsNamed k.manager (op_name op).line (op_name op).stream n
     at_name = named_stands k.manager (op_name op).line (op_name op).stream n is
 
-    view : seen l.near.port n.stream.id ≡ host_of near.state
+    view : host_port_view l.near.port n.stream.id ≡ host_of near.state
     view = host_seen l.near.port n.stream.id near
         (ap (λ (i : ℕ). found_stream l.near.port.plans l.near.port.states i) at_name.id_is ∙ on.near_found)
 
@@ -64,7 +63,8 @@ module _ (k : KeeperView) (m1 : ManagerView) (pool1 : Pool) (l : PairEnds) (near
     abbrev begun_work : Work
     begun_work = work_of (op_name op).operation n.stream.op k.pool.draws
 
-    walk_by : (o : Option StreamRefusal) → begin_refusal (op_name op).operation (seen l.near.port n.stream.id) k.pool n
+    walk_by : (o : Option StreamRefusal) → begin_refusal (op_name op).operation (host_port_view l.near.port n.stream.id)
+        k.pool n
         ≡ o
         → pair_event (op_name op).operation (host_of near.state) k.pool loss 0 (pair_found n near far)
         ≡ pair_walked_unless o (pair_found n near far)
@@ -75,12 +75,12 @@ module _ (k : KeeperView) (m1 : ManagerView) (pool1 : Pool) (l : PairEnds) (near
         (ap (λ (v : HostView). refusal_of (op_name op).operation n.stream.op v k.pool) (sym view) ∙ refusal)
 
     pub pair_refused : (r : StreamRefusal) → Err r ≡ ok_unless
-        (begin_refusal (op_name op).operation (seen l.near.port n.stream.id) k.pool n)
+        (begin_refusal (op_name op).operation (host_port_view l.near.port n.stream.id) k.pool n)
         → IsPairOperated k l op loss n near far (outcome.Refused r) (record { manager = m1; pool = pool1 })
         (record l { near = record l.near { port = near1 } })
     pair_refused r answer =
-        let refusal : begin_refusal (op_name op).operation (seen l.near.port n.stream.id) k.pool n ≡ Some r =
-        refused_by (begin_refusal (op_name op).operation (seen l.near.port n.stream.id) k.pool n) r answer in
+        let refusal : begin_refusal (op_name op).operation (host_port_view l.near.port n.stream.id) k.pool n ≡ Some r =
+        refused_by (begin_refusal (op_name op).operation (host_port_view l.near.port n.stream.id) k.pool n) r answer in
         let same_manager : m1 ≡ k.manager = rw refusal at manager_is in
         let same_host : near1 ≡ l.near.port = rw refusal at moves in
         let st : DiffersInPair k.manager l n.place (op_name op).stream (pair_found n near far) m1
@@ -104,13 +104,13 @@ module _ (k : KeeperView) (m1 : ManagerView) (pool1 : Pool) (l : PairEnds) (near
 
     pub pair_goes_on_with : (m2 : ManagerView) (pool2 : Pool) (l2 : PairEnds) (result : StreamOutcome)
         → IsAsked false (asked_of_unfinished n.stream.op)
-        → Ok tt ≡ ok_unless (begin_refusal (op_name op).operation (seen l.near.port n.stream.id) k.pool n)
+        → Ok tt ≡ ok_unless (begin_refusal (op_name op).operation (host_port_view l.near.port n.stream.id) k.pool n)
         → PairWalks 24 loss m1 (record l { near = record l.near { port = near1 } }) result m2 l2 → pool2 ≡ pool1
         → IsPairOperated k l op loss n near far result (record { manager = m2; pool = pool2 }) l2
     pair_goes_on_with m2 pool2 l2 result asked answer walks pool_same =
         let id : ℕ = (op_name op).stream in
-        let refusal : begin_refusal (op_name op).operation (seen l.near.port n.stream.id) k.pool n ≡ None =
-        not_refused (begin_refusal (op_name op).operation (seen l.near.port n.stream.id) k.pool n) answer in
+        let refusal : begin_refusal (op_name op).operation (host_port_view l.near.port n.stream.id) k.pool n ≡ None =
+        not_refused (begin_refusal (op_name op).operation (host_port_view l.near.port n.stream.id) k.pool n) answer in
         let after : m1 ≡ record {
           streams = slice_set k.manager.streams n.place (begun_stream false begun_work k.pool n.stream);
           asking = Some

@@ -10,10 +10,11 @@ use Rattle.key_slots.specs.{KeyCall}
 use Rattle.key_messages.specs.declared.place.Place.{Place}
 use Rattle.key_messages.specs.{place_call, is_same_place, place_after, slots_by}
 use Rattle.ide_port.specs.{PortEnd, slot_pair_at, unfinished_at}
-use Rattle.link_ends.specs.LineEnds.{turned, at_end, shown_end, unfinished_end}
+use Rattle.link_ends.specs.LineEnds.{own_direction, at_end, shown_end, unfinished_end}
 use Rattle.link_ends.specs.declared.end.LineEnd.{LineEnd}
 
-one_turned : (side : Side) (d e : Direction) → (direction_number (turned side d) == direction_number (turned side e))
+one_turned : (side : Side) (d e : Direction)
+    → (direction_number (own_direction side d) == direction_number (own_direction side e))
     ≡ (direction_number d == direction_number e)
 one_turned Device d e = refl
 one_turned Host Downstream Downstream = refl

@@ -8,11 +8,10 @@ use Rattle.ide_types.specs.declared.status.StreamStatus.TheVariants.{Secure}
 use Rattle.ide_types.specs.declared.interface.InterfacePlan.{InterfacePlan}
 use Rattle.ide_types.specs.declared.stream.StreamPlan.{StreamPlan}
 use Rattle.tlp_layout.specs.declared.head.HeadView.{HeadView}
-use Rattle.association.specs.Choice.{id_of}
+use Rattle.tlp_layout.specs.Choice.{id_of}
 use Rattle.key_messages.specs.{PlaceCall, call_of, is_done, reply_bytes}
-use Rattle.interface_device.specs.Replies.{DeviceTdis, new_tdis, settled_interfaces, interfaces_set_t}
-use Rattle.interface_device.specs.Replies.{interfaces_set_peer_t}
-use Rattle.interface_device.specs.Replies.{reset_tdis}
+use Rattle.interface_ends.specs.Replies.{DeviceTdis, new_tdis, settled_interfaces, interfaces_set_t}
+use Rattle.interface_ends.specs.Replies.{interfaces_set_peer_t, reset_tdis}
 use Rattle.ide_port.specs.{PortEnd, new_port, reset_port, slot_pair_at, called_port, port_stream_status}
 use Rattle.link_ends.specs.declared.device.Device.{Device}
 

@@ -5,8 +5,7 @@ use Rattle.ide_types.specs.declared.port.Side.TheVariants.{Host, Device}
 use Rattle.ide_types.specs.declared.stream.StreamPlan.{StreamPlan}
 use Rattle.ide_types.specs.declared.interface.InterfacePlan.{InterfacePlan}
 use Rattle.ide_port.specs.{PortEnd, Trusting, new_port, reset_port}
-use Rattle.link_ends.specs.DeviceEnds.{new_device, device_with_port as device_with, device_trusting}
-use Rattle.link_ends.specs.DeviceEnds.{reset_device}
+use Rattle.link_ends.specs.DeviceEnds.{new_device, device_with_port as device_with, device_trusting, reset_device}
 use Rattle.join_keys.specs.{port_at}
 use Rattle.link_ends.specs.declared.ends.LinkEnds.{LinkEnds}
 

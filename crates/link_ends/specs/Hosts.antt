@@ -2,7 +2,7 @@
 use Rattle.std.specs.Prelude.{ℕ, ◌&&◌, nat_le, Bool, if◌then◌else◌, List, slice_set, Option, None}
 use Rattle.ide_types.specs.declared.status.StreamStatus.{StreamStatus}
 use Rattle.interface_host.specs.declared.operation.InterfaceOperation.TheVariants.{Bind, Unbind}
-use Rattle.tsm_host.specs.Managers.{ManagerView, named, status_named}
+use Rattle.tsm_host.specs.Managers.{ManagerView, named_stream, status_named}
 use Rattle.link_ends.specs.Keepers.{KeeperView}
 use Rattle.link_events.specs.declared.event.Loss.{Loss}
 use Rattle.tsm_host.specs.declared.operation.NamedOperation.{NamedOperation}
@@ -26,20 +26,20 @@ InterfacesView = InterfaceManagerView
 -- ---- what an operation on a stream tells
 
 abbrev pub keyed_if : Bool → ℕ → ℕ → ℕ → InterfaceManagerView → InterfaceManagerView
-keyed_if drew link stream draw m = if drew then stream_keyed link stream draw m else m
+keyed_if drew line stream draw m = if drew then stream_keyed line stream draw m else m
 
 abbrev pub keyed_at_end : StreamOutcome → ℕ → ℕ → InterfaceManagerView → InterfaceManagerView
-keyed_at_end (Done (Draw draw)) link stream m = stream_keyed link stream draw m
-keyed_at_end outcome link stream m = m
+keyed_at_end (Done (Draw draw)) line stream m = stream_keyed line stream draw m
+keyed_at_end outcome line stream m = m
 
 abbrev pub stopped_if : Bool → ℕ → ℕ → InterfaceManagerView → InterfaceManagerView
-stopped_if begins link stream m = if begins then stop_begun link stream m else m
+stopped_if begins line stream m = if begins then stop_begun line stream m else m
 
 -- an establish that drew gave the stream its draw, and so does a refresh at its end; a stop breaks views if it begins
-abbrev pub told : NamedOperation → Bool → Bool → ℕ → StreamOutcome → InterfaceManagerView → InterfaceManagerView
-told (Establish link stream) begins drew draw outcome m = keyed_if drew link stream draw m
-told (Refresh link stream) begins drew draw outcome m = keyed_at_end outcome link stream m
-told (Stop link stream) begins drew draw outcome m = stopped_if begins link stream m
+abbrev pub manager_told : NamedOperation → Bool → Bool → ℕ → StreamOutcome → InterfaceManagerView → InterfaceManagerView
+manager_told (Establish line stream) begins drew draw outcome m = keyed_if drew line stream draw m
+manager_told (Refresh line stream) begins drew draw outcome m = keyed_at_end outcome line stream m
+manager_told (Stop line stream) begins drew draw outcome m = stopped_if begins line stream m
 
 -- ---- what an operation on a line that is keyed by messages at both ends tells
 
@@ -61,8 +61,8 @@ peer_drawn (Stop line stream) drew draw draws = draws
 -- the status of the stream that it asks for: of the interface's own at the host's port, of one between devices by the
 -- operations of the manager of keys
 abbrev pub status_for : ManagerView → Option StreamStatus → InterfaceOperation → StreamStatus
-status_for m host (Bind peer) = status_named (named m peer.line peer.id)
-status_for m host (Unbind peer) = status_named (named m peer.line peer.id)
+status_for m host (Bind peer) = status_named (named_stream m peer.line peer.id)
+status_for m host (Unbind peer) = status_named (named_stream m peer.line peer.id)
 status_for m host op = status_or_idle host
 
 -- what is Live at the device's end of the stream between devices that it names
@@ -71,8 +71,7 @@ live_for live (Bind peer) = live peer.id
 live_for live op = None
 
 abbrev pub operated_on : ℕ → InterfaceOperation → Option Loss → KeeperView → (ℕ → Option ℕ) → InterfaceManagerView
-    → LinkEnds
-    → HostTdi → Ended
+    → LinkEnds → HostTdi → Ended
 operated_on interface op loss k live m l i =
     interface_operated interface op (status_for k.manager (port_stream_status l.host i.stream) op) k.pool.draws
     (record { secure = secure_at l.device.port i.stream; live = live_for live op }) loss m l.device.interfaces i

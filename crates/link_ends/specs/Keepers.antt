@@ -10,9 +10,9 @@ use Rattle.tsm_host.specs.declared.operation.StreamOutcome.{StreamOutcome}
 use Rattle.tsm_host.specs.declared.stage.NextExchange.{NextExchange}
 use Rattle.tsm_host.specs.Operations.{op_name}
 use Rattle.tsm_host.specs.Streams.{asked_of_unfinished, has_host, outcome_of}
-use Rattle.tsm_host.specs.Managers.{ManagerView, Named, named, asking_after, pool_begun}
+use Rattle.tsm_host.specs.Managers.{ManagerView, Named, named_stream, asking_after, pool_begun}
 use Rattle.tsm_host.specs.Walk.{IsAsked}
-use Rattle.ide_port.specs.{PortEnd, Found, found_stream, changed_states}
+use Rattle.ide_port.specs.{PortEnd, Found, found_stream, changed_states, UnitsGrow}
 use Rattle.join_keys.specs.Walks.{StreamEnds, exchange_outcome, ends_after_exchange, WalkedEnds, walk_on, event_walk}
 use Rattle.join_keys.specs.Joined.{host_of}
 use Rattle.link_ends.specs.declared.ends.LinkEnds.{LinkEnds}
@@ -62,8 +62,7 @@ Exchanges loss m l result m' l' =
     (m0 : ManagerView) (l0 : LinkEnds) (place id : ℕ) (host device : Found) (e : StreamEnds) (a : NextExchange)
     → IsAtBothEnds m0 l0 place id host device
     → DiffersInStream m0 l0 place id e m l → m.asking ≡ Some place → asked_of_unfinished e.keeper.op ≡ Some a
-    → IsAsked true (Some a)
-    → IsExchanged m0 l0 place id loss a e result m' l'
+    → IsAsked true (Some a) → IsExchanged m0 l0 place id loss a e result m' l'
 
 -- ---- one exchange after another
 
@@ -94,20 +93,19 @@ pub record IsOperated (k : KeeperView) (l : LinkEnds) (op : NamedOperation) (los
 abbrev pub Operates : KeeperView → LinkEnds → NamedOperation → Option Loss → StreamOutcome → KeeperView → LinkEnds
     → Type 0
 Operates k l op loss result k' l' =
-    (n : Named) (host device : Found) → named k.manager (op_name op).line (op_name op).stream ≡ Some n
+    (n : Named) (host device : Found) → named_stream k.manager (op_name op).line (op_name op).stream ≡ Some n
     → has_host n.stream ≡ true → IsAtBothEnds k.manager l n.place (op_name op).stream host device
-    → IsAsked true (asked_of_unfinished n.stream.op)
-    → IsOperated k l op loss n host device result k' l'
+    → IsAsked true (asked_of_unfinished n.stream.op) → IsOperated k l op loss n host device result k' l'
 
--- ---- calls
+-- ---- units
 
--- an operation on a stream is no call that sends or takes, and reaches no interface
-pub record SameCalls (l l' : LinkEnds) : Type 0 where
-  pub host : l'.host.calls ≡ l.host.calls
-  pub device : l'.device.port.calls ≡ l.device.port.calls
+-- an operation on a stream finishes and accepts no unit, and reaches no interface
+pub record KeysAlone (l l' : LinkEnds) : Type 0 where
+  pub host : UnitsGrow 0 l.host l'.host
+  pub device : UnitsGrow 0 l.device.port l'.device.port
   pub interfaces : l'.device.interfaces ≡ l.device.interfaces
 
 -- as before, at its end
-pub record HasCalls (l l' : LinkEnds) : Type 0 where
-  pub host : l'.host.calls ≡ l.host.calls
-  pub device : l'.device.port.calls ≡ l.device.port.calls
+pub record NoMoreUnits (l l' : LinkEnds) : Type 0 where
+  pub host : UnitsGrow 0 l.host l'.host
+  pub device : UnitsGrow 0 l.device.port l'.device.port

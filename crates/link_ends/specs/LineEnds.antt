@@ -16,13 +16,13 @@ use Rattle.link_ends.specs.declared.pair.PairEnds.{PairEnds}
 -- ---- places, as messages name them
 
 -- 0 is what the end receives, 1 what it sends; a port has the directions of its line
-abbrev pub turned : Side → Direction → Direction
-turned Device d = d
-turned Host Downstream = Upstream
-turned Host Upstream = Downstream
+abbrev pub own_direction : Side → Direction → Direction
+own_direction Device d = d
+own_direction Host Downstream = Upstream
+own_direction Host Upstream = Downstream
 
 abbrev pub at_end : Side → Place → Place
-at_end side place = record place { direction = turned side place.direction }
+at_end side place = record place { direction = own_direction side place.direction }
 
 abbrev pub call_at_end : Side → PlaceCall → PlaceCall
 call_at_end side c = record c { place = at_end side c.place }

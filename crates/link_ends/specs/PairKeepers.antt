@@ -1,17 +1,16 @@
 -- The manager at the two ends of a line that is keyed by messages at both: what an exchange and an operation make of
 -- one stream, and that no other changes.
-use Rattle.std.specs.Prelude.{ℕ, ◌≡◌, ◌<◌, length, slice_set, Some, false}
+use Rattle.std.specs.Prelude.{ℕ, ◌≡◌, ◌<◌, length, slice_set, Some, false, Option}
 use Rattle.ide_types.specs.declared.port.Side.TheVariants.{Host, Device}
 use Rattle.link_events.specs.declared.event.Loss.{Loss}
-use Rattle.std.specs.Prelude.{Option}
 use Rattle.tsm_host.specs.declared.operation.NamedOperation.{NamedOperation}
 use Rattle.tsm_host.specs.declared.operation.StreamOutcome.{StreamOutcome}
 use Rattle.tsm_host.specs.declared.stage.NextExchange.{NextExchange}
 use Rattle.tsm_host.specs.Operations.{op_name}
 use Rattle.tsm_host.specs.Streams.{asked_of_unfinished, has_host, outcome_of}
-use Rattle.tsm_host.specs.Managers.{ManagerView, Named, named, asking_after, pool_begun}
+use Rattle.tsm_host.specs.Managers.{ManagerView, Named, named_stream, asking_after, pool_begun}
 use Rattle.tsm_host.specs.Walk.{IsAsked}
-use Rattle.ide_port.specs.{Found, found_stream}
+use Rattle.ide_port.specs.{Found, found_stream, UnitsGrow}
 use Rattle.join_keys.specs.Paired.{PairEnds as PairStreams, pair_exchanged, pair_after, PairWalked, pair_walk}
 use Rattle.join_keys.specs.Paired.{pair_event}
 use Rattle.join_keys.specs.Joined.{host_of}
@@ -87,13 +86,13 @@ pub record IsPairOperated (k : KeeperView) (l : PairEnds) (op : NamedOperation) 
 abbrev pub PairOperates : KeeperView → PairEnds → NamedOperation → Option Loss → StreamOutcome → KeeperView → PairEnds
     → Type 0
 PairOperates k l op loss result k' l' =
-    (n : Named) (near far : Found) → named k.manager (op_name op).line (op_name op).stream ≡ Some n
+    (n : Named) (near far : Found) → named_stream k.manager (op_name op).line (op_name op).stream ≡ Some n
     → has_host n.stream ≡ false → IsAtBoth k.manager l n.place (op_name op).stream near far
     → IsAsked false (asked_of_unfinished n.stream.op) → IsPairOperated k l op loss n near far result k' l'
 
--- ---- calls
+-- ---- units
 
--- an operation on a stream is no call that sends or takes
-pub record HasPairCalls (l l' : PairEnds) : Type 0 where
-  pub near : l'.near.port.calls ≡ l.near.port.calls
-  pub far : l'.far.port.calls ≡ l.far.port.calls
+-- an operation on a stream finishes and accepts no unit
+pub record NoMorePairUnits (l l' : PairEnds) : Type 0 where
+  pub near : UnitsGrow 0 l.near.port l'.near.port
+  pub far : UnitsGrow 0 l.far.port l'.far.port

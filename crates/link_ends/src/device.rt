@@ -6,14 +6,14 @@ ghost use Rattle.ide_types.specs.Fits.{FitsStream};
 ghost use Rattle.interface_state.specs.Held.{FitsTdi};
 ghost use Rattle.ide_types.specs.RegisterNames.{has_register, width_of};
 ghost use Rattle.interface_state.specs.Machine.{state_code, LevelReset, FirmwareUpdate, WriteRegister};
-ghost use Rattle.interface_device.specs.Replies.{called_at};
-ghost use Rattle.ide_port.specs.{IsSentAtPort};
+ghost use Rattle.interface_ends.specs.Replies.{called_at};
+ghost use Rattle.ide_port.specs.{IsSentAtPort, PortUnitsAtMost};
 ghost use Rattle.link_ends.specs.DeviceEnds.{secure_at};
 
 use crate::wiring::{Owners, PeerStreams, SecureStreams, is_secure_at};
 use ide_port::{Port, Sent};
 use ide_types::{InterfacePlan, Items, OutOfMemory, PortName, Side, StreamPlan};
-use interface_device::DeviceInterfaces;
+use interface_ends::DeviceInterfaces;
 use interface_state::Register;
 use key_messages::Responder;
 use std::alloc::Global;
@@ -97,7 +97,7 @@ impl Device {
     /// Sends a TLP's bytes, as its port does; T is set if the TLP's owner is an interface in RUN and the TLP takes the
     /// stream that the interface is bound to.
     pub fn send(&mut self, tlp: &[u8], more: bool) -> Sent
-        requires { self.old.port.calls < 2 ^ 40 }
+        requires { PortUnitsAtMost (2 ^ 40) self.old.port }
         ensures sent { (number : ℕ) → IsSentAtPort self.old.port tlp.now more (device_trusting self.old.interfaces)
             number result self.new.port }
         ensures others { self.new ≡ record self.old { port = self.new.port } }

@@ -1,7 +1,7 @@
 //! An end of a line, as messages of key management name its places.
 
 ghost use Rattle.std.specs.Prelude.{◌≡◌, ◌+◌, ◌≤◌, ◌++◌, vec_len, vec_capacity};
-ghost use Rattle.link_ends.specs.LineEnds.{turned, at_end};
+ghost use Rattle.link_ends.specs.LineEnds.{own_direction, at_end};
 
 use ide_port::Port;
 use ide_types::{Direction, KeySet, Side};
@@ -22,7 +22,7 @@ pub struct LineEnd {
 
 // A direction that a message names, at an end.
 fn turned(side: Side, direction: Direction) -> Direction
-    ensures { result ≡ turned side direction }
+    ensures { result ≡ own_direction side direction }
 {
     match (side, direction) {
         (Side::Device, direction) => direction,

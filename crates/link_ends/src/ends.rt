@@ -4,7 +4,7 @@ ghost use Rattle.std.specs.Prelude.{◌≡◌, ◌+◌, ◌<◌, ◌≤◌, ◌^
 ghost use Rattle.ide_types.specs.Fits.{FitsStream};
 ghost use Rattle.interface_state.specs.Held.{FitsTdi};
 ghost use Rattle.ide_prefix.specs.Reading.{cut_of};
-ghost use Rattle.ide_port.specs.{IsSentAtPort, take_step};
+ghost use Rattle.ide_port.specs.{IsSentAtPort, PortUnitsAtMost, take_step};
 
 use crate::{Device, PeerStreams};
 use ide_port::{Arrival, FixedTrust, Port, Sent};
@@ -49,7 +49,7 @@ impl LinkEnds {
     /// Sends a TLP's bytes at the port of this side. A host's port sets T as it is asked. A device's port sets T if the
     /// TLP's owner is an interface in RUN and the TLP takes the stream that the interface is bound to.
     pub fn send(&mut self, side: Side, tlp: &[u8], more: bool, trusted: bool) -> Sent
-        requires few { (port_in side self.old).calls < 2 ^ 40 }
+        requires few { PortUnitsAtMost (2 ^ 40) (port_in side self.old) }
         ensures sent { (number : ℕ) → IsSentAtPort (port_in side self.old) tlp.now more
             (trusting_at side self.old trusted) number result (port_in side self.new) }
         ensures ends { self.new ≡ with_port side (port_in side self.new) self.old }
@@ -73,7 +73,7 @@ impl LinkEnds {
     /// Takes bytes that arrive at the port of this side. What an accepted unit carries is lent by the port until the
     /// next arrival. The caller calls `settle` after it.
     pub fn take(&mut self, side: Side, bytes: &[u8]) -> Arrival
-        requires { (port_in side self.old).calls < 2 ^ 40 }
+        requires { PortUnitsAtMost (2 ^ 40) (port_in side self.old) }
         ensures answer { result ≡ (take_step (port_in side self.old) (cut_of bytes.now)).answer }
         ensures ends { self.new ≡ with_port side (take_step (port_in side self.old) (cut_of bytes.now)).port self.old }
     {

@@ -5,22 +5,21 @@ ghost use Rattle.std.specs.Prelude.{slice_get, slice_set};
 ghost use Rattle.key_slots.specs.{new_pool};
 ghost use Rattle.spec_keys.specs.Operations.{work_of};
 ghost use Rattle.tsm_host.specs.Operations.{op_name};
-ghost use Rattle.tsm_host.specs.Managers.{named, new_manager, reset_manager};
+ghost use Rattle.tsm_host.specs.Managers.{named_stream, new_manager, reset_manager};
 ghost use Rattle.tsm_host.specs.Streams.{status_or_idle};
 ghost use Rattle.interface_host.specs.Managers.{new_interface_manager as new_interfaces};
 ghost use Rattle.interface_host.specs.Managers.{reset_interface_manager as reset_interfaces};
-ghost use Rattle.interface_device.specs.Replies.{settled_interfaces};
+ghost use Rattle.interface_ends.specs.Replies.{settled_interfaces};
 ghost use Rattle.interface_ends.specs.Keepers.{Ended};
 ghost use Rattle.link_ends.specs.DeviceEnds.{secure_at, secure_with};
-ghost use Rattle.link_ends.specs.Hosts.{told, keyed_if, keyed_at_end, stopped_if, live_for, status_for};
+ghost use Rattle.link_ends.specs.Hosts.{manager_told, keyed_if, keyed_at_end, stopped_if, live_for, status_for};
 ghost use Rattle.link_ends.specs.Hosts.{pair_told, peer_drawn};
 
 use crate::ends::LinkEnds;
 use crate::keeper::KeyKeeper;
 use crate::{PairEnds, PeerStreams};
 use ide_types::{OutOfMemory, PortName, StreamStatus, ValidPlan};
-use interface_device::StreamSaid;
-use interface_ends::InterfaceKeeper;
+use interface_ends::{InterfaceKeeper, StreamSaid};
 use interface_host::InterfaceOperation;
 use link_events::Loss;
 use std::alloc::Global;
@@ -60,28 +59,28 @@ fn live_for<P: PeerStreams>(peers: &P, op: InterfaceOperation) -> Option<u32>
 }
 
 // Tells the manager of interfaces that a stream has the keys of this draw, if it was made.
-fn keyed_if(interfaces: &mut InterfaceKeeper, drew: bool, link: u8, stream: u8, draw: u32)
-    ensures { interfaces.new ≡ keyed_if drew link stream draw interfaces.old }
+fn keyed_if(interfaces: &mut InterfaceKeeper, drew: bool, line: u8, stream: u8, draw: u32)
+    ensures { interfaces.new ≡ keyed_if drew line stream draw interfaces.old }
 {
     if drew {
-        interfaces.stream_keyed(link, stream, draw);
+        interfaces.stream_keyed(line, stream, draw);
     }
 }
 
 // Tells it the draw of a refresh that ended.
-fn keyed_at_end(interfaces: &mut InterfaceKeeper, outcome: StreamOutcome, link: u8, stream: u8)
-    ensures { interfaces.new ≡ keyed_at_end outcome link stream interfaces.old }
+fn keyed_at_end(interfaces: &mut InterfaceKeeper, outcome: StreamOutcome, line: u8, stream: u8)
+    ensures { interfaces.new ≡ keyed_at_end outcome line stream interfaces.old }
 {
     if let StreamOutcome::Done(StreamResult::Draw(draw)) = outcome {
-        interfaces.stream_keyed(link, stream, draw);
+        interfaces.stream_keyed(line, stream, draw);
     }
 }
 
-fn stopped_if(interfaces: &mut InterfaceKeeper, begins: bool, link: u8, stream: u8)
-    ensures { interfaces.new ≡ stopped_if begins link stream interfaces.old }
+fn stopped_if(interfaces: &mut InterfaceKeeper, begins: bool, line: u8, stream: u8)
+    ensures { interfaces.new ≡ stopped_if begins line stream interfaces.old }
 {
     if begins {
-        interfaces.stop_begun(link, stream);
+        interfaces.stop_begun(line, stream);
     }
 }
 
@@ -94,12 +93,12 @@ fn tell(
     draw: u32,
     outcome: StreamOutcome,
 )
-    ensures { interfaces.new ≡ told op begins drew draw outcome interfaces.old }
+    ensures { interfaces.new ≡ manager_told op begins drew draw outcome interfaces.old }
 {
     match op {
-        NamedOperation::Establish(link, stream) => keyed_if(interfaces, drew, link, stream, draw),
-        NamedOperation::Refresh(link, stream) => keyed_at_end(interfaces, outcome, link, stream),
-        NamedOperation::Stop(link, stream) => stopped_if(interfaces, begins, link, stream),
+        NamedOperation::Establish(line, stream) => keyed_if(interfaces, drew, line, stream, draw),
+        NamedOperation::Refresh(line, stream) => keyed_at_end(interfaces, outcome, line, stream),
+        NamedOperation::Stop(line, stream) => stopped_if(interfaces, begins, line, stream),
     }
 }
 
@@ -137,8 +136,8 @@ fn note_draw(draws: &mut [u32; 8], op: NamedOperation, drew: bool, draw: u32)
 }
 
 impl HostKeeper {
-    ghost use Rattle.link_ends.specs.Keepers.{Operates, HasCalls, SameCalls};
-    ghost use Rattle.link_ends.specs.PairKeepers.{PairOperates, HasPairCalls};
+    ghost use Rattle.link_ends.specs.Keepers.{Operates, NoMoreUnits, KeysAlone};
+    ghost use Rattle.link_ends.specs.PairKeepers.{PairOperates, NoMorePairUnits};
     ghost use Rattle.link_ends.specs.Hosts.{operated_on};
 
     /// A manager of the plan's lines, and the plan's keys, none of them drawn; no interface is locked. Returns
@@ -172,16 +171,16 @@ impl HostKeeper {
         op: NamedOperation,
         loss: Option<Loss>,
     ) -> StreamOutcome
-        requires { IsSome (named self.old.keys.manager (op_name op).line (op_name op).stream) }
+        requires { IsSome (named_stream self.old.keys.manager (op_name op).line (op_name op).stream) }
         ensures operates { Operates self.old.keys ends.old op loss result self.new.keys ends.new }
-        ensures calls { HasCalls ends.old ends.new }
+        ensures units { NoMoreUnits ends.old ends.new }
         ensures settles { ends.new.device.interfaces ≡ settled_interfaces
             (secure_with ends.new.device.port (P.live peers.now)) ends.old.device.interfaces }
-        ensures interfaces { IfSome (named self.old.keys.manager (op_name op).line (op_name op).stream) (λ n.
+        ensures interfaces { IfSome (named_stream self.old.keys.manager (op_name op).line (op_name op).stream) (λ n.
             let begins = (work_of (op_name op).operation n.stream.op 0).begins in
             let draw = self.old.keys.pool.draws in
             let drew = not (self.new.keys.pool.draws == draw) in
-            self.new.interfaces ≡ told op begins drew draw result self.old.interfaces) }
+            self.new.interfaces ≡ manager_told op begins drew draw result self.old.interfaces) }
         ensures peer_draws { self.new.peer_draws ≡ self.old.peer_draws }
     {
         let begins = self.keys.begins(op);
@@ -201,9 +200,9 @@ impl HostKeeper {
         op: NamedOperation,
         loss: Option<Loss>,
     ) -> StreamOutcome
-        requires { IsSome (named self.old.keys.manager (op_name op).line (op_name op).stream) }
+        requires { IsSome (named_stream self.old.keys.manager (op_name op).line (op_name op).stream) }
         ensures operates { Operates self.old.keys ends.old op loss result self.new.keys ends.new }
-        ensures calls { SameCalls ends.old ends.new }
+        ensures units { KeysAlone ends.old ends.new }
         ensures kept { self.new ≡ record self.old { keys = self.new.keys } }
     {
         self.keys.operate(ends, op, loss)
@@ -218,9 +217,9 @@ impl HostKeeper {
         op: NamedOperation,
         loss: Option<Loss>,
     ) -> StreamOutcome
-        requires { IsSome (named self.old.keys.manager (op_name op).line (op_name op).stream) }
+        requires { IsSome (named_stream self.old.keys.manager (op_name op).line (op_name op).stream) }
         ensures operates { PairOperates self.old.keys ends.old op loss result self.new.keys ends.new }
-        ensures calls { HasPairCalls ends.old ends.new }
+        ensures units { NoMorePairUnits ends.old ends.new }
         ensures interfaces { self.new.interfaces ≡ pair_told op self.old.interfaces }
         ensures peer_draws { let draw = self.old.keys.pool.draws in
             let drew = not (self.new.keys.pool.draws == draw) in

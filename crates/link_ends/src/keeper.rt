@@ -2,16 +2,16 @@
 
 ghost use Rattle.std.specs.Prelude.{◌≡◌, ◌+◌, ◌<◌, ◌≤◌, ℕ, [], Some, None, IfOk, IfSome, IsSome, is_some, length};
 ghost use Rattle.std.specs.Prelude.{vec_len, vec_capacity};
-ghost use Rattle.key_messages.specs.{spelling};
+ghost use Rattle.key_messages.specs.{object_spelling};
 ghost use Rattle.spec_keys.specs.Operations.{work_of};
 ghost use Rattle.key_messages.specs.declared.object.KmView.{KmView};
 ghost use Rattle.std.specs.Option.{option_map};
 ghost use Rattle.tsm_host.specs.Facts.{op_seen};
-ghost use Rattle.tsm_host.specs.Judging.{judged};
+ghost use Rattle.tsm_host.specs.Judging.{judged_exchange};
 ghost use Rattle.tsm_host.specs.Operations.{op_name};
 ghost use Rattle.tsm_host.specs.Streams.{has_host, end_asked, request_asked};
 ghost use Rattle.link_ends.specs.LineEnds.{answered_end, end_reply, end_in, with_end};
-ghost use Rattle.tsm_host.specs.Managers.{new_manager, named, op_named, status_named, current, reset_manager};
+ghost use Rattle.tsm_host.specs.Managers.{new_manager, named_stream, op_named, status_named, current, reset_manager};
 ghost use Rattle.key_slots.specs.{new_pool};
 ghost use Rattle.link_ends.specs.DeviceEnds.{asked_device, reply_given};
 ghost use Rattle.join_keys.specs.Walks.{judged_bytes};
@@ -71,7 +71,7 @@ pub fn lost_at(loss: Option<Loss>, exchange: u32) -> Option<Lost>
 
 // A reply as it is carried; one without bytes is none.
 fn carried(reply: &[u8]) -> ExchangeReply<'_>
-    ensures { (request : KmView) → judged request result ≡ judged_bytes request reply.now }
+    ensures { (request : KmView) → judged_exchange request result ≡ judged_bytes request reply.now }
 {
     if reply.is_empty() {
         ExchangeReply::Reply(None)
@@ -86,9 +86,9 @@ fn deliver(manager: &Manager, device: &mut Device, request: &mut Vec<u8>, reply:
     requires request_room { 49 ≤ vec_capacity request.old }
     requires reply_room { 8 ≤ vec_capacity reply.old }
     ensures device { IfSome (current manager.now) (λ c. device.new ≡ asked_device device.old
-        (spelling (request_asked (has_host c.stream) c.asked c.stream)) c.asked.draw) }
+        (object_spelling (request_asked (has_host c.stream) c.asked c.stream)) c.asked.draw) }
     ensures reply { IfSome (current manager.now) (λ c. reply.new.items ≡ reply_given device.old
-        (spelling (request_asked (has_host c.stream) c.asked c.stream)) c.asked.draw) }
+        (object_spelling (request_asked (has_host c.stream) c.asked c.stream)) c.asked.draw) }
     ensures request_room { 49 ≤ vec_capacity request.new }
     ensures reply_room { 8 ≤ vec_capacity reply.new }
 {
@@ -110,11 +110,11 @@ fn deliver_to_end(
     requires reply_room { 8 ≤ vec_capacity reply.old }
     ensures ends { IfSome (current manager.now) (λ c.
         let side = end_asked (has_host c.stream) c.asked in
-        let bytes = spelling (request_asked (has_host c.stream) c.asked c.stream) in
+        let bytes = object_spelling (request_asked (has_host c.stream) c.asked c.stream) in
         ends.new ≡ with_end side (answered_end (end_in side ends.old) bytes c.asked.draw) ends.old) }
     ensures reply { IfSome (current manager.now) (λ c.
         let side = end_asked (has_host c.stream) c.asked in
-        let bytes = spelling (request_asked (has_host c.stream) c.asked c.stream) in
+        let bytes = object_spelling (request_asked (has_host c.stream) c.asked c.stream) in
         reply.new.items ≡ end_reply (end_in side ends.old) bytes c.asked.draw) }
     ensures request_room { 49 ≤ vec_capacity request.new }
     ensures reply_room { 8 ≤ vec_capacity reply.new }
@@ -126,8 +126,8 @@ fn deliver_to_end(
 }
 
 impl KeyKeeper {
-    ghost use Rattle.link_ends.specs.Keepers.{Exchanges, Walks, Operates, SameCalls};
-    ghost use Rattle.link_ends.specs.PairKeepers.{PairExchanges, PairWalks, PairOperates, HasPairCalls};
+    ghost use Rattle.link_ends.specs.Keepers.{Exchanges, Walks, Operates, KeysAlone};
+    ghost use Rattle.link_ends.specs.PairKeepers.{PairExchanges, PairWalks, PairOperates, NoMorePairUnits};
 
     /// A manager of the plan's lines, and the plan's keys, none of them drawn. Returns `OutOfMemory` for want of
     /// memory.
@@ -150,15 +150,15 @@ impl KeyKeeper {
     }
 
     /// Whether the line has the stream.
-    pub fn has_stream(&self, link: u8, stream: u8) -> bool
-        ensures { result ≡ is_some (named self.now.manager link stream) }
+    pub fn has_stream(&self, line: u8, stream: u8) -> bool
+        ensures { result ≡ is_some (named_stream self.now.manager line stream) }
     {
-        self.manager.has_stream(link, stream)
+        self.manager.has_stream(line, stream)
     }
 
     /// What the manager says of a stream by its operations alone.
     pub fn status(&self, line: u8, stream: u8) -> StreamStatus
-        ensures { result ≡ status_named (named self.now.manager line stream) }
+        ensures { result ≡ status_named (named_stream self.now.manager line stream) }
     {
         self.manager.status(line, stream)
     }
@@ -172,8 +172,8 @@ impl KeyKeeper {
 
     /// Whether an operation on a stream would begin, and not go on.
     pub fn begins(&self, op: NamedOperation) -> bool
-        requires { IsSome (named self.now.manager (op_name op).line (op_name op).stream) }
-        ensures { IfSome (named self.now.manager (op_name op).line (op_name op).stream) (λ n.
+        requires { IsSome (named_stream self.now.manager (op_name op).line (op_name op).stream) }
+        ensures { IfSome (named_stream self.now.manager (op_name op).line (op_name op).stream) (λ n.
             result ≡ (work_of (op_name op).operation n.stream.op 0).begins) }
     {
         self.manager.begins(op)
@@ -182,7 +182,7 @@ impl KeyKeeper {
     // Carries the exchange that is next, but for the message of it that `loss` loses, if any.
     fn exchange(&mut self, ends: &mut LinkEnds, loss: Option<Loss>) -> StreamOutcome
         requires { IsSome (current self.old.manager) }
-        ensures calls { SameCalls ends.old ends.new }
+        ensures units { KeysAlone ends.old ends.new }
         ensures exchange { Exchanges loss self.old.manager ends.old result self.new.manager ends.new }
         ensures pool { self.new.pool ≡ self.old.pool }
     {
@@ -211,7 +211,7 @@ impl KeyKeeper {
 
     // Up to so many exchanges of the operation that is asked.
     fn walk(&mut self, more: u8, ends: &mut LinkEnds, loss: Option<Loss>) -> StreamOutcome
-        ensures calls { SameCalls ends.old ends.new }
+        ensures units { KeysAlone ends.old ends.new }
         ensures walk { Walks more loss self.old.manager ends.old result self.new.manager ends.new }
         ensures pool { self.new.pool ≡ self.old.pool }
     {
@@ -235,9 +235,9 @@ impl KeyKeeper {
         op: NamedOperation,
         loss: Option<Loss>,
     ) -> StreamOutcome
-        requires { IsSome (named self.old.manager (op_name op).line (op_name op).stream) }
+        requires { IsSome (named_stream self.old.manager (op_name op).line (op_name op).stream) }
         ensures operates { Operates self.old ends.old op loss result self.new ends.new }
-        ensures calls { SameCalls ends.old ends.new }
+        ensures units { KeysAlone ends.old ends.new }
     {
         match self.manager.begin(&mut ends.host, &mut self.pool, op) {
             Err(refusal) => StreamOutcome::Refused(refusal),
@@ -248,7 +248,7 @@ impl KeyKeeper {
     // The same at the ends of a line that is keyed by messages at both.
     fn pair_exchange(&mut self, ends: &mut PairEnds, loss: Option<Loss>) -> StreamOutcome
         requires { IsSome (current self.old.manager) }
-        ensures calls { HasPairCalls ends.old ends.new }
+        ensures units { NoMorePairUnits ends.old ends.new }
         ensures exchange { PairExchanges loss self.old.manager ends.old result self.new.manager ends.new }
         ensures pool { self.new.pool ≡ self.old.pool }
     {
@@ -266,7 +266,7 @@ impl KeyKeeper {
     }
 
     fn pair_walk(&mut self, more: u8, ends: &mut PairEnds, loss: Option<Loss>) -> StreamOutcome
-        ensures calls { HasPairCalls ends.old ends.new }
+        ensures units { NoMorePairUnits ends.old ends.new }
         ensures walk { PairWalks more loss self.old.manager ends.old result self.new.manager ends.new }
         ensures pool { self.new.pool ≡ self.old.pool }
     {
@@ -290,9 +290,9 @@ impl KeyKeeper {
         op: NamedOperation,
         loss: Option<Loss>,
     ) -> StreamOutcome
-        requires { IsSome (named self.old.manager (op_name op).line (op_name op).stream) }
+        requires { IsSome (named_stream self.old.manager (op_name op).line (op_name op).stream) }
         ensures operates { PairOperates self.old ends.old op loss result self.new ends.new }
-        ensures calls { HasPairCalls ends.old ends.new }
+        ensures units { NoMorePairUnits ends.old ends.new }
     {
         match self.manager.begin(&mut ends.near.port, &mut self.pool, op) {
             Err(refusal) => StreamOutcome::Refused(refusal),
@@ -314,7 +314,7 @@ impl KeyKeeper {
 impl KeyKeeper {
     /// The state of a stream's operations; `None` if the line has no such stream.
     pub fn facts(&self, line: u8, stream: u8) -> Option<StageFacts>
-        ensures { option_map op_seen result ≡ op_named (named self.now.manager line stream) }
+        ensures { option_map op_seen result ≡ op_named (named_stream self.now.manager line stream) }
     {
         self.manager.facts(line, stream)
     }

@@ -4,11 +4,10 @@ ghost use Rattle.std.specs.Prelude.{◌≡◌, ◌||◌, ℕ, Option, None, is_s
 ghost use Rattle.link_ends.specs.DeviceEnds.{says_secure, secure_at, secure_with, owner_sets, device_trusting};
 ghost use Rattle.link_ends.specs.DeviceEnds.{bound_owner_sets, peer_trusting};
 
-use association::owner;
 use ide_port::{Port, Trusting};
 use ide_types::StreamStatus;
-use interface_device::{DeviceInterfaces, StreamStates};
-use tlp_layout::HeadView;
+use interface_ends::{DeviceInterfaces, StreamStates};
+use tlp_layout::{HeadView, owner};
 
 /// What a device says of the streams between it and others, each by its own end of it (this profile).
 pub trait PeerStreams {

@@ -62,6 +62,5 @@ uncut_whole : (a : ℕ) (bytes : List ℕ) → length bytes ≤ position_or_len 
 uncut_whole a [] h = refl
 uncut_whole a (x ∷ xs) h = uncut_step a x xs (is_byte a x) refl h (uncut_whole a xs)
 
-pub uncut : (a : ℕ) (bytes : List ℕ) → IsFirstByte (is_byte a) bytes None
-    → slice_split (λ b. b == a) bytes ≡ bytes ∷ []
+pub uncut : (a : ℕ) (bytes : List ℕ) → IsFirstByte (is_byte a) bytes None → slice_split (λ b. b == a) bytes ≡ bytes ∷ []
 uncut a bytes h = uncut_whole a bytes (none_before a bytes h)

@@ -10,15 +10,13 @@ use Rattle.std.proofs.lemmas.Bool.{ltb-true, ltb-false, lt-ltb}
 use Rattle.ide_types.specs.declared.port.Side.{Side}
 use Rattle.ide_types.specs.declared.port.Side.TheVariants.{Host, Device}
 use Rattle.ide_types.specs.declared.port.PortName.{PortName}
-use Rattle.ide_types.specs.Names.{Text}
+use Rattle.ide_types.specs.Names.{Text, is_printable}
 use Rattle.link_events.specs.Terms.{ScriptEvent, Establish, Refresh, Stop, Send, Pass, Alter, Cut, Arrive, Dump, Reset}
 use Rattle.link_events.specs.Terms.{Status, LineFault}
 use Rattle.link_events.specs.Terms.fault
 use Rattle.link_events.specs.Words.{words_in, number_of_word, mask_in, bytes_in, port_of_word, any_port_of_word}
-use Rattle.ide_types.specs.Names.{is_printable}
-use Rattle.link_events.specs.Parse.{◌>>=◌, operation_in, marks_in, send_in, one_number_in}
-use Rattle.link_events.specs.Parse.{two_numbers_in, alter_in, arrive_in, bytes_event_in, parsed_hop_event}
-use Rattle.link_events.specs.Parse.{parsed_peer_event, access_event_in}
+use Rattle.link_events.specs.Parse.{◌>>=◌, operation_in, marks_in, send_in, one_number_in, two_numbers_in, alter_in}
+use Rattle.link_events.specs.Parse.{arrive_in, bytes_event_in, parsed_hop_event, parsed_peer_event, access_event_in}
 use Rattle.link_events.specs.Parse.{event_by, event_in, is_comment}
 use Rattle.link_events.specs.Faults.{WordTest, event_table, is_host_side, is_trusted_at, number_test, mask_test}
 use Rattle.link_events.specs.Faults.{bytes_test, port_test, any_port_test, word_test, trusted_test, mark_test}

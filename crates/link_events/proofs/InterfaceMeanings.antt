@@ -1,15 +1,13 @@
 -- A line of an interface or of memory means an event exactly if it spells it, and what it spells is allowed.
-use Rattle.std.proofs.Common.{zero, suc, true, false, nat_lt, nat_le, ◌&&◌, ◌==◌, ◌≡◌, ◌<◌, ◌+◌, ◌-◌, ◌^◌, ℕ}
-use Rattle.std.proofs.Common.{List, [], ◌∷◌, Bool, Option, Some, None, Result, Ok, refl, sym, ap, subst, arith}
-use Rattle.std.proofs.Common.{codes}
+use Rattle.std.proofs.Common.{zero, suc, true, false, nat_lt, nat_le, ◌&&◌, ◌==◌, ◌≡◌, ◌<◌, ◌+◌, ◌-◌, ◌^◌, ℕ, List, []}
+use Rattle.std.proofs.Common.{◌∷◌, Bool, Option, Some, None, Result, Ok, refl, sym, ap, subst, arith, codes}
 use Rattle.std.specs.Prelude.{if◌then◌else◌}
 use Rattle.std.specs.Option.{ok_or, unwrap_or, option_map, option_and_then}
 use Rattle.std.specs.Str.{bytes_eq}
 use Rattle.std.proofs.lemmas.Bool.{eqb-true, ltb-true, leb-true, lt-ltb}
 use Rattle.ide_types.specs.Names.{Text}
 use Rattle.ide_types.specs.declared.register.Register.{Register}
-use Rattle.ide_types.specs.declared.register.Register.TheVariants.{Command, CacheLine, Msix, Lnr, Tph, Pasid, Ats}
-use Rattle.ide_types.specs.declared.register.Register.TheVariants.{Bar}
+use Rattle.ide_types.specs.declared.register.Register.TheVariants.{Command, CacheLine, Msix, Lnr, Tph, Pasid, Ats, Bar}
 use Rattle.ide_types.specs.RegisterNames.{width_of, IsAmongSix}
 use Rattle.link_events.specs.Terms.{ScriptEvent, Interface, InterfaceEvent, Loss, LineFault}
 use Rattle.link_events.specs.Terms.fault
@@ -17,13 +15,11 @@ use Rattle.link_events.specs.Terms.ie
 use Rattle.link_events.specs.Words.{number_of_word}
 use Rattle.link_events.specs.Parts.{◌>>=◌, number_and_loss, one_number_in, length_in, LossSpelledBy, AskedSpelledBy}
 use Rattle.link_events.specs.Interfaces.{register_word, bar_number, bar_in, register_in, register_value_in}
-use Rattle.link_events.specs.Interfaces.{write_event_in, memory_in, interface_event_of}
-use Rattle.link_events.specs.Interfaces.{InterfaceSpelledBy}
+use Rattle.link_events.specs.Interfaces.{write_event_in, memory_in, interface_event_of, InterfaceSpelledBy}
 use Rattle.link_events.specs.Interfaces.{IsAllowedInterface}
 use Rattle.link_events.specs.Parse.{made_interface, event_in}
 use Rattle.link_events.specs.Spells.{SpelledBy}
-use Rattle.link_events.proofs.Steps.{err_ok, ok_ok, some_some, none_some, same_text, next_of}
-use Rattle.link_events.proofs.Steps.{tested_family}
+use Rattle.link_events.proofs.Steps.{err_ok, ok_ok, some_some, none_some, same_text, next_of, tested_family}
 use Rattle.link_events.proofs.Spelled.{asked_spelled, loss_meant, one_spelled, length_bounded, length_back, SpelledAs}
 use Rattle.link_events.proofs.Spelled.{made}
 

@@ -11,20 +11,16 @@ use Rattle.std.specs.Str.{bytes_eq}
 use Rattle.std.proofs.lemmas.Bool.{cases_Bool, ltb-true, ltb-false}
 use Rattle.ide_types.specs.declared.port.Side.{Side}
 use Rattle.ide_types.specs.declared.port.Side.TheVariants.{Host, Device}
-use Rattle.ide_types.specs.Names.{Text}
+use Rattle.ide_types.specs.Names.{Text, is_printable}
 use Rattle.link_events.specs.Terms.{ScriptEvent, Establish, Refresh, Stop, Send, PeerSend, Pass, Alter, Cut, Arrive}
 use Rattle.link_events.specs.Terms.{Dump, Reset, Status, Interface, Access, Peer, Hop, Loss, LineFault}
 use Rattle.link_events.specs.Terms.fault
 use Rattle.link_events.specs.Words.{words_in, number_of_word, mask_in, bytes_in, port_of_word, any_port_of_word}
-use Rattle.ide_types.specs.Names.{is_printable}
-use Rattle.link_events.specs.Parse.{◌>>=◌, operation_in, marks_in, send_in, one_number_in}
-use Rattle.link_events.specs.Parse.{two_numbers_in, alter_in, arrive_in, bytes_event_in, parsed_hop_event}
-use Rattle.link_events.specs.Parse.{parsed_peer_event, access_event_in}
+use Rattle.link_events.specs.Parse.{◌>>=◌, operation_in, marks_in, send_in, one_number_in, two_numbers_in, alter_in}
+use Rattle.link_events.specs.Parse.{arrive_in, bytes_event_in, parsed_hop_event, parsed_peer_event, access_event_in}
 use Rattle.link_events.specs.Parse.{event_by, event_in, is_comment, line_meaning}
-use Rattle.link_events.specs.Spells.{LossSpelledBy, mark_words, SpelledBy, SpellsEvent}
-use Rattle.link_events.specs.Spells.{MeaningIsSpelling}
-use Rattle.link_events.proofs.Steps.{err_ok, ok_ok, some_some, none_some, same_text, next_of, tested}
-use Rattle.link_events.proofs.Steps.{tested_last}
+use Rattle.link_events.specs.Spells.{LossSpelledBy, mark_words, SpelledBy, SpellsEvent, MeaningIsSpelling}
+use Rattle.link_events.proofs.Steps.{err_ok, ok_ok, some_some, none_some, same_text, next_of, tested, tested_last}
 use Rattle.link_events.proofs.Spelled.{operation_spelled, loss_meant, one_spelled, two_spelled, SpelledAs, made}
 use Rattle.link_events.proofs.InterfaceMeanings.{interface_spelled, interface_meant}
 use Rattle.link_events.proofs.AccessMeanings.{access_spelled, access_meant}

@@ -1,6 +1,5 @@
 -- The fault of a line of a stream between devices or of a hop is its first.
-use Rattle.std.proofs.Common.{true, false, ℕ, List, [], ◌∷◌, Option, None, Result, Ok}
-use Rattle.std.proofs.Common.{length, drop, refl, arith, codes}
+use Rattle.std.proofs.Common.{true, false, ℕ, List, [], ◌∷◌, Option, None, Result, Ok, length, drop, refl, arith, codes}
 use Rattle.std.specs.Option.{ok_or, unwrap_or, option_map}
 use Rattle.std.proofs.lemmas.Bool.{lt-ltb}
 use Rattle.ide_types.specs.declared.port.Side.{Side}

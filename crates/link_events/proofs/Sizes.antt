@@ -1,7 +1,6 @@
 -- A spelled event is allowed: its link is one of eight, and it has no more bytes than its line.
 use Rattle.std.proofs.Common.{suc, true, false, cond, nat_le, not, ◌&&◌, ◌||◌, ◌==◌, ◌+◌, ◌-◌, ◌≡◌, ◌<◌, ◌≤◌, ◌^◌, ℕ}
-use Rattle.std.proofs.Common.{List, []}
-use Rattle.std.proofs.Common.{◌∷◌, Bool, Some, None, Ok, Err, length, filter, refl, ap, subst, arith, codes}
+use Rattle.std.proofs.Common.{List, [], ◌∷◌, Bool, Some, None, Ok, Err, length, filter, refl, ap, subst, arith, codes}
 use Rattle.std.specs.Prelude.{if◌then◌else◌}
 use Rattle.std.specs.List.{AllByRecursion, onto_first, slice_split}
 use Rattle.std.specs.Result.{result_ok}

@@ -6,9 +6,8 @@ use Rattle.std.specs.List.{list_all, slice_split, onto_first}
 use Rattle.std.proofs.lemmas.Bool.{and_parts, cases_Bool, ltb-false, eqb-true}
 use Rattle.link_events.specs.Terms.{ScriptEvent, LineFault}
 use Rattle.link_events.specs.Terms.fault
-use Rattle.ide_types.specs.Names.{Text}
+use Rattle.ide_types.specs.Names.{Text, is_printable}
 use Rattle.link_events.specs.Words.{words_in}
-use Rattle.ide_types.specs.Names.{is_printable}
 use Rattle.link_events.specs.Parse.{◌>>=◌, event_by, event_in, is_comment, line_meaning}
 use Rattle.link_events.specs.Spells.{IsSkipped, NothingIsSkipped}
 use Rattle.link_events.proofs.Steps.{err_ok, ok_ok, none_some}
@@ -57,8 +56,7 @@ none_words : (ws : List Text) → event_in ws ≡ Ok None → ws ≡ []
 none_words [] h = refl
 none_words (first ∷ rest) h = absurd (event_none (event_by first rest) h)
 
-none_step : (line : Text) (long comment printed : Bool)
-    → nat_lt 20000 (length line) ≡ long → is_comment line ≡ comment
+none_step : (line : Text) (long comment printed : Bool) → nat_lt 20000 (length line) ≡ long → is_comment line ≡ comment
     → (if long then Err fault.TooLong else if comment then Ok None else if not printed then Err fault.NotAscii else
     event_in (words_in line)) ≡ Ok None
     → IsSkipped line

@@ -1,9 +1,7 @@
 -- Parts of lines that several families of events have: what was read of words is what they spell, and the other way
 -- round.
 use Rattle.std.proofs.Common.{true, false, nat_le, not, ◌&&◌, ◌≤◌, arith, ◌≡◌, ℕ, List, [], ◌∷◌, Bool, Option, Some}
-use Rattle.std.proofs.Common.{None}
-use Rattle.std.proofs.Common.{Result, Ok, Err, refl, ◌∙◌}
-use Rattle.std.proofs.Common.{ap, subst, codes}
+use Rattle.std.proofs.Common.{None, Result, Ok, Err, refl, ◌∙◌, ap, subst, codes}
 use Rattle.std.specs.Prelude.{if◌then◌else◌}
 use Rattle.std.specs.Option.{ok_or, option_and_then}
 use Rattle.std.specs.Str.{bytes_eq}
@@ -20,8 +18,7 @@ use Rattle.link_events.proofs.Steps.{err_ok, ok_ok, some_some, none_some, same_t
 -- ---- what is lost
 
 pub lost_spelled : (l n w : Text) (lose : Option Loss) (b : Bool) → bytes_eq l (codes "lose") ≡ b
-    → (if b then lost_exchange_in n w else Err fault.Word) ≡ Ok lose
-    → LossSpelledBy lose (l ∷ n ∷ w ∷ [])
+    → (if b then lost_exchange_in n w else Err fault.Word) ≡ Ok lose → LossSpelledBy lose (l ∷ n ∷ w ∷ [])
 lost_spelled l n w lose false t h = absurd (err_ok fault.Word lose h)
 lost_spelled l n w lose true t h =
     let a = next_of (number_of_word n) fault.Number

@@ -8,8 +8,7 @@ use Rattle.link_events.specs.Terms.{AccessEvent, LineFault, Count, Number}
 use Rattle.link_events.specs.Terms.ae
 use Rattle.link_events.specs.Words.{number_of_word}
 use Rattle.link_events.specs.Parts.{◌>>=◌, one_number_in, WordOf, OneSpelledBy, WordTest, Row, number_test}
-use Rattle.link_events.specs.Parts.{number_tests}
-use Rattle.link_events.specs.Parts.{length_in, length_test}
+use Rattle.link_events.specs.Parts.{number_tests, length_in, length_test}
 
 -- ---- as they are read
 

@@ -7,10 +7,9 @@ use Rattle.std.specs.Str.{bytes_eq}
 use Rattle.ide_types.specs.declared.port.Side.{Side}
 use Rattle.ide_types.specs.declared.port.Side.TheVariants.{Host, Device}
 use Rattle.ide_types.specs.declared.port.PortName.{PortName}
-use Rattle.ide_types.specs.Names.{Text}
+use Rattle.ide_types.specs.Names.{Text, is_printable}
 use Rattle.link_events.specs.Terms.{LineFault, Word, Count, Hex, TooLong, NotAscii}
 use Rattle.link_events.specs.Words.{line_limit, words_in, mask_in, port_of_word, any_port_of_word}
-use Rattle.ide_types.specs.Names.{is_printable}
 pub use Rattle.link_events.specs.Parts.{WordTest, number_test, lost_test, word_test, Row, number_tests}
 pub use Rattle.link_events.specs.Parts.{two_number_tests, operation_tests, bytes_test}
 use Rattle.link_events.specs.Interfaces.{interface_rows}

@@ -7,8 +7,7 @@ use Rattle.std.specs.Str.{bytes_eq}
 use Rattle.ide_types.specs.Names.{Text}
 use Rattle.ide_types.specs.Lines.{is_peer_line}
 use Rattle.ide_types.specs.declared.register.Register.{Register}
-use Rattle.ide_types.specs.declared.register.Register.TheVariants.{Command, CacheLine, Msix, Lnr, Tph, Pasid, Ats}
-use Rattle.ide_types.specs.declared.register.Register.TheVariants.{Bar}
+use Rattle.ide_types.specs.declared.register.Register.TheVariants.{Command, CacheLine, Msix, Lnr, Tph, Pasid, Ats, Bar}
 use Rattle.ide_types.specs.RegisterNames.{width_of, IsAmongSix}
 use Rattle.link_events.specs.Terms.{InterfaceEvent, LineFault, Word, Count, Number}
 use Rattle.link_events.specs.Terms.ie

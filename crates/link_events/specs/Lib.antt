@@ -9,12 +9,10 @@ pub mod Parse
 pub mod Spells
 pub mod Faults
 -- what clauses and crates above cite
-pub use Rattle.ide_types.specs.Names.{Text}
+pub use Rattle.ide_types.specs.Names.{Text, is_printable}
 pub use Rattle.link_events.specs.Terms.{ScriptEvent, Event, InterfaceEvent, AccessEvent, PeerEvent, HopEvent, Loss}
-pub use Rattle.link_events.specs.Terms.{Lost}
-pub use Rattle.link_events.specs.Terms.{LineFault, LineError}
+pub use Rattle.link_events.specs.Terms.{Lost, LineFault, LineError}
 pub use Rattle.link_events.specs.Words.{line_limit, words_in, line_fault_word, fault_line_of}
-pub use Rattle.ide_types.specs.Names.{is_printable}
 unfoldable pub use Rattle.link_events.specs.Words.{number_of_word, mask_in, bytes_in, port_of_word, any_port_of_word}
 unfoldable pub use Rattle.link_events.specs.Interfaces.{register_in}
 pub use Rattle.link_events.specs.Interfaces.{InterfaceSpelledBy, IsAllowedInterface}

@@ -6,14 +6,13 @@ use Rattle.std.specs.Option.{ok_or, unwrap_or, option_map}
 use Rattle.std.specs.Str.{bytes_eq}
 use Rattle.ide_types.specs.declared.port.Side.{Side}
 use Rattle.ide_types.specs.declared.port.Side.TheVariants.{Host, Device}
-use Rattle.ide_types.specs.Names.{Text}
+use Rattle.ide_types.specs.Names.{Text, is_printable}
 use Rattle.link_events.specs.Terms.{ScriptEvent, Establish, Refresh, Stop, Send, Pass, Alter, Cut, Arrive, Dump, Reset}
 use Rattle.link_events.specs.Terms.{Status, Interface, InterfaceEvent, Access, AccessEvent, Peer, PeerEvent, Hop}
 use Rattle.link_events.specs.Terms.{HopEvent, LineFault, Word, Count, Number, Hex, TooLong, NotAscii, LineError}
 use Rattle.link_events.specs.Terms.error
 use Rattle.link_events.specs.Words.{line_limit, words_in, number_of_word, mask_in, bytes_in, port_of_word}
 use Rattle.link_events.specs.Words.{any_port_of_word}
-use Rattle.ide_types.specs.Names.{is_printable}
 pub use Rattle.link_events.specs.Parts.{◌>>=◌, lost_exchange_in, loss_in, is_loss_long, one_number_in, two_numbers_in}
 pub use Rattle.link_events.specs.Parts.{operation_in}
 use Rattle.link_events.specs.Interfaces.{interface_event_of}

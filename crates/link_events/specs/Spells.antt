@@ -3,13 +3,12 @@ use Rattle.std.specs.Prelude.{◌≡◌, ◌<◌, ◌≤◌, ◌^◌, ◌==◌, 
 use Rattle.std.specs.Prelude.{Some, None, Ok, codes}
 use Rattle.std.specs.List.{list_all}
 use Rattle.ide_types.specs.declared.port.Side.TheVariants.{Host}
-use Rattle.ide_types.specs.Names.{Text}
+use Rattle.ide_types.specs.Names.{Text, is_printable}
 use Rattle.ide_types.specs.Lines.{is_port}
 use Rattle.link_events.specs.Terms.{ScriptEvent, Establish, Refresh, Stop, Send, PeerSend, Pass, Alter, Cut, Arrive}
 use Rattle.link_events.specs.Terms.{Dump, Reset, Status, Interface, Access, Peer, Hop}
 use Rattle.link_events.specs.Words.{line_limit, words_in, number_of_word, mask_in, bytes_in, port_of_word}
 use Rattle.link_events.specs.Words.{any_port_of_word}
-use Rattle.ide_types.specs.Names.{is_printable}
 pub use Rattle.link_events.specs.Parts.{WordOf, LossSpelledBy, OneSpelledBy, TwoSpelledBy, OperationSpelledBy}
 use Rattle.link_events.specs.Interfaces.{InterfaceSpelledBy, IsAllowedInterface}
 use Rattle.link_events.specs.Accesses.{AccessSpelledBy, IsAllowedAccess}

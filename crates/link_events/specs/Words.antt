@@ -10,11 +10,11 @@ use Rattle.std.specs.Str.{bytes_eq}
 use Rattle.std.specs.Str.Parse.{digits_value}
 use Rattle.hex.specs.Hex.{decode_of, decode_sized}
 use Rattle.ide_types.specs.declared.port.Side.TheVariants.{Host, Device}
-use Rattle.ide_types.specs.declared.port.PortName.{PortName}
-use Rattle.ide_types.specs.Names.{Text, joined}
+use Rattle.ide_types.specs.Names.{Text, joined_words}
 use Rattle.ide_types.specs.Ports.{host_port, device_port}
 use Rattle.ide_types.specs.Lines.{near_hop_line, far_hop_line}
 use Rattle.link_events.specs.Terms.{Lost, Request, Reply, LineFault, Word, Count, Number, Hex, TooLong, NotAscii}
+use Rattle.ide_types.specs.declared.port.PortName.{PortName}
 
 -- how many bytes a line may have, its line feed aside
 abbrev pub line_limit : ℕ
@@ -101,4 +101,4 @@ line_fault_word NotAscii = codes "notascii"
 
 -- the last line at a line of the script, counted from 1, that spells no event
 abbrev pub fault_line_of : ℕ → LineFault → Text
-fault_line_of line cause = codes "refused" ++ joined (decimal line ∷ line_fault_word cause ∷ [])
+fault_line_of line cause = codes "refused" ++ joined_words (decimal line ∷ line_fault_word cause ∷ [])

@@ -108,19 +108,19 @@ pub enum AccessEvent {
 pub enum Event {
     /// The manager gives the stream of a line its first keys.
     Establish {
-        link: u64,
+        line: u64,
         stream: u64,
         lose: Option<Loss>,
     },
     /// The manager gives the stream the keys of the other set.
     Refresh {
-        link: u64,
+        line: u64,
         stream: u64,
         lose: Option<Loss>,
     },
     /// The manager takes the stream's keys away.
     Stop {
-        link: u64,
+        line: u64,
         stream: u64,
         lose: Option<Loss>,
     },
@@ -165,7 +165,7 @@ pub enum Event {
     },
     /// Shows the states of the stream at both ports.
     Status {
-        link: u64,
+        line: u64,
         stream: u64,
     },
     /// What concerns a device interface or trusted memory.

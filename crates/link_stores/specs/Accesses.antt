@@ -1,18 +1,17 @@
 -- What stands at each link beside its ports and its device's interfaces, and how these stand by it (this profile).
 use Rattle.std.specs.Prelude.{ℕ, ◌+◌, Bool, false, if◌then◌else◌, List, [], ◌∷◌, length, map, replicate, slice_index}
-use Rattle.std.specs.Prelude.{Option}
-use Rattle.std.specs.Prelude.{Some, None}
+use Rattle.std.specs.Prelude.{Option, Some, None}
 use Rattle.ide_types.specs.declared.interface.InterfacePlan.{InterfacePlan}
 use Rattle.ide_types.specs.declared.plan.LinkPlan.{LinkPlan}
 use Rattle.link_verdicts.specs.declared.verdict.Effect.{Effect}
 use Rattle.tlp_layout.specs.declared.head.HeadView.{HeadView}
 use Rattle.interface_state.specs.Machine.{Tdi}
-use Rattle.interface_device.specs.Replies.{DeviceTdis}
+use Rattle.interface_ends.specs.Replies.{DeviceTdis}
 use Rattle.trusted_memory.specs.declared.read.MemReadView.{MemReadView}
 use Rattle.trusted_memory.specs.declared.queue.WaitingRead.{WaitingRead}
 use Rattle.trusted_memory.specs.{memory_read, waiting_after}
 use Rattle.guarded_memory.specs.declared.standing.InterfaceStatus.{InterfaceStatus}
-use Rattle.guarded_memory.specs.{standing_of, new_guarded}
+use Rattle.guarded_memory.specs.{interface_status, new_guarded}
 use Rattle.hop_queues.specs.declared.queues.HopQueues.{HopQueues}
 use Rattle.hop_queues.specs.{WaitingTlps}
 use Rattle.link_stores.specs.declared.link.LinkAccesses.{LinkAccesses}
@@ -44,13 +43,13 @@ new_accesses links = map new_at_link links
 -- ---- how interfaces stand
 
 -- those from this place on, with floors by place
-abbrev pub numbered_standings : List ℕ → ℕ → List Tdi → List InterfaceStatus
-numbered_standings floors n [] = []
-numbered_standings floors n (t ∷ ts) = standing_of t (slice_index floors n) ∷ numbered_standings floors (n + 1) ts
+abbrev pub numbered_statuses : List ℕ → ℕ → List Tdi → List InterfaceStatus
+numbered_statuses floors n [] = []
+numbered_statuses floors n (t ∷ ts) = interface_status t (slice_index floors n) ∷ numbered_statuses floors (n + 1) ts
 
 -- those of a device
-abbrev pub device_standings : List ℕ → DeviceTdis → List InterfaceStatus
-device_standings floors d = numbered_standings floors 0 d.interfaces
+abbrev pub device_statuses : List ℕ → DeviceTdis → List InterfaceStatus
+device_statuses floors d = numbered_statuses floors 0 d.interfaces
 
 -- ---- TLPs at a switch
 

@@ -1,4 +1,4 @@
 pub mod Accesses
 pub mod Lending
 -- what clauses and crates above cite
-pub use Rattle.link_stores.specs.Accesses.{new_link_accesses, new_accesses, device_standings, reads_after, without_tlps}
+pub use Rattle.link_stores.specs.Accesses.{new_link_accesses, new_accesses, device_statuses, reads_after, without_tlps}

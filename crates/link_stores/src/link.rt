@@ -7,14 +7,14 @@ ghost use Rattle.trusted_memory.specs.{Leads, admitted_write, write_in, write_sp
 ghost use Rattle.trusted_memory.specs.{request_effect};
 ghost use Rattle.guarded_memory.specs.{claim_of, mmio_effect, write_happened, AllReset, MmioLeads};
 ghost use Rattle.hop_queues.specs.{all_roomy};
-ghost use Rattle.link_stores.specs.Accesses.{new_link_accesses, reads_after, trusted_read, device_standings};
+ghost use Rattle.link_stores.specs.Accesses.{new_link_accesses, reads_after, trusted_read, device_statuses};
 ghost use Rattle.link_stores.specs.Accesses.{without_tlps};
 
 use crate::floors::Floors;
 use guarded_memory::{Claim, Guarded, InterfaceStatus, Standings, claim_of};
 use hop_queues::HopQueues;
 use ide_types::{InterfacePlan, OutOfMemory};
-use interface_device::DeviceInterfaces;
+use interface_ends::DeviceInterfaces;
 use link_verdicts::{Effect, UnitName};
 use std::alloc::Global;
 use tlp_layout::{HeadView, TlpView};
@@ -45,7 +45,7 @@ pub struct Floored<'a> {
 }
 
 impl Standings for Floored<'_> {
-    ghost stand = { λ d. device_standings d.floors.now d.interfaces.now };
+    ghost stand = { λ d. device_statuses d.floors.now d.interfaces.now };
 
     fn count(&self) -> usize {
         self.interfaces.count()
@@ -142,9 +142,9 @@ impl LinkAccesses {
         unit: UnitName,
     ) -> Effect
         requires { 2 ≤ self.old.guarded.spare }
-        ensures effect { let standings = device_standings self.old.floors interfaces.now in
+        ensures effect { let standings = device_statuses self.old.floors interfaces.now in
             result ≡ mmio_effect standings trusted unit.stream unit.draw (write_span tlp.now.head) }
-        ensures leads { let standings = device_standings self.old.floors interfaces.now in
+        ensures leads { let standings = device_statuses self.old.floors interfaces.now in
             MmioLeads self.old.guarded
             (write_happened standings trusted unit.stream unit.draw (write_in (viewed_tlp tlp.now)) ∷ [])
             self.new.guarded }
@@ -162,7 +162,7 @@ impl LinkAccesses {
     /// The claim of the device's interfaces, as they stand, on a memory write over these bytes; `None` if none claims
     /// it.
     pub fn claim(&self, interfaces: &DeviceInterfaces, span: Span) -> Option<Claim>
-        ensures { result ≡ claim_of (device_standings self.now.floors interfaces.now) span }
+        ensures { result ≡ claim_of (device_statuses self.now.floors interfaces.now) span }
     {
         let device = Floored {
             interfaces,

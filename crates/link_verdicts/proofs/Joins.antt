@@ -1,6 +1,6 @@
 -- A line at the beginning of a text has one list of words, and one text after it.
 use Rattle.std.proofs.Common.{◌≡◌, ◌<◌, ◌≤◌, ℕ, List, [], ◌∷◌, ◌++◌, refl, ap, ap₂, sym, ◌∙◌, arith, append_assoc}
-use Rattle.ide_types.specs.Names.{Text, joined}
+use Rattle.ide_types.specs.Names.{Text, joined_words}
 
 -- each byte is above a space
 abbrev pub IsWord : Text → Type 0
@@ -20,7 +20,7 @@ abbrev tail_of : Text → Text
 tail_of [] = []
 tail_of (b ∷ bs) = bs
 
-head_low : (ws : List Text) (xs : Text) → head_of (joined ws ++ xs) ≤ 32
+head_low : (ws : List Text) (xs : Text) → head_of (joined_words ws ++ xs) ≤ 32
 head_low [] xs = omega arith
 head_low (w ∷ ws) xs = omega arith
 
@@ -34,13 +34,14 @@ word_apart (b ∷ v) (c ∷ w) xs ys hv hw hx hy e =
     (ap₂ (λ (x : ℕ) (xs : Text). x ∷ xs) (ap head_of e) rest.0, rest.1)
 
 -- a word and those after it, before two texts
-first_apart : (v w : Text) (vs ws : List Text) (xs ys : Text) → IsWord v → IsWord w → (v ++ joined vs) ++ xs
-    ≡ (w ++ joined ws) ++ ys → (v ≡ w) × (joined vs ++ xs ≡ joined ws ++ ys)
+first_apart : (v w : Text) (vs ws : List Text) (xs ys : Text) → IsWord v → IsWord w → (v ++ joined_words vs) ++ xs
+    ≡ (w ++ joined_words ws) ++ ys → (v ≡ w) × (joined_words vs ++ xs ≡ joined_words ws ++ ys)
 first_apart v w vs ws xs ys hv hw e =
-    word_apart v w (joined vs ++ xs) (joined ws ++ ys) hv hw (head_low vs xs) (head_low ws ys)
-    (sym (append_assoc v (joined vs) xs) ∙ (e ∙ append_assoc w (joined ws) ys))
+    word_apart v w (joined_words vs ++ xs) (joined_words ws ++ ys) hv hw (head_low vs xs) (head_low ws ys)
+    (sym (append_assoc v (joined_words vs) xs) ∙ (e ∙ append_assoc w (joined_words ws) ys))
 
-words_apart : (vs ws : List Text) (xs ys : Text) → AreWords vs → AreWords ws → joined vs ++ xs ≡ joined ws ++ ys
+words_apart : (vs ws : List Text) (xs ys : Text) → AreWords vs → AreWords ws → joined_words vs ++ xs ≡ joined_words ws
+    ++ ys
     → (vs ≡ ws) × (xs ≡ ys)
 words_apart [] [] xs ys hv hw e = (refl, ap tail_of e)
 words_apart [] (w ∷ ws) xs ys hv hw e = absurd (omega (arith, ap head_of e))
@@ -51,8 +52,7 @@ words_apart (v ∷ vs) (w ∷ ws) xs ys hv hw e =
     (ap₂ (λ (x : Text) (xs : List Text). x ∷ xs) first.0 rest.0, rest.1)
 
 pub line_apart : (v w : Text) (vs ws : List Text) (xs ys : Text) → IsWord v → IsWord w → AreWords vs → AreWords ws
-    → (v ++ joined vs) ++ xs ≡ (w ++ joined ws) ++ ys
-    → (v ≡ w) × (vs ≡ ws) × (xs ≡ ys)
+    → (v ++ joined_words vs) ++ xs ≡ (w ++ joined_words ws) ++ ys → (v ≡ w) × (vs ≡ ws) × (xs ≡ ys)
 line_apart v w vs ws xs ys hv hw hvs hws e =
     let first = first_apart v w vs ws xs ys hv hw e in
     let rest = words_apart vs ws xs ys hvs hws first.1 in

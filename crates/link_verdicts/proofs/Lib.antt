@@ -1,3 +1,4 @@
+pub mod Admits
 pub mod Joins
 pub mod WordReadings
 pub mod InterfaceReadings

@@ -17,14 +17,13 @@ use Rattle.ide_types.specs.declared.port.PortName.{PortName}
 use Rattle.ide_types.specs.declared.line.LineKind.{LineKind}
 use Rattle.ide_types.specs.declared.line.LineKind.TheVariants as kind
 use Rattle.ide_types.specs.Ports.{host_port, device_port}
-use Rattle.ide_types.specs.Lines.{is_port, is_switch_side, is_near_hop_line, is_far_hop_line}
-use Rattle.ide_types.specs.Lines.{is_peer_line}
+use Rattle.ide_types.specs.Lines.{is_port, is_switch_side, is_near_hop_line, is_far_hop_line, is_peer_line}
 use Rattle.ide_types.specs.declared.plan.HopPlan.{HopPlan}
 use Rattle.ide_types.specs.declared.plan.PeerPlan.{PeerPlan}
 use Rattle.ide_types.specs.declared.plan.Plan.{Plan}
 use Rattle.ide_types.specs.Fits.{FitsPlan}
 use Rattle.ide_types.specs.Plans.{hop_has_id}
-use Rattle.ide_types.specs.Ends.{link_hop, peer_has_id, own_has_id, line_has, port_at, end_on}
+use Rattle.ide_types.specs.Ends.{link_hop, peer_has_id, own_has_id, line_has, port_beside_end, end_on}
 use Rattle.ide_types.proofs.EndsFound.{end_found, port_is_one, few_lines}
 use Rattle.ide_types.specs.declared.fault_word.FaultWord.{FaultWord}
 use Rattle.ide_types.specs.declared.status.StreamStatus.{StreamStatus}
@@ -32,19 +31,16 @@ use Rattle.ide_types.specs.declared.sub.FailCause.TheVariants as fail
 use Rattle.ide_types.specs.declared.fault_word.FaultWord.TheVariants as fault
 use Rattle.link_verdicts.specs.Terms.{NotTrusted, NotRunning, WrongStream, Stale, Outside, Crosses, Full, Effect, Sync}
 use Rattle.link_verdicts.specs.Terms.{Delivered, Applied, Queued, Stored, Waiting, Blocked, SealedPacket, UnitName}
-use Rattle.link_verdicts.specs.Terms.{Verdict}
-use Rattle.link_verdicts.specs.Terms.{Nothing, Malformed}
-use Rattle.link_verdicts.specs.Terms.{Plain, RefusedInsecure, RefusedNoKey, RefusedUnfinished, RefusedWorn, Sealed}
-use Rattle.link_verdicts.specs.Terms.{Unknown, Insecure, NotKeyed, Fail, Held, Accepted, Established, Refreshed}
-use Rattle.link_verdicts.specs.Terms.{Stopped, LostRequest, LostReply, RefusedNotIdle, RefusedNotSecure}
-use Rattle.link_verdicts.specs.Terms.{RefusedPoolEmpty, RefusedDevice, RefusedBusy, RefusedUnitOpen, Packet, Reset}
-use Rattle.link_verdicts.specs.Terms.{Status, Interface, Access, Through, Operation}
+use Rattle.link_verdicts.specs.Terms.{Verdict, Nothing, Malformed, Plain, RefusedInsecure, RefusedNoKey}
+use Rattle.link_verdicts.specs.Terms.{RefusedUnfinished, RefusedWorn, Sealed, Unknown, Insecure, NotKeyed, Fail, Held}
+use Rattle.link_verdicts.specs.Terms.{Accepted, Established, Refreshed, Stopped, LostRequest, LostReply, RefusedNotIdle}
+use Rattle.link_verdicts.specs.Terms.{RefusedNotSecure, RefusedPoolEmpty, RefusedDevice, RefusedBusy, RefusedUnitOpen}
+use Rattle.link_verdicts.specs.Terms.{Packet, Reset, Status, Interface, Access, Through, Operation}
 use Rattle.link_verdicts.specs.Terms.av
 use Rattle.ide_types.specs.declared.status.StreamStatus.TheVariants as status
 use Rattle.link_verdicts.specs.Terms.operation
-use Rattle.ide_types.specs.Names.{Text, port_word, substream_word, fail_word, fault_word, status_word}
-use Rattle.ide_types.specs.Names.{kind_word}
-use Rattle.link_verdicts.specs.Shown.{shown_packet, shown}
+use Rattle.ide_types.specs.Names.{Text, port_word, substream_word, fail_word, fault_word, status_word, kind_word}
+use Rattle.link_verdicts.specs.Shown.{shown_packet, verdict_by_ports}
 use Rattle.link_verdicts.specs.Lines.{effect_word, operation_word, bit_of, unit_words, sync_words, sealed_words}
 use Rattle.link_verdicts.specs.Lines.{more_packets_words, packets_words, effects_words, verdict_words}
 use Rattle.ide_types.specs.declared.verdict.InterfaceVerdict.TheVariants as iv
@@ -287,9 +283,9 @@ port_back p h = port_by_test p.side p.line (nat_lt p.line 8) refl h
 
 -- the end that is read of a port's word and a stream's is the end
 end_back : (plan : Plan) → FitsPlan plan → (p : PortName) (s : ℕ) → FitsLineStream plan p.line s
-    → end plan (port_word (port_at plan.peers p)) (decimal s) ≡ p
+    → end plan (port_word (port_beside_end plan.peers p)) (decimal s) ≡ p
 end_back plan fits p s h =
-    rw (port_back (port_at plan.peers p) (port_is_one plan fits p s h.0), number_back s h.1)
+    rw (port_back (port_beside_end plan.peers p) (port_is_one plan fits p s h.0), number_back s h.1)
     (end_found plan fits p s h.0)
 
 bit_back : (c : ℕ) (b : Bool) → bit (c ∷ decimal (bit_of b)) ≡ b
@@ -481,7 +477,7 @@ peer_line_back : (line : ℕ) → is_peer_line line ≡ true → 24 + (line - 24
 peer_line_back line h = omega (arith, leb-true 24 line (and_parts (nat_le 24 line) (nat_lt line 32) h).0)
 
 pub verdict_back : (plan : Plan) → FitsPlan plan → (v : Verdict) → Fits plan v
-    → verdict plan (verdict_words (shown plan.peers v)) ≡ v
+    → verdict plan (verdict_words (verdict_by_ports plan.peers v)) ≡ v
 verdict_back plan fits Nothing h = refl
 verdict_back plan fits (Malformed p w n) h = rw (number_back n h.1, fault_back w, port_back p h.0) refl
 verdict_back plan fits (Plain p) h = rw (port_back p h) refl

@@ -17,21 +17,19 @@ use Rattle.ide_types.specs.Lines.{is_port}
 use Rattle.ide_types.specs.Names.{kind_word}
 use Rattle.ide_types.specs.declared.plan.Plan.{Plan}
 use Rattle.ide_types.specs.Fits.{FitsPlan}
-use Rattle.ide_types.specs.Ends.{port_at}
+use Rattle.ide_types.specs.Ends.{port_beside_end}
 use Rattle.ide_types.proofs.EndsFound.{port_is_one, few_lines, few_ports}
-use Rattle.link_verdicts.specs.Shown.{shown_packet, shown}
+use Rattle.link_verdicts.specs.Shown.{shown_packet, verdict_by_ports}
 use Rattle.ide_types.specs.declared.fault_word.FaultWord.{FaultWord}
 use Rattle.ide_types.specs.declared.status.StreamStatus.{StreamStatus}
 use Rattle.ide_types.specs.declared.sub.FailCause.TheVariants as fail
 use Rattle.ide_types.specs.declared.fault_word.FaultWord.TheVariants as fault
 use Rattle.link_verdicts.specs.Terms.{Effect, Sync, Delivered, Applied, Queued, Stored, Waiting, Blocked, SealedPacket}
-use Rattle.link_verdicts.specs.Terms.{UnitName}
-use Rattle.link_verdicts.specs.Terms.{Verdict, Nothing, Malformed}
-use Rattle.link_verdicts.specs.Terms.{Plain, RefusedInsecure, RefusedNoKey, RefusedUnfinished, RefusedWorn, Sealed}
-use Rattle.link_verdicts.specs.Terms.{Unknown, Insecure, NotKeyed, Fail, Held, Accepted, Established, Refreshed}
-use Rattle.link_verdicts.specs.Terms.{Stopped, LostRequest, LostReply, RefusedNotIdle, RefusedNotSecure}
-use Rattle.link_verdicts.specs.Terms.{RefusedPoolEmpty, RefusedDevice, RefusedBusy, RefusedUnitOpen, Packet, Reset}
-use Rattle.link_verdicts.specs.Terms.{Status, Interface, Access, Through, Operation}
+use Rattle.link_verdicts.specs.Terms.{UnitName, Verdict, Nothing, Malformed, Plain, RefusedInsecure, RefusedNoKey}
+use Rattle.link_verdicts.specs.Terms.{RefusedUnfinished, RefusedWorn, Sealed, Unknown, Insecure, NotKeyed, Fail, Held}
+use Rattle.link_verdicts.specs.Terms.{Accepted, Established, Refreshed, Stopped, LostRequest, LostReply, RefusedNotIdle}
+use Rattle.link_verdicts.specs.Terms.{RefusedNotSecure, RefusedPoolEmpty, RefusedDevice, RefusedBusy, RefusedUnitOpen}
+use Rattle.link_verdicts.specs.Terms.{Packet, Reset, Status, Interface, Access, Through, Operation}
 use Rattle.ide_types.specs.declared.status.StreamStatus.TheVariants as status
 use Rattle.link_verdicts.specs.Terms.operation
 use Rattle.ide_types.specs.Names.{Text, side_word, port_word, substream_word, fail_word, fault_word, status_word}
@@ -58,8 +56,8 @@ port_is_word : (p : PortName) → is_port p ≡ true → IsWord (port_word p)
 port_is_word p h = port_by_tests p.side p.line _ _ (few_ports p h)
 
 end_is_word : (plan : Plan) → FitsPlan plan → (p : PortName) (s : ℕ) → FitsLineStream plan p.line s
-    → IsWord (port_word (port_at plan.peers p))
-end_is_word plan fits p s h = port_is_word (port_at plan.peers p) (port_is_one plan fits p s h.0)
+    → IsWord (port_word (port_beside_end plan.peers p))
+end_is_word plan fits p s h = port_is_word (port_beside_end plan.peers p) (port_is_one plan fits p s h.0)
 
 bit_word : (c : ℕ) (b : Bool) → 32 < c → IsWord (c ∷ decimal (bit_of b))
 bit_word c true h = let w = decimal_word 1 (omega arith) in search rules
@@ -160,8 +158,7 @@ packets_are_words plan fits (p ∷ ps) h = packet_is_words plan fits p
 
 -- with the letter of each kind of line the word is one
 ended_are_words : (word : Text) (line stream : ℕ) (after : List Text) (a b c : Bool) → IsWord word → line < 2 ^ 64
-    → stream < 2 ^ 64 → AreWords after
-    → AreWords (if a then word ∷ decimal line ∷ decimal stream ∷ after
+    → stream < 2 ^ 64 → AreWords after → AreWords (if a then word ∷ decimal line ∷ decimal stream ∷ after
     else if b then (codes "h" ++ word) ∷ decimal (line - 8) ∷ codes "0" ∷ after
     else if c then (codes "h" ++ word) ∷ decimal (line - 16) ∷ codes "1" ∷ after
     else (codes "p" ++ word) ∷ decimal (line - 24) ∷ after)
@@ -174,13 +171,13 @@ ended_are_words word line stream after false false true w l s later =
 ended_are_words word line stream after false false false w l s later =
     let n = decimal_word (line - 24) (omega (arith, l)) in search rules
 
-keyed_is_words : (word : Text) (link stream draw : ℕ) → IsWord word → FitsKeyed link stream draw
-    → AreWords (keyed_words word link stream draw)
-keyed_is_words word link stream draw w h =
-    let a = decimal_word link h.0 in let b = decimal_word stream h.1 in let c = decimal_word draw h.2 in search rules
+keyed_is_words : (word : Text) (line stream draw : ℕ) → IsWord word → FitsKeyed line stream draw
+    → AreWords (keyed_words word line stream draw)
+keyed_is_words word line stream draw w h =
+    let a = decimal_word line h.0 in let b = decimal_word stream h.1 in let c = decimal_word draw h.2 in search rules
 
 verdict_is_words : (plan : Plan) → FitsPlan plan → (v : Verdict) → Fits plan v
-    → AreWords (verdict_words (shown plan.peers v))
+    → AreWords (verdict_words (verdict_by_ports plan.peers v))
 verdict_is_words plan fits Nothing h = search rules
 verdict_is_words plan fits (Malformed p w n) h = let a = port_is_word p h.0 in let b = fault_is_word w in let c =
     decimal_word n
@@ -232,8 +229,9 @@ verdict_is_words plan fits (Through p) h = let a = port_is_word p h in search ru
 
 pub lines_apart : LinesApart
 lines_apart plan fits m n v w xs ys hm hn fv fw e =
-    let parts = line_apart (decimal m) (decimal n) (verdict_words (shown plan.peers v))
-    (verdict_words (shown plan.peers w)) xs ys (decimal_word m hm) (decimal_word n hn) (verdict_is_words plan fits v fv)
+    let parts = line_apart (decimal m) (decimal n) (verdict_words (verdict_by_ports plan.peers v))
+    (verdict_words (verdict_by_ports plan.peers w)) xs ys (decimal_word m hm) (decimal_word n hn)
+    (verdict_is_words plan fits v fv)
     (verdict_is_words plan fits w fw) e in (
       decimal_injective m n hm hn parts.0,
       sym (verdict_back plan fits v fv) ∙ ap (verdict plan) parts.1 ∙ verdict_back plan fits w fw,

@@ -14,7 +14,7 @@ use Rattle.link_verdicts.specs.Terms.{RefusedUnitOpen, Packet, Reset, Status, In
 use Rattle.link_verdicts.specs.InterfaceLines.{FitsInterfaceVerdict}
 use Rattle.link_verdicts.specs.AccessLines.{FitsAccessVerdict}
 use Rattle.link_verdicts.specs.Lines.{line_of}
-use Rattle.link_verdicts.specs.Shown.{shown}
+use Rattle.link_verdicts.specs.Shown.{verdict_by_ports}
 
 -- ---- Each number has at most 64 bits, as those of every type here have, and each byte 8. A line of the topology has
 -- the stream, and where none is looked up a port is named.
@@ -35,7 +35,7 @@ FitPackets plan [] = Unit {0}
 FitPackets plan (p ∷ ps) = FitsSealed plan p × FitPackets plan ps
 
 abbrev pub FitsKeyed : ℕ → ℕ → ℕ → Type 0
-FitsKeyed link stream draw = (link < 2 ^ 64) × (stream < 2 ^ 64) × (draw < 2 ^ 64)
+FitsKeyed line stream draw = (line < 2 ^ 64) × (stream < 2 ^ 64) × (draw < 2 ^ 64)
 
 abbrev pub Fits : Plan → Verdict → Type 0
 Fits plan Nothing = Unit {0}
@@ -53,7 +53,7 @@ Fits plan (Fail port stream sub cause) = FitsLineStream plan port.line stream
 Fits plan (Held port unit) = FitsUnit plan port unit
 Fits plan (Accepted port unit effects) = FitsUnit plan port unit
 Fits plan (Established line stream draw) = FitsLineStream plan line stream × (draw < 2 ^ 64)
-Fits plan (Refreshed link stream draw) = FitsKeyed link stream draw
+Fits plan (Refreshed line stream draw) = FitsKeyed line stream draw
 Fits plan (Stopped line stream) = FitsLineStream plan line stream
 Fits plan (LostRequest exchange) = exchange < 2 ^ 64
 Fits plan (LostReply exchange) = exchange < 2 ^ 64
@@ -65,7 +65,7 @@ Fits plan (RefusedBusy kind operation) = Unit {0}
 Fits plan (RefusedUnitOpen sub) = Unit {0}
 Fits plan (Packet packet bytes) = (packet < 2 ^ 64) × IsBytes bytes
 Fits plan (Reset link) = link < 2 ^ 64
-Fits plan (Status link stream host device) = (link < 2 ^ 64) × (stream < 2 ^ 64)
+Fits plan (Status line stream host device) = (line < 2 ^ 64) × (stream < 2 ^ 64)
 Fits plan (Interface verdict) = FitsInterfaceVerdict verdict
 Fits plan (Access verdict) = FitsAccessVerdict verdict
 Fits plan (Through port) = is_port port ≡ true
@@ -75,5 +75,5 @@ Fits plan (Through port) = is_port port ≡ true
 abbrev pub LinesApart : Type 0
 LinesApart =
     (plan : Plan) → FitsPlan plan → (m n : ℕ) (v w : Verdict) (xs ys : List ℕ) → m < 2 ^ 64 → n < 2 ^ 64 → Fits plan v
-    → Fits plan w → line_of m (shown plan.peers v) ++ xs ≡ line_of n (shown plan.peers w) ++ ys
+    → Fits plan w → line_of m (verdict_by_ports plan.peers v) ++ xs ≡ line_of n (verdict_by_ports plan.peers w) ++ ys
     → (m ≡ n) × (v ≡ w) × (xs ≡ ys)

@@ -1,7 +1,7 @@
 -- The line of each verdict.
 use Rattle.std.specs.Prelude.{ℕ, ◌-◌, nat_lt, Bool, true, false, List, [], ◌∷◌, ◌++◌, if◌then◌else◌, codes}
 use Rattle.std.specs.Fmt.{decimal}
-use Rattle.ide_types.specs.Names.{Text, joined, port_word, substream_word, fail_word, fault_word, status_word}
+use Rattle.ide_types.specs.Names.{Text, joined_words, port_word, substream_word, fail_word, fault_word, status_word}
 use Rattle.ide_types.specs.Names.{kind_word}
 use Rattle.link_verdicts.specs.Terms.{Effect, SealedPacket, UnitName, Totals, Verdict, Nothing, Malformed, Plain}
 use Rattle.link_verdicts.specs.Terms.{RefusedInsecure, RefusedNoKey, RefusedUnfinished, RefusedWorn, Sealed, Unknown}
@@ -55,7 +55,7 @@ ended_words word line stream after =
     else (codes "p" ++ word) ∷ decimal (line - 24) ∷ after
 
 abbrev pub keyed_words : Text → ℕ → ℕ → ℕ → List Text
-keyed_words word link stream draw = word ∷ decimal link ∷ decimal stream ∷ codes "draw" ∷ decimal draw ∷ []
+keyed_words word line stream draw = word ∷ decimal line ∷ decimal stream ∷ codes "draw" ∷ decimal draw ∷ []
 
 abbrev pub verdict_words : Verdict → List Text
 verdict_words Nothing = codes "none" ∷ []
@@ -75,7 +75,7 @@ verdict_words (Held port unit) = codes "held" ∷ port_word port ∷ unit_words 
 verdict_words (Accepted port unit effects) = codes "accepted" ∷ port_word port ∷ unit_words unit (effects_words effects)
 verdict_words (Established line stream draw) =
     ended_words (codes "established") line stream (codes "draw" ∷ decimal draw ∷ [])
-verdict_words (Refreshed link stream draw) = keyed_words (codes "refreshed") link stream draw
+verdict_words (Refreshed line stream draw) = keyed_words (codes "refreshed") line stream draw
 verdict_words (Stopped line stream) = ended_words (codes "stopped") line stream []
 verdict_words (LostRequest exchange) = codes "lost" ∷ codes "request" ∷ decimal exchange ∷ []
 verdict_words (LostReply exchange) = codes "lost" ∷ codes "reply" ∷ decimal exchange ∷ []
@@ -89,8 +89,8 @@ verdict_words (RefusedBusy kind operation) = codes "refused" ∷ codes "busy"
 verdict_words (RefusedUnitOpen sub) = codes "refused" ∷ codes "unitopen" ∷ substream_word sub ∷ []
 verdict_words (Packet packet bytes) = codes "packet" ∷ decimal packet ∷ bytes_word bytes ∷ []
 verdict_words (Reset link) = codes "reset" ∷ decimal link ∷ []
-verdict_words (Status link stream host device) =
-    codes "status" ∷ decimal link ∷ decimal stream ∷ status_word host ∷ status_word device ∷ []
+verdict_words (Status line stream host device) =
+    codes "status" ∷ decimal line ∷ decimal stream ∷ status_word host ∷ status_word device ∷ []
 verdict_words (Interface verdict) = interface_words verdict
 verdict_words (Access verdict) = access_words verdict
 verdict_words (Through port) = codes "through" ∷ port_word port ∷ []
@@ -126,16 +126,16 @@ IsOperationRefusal _ = ⊥
 
 -- of an operation on a stream that ended or lost a message
 abbrev pub IsOutcome : Verdict → Type 0
-IsOutcome (Established link stream draw) = Unit {0}
-IsOutcome (Refreshed link stream draw) = Unit {0}
-IsOutcome (Stopped link stream) = Unit {0}
+IsOutcome (Established line stream draw) = Unit {0}
+IsOutcome (Refreshed line stream draw) = Unit {0}
+IsOutcome (Stopped line stream) = Unit {0}
 IsOutcome (LostRequest exchange) = Unit {0}
 IsOutcome (LostReply exchange) = Unit {0}
 IsOutcome _ = ⊥
 
 -- a verdict's line after its event's number
 abbrev pub line_of : ℕ → Verdict → Text
-line_of number v = decimal number ++ joined (verdict_words v)
+line_of number v = decimal number ++ joined_words (verdict_words v)
 
 abbrev pub totals_words : Totals → List Text
 totals_words t = codes "sealed" ∷ decimal t.sealed ∷ codes "accepted" ∷ decimal t.accepted ∷ codes "failed"
@@ -143,4 +143,4 @@ totals_words t = codes "sealed" ∷ decimal t.sealed ∷ codes "accepted" ∷ de
 
 -- the last line of a run that was read to its end
 abbrev pub totals_line_of : Totals → Text
-totals_line_of t = codes "total" ++ joined (totals_words t)
+totals_line_of t = codes "total" ++ joined_words (totals_words t)

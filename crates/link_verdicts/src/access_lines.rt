@@ -2,7 +2,7 @@
 
 ghost use Rattle.std.specs.Prelude.{◌≡◌, ◌++◌, IfOk, string_bytes};
 ghost use Rattle.std.specs.Fmt.{decimal};
-ghost use Rattle.ide_types.specs.Names.{joined};
+ghost use Rattle.ide_types.specs.Names.{joined_words};
 ghost use Rattle.link_verdicts.specs.AccessLines.{access_words};
 
 use crate::AccessVerdict;
@@ -14,7 +14,7 @@ pub(crate) fn access_text(
     number: u64,
     verdict: &AccessVerdict,
 ) -> Result<String, AllocError>
-    ensures { IfOk result (λ s. string_bytes s ≡ decimal number ++ joined (access_words verdict.now)) }
+    ensures { IfOk result (λ s. string_bytes s ≡ decimal number ++ joined_words (access_words verdict.now)) }
 {
     match verdict {
         AccessVerdict::Empty { link } => format!(in alloc; "{number} empty {link}\n"),

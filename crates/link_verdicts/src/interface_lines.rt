@@ -2,7 +2,7 @@
 
 ghost use Rattle.std.specs.Prelude.{◌≡◌, ◌++◌, IfOk, string_bytes};
 ghost use Rattle.std.specs.Fmt.{decimal};
-ghost use Rattle.ide_types.specs.Names.{joined};
+ghost use Rattle.ide_types.specs.Names.{joined_words};
 ghost use Rattle.link_verdicts.specs.Words.{bytes_word};
 ghost use Rattle.link_verdicts.specs.InterfaceLines.{interface_words, IsInterfaceRefusal, ShowsBytes};
 
@@ -20,7 +20,7 @@ pub(crate) fn bytes_text(alloc: Global, bytes: &Bytes) -> Result<String, AllocEr
 
 fn shown_text(alloc: Global, number: u64, verdict: &InterfaceVerdict) -> Result<String, AllocError>
     requires { ShowsBytes verdict.now }
-    ensures { IfOk result (λ s. string_bytes s ≡ decimal number ++ joined (interface_words verdict.now)) }
+    ensures { IfOk result (λ s. string_bytes s ≡ decimal number ++ joined_words (interface_words verdict.now)) }
 {
     match verdict {
         InterfaceVerdict::Locked { interface, nonce } => {
@@ -45,7 +45,7 @@ fn refused_text(
     verdict: &InterfaceVerdict,
 ) -> Result<String, AllocError>
     requires { IsInterfaceRefusal verdict.now }
-    ensures { IfOk result (λ s. string_bytes s ≡ decimal number ++ joined (interface_words verdict.now)) }
+    ensures { IfOk result (λ s. string_bytes s ≡ decimal number ++ joined_words (interface_words verdict.now)) }
 {
     match verdict {
         InterfaceVerdict::RefusedWrongState { view } => format!(in alloc;
@@ -64,7 +64,7 @@ pub(crate) fn interface_text(
     number: u64,
     verdict: &InterfaceVerdict,
 ) -> Result<String, AllocError>
-    ensures { IfOk result (λ s. string_bytes s ≡ decimal number ++ joined (interface_words verdict.now)) }
+    ensures { IfOk result (λ s. string_bytes s ≡ decimal number ++ joined_words (interface_words verdict.now)) }
 {
     match verdict {
         InterfaceVerdict::Locked { .. }

@@ -2,7 +2,7 @@
 
 ghost use Rattle.std.specs.Prelude.{◌≡◌, ◌++◌, ◌∷◌, ◌⊎◌, List, IfOk, OnOk, codes, string_bytes};
 ghost use Rattle.std.specs.Fmt.{decimal};
-ghost use Rattle.ide_types.specs.Names.{Text, joined, port_word};
+ghost use Rattle.ide_types.specs.Names.{Text, joined_words, port_word};
 ghost use Rattle.link_verdicts.specs.Lines.{unit_words, sealed_words, more_packets_words, packets_words, effects_words};
 ghost use Rattle.link_verdicts.specs.Lines.{sync_words, line_of, totals_line_of, IsSendRefusal, IsArrival};
 ghost use Rattle.link_verdicts.specs.Lines.{IsOperationRefusal, IsOutcome};
@@ -15,7 +15,7 @@ use ide_types::PortName;
 use std::alloc::{AllocError, Global};
 
 fn sync_text(sync: bool) -> &'static str
-    ensures { (after : List Text) → result.now ++ joined after ≡ joined (sync_words sync after) }
+    ensures { (after : List Text) → result.now ++ joined_words after ≡ joined_words (sync_words sync after) }
 {
     if sync { " sync" } else { "" }
 }
@@ -24,8 +24,8 @@ fn sync_text(sync: bool) -> &'static str
 const LINE_ROOM: usize = 96;
 
 fn push_packet(text: &mut String, packet: &SealedPacket) -> Result<(), AllocError>
-    ensures { OnOk result ((after : List Text) → string_bytes text.new ++ joined after ≡ string_bytes text.old
-        ++ joined (sealed_words packet.now after)) }
+    ensures { OnOk result ((after : List Text) → string_bytes text.new ++ joined_words after ≡ string_bytes text.old
+        ++ joined_words (sealed_words packet.now after)) }
 {
     let SealedPacket {
         number,
@@ -51,7 +51,8 @@ fn push_packet(text: &mut String, packet: &SealedPacket) -> Result<(), AllocErro
 }
 
 fn push_more_packets(text: &mut String, packets: &[SealedPacket]) -> Result<(), AllocError>
-    ensures { OnOk result (string_bytes text.new ≡ string_bytes text.old ++ joined (more_packets_words packets.now)) }
+    ensures { OnOk result (string_bytes text.new ≡ string_bytes text.old
+        ++ joined_words (more_packets_words packets.now)) }
 {
     for packet in packets {
         text.push_str(" ;")?;
@@ -61,7 +62,7 @@ fn push_more_packets(text: &mut String, packets: &[SealedPacket]) -> Result<(), 
 }
 
 fn push_packets(text: &mut String, packets: &[SealedPacket]) -> Result<(), AllocError>
-    ensures { OnOk result (string_bytes text.new ≡ string_bytes text.old ++ joined (packets_words packets.now)) }
+    ensures { OnOk result (string_bytes text.new ≡ string_bytes text.old ++ joined_words (packets_words packets.now)) }
 {
     match packets {
         [] => text.push_str("\n"),
@@ -73,7 +74,7 @@ fn push_packets(text: &mut String, packets: &[SealedPacket]) -> Result<(), Alloc
 }
 
 fn push_effects(text: &mut String, effects: &[Effect]) -> Result<(), AllocError>
-    ensures { OnOk result (string_bytes text.new ≡ string_bytes text.old ++ joined (effects_words effects.now)) }
+    ensures { OnOk result (string_bytes text.new ≡ string_bytes text.old ++ joined_words (effects_words effects.now)) }
 {
     for effect in effects {
         write!(text, " {effect}")?;
@@ -83,7 +84,7 @@ fn push_effects(text: &mut String, effects: &[Effect]) -> Result<(), AllocError>
 
 fn sealed_text(alloc: Global, number: u64, packets: &[SealedPacket]) -> Result<String, AllocError>
     ensures { IfOk result (λ s. string_bytes s ≡ decimal number
-        ++ joined (codes "sealed" ∷ packets_words packets.now)) }
+        ++ joined_words (codes "sealed" ∷ packets_words packets.now)) }
 {
     let mut text = String::with_capacity(alloc, LINE_ROOM)?;
     write!(text, "{number} sealed")?;
@@ -116,7 +117,7 @@ fn accepted_text(
     effects: &[Effect],
 ) -> Result<String, AllocError>
     ensures { IfOk result (λ s. string_bytes s ≡ decimal number
-        ++ joined (codes "accepted" ∷ port_word port ∷ unit_words unit (effects_words effects.now))) }
+        ++ joined_words (codes "accepted" ∷ port_word port ∷ unit_words unit (effects_words effects.now))) }
 {
     let UnitName {
         stream,
@@ -228,13 +229,13 @@ fn outcome_text(alloc: Global, number: u64, verdict: &Verdict) -> Result<String,
     ensures { IfOk result (λ s. string_bytes s ≡ line_of number verdict.now) }
 {
     match verdict {
-        Verdict::Established { link, stream, draw } => {
-            established_text(alloc, number, *link, *stream, *draw)
+        Verdict::Established { line, stream, draw } => {
+            established_text(alloc, number, *line, *stream, *draw)
         }
-        Verdict::Refreshed { link, stream, draw } => format!(in alloc;
-            "{number} refreshed {link} {stream} draw {draw}\n"
+        Verdict::Refreshed { line, stream, draw } => format!(in alloc;
+            "{number} refreshed {line} {stream} draw {draw}\n"
         ),
-        Verdict::Stopped { link, stream } => stopped_text(alloc, number, *link, *stream),
+        Verdict::Stopped { line, stream } => stopped_text(alloc, number, *line, *stream),
         Verdict::LostRequest { exchange } => format!(in alloc;
             "{number} lost request {exchange}\n"
         ),
@@ -263,11 +264,11 @@ fn text_of(alloc: Global, number: u64, verdict: &Verdict) -> Result<String, Allo
         | Verdict::RefusedWorn { .. } => send_refused_text(alloc, number, verdict),
         Verdict::Reset { link } => format!(in alloc; "{number} reset {link}\n"),
         Verdict::Status {
-            link,
+            line,
             stream,
             host,
             device,
-        } => format!(in alloc; "{number} status {link} {stream} {host} {device}\n"),
+        } => format!(in alloc; "{number} status {line} {stream} {host} {device}\n"),
         Verdict::Interface { verdict } => interface_text(alloc, number, verdict),
         Verdict::Access { verdict } => access_text(alloc, number, verdict),
         _ => answer_text(alloc, number, verdict),

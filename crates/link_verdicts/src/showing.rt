@@ -1,7 +1,7 @@
 //! Verdicts as they are shown.
 
 ghost use Rattle.std.specs.Prelude.{◌≡◌, ◌≤◌, length, map};
-ghost use Rattle.link_verdicts.specs.Shown.{shown as shown_of, shown_packet};
+ghost use Rattle.link_verdicts.specs.Shown.{verdict_by_ports as shown_of, shown_packet};
 
 use crate::{SealedPacket, SealedPackets, Verdict};
 use ide_types::{PeerPlan, port_at};

@@ -145,19 +145,19 @@ pub enum Verdict {
     },
     /// The stream has the keys of the draw, its first.
     Established {
-        link: u8,
+        line: u8,
         stream: u8,
         draw: u32,
     },
     /// The stream has the keys of the draw besides or in place of the older ones.
     Refreshed {
-        link: u8,
+        line: u8,
         stream: u8,
         draw: u32,
     },
     /// The stream has no keys.
     Stopped {
-        link: u8,
+        line: u8,
         stream: u8,
     },
     /// The request of this exchange was lost: an operation on a stream stays there, one on an interface is over.
@@ -206,7 +206,7 @@ pub enum Verdict {
     },
     /// The states of a stream at the host's port and at the device's.
     Status {
-        link: u8,
+        line: u8,
         stream: u8,
         host: StreamStatus,
         device: StreamStatus,

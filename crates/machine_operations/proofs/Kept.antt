@@ -1,44 +1,39 @@
 -- A send, an answer to a read or an arrival leaves the manager's operations and the draws.
 use Rattle.machine_ports.specs.Machine.{BesidePorts, port_at, sealing_draw_at, stepped_completion, stepped_reply}
 use Rattle.machine_ports.specs.Machine.{stepped_forward}
-use Rattle.link_events.specs.declared.event.Event.TheVariants.{Forward}
-use Rattle.machine_ports.specs.{HopTlp, leaving_end, may_send, outgoing_at}
+use Rattle.link_events.specs.declared.event.Event.TheVariants.{Forward, Access}
+use Rattle.machine_ports.specs.{HopTlp, leaving_end, may_send, outgoing_at, arrival_at}
 use Rattle.machine_ports.specs.Replies.{BoundCompletion}
-use Rattle.link_events.specs.declared.event.Event.TheVariants.{Access}
 use Rattle.link_events.specs.declared.event.AccessEvent.TheVariants as ae
 use Rattle.ide_types.specs.declared.verdict.InterfaceVerdict.TheVariants as iv
 use Rattle.ide_types.specs.declared.port.Side.TheVariants.{Host}
 use Rattle.ide_types.specs.declared.sub.SubKind.TheVariants.{Cpl}
 use Rattle.machine_operations.proofs.Terms.{◌≡◌, ℕ, Bool, true, false, List, Option, Some, None, Result, Ok, Err, refl}
+use Rattle.machine_operations.proofs.Terms.{arith, if◌then◌else◌, Alter, stepped_answer, Arrival, Arrive}
+use Rattle.machine_operations.proofs.Terms.{stepped_arrival, Cut, Dump, Event, find, has_port, is_of_packets, LinkState}
+use Rattle.machine_operations.proofs.Terms.{Pass, Plan, PortName, with_stream_state, Send, stepped_on_stream}
+use Rattle.machine_operations.proofs.Terms.{stepped_send, streams_of, Sending, step_of, Stepped, StreamState, Verdict}
 use Rattle.std.specs.Prelude.{unwrap_or}
 use Rattle.spec_keys.specs.Keys.{is_below}
-use Rattle.machine_operations.proofs.Terms.{arith, if◌then◌else◌, Alter, stepped_answer, Arrival, Arrive}
-use Rattle.machine_operations.proofs.Terms.{stepped_arrival}
-use Rattle.machine_operations.proofs.Terms.{Cut}
 unfoldable use Rattle.machine_ports.specs.{sealing_end}
-use Rattle.machine_ports.specs.{arrival_at}
-use Rattle.machine_operations.proofs.Terms.{Dump, Event, find, has_port, is_of_packets, LinkState, Pass, Plan, PortName}
-use Rattle.machine_operations.proofs.Terms.{put, Send, stepped_on_stream, stepped_send, streams_of}
-use Rattle.machine_operations.proofs.Terms.{Sending, step_of, Stepped}
-use Rattle.machine_operations.proofs.Terms.{StreamState, Verdict}
 use Rattle.link_verdicts.specs.declared.verdict.Verdict.TheVariants as v
 use Rattle.link_verdicts.specs.declared.verdict.SealedPacket.{SealedPacket}
 use Rattle.tlp_layout.specs.Class.{class_of}
 use Rattle.tlp_layout.specs.Tlp.{header}
 use Rattle.tlp_layout.specs.declared.tlp.Tlp.{Tlp}
-use Rattle.association.specs.Outgoing.{Outgoing, NoTlp, OnNone, OnStream, outgoing_of}
+use Rattle.tlp_layout.specs.Outgoing.{Outgoing, NoTlp, OnNone, OnStream, outgoing_of}
 
 abbrev pub Kept : LinkState → Stepped → Type 0
 Kept st r = (r.1.ops ≡ st.ops) × (r.1.draws ≡ st.draws)
 
 arrive_kept : (plan : Plan) (beside : BesidePorts) (st : LinkState) (a : Option Arrival)
     → Kept st (stepped_arrival plan beside st a)
-unfolding put
+unfolding with_stream_state
 arrive_kept plan beside st a = grind arith
 
 answered_kept : (plan : Plan) (st : LinkState) (s : Sending) (t : Tlp) (x : StreamState) (o : Option Verdict)
     (ds : List SealedPacket) → Kept st (stepped_answer plan st s t x o ds)
-unfolding put
+unfolding with_stream_state
 answered_kept plan st s t x o ds = grind arith
 
 found_kept : (plan : Plan) (st : LinkState) (s : Sending) (t : Tlp) (o : Option StreamState)
@@ -65,9 +60,9 @@ send_kept plan beside st port o more trusted false = (refl, refl)
 completed_kept : (plan : Plan) (beside : BesidePorts) (st : LinkState) (port : PortName) (r : BoundCompletion)
     (draw : Option ℕ)
     → Kept st (stepped_completion plan beside st port r draw)
-completed_kept plan beside st port r draw = by (is_below draw r.floor)
+completed_kept plan beside st port r draw = by (is_below draw r.bound.floor)
   where
-    by : (b : Bool) → Kept st (if b then (v.Interface (iv.RefusedRefreshFirst (unwrap_or draw 0) r.floor), st)
+    by : (b : Bool) → Kept st (if b then (v.Interface (iv.RefusedRefreshFirst (unwrap_or draw 0) r.bound.floor), st)
         else stepped_send plan beside st port (outgoing_of (streams_of plan port.line) port.side r.bytes) false true)
     by true = (refl, refl)
     by false = send_kept plan beside st port (outgoing_of (streams_of plan port.line) port.side r.bytes) false true true
@@ -77,7 +72,7 @@ reply_kept : (plan : Plan) (beside : BesidePorts) (st : LinkState) (port : PortN
     → Kept st (stepped_reply plan beside st port r)
 reply_kept plan beside st port (Err w) = (refl, refl)
 reply_kept plan beside st port (Ok r) =
-    completed_kept plan beside st port r (sealing_draw_at Cpl (find plan st port r.stream))
+    completed_kept plan beside st port r (sealing_draw_at Cpl (find plan st port r.bound.stream))
 
 forward_kept : (plan : Plan) (beside : BesidePorts) (st : LinkState) (port : PortName) (r : Result HopTlp Verdict)
     → Kept st (stepped_forward plan beside st port r)

@@ -1,19 +1,16 @@
 -- A stream at a port stands for a history with an operation, after the touches of its slots.
 use Rattle.machine_operations.proofs.Terms.{◌≡◌, ℕ, Bool, true, false, List, ◌∷◌, length, ap, sym, ◌∙◌, arith}
 use Rattle.machine_operations.proofs.Terms.{if◌then◌else◌, ◌&&◌, ◌||◌, accepts_in, any_live, any_on, base, Cpl}
-use Rattle.machine_operations.proofs.Terms.{each_sub}
-use Rattle.machine_operations.proofs.Terms.{Event, failed, failed_next, fails_at, got_in, got_same, got_since}
-use Rattle.machine_operations.proofs.Terms.{has_live_key}
-use Rattle.machine_operations.proofs.Terms.{has_live_in, has_live_out, held_same, History, holds_in, is_keyed, is_quiet}
-use Rattle.machine_operations.proofs.Terms.{key_in, keyed_in, port_keys, lane_in, lane_out, Npr, on_in}
-use Rattle.machine_operations.proofs.Terms.{Operated, OperationStands, Plan, PortName, posted_count, posted_in}
-use Rattle.machine_operations.proofs.Terms.{posted_sum}
-use Rattle.machine_operations.proofs.Terms.{Pr, quiet_seals_none, rx_slot, rx_slot_same, rx_slots, rx_standing, RxSub}
-use Rattle.machine_operations.proofs.Terms.{sealed_packets, sealed_same, rested_stream, since_same, LaneSlots, slots_is}
-use Rattle.machine_operations.proofs.Terms.{slots_touched, standing, SubKind, SubStream, total_in, Touch}
-use Rattle.machine_operations.proofs.Terms.{touched_stream}
-use Rattle.machine_operations.proofs.Terms.{tx_slots, tx_standing, TxSub, units_same, units_since, Verdict}
-use Rattle.machine_operations.proofs.Terms.{AllowedIn, AllowedOut, busy_in, key_touched_in, key_touched_out}
+use Rattle.machine_operations.proofs.Terms.{each_sub, Event, has_failed, failed_next, fails_at, got_in, got_same}
+use Rattle.machine_operations.proofs.Terms.{got_since, has_live_key, has_live_in, has_live_out, held_same, History}
+use Rattle.machine_operations.proofs.Terms.{holds_in, is_keyed, is_quiet, key_in, keyed_in, port_keys, lane_in}
+use Rattle.machine_operations.proofs.Terms.{lane_out, Npr, on_in, Operated, OperationStands, Plan, PortName}
+use Rattle.machine_operations.proofs.Terms.{posted_count, posted_since_last, posted_sum, Pr, quiet_seals_none, rx_slot}
+use Rattle.machine_operations.proofs.Terms.{rx_slot_same, rx_slots, rx_state_due, RxSub, sealed_packets, sealed_same}
+use Rattle.machine_operations.proofs.Terms.{rested_stream, since_same, LaneSlots, slots_is, slots_touched}
+use Rattle.machine_operations.proofs.Terms.{stream_state_due, SubKind, SubStream, total_in, Touch, touched_stream}
+use Rattle.machine_operations.proofs.Terms.{tx_slots, tx_state_due, TxSub, units_same, units_since, Verdict, AllowedIn}
+use Rattle.machine_operations.proofs.Terms.{AllowedOut, busy_in, key_touched_in, key_touched_out}
 use Rattle.machine_operations.proofs.SlotTouches.{all_touched, touched_in, touched_out, live_in_is, live_out_is}
 
 -- ---- quiet verdicts
@@ -26,10 +23,10 @@ pub takes_nothing : (w : Verdict) → is_quiet w ≡ true → (s : SubStream) �
 takes_nothing w none s = grind arith
 
 pub failed_quiet : (plan : Plan) (h : History) (e : Event) (w : Verdict) → is_quiet w ≡ true
-    → (port : PortName) (stream : ℕ) → failed ((e, w) ∷ h) port stream
-    ≡ (failed h port stream && has_live_key ((e, w) ∷ h) port stream)
+    → (port : PortName) (stream : ℕ) → has_failed ((e, w) ∷ h) port stream
+    ≡ (has_failed h port stream && has_live_key ((e, w) ∷ h) port stream)
 failed_quiet plan h e w none port stream = failed_next h e w port stream ∙ ap
-    (λ (b : Bool). (b || failed h port stream) && has_live_key ((e, w) ∷ h) port stream)
+    (λ (b : Bool). (b || has_failed h port stream) && has_live_key ((e, w) ∷ h) port stream)
     (fails_nothing w none port stream)
 
 -- ---- counts
@@ -47,10 +44,10 @@ and_live a b = grind arith
 -- if a draw is On, what failed before still does
 failed_on : (plan : Plan) (h : History) (e : Event) (w : Verdict) → is_quiet w ≡ true
     → (port : PortName) (stream : ℕ) (u : SubKind) → is_keyed ((e, w) ∷ h) port (lane_in port stream u) ≡ true
-    → failed ((e, w) ∷ h) port stream ≡ failed h port stream
+    → has_failed ((e, w) ∷ h) port stream ≡ has_failed h port stream
 failed_on plan h e w none port stream u keyed = failed_quiet plan h e w none port stream ∙ rw
     (keyed_in plan ((e, w) ∷ h) port stream u keyed)
-    (and_live (failed h port stream) (has_live_out ((e, w) ∷ h) port stream))
+    (and_live (has_failed h port stream) (has_live_out ((e, w) ∷ h) port stream))
 
 -- ---- the stream
 
@@ -124,24 +121,24 @@ rx_new plan h g port stream u = record {
 
 slots_new : (plan : Plan) (h : History) (e : Event) (w : Verdict) (port : PortName) (stream : ℕ)
     (out into : SubKind → List Touch) → Operated plan h e w port stream out into
-    → touched_stream plan port stream out into (standing plan h port stream)
+    → touched_stream plan port stream out into (stream_state_due plan h port stream)
     ≡ rested_stream (each_sub (tx_new plan h ((e, w) ∷ h) port stream))
-    (each_sub (rx_new plan h ((e, w) ∷ h) port stream)) (failed h port stream)
-unfolding standing
+    (each_sub (rx_new plan h ((e, w) ∷ h) port stream)) (has_failed h port stream)
+unfolding stream_state_due
 slots_new plan h e w port stream out into is =
     let g = (e, w) ∷ h in
     λ i. rested_stream (each_sub
     (λ u. record (tx_new plan h g port stream u) { slots = tx_touched plan h e w port stream out into is u i }))
     (each_sub (λ u. record (rx_new plan h g port stream u)
     { slots = rx_touched plan h e w port stream out into is u i }))
-    (failed h port stream)
+    (has_failed h port stream)
 
 settled_is : (plan : Plan) (h : History) (e : Event) (w : Verdict) (port : PortName) (stream : ℕ)
     (out into : SubKind → List Touch) → Operated plan h e w port stream out into
     → rested_stream (each_sub (tx_new plan h ((e, w) ∷ h) port stream))
-    (each_sub (rx_new plan h ((e, w) ∷ h) port stream)) (failed h port stream)
-    ≡ standing plan ((e, w) ∷ h) port stream
-unfolding standing
+    (each_sub (rx_new plan h ((e, w) ∷ h) port stream)) (has_failed h port stream)
+    ≡ stream_state_due plan ((e, w) ∷ h) port stream
+unfolding stream_state_due
 settled_is plan h e w port stream out into is =
     let g = (e, w) ∷ h in
     let outs = outs_live plan h g port stream in
@@ -163,7 +160,7 @@ settled_is plan h e w port stream out into is =
     let posted = λ (u : SubKind). let s = lane_out port stream u in
     (λ i. if outs i then (tx_new plan h g port stream u).posted else 0)
     ∙ sends (posted_count plan h s) (posted_count plan g s)
-    (λ before now i. posted_in (sym xs i) s (sym (is.base_out before now) i))
+    (λ before now i. posted_since_last (sym xs i) s (sym (is.base_out before now) i))
     (λ before now. is.none_out before now u) in
     let total = λ (u : SubKind). let s = lane_out port stream u in
     (λ i. if outs i then (tx_new plan h g port stream u).total else 0)
@@ -184,11 +181,12 @@ settled_is plan h e w port stream out into is =
     (λ i. if ins i then (rx_new plan h g port stream u).total else 0)
     ∙ receives (units_since h s (base h port.line stream)) (units_since g s (base g port.line stream)) (units u)
     (λ before now. is.no_units_into before now u) in
-    let fails = (λ i. failed h port stream && (outs i || ins i)) ∙ sym (failed_quiet plan h e w is.quiet port stream) in
+    let fails = (λ i. has_failed h port stream && (outs i || ins i))
+    ∙ sym (failed_quiet plan h e w is.quiet port stream) in
     λ i. record {
-      tx = each_sub (λ u. record (tx_standing plan g port (lane_out port stream u))
+      tx = each_sub (λ u. record (tx_state_due plan g port (lane_out port stream u))
           { posted = posted u i; total = total u i });
-      rx = each_sub (λ u. record (rx_standing plan g port (lane_in port stream u))
+      rx = each_sub (λ u. record (rx_state_due plan g port (lane_in port stream u))
           { sum = sum u i; got = lengths u i; total = since u i });
       failed = fails i;
     }

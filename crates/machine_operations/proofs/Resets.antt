@@ -5,20 +5,17 @@
 use Rattle.machine_operations.proofs.Terms.{◌≡◌, ◌≢◌, ℕ, zero, suc, ◌+◌, ◌*◌, ◌==◌, Bool, true, false, Some, None, List}
 use Rattle.machine_operations.proofs.Terms.{[], ◌∷◌, length, map, refl, ap, sym, ◌∙◌, subst, arith, if◌then◌else◌, ◌&&◌}
 use Rattle.machine_operations.proofs.Terms.{◌||◌, is_some, slice_set, base, clears, Cpl, Device, draws_made, due}
-use Rattle.machine_operations.proofs.Terms.{each_sub}
-use Rattle.machine_operations.proofs.Terms.{no_stream, eqb-refl, facts, failed, failed_next, failed_there, fails_at}
-use Rattle.machine_operations.proofs.Terms.{find, find_op, first_ports, FirstStands, found_by_id, get_or-set_other}
-use Rattle.machine_operations.proofs.Terms.{get_or-set_same, got_in, has_live_in, has_live_out, History, Host, Idle}
-use Rattle.machine_operations.proofs.Terms.{is_on}
-use Rattle.machine_operations.proofs.Terms.{kept_all, Keys, keys, port_keys, keys_into, keys_out, lane_in, lane_out}
-use Rattle.machine_operations.proofs.Terms.{LinkState, manager, moments, nat_tests, no_keys, Npr, StreamStage, op_at}
-use Rattle.machine_operations.proofs.Terms.{op_of}
-use Rattle.machine_operations.proofs.Terms.{operates, Plan, port_at, port_place, PortName, PortsStand, posted_count}
-use Rattle.machine_operations.proofs.Terms.{posted_sum, Pr, Reset, reset_state, rx_slots, sealed_packets, sealed_same}
-use Rattle.machine_operations.proofs.Terms.{sent_direction, Side, slice_index_or, standing, standing_if_planned}
-use Rattle.machine_operations.proofs.Terms.{PortsStandFor, stays}
-use Rattle.machine_operations.proofs.Terms.{stream_plan, streams_by_line, streams_of, StreamState, SubKind, total_in}
-use Rattle.machine_operations.proofs.Terms.{tx_slots, units_since, with_id, within}
+use Rattle.machine_operations.proofs.Terms.{each_sub, no_stream, has_failed, failed_next, failed_there}
+use Rattle.machine_operations.proofs.Terms.{fails_at, find, find_op, first_ports, FirstStands, found_by_id}
+use Rattle.machine_operations.proofs.Terms.{get_or-set_other, get_or-set_same, got_in, has_live_in, has_live_out}
+use Rattle.machine_operations.proofs.Terms.{History, Host, Idle, is_on, kept_all, Keys, keys, port_keys, keys_into}
+use Rattle.machine_operations.proofs.Terms.{keys_out, lane_in, lane_out, LinkState, manager, moments, nat_tests}
+use Rattle.machine_operations.proofs.Terms.{no_keys, Npr, StreamStage, op_at, op_of, Plan, port_at}
+use Rattle.machine_operations.proofs.Terms.{port_place, PortName, PortsStand, posted_count, posted_sum, Pr, Reset}
+use Rattle.machine_operations.proofs.Terms.{reset_state, rx_slots, sealed_packets, sealed_same, sent_direction, Side}
+use Rattle.machine_operations.proofs.Terms.{slice_index_or, stream_state_due, state_due_if_planned, PortsStandFor}
+use Rattle.machine_operations.proofs.Terms.{stream_plan, streams_by_line, streams_of, StreamState, SubKind}
+use Rattle.machine_operations.proofs.Terms.{total_in, tx_slots, units_since, with_id, within, place_in_sub_stream}
 use Rattle.link_verdicts.specs.declared.verdict.Verdict.TheVariants as v
 use Rattle.ide_types.specs.declared.stream.StreamPlan.{StreamPlan}
 use Rattle.machine_operations.proofs.Worked.{Still, StillAt, untouched, still_stands, still_standing}
@@ -28,10 +25,9 @@ use Rattle.machine_ports.proofs.{same_port, seat_same}
 use Rattle.machine_ports.specs.{is_same_port}
 use Rattle.spec_keys.specs.Places.{is_cleared, is_cut, is_between_devices, is_same_side}
 use Rattle.spec_keys.specs.Keys.{Clear}
-use Rattle.spec_keys.specs.History.{touches_after, when}
+use Rattle.spec_keys.specs.History.{touches_after, touches_if}
 use Rattle.std.specs.List.{list_any}
 use Rattle.std.specs.Prelude.{Option}
-use Rattle.machine_operations.proofs.Terms.{place_in_sub_stream}
 
 -- ---- a stream without keys
 
@@ -54,17 +50,17 @@ module _ (plan : Plan) (port : PortName) (stream : ℕ) where
   unfolding has_live_in
   dead_in h none = λ i. any_on (none.into Pr i) || any_on (none.into Npr i) || any_on (none.into Cpl i)
 
-  not_failed : (h : History) → NoKeys plan h port stream → failed h port stream ≡ false
+  not_failed : (h : History) → NoKeys plan h port stream → has_failed h port stream ≡ false
   unfolding failed_there
   not_failed [] none = refl
   not_failed ((e, x) ∷ h) none =
       failed_next h e x port stream ∙
-      (λ i. (fails_at port stream x || failed h port stream)
+      (λ i. (fails_at port stream x || has_failed h port stream)
       && (dead_out ((e, x) ∷ h) none i || dead_in ((e, x) ∷ h) none i))
-      ∙ and_none (fails_at port stream x || failed h port stream)
+      ∙ and_none (fails_at port stream x || has_failed h port stream)
 
-  empty_standing : (h : History) → NoKeys plan h port stream → standing plan h port stream ≡ no_stream
-  unfolding standing
+  empty_standing : (h : History) → NoKeys plan h port stream → stream_state_due plan h port stream ≡ no_stream
+  unfolding stream_state_due
   empty_standing h none = λ i. record {
     tx = each_sub (λ u. let s = lane_out port stream u in
         record {
@@ -101,7 +97,7 @@ module _ (plan : Plan) (h : History) (l : ℕ) (ends : List PortName) (port : Po
       ∙ rw here ((clears false
       (moments h (record { side = port.side; line = port.line; stream = stream; sends = false; sub = u }))).are)
 
-  reset_standing : standing plan ((Reset l ends, v.Reset l) ∷ h) port stream ≡ no_stream
+  reset_standing : stream_state_due plan ((Reset l ends, v.Reset l) ∷ h) port stream ≡ no_stream
   reset_standing =
       empty_standing plan port stream ((Reset l ends, v.Reset l) ∷ h) (record { out = cleared_out; into = cleared_in })
 
@@ -137,28 +133,28 @@ filled {A} ss rows i id x there = by_known (is_some (with_id ss id)) refl
 
 -- ---- the ports after a reset
 
-abbrev seen : Plan → List (List StreamState) → PortName → ℕ → Option StreamState
-seen plan rows port t = found_by_id (streams_of plan port.line) (slice_index_or rows (port_place port) []) t
+abbrev state_by_row : Plan → List (List StreamState) → PortName → ℕ → Option StreamState
+state_by_row plan rows port t = found_by_id (streams_of plan port.line) (slice_index_or rows (port_place port) []) t
 
 -- each planned stream has its state
 abbrev Shaped : Plan → List (List StreamState) → Type 0
 Shaped plan rows = (port : PortName) (t : ℕ) → is_some (with_id (streams_of plan port.line) t) ≡ true
-    → is_some (seen plan rows port t) ≡ true
+    → is_some (state_by_row plan rows port t) ≡ true
 
 abbrev blank : Plan → PortName → ℕ → Option StreamState
 blank plan port t = if is_some (with_id (streams_of plan port.line) t) then Some no_stream else None
 
 row_seen : (plan : Plan) (rows : List (List StreamState)) (e : PortName) → Shaped plan rows → (port : PortName) (t : ℕ)
-    → seen plan (row_cleared plan e rows) port t
-    ≡ (if is_same_port e port then blank plan port t else seen plan rows port t)
+    → state_by_row plan (row_cleared plan e rows) port t
+    ≡ (if is_same_port e port then blank plan port t else state_by_row plan rows port t)
 row_seen plan rows e shaped port t = by (is_same_port e port) refl
   where
     row : List StreamState
     row = map (λ (s : StreamPlan). no_stream) (streams_of plan e.line)
 
-    by : (b : Bool) → is_same_port e port ≡ b → seen plan (row_cleared plan e rows) port t
-        ≡ (if b then blank plan port t else seen plan rows port t)
-    by true same = subst (λ (q : PortName). seen plan (row_cleared plan e rows) q t ≡ blank plan q t)
+    by : (b : Bool) → is_same_port e port ≡ b → state_by_row plan (row_cleared plan e rows) port t
+        ≡ (if b then blank plan port t else state_by_row plan rows port t)
+    by true same = subst (λ (q : PortName). state_by_row plan (row_cleared plan e rows) q t ≡ blank plan q t)
         (same_port e port same) (filled (streams_of plan e.line) rows (port_place e) t no_stream (shaped e t))
     by false other = ap (λ (xs : List StreamState). found_by_id (streams_of plan port.line) xs t)
         (get_or-set_other rows (port_place e) (port_place port) row []
@@ -171,7 +167,7 @@ if_shaped b known o is there = grind arith
 row_shaped : (plan : Plan) (rows : List (List StreamState)) (e : PortName) → Shaped plan rows
     → Shaped plan (row_cleared plan e rows)
 row_shaped plan rows e shaped port t known = ap is_some (row_seen plan rows e shaped port t)
-    ∙ if_shaped (is_same_port e port) _ (seen plan rows port t) known (shaped port t known)
+    ∙ if_shaped (is_same_port e port) _ (state_by_row plan rows port t) known (shaped port t known)
 
 -- the end is cleared for this one's sake
 abbrev hits : PortName → PortName → Bool
@@ -223,22 +219,22 @@ one_of_two : (side : Side) (line : Bool) (x y : Option StreamState)
 one_of_two side line x y = grind arith
 
 rows_seen : (plan : Plan) (rows : List (List StreamState)) (e : PortName) → Shaped plan rows → (port : PortName) (t : ℕ)
-    → seen plan (rows_cleared plan e rows) port t
-    ≡ (if hits e port then blank plan port t else seen plan rows port t)
+    → state_by_row plan (rows_cleared plan e rows) port t
+    ≡ (if hits e port then blank plan port t else state_by_row plan rows port t)
 rows_seen plan rows e shaped port t = by (is_between_devices e.line) refl
   where
-    by : (peer : Bool) → is_between_devices e.line ≡ peer → seen plan (if peer then row_cleared plan e rows
+    by : (peer : Bool) → is_between_devices e.line ≡ peer → state_by_row plan (if peer then row_cleared plan e rows
         else row_cleared plan (port_at Device e.line) (row_cleared plan (port_at Host e.line) rows)) port t
-        ≡ (if hits e port then blank plan port t else seen plan rows port t)
+        ≡ (if hits e port then blank plan port t else state_by_row plan rows port t)
     by true peer = row_seen plan rows e shaped port t
-        ∙ ap (λ (b : Bool). if b then blank plan port t else seen plan rows port t) (hits_end e port peer)
+        ∙ ap (λ (b : Bool). if b then blank plan port t else state_by_row plan rows port t) (hits_end e port peer)
     by false line =
         row_seen plan (row_cleared plan (port_at Host e.line) rows) (port_at Device e.line)
         (row_shaped plan rows (port_at Host e.line) shaped) port t
         ∙ (ap (λ (o : Option StreamState). if is_same_port (port_at Device e.line) port then blank plan port t else o)
         (row_seen plan rows (port_at Host e.line) shaped port t)
-        ∙ (one_of_two port.side (e.line == port.line) (blank plan port t) (seen plan rows port t)
-        ∙ ap (λ (b : Bool). if b then blank plan port t else seen plan rows port t) (hits_line e port line)))
+        ∙ (one_of_two port.side (e.line == port.line) (blank plan port t) (state_by_row plan rows port t)
+        ∙ ap (λ (b : Bool). if b then blank plan port t else state_by_row plan rows port t) (hits_line e port line)))
 
 none_cleared : (side : Side) (line : ℕ) → is_cleared [] side line ≡ false
 none_cleared side line = by (is_between_devices line)
@@ -263,33 +259,33 @@ either : {A : Type 0} (a b : Bool) (x y : A) → (if b then x else if a then x e
 either a b x y = grind arith
 
 all_seen : (plan : Plan) (ends : List PortName) (rows : List (List StreamState)) → Shaped plan rows → (port : PortName)
-    (t : ℕ) → seen plan (all_rows_cleared plan ends rows) port t
-    ≡ (if is_cleared ends port.side port.line then blank plan port t else seen plan rows port t)
+    (t : ℕ) → state_by_row plan (all_rows_cleared plan ends rows) port t
+    ≡ (if is_cleared ends port.side port.line then blank plan port t else state_by_row plan rows port t)
 all_seen plan [] rows shaped port t = sym
-    (ap (λ (b : Bool). if b then blank plan port t else seen plan rows port t) (none_cleared port.side port.line))
+    (ap (λ (b : Bool). if b then blank plan port t else state_by_row plan rows port t)
+    (none_cleared port.side port.line))
 all_seen plan (e ∷ es) rows shaped port t =
     all_seen plan es (rows_cleared plan e rows) (rows_shaped plan rows e shaped) port t
     ∙ (ap (λ (o : Option StreamState). if is_cleared es port.side port.line then blank plan port t else o)
     (rows_seen plan rows e shaped port t)
-    ∙ (either (hits e port) (is_cleared es port.side port.line) (blank plan port t) (seen plan rows port t)
-    ∙ ap (λ (b : Bool). if b then blank plan port t else seen plan rows port t) (more_cleared e es port)))
+    ∙ (either (hits e port) (is_cleared es port.side port.line) (blank plan port t) (state_by_row plan rows port t)
+    ∙ ap (λ (b : Bool). if b then blank plan port t else state_by_row plan rows port t) (more_cleared e es port)))
 
 -- what a reset does not clear stays
 not_reset : (plan : Plan) (h : History) (l : ℕ) (ends : List PortName) (port : PortName)
-    → is_cleared ends port.side port.line ≡ false
-    → StillAt plan h (Reset l ends) (v.Reset l) port
+    → is_cleared ends port.side port.line ≡ false → StillAt plan h (Reset l ends) (v.Reset l) port
 unfolding moments base
 not_reset plan h l ends port none = record {
   quiet = refl;
   keys = λ s here. seat_same plan ((Reset l ends, v.Reset l) ∷ h) h port s
-      (λ sends. ap (λ (b : Bool). touches_after (moments h (place_in_sub_stream port s sends)) (when b Clear))
+      (λ sends. ap (λ (b : Bool). touches_after (moments h (place_in_sub_stream port s sends)) (touches_if b Clear))
       (ap (is_cleared ends port.side) here ∙ none));
   based = λ stream. refl;
 }
 
 reset_streams : (plan : Plan) (st : LinkState) (h : History) (l : ℕ) (ends : List PortName) → PortsStand plan st h
     → (port : PortName) (t : ℕ)
-    → find plan (reset_state plan st ends) port t ≡ standing_if_planned plan ((Reset l ends, v.Reset l) ∷ h) port t
+    → find plan (reset_state plan st ends) port t ≡ state_due_if_planned plan ((Reset l ends, v.Reset l) ∷ h) port t
 unfolding find stream_plan
 reset_streams plan st h l ends stands port t =
     all_seen plan ends st.ports shaped port t ∙ by (is_cleared ends port.side port.line) refl
@@ -298,9 +294,9 @@ reset_streams plan st h l ends stands port t =
     shaped q n known = ap is_some (stands.streams q n) ∙ rw known refl
 
     by : (b : Bool) → is_cleared ends port.side port.line ≡ b
-        → (if b then blank plan port t else seen plan st.ports port t)
+        → (if b then blank plan port t else state_by_row plan st.ports port t)
         ≡ (if is_some (with_id (streams_of plan port.line) t)
-        then Some (standing plan ((Reset l ends, v.Reset l) ∷ h) port t) else None)
+        then Some (stream_state_due plan ((Reset l ends, v.Reset l) ∷ h) port t) else None)
     by true here = ap
         (λ (x : StreamState). if is_some (with_id (streams_of plan port.line) t) then Some x else None)
         (sym (reset_standing plan h l ends port here t))
@@ -362,8 +358,7 @@ if_known : (cut known : Bool) (q o : StreamStage) → (if cut then (if known the
 if_known cut known q o = grind arith
 
 reset_ops : (plan : Plan) (st : LinkState) (h : History) (l : ℕ) (ends : List PortName) → PortsStandFor plan st h
-    → (a s : ℕ)
-    → find_op plan (reset_state plan st ends) a s ≡ op_at plan ((Reset l ends, v.Reset l) ∷ h) a s
+    → (a s : ℕ) → find_op plan (reset_state plan st ends) a s ≡ op_at plan ((Reset l ends, v.Reset l) ∷ h) a s
 unfolding find_op stream_plan manager
 reset_ops plan st h l ends stands a s =
     ops_seen plan ends st.ops (λ line n known. ap is_some (stands.ops_is line n) ∙ rw known refl) a s

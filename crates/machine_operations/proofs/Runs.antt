@@ -4,15 +4,13 @@
 -- waits for its GO is greater than the one that is On and than all that were used or got GO. One that waits for the
 -- older one was not used.
 use Rattle.machine_operations.proofs.Terms.{◌≡◌, ℕ, ◌<◌, ◌≤◌, Bool, true, false, List, [], ◌∷◌, refl, ap, sym, ◌∙◌}
-use Rattle.machine_operations.proofs.Terms.{subst}
-use Rattle.machine_operations.proofs.Terms.{arith, not, if◌then◌else◌, AllCome, AllowedIn, AllowedOut, touches_after}
-use Rattle.machine_operations.proofs.Terms.{busy_in, ClearTouch, Comes, Goes, GoTouch, History, is_open, key_in}
-use Rattle.machine_operations.proofs.Terms.{key_touched_in, key_touched_out, Keys, keys, keys_of, LeadTo, Loaded}
-use Rattle.machine_operations.proofs.Terms.{nat_tests, new_key, no_keys, Off, On, Plan, PortName, ProgramTouch}
+use Rattle.machine_operations.proofs.Terms.{subst, arith, not, if◌then◌else◌, AllCome, AllowedIn, AllowedOut}
+use Rattle.machine_operations.proofs.Terms.{touches_after, busy_in, ClearTouch, Comes, Goes, GoTouch, History, is_open}
+use Rattle.machine_operations.proofs.Terms.{key_in, key_touched_in, key_touched_out, Keys, keys, keys_of, LeadTo}
+use Rattle.machine_operations.proofs.Terms.{Loaded, nat_tests, new_key, no_keys, Off, On, Plan, PortName, ProgramTouch}
 use Rattle.machine_operations.proofs.Terms.{receiving_key, refuses, SealedList, sub_stream_packets, without_outlived}
-use Rattle.machine_operations.proofs.Terms.{Shape, Sound}
-use Rattle.machine_operations.proofs.Terms.{started, StopTouch, SubStream, taken_touches, Touch, touched, used, waits}
-use Rattle.machine_operations.proofs.Terms.{with_key}
+use Rattle.machine_operations.proofs.Terms.{Shape, Sound, draws_started, StopTouch, SubStream, taken_touches, Touch}
+use Rattle.machine_operations.proofs.Terms.{keys_after_touch, draws_used, waits, with_key}
 
 -- touches of an operation: a KEY_PROG comes first
 abbrev pub are_later : List Touch → Bool
@@ -29,10 +27,10 @@ are_first ts = are_later ts
 -- ---- what is known of the draws of keys
 
 record Bounds (ts : List Touch) (ks : Keys) : Type 0 where
-  fresh : (k : Bool) (j : ℕ) → key_in ks k ≡ Loaded j → (used ts ≤ j) × (started ts ≤ j)
+  fresh : (k : Bool) (j : ℕ) → key_in ks k ≡ Loaded j → (draws_used ts ≤ j) × (draws_started ts ≤ j)
   older : (k : Bool) (i j : ℕ) → key_in ks k ≡ Loaded j → key_in ks (not k) ≡ On i → i < j
   one : (k : Bool) (i j : ℕ) → key_in ks k ≡ Loaded j → key_in ks (not k) ≡ Loaded i → ⊥
-  waiting : (k : Bool) (i : ℕ) → key_in ks (not k) ≡ On i → waits (not k) i (key_in ks k) ≡ true → used ts ≤ i
+  waiting : (k : Bool) (i : ℕ) → key_in ks (not k) ≡ On i → waits (not k) i (key_in ks k) ≡ true → draws_used ts ≤ i
 
 shape_bounds : (s : Bool) (ts : List Touch) (sh : Shape) → Sound s ts sh → Bounds ts (keys_of sh)
 shape_bounds s ts sh sound = record {
@@ -57,15 +55,16 @@ settled_none s f = grind arith
 settled_keys : (s : Bool) (ts : List Touch) → without_outlived s (is_open ts) (keys s ts) ≡ keys s ts
 unfolding keys
 settled_keys s [] = settled_none s (is_open [])
-settled_keys s (t ∷ ts) = settled_again s (is_open (t ∷ ts)) (touched s (keys s ts) t)
+settled_keys s (t ∷ ts) = settled_again s (is_open (t ∷ ts)) (keys_after_touch s (keys s ts) t)
 
 loaded : (s : Bool) (f : ℕ → Bool) (k : Bool) (j : ℕ) (ks : Keys) → refuses s ks k ≡ false
-    → without_outlived s f (touched s ks (ProgramTouch k j)) ≡ with_key ks k (Loaded j)
+    → without_outlived s f (keys_after_touch s ks (ProgramTouch k j)) ≡ with_key ks k (Loaded j)
 loaded s f k j ks free = grind (arith, nat_tests)
 
-halted : (s : Bool) (f : ℕ → Bool) (k : Bool) (ks : Keys) → without_outlived s f (touched s ks (StopTouch k))
+stop_without_outlived : (s : Bool) (f : ℕ → Bool) (k : Bool) (ks : Keys)
+    → without_outlived s f (keys_after_touch s ks (StopTouch k))
     ≡ with_key ks k Off
-halted s f k ks = grind (arith, nat_tests)
+stop_without_outlived s f k ks = grind (arith, nat_tests)
 
 programs_is : (s k : Bool) (j : ℕ) (ts : List Touch) → refuses s (keys s ts) k ≡ false → keys s (ProgramTouch k j ∷ ts)
     ≡ with_key (keys s ts) k (Loaded j)
@@ -79,7 +78,7 @@ refused_is s k j ts denied = rw denied (settled_keys s ts)
 
 pub stopped_is : (s k : Bool) (ts : List Touch) → keys s (StopTouch k ∷ ts) ≡ with_key (keys s ts) k Off
 unfolding keys
-stopped_is s k ts = halted s (is_open (StopTouch k ∷ ts)) k (keys s ts)
+stopped_is s k ts = stop_without_outlived s (is_open (StopTouch k ∷ ts)) k (keys s ts)
 
 pub cleared_are : (s : Bool) (ts : List Touch) → keys s (ClearTouch ∷ ts) ≡ no_keys
 unfolding keys
@@ -92,12 +91,12 @@ goes_of k j sh goes = grind (arith, nat_tests)
 
 gone_new : (busy : ℕ → Bool) (k : Bool) (j : ℕ) (ks : Keys) → key_in ks k ≡ Loaded j
     → ((i : ℕ) → key_in ks (not k) ≡ On i → i < j)
-    → ((i : ℕ) → key_in ks (not k) ≡ Loaded i → ⊥) → without_outlived true busy (touched true ks (GoTouch k j))
+    → ((i : ℕ) → key_in ks (not k) ≡ Loaded i → ⊥) → without_outlived true busy (keys_after_touch true ks (GoTouch k j))
     ≡ key_touched_out busy (GoTouch k j) ks
 gone_new busy k j ks is older one = grind (arith, nat_tests, older, one)
 
 gone_again : (busy : ℕ → Bool) (k : Bool) (j : ℕ) (ks : Keys) → key_in ks k ≡ On j → without_outlived true busy ks ≡ ks
-    → without_outlived true busy (touched true ks (GoTouch k j)) ≡ key_touched_out busy (GoTouch k j) ks
+    → without_outlived true busy (keys_after_touch true ks (GoTouch k j)) ≡ key_touched_out busy (GoTouch k j) ks
 gone_again busy k j ks is stays = grind (arith, nat_tests, stays)
 
 gone_out : (k : Bool) (j : ℕ) (ts : List Touch) → Comes true ts (GoTouch k j) → keys true (GoTouch k j ∷ ts)
@@ -108,7 +107,7 @@ gone_out k j ts come =
     by_on goes.0 (ap (λ (ks : Keys). key_in ks k) come.is.are ∙ goes.1)
   where
     by_on : (on : Bool) → key_in (keys true ts) k ≡ (if on then On j else Loaded j)
-        → without_outlived true (is_open ts) (touched true (keys true ts) (GoTouch k j))
+        → without_outlived true (is_open ts) (keys_after_touch true (keys true ts) (GoTouch k j))
         ≡ key_touched_out (is_open ts) (GoTouch k j) (keys true ts)
     by_on true is = gone_again (is_open ts) k j (keys true ts) is (settled_keys true ts)
     by_on false is =
@@ -127,7 +126,7 @@ unwaited ks k i free on = grind (arith, nat_tests)
 -- what is known of the packets there
 pub record Knows (xs : SealedList) (s : SubStream) (ts : List Touch) : Type 0 where
   pub busy : busy_in xs s ≡ is_open ts
-  pub unsent : (j : ℕ) → used ts ≤ j → sub_stream_packets xs s j ≡ []
+  pub unsent : (j : ℕ) → draws_used ts ≤ j → sub_stream_packets xs s j ≡ []
 
 module _ (plan : Plan) (xs : SealedList) (s : SubStream) (r : Bool → Bool) where
   -- more touches, but for a refused KEY_PROG, lead from these keys to those after all
@@ -137,7 +136,7 @@ module _ (plan : Plan) (xs : SealedList) (s : SubStream) (r : Bool → Bool) whe
 
   out_later : (ts more : List Touch) → Knows xs s ts → AllCome true ts more → are_later more ≡ true
       → OutLead ts more (keys true ts)
-  unfolding used is_open
+  unfolding draws_used is_open
   out_later ts [] knows come later = refl
   out_later ts (GoTouch k j ∷ more) knows come later =
       let known = bounds true ts (GoTouch k j) come.0 in (
@@ -161,7 +160,7 @@ module _ (plan : Plan) (xs : SealedList) (s : SubStream) (r : Bool → Bool) whe
 
   pub out_run : (ts more : List Touch) → ((k : Bool) → refuses true (keys true ts) k ≡ r k) → Knows xs s ts
       → AllCome true ts more → are_first more ≡ true → OutLead ts more (keys true ts)
-  unfolding used is_open
+  unfolding draws_used is_open
   out_run ts (ProgramTouch k j ∷ more) same knows come first = by_answer (r k) (same k)
     where
       rest : OutLead (ProgramTouch k j ∷ ts) more (keys true (ProgramTouch k j ∷ ts))
@@ -193,7 +192,7 @@ gone_in k j ts come = let goes = goes_of k j come.shape come.may in gone_into k 
 
 -- the draw that gets GO was not started before
 abbrev pub NewIn : Plan → History → PortName → SubStream → List Touch → Type 0
-NewIn plan h port s ts = (j : ℕ) → started ts ≤ j → receiving_key plan h port s j ≡ new_key plan s j
+NewIn plan h port s ts = (j : ℕ) → draws_started ts ≤ j → receiving_key plan h port s j ≡ new_key plan s j
 
 module _ (plan : Plan) (h : History) (port : PortName) (s : SubStream) (r : Bool → Bool) where
   abbrev pub InLead : List Touch → List Touch → Keys → Type 0
@@ -202,7 +201,7 @@ module _ (plan : Plan) (h : History) (port : PortName) (s : SubStream) (r : Bool
 
   in_later : (ts more : List Touch) → NewIn plan h port s ts → AllCome false ts more → are_later more ≡ true
       → InLead ts more (keys false ts)
-  unfolding started
+  unfolding draws_started
   in_later ts [] new come later = refl
   in_later ts (GoTouch k j ∷ more) new come later = (
     λ n is. new n ((bounds false ts (GoTouch k j) come.0).fresh k n is).1,
@@ -221,7 +220,7 @@ module _ (plan : Plan) (h : History) (port : PortName) (s : SubStream) (r : Bool
 
   pub in_run : (ts more : List Touch) → ((k : Bool) → refuses false (keys false ts) k ≡ r k) → NewIn plan h port s ts
       → AllCome false ts more → are_first more ≡ true → InLead ts more (keys false ts)
-  unfolding started
+  unfolding draws_started
   in_run ts (ProgramTouch k j ∷ more) same new come first = by_answer (r k) (same k)
     where
       rest : InLead (ProgramTouch k j ∷ ts) more (keys false (ProgramTouch k j ∷ ts))

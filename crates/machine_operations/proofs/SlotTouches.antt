@@ -1,13 +1,11 @@
 -- Slots that stand for keys still do after a touch.
 use Rattle.machine_operations.proofs.Terms.{◌≡◌, ℕ, Bool, true, false, List, [], ◌∷◌, refl, ap, sym, ◌∙◌, arith, not}
 use Rattle.machine_operations.proofs.Terms.{◌||◌, key_in, nat_tests, AllowedIn, AllowedOut, any_live, busy_in}
-use Rattle.machine_operations.proofs.Terms.{ClearTouch}
-use Rattle.machine_operations.proofs.Terms.{GoTouch, History, is_on, key_touched_in, key_touched_out, Keys, LeadTo}
-use Rattle.machine_operations.proofs.Terms.{Live}
-use Rattle.machine_operations.proofs.Terms.{Loaded, new_key, On, open_unit, Plan, PortName, ProgramTouch, rx_slots}
-use Rattle.machine_operations.proofs.Terms.{SealedList, sealing_key, sub_stream_packets, slot_touched, LaneSlots}
-use Rattle.machine_operations.proofs.Terms.{slots_touched}
-use Rattle.machine_operations.proofs.Terms.{StopTouch, SubStream, Touch, tx_slots, units, waits}
+use Rattle.machine_operations.proofs.Terms.{ClearTouch, GoTouch, History, is_on, key_touched_in, key_touched_out, Keys}
+use Rattle.machine_operations.proofs.Terms.{LeadTo, Live, Loaded, new_key, On, open_unit, Plan, PortName, ProgramTouch}
+use Rattle.machine_operations.proofs.Terms.{rx_slots, SealedList, sealing_key, sub_stream_packets, slot_touched}
+use Rattle.machine_operations.proofs.Terms.{LaneSlots, slots_touched, StopTouch, SubStream, Touch, tx_slots, units}
+use Rattle.machine_operations.proofs.Terms.{waits}
 
 -- ---- receivers
 

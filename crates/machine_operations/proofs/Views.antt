@@ -1,17 +1,13 @@
 -- What operations read of the slots is what the keys say.
 use Rattle.machine_operations.proofs.Terms.{◌≡◌, ℕ, ◌==◌, Bool, true, false, Option, Some, None, refl, ap, sym, ◌∙◌}
-use Rattle.machine_operations.proofs.Terms.{arith}
-use Rattle.machine_operations.proofs.Terms.{if◌then◌else◌, at_each, CauseLaw, place_at_end, facts, find, has_stream}
-use Rattle.machine_operations.proofs.Terms.{History}
-use Rattle.machine_operations.proofs.Terms.{is_live_slot, is_live_there, Keys, port_keys, keys_into, keys_out}
-use Rattle.machine_operations.proofs.Terms.{place_keys}
-use Rattle.machine_operations.proofs.Terms.{lane_in, lane_out, LinkState, is_live_at, nat_tests, no_keys, On, KeyPlace}
-use Rattle.machine_operations.proofs.Terms.{Plan}
-use Rattle.machine_operations.proofs.Terms.{port_at, PortName, ports_at, ports_of, PortsStand, refuses, refuses_at}
-use Rattle.machine_operations.proofs.Terms.{refuses_in, rx_slots, rx_standing, RxSub, sealed_packets, SealedList}
-use Rattle.machine_operations.proofs.Terms.{slot_in_set}
-use Rattle.machine_operations.proofs.Terms.{slot_of, LaneSlots, slots_at, standing, StreamState, SubStream, tx_slots}
-use Rattle.machine_operations.proofs.Terms.{tx_standing, TxSub}
+use Rattle.machine_operations.proofs.Terms.{arith, if◌then◌else◌, at_each, CauseLaw, place_at_end, facts, find}
+use Rattle.machine_operations.proofs.Terms.{has_stream, History, is_live_slot, is_live_there, Keys, port_keys}
+use Rattle.machine_operations.proofs.Terms.{keys_into, keys_out, place_keys, lane_in, lane_out, LinkState, is_live_at}
+use Rattle.machine_operations.proofs.Terms.{nat_tests, no_keys, On, KeyPlace, Plan, port_at, PortName, ports_at}
+use Rattle.machine_operations.proofs.Terms.{ports_of, PortsStand, refuses, refuses_at, refuses_in, rx_slots}
+use Rattle.machine_operations.proofs.Terms.{rx_state_due, RxSub, sealed_packets, SealedList, slot_in_set, slot_of}
+use Rattle.machine_operations.proofs.Terms.{LaneSlots, slots_at, stream_state_due, StreamState, SubStream, tx_slots}
+use Rattle.machine_operations.proofs.Terms.{tx_state_due, TxSub}
 use Rattle.spec_keys.specs.Keys.{refusal_if}
 use Rattle.machine_ports.proofs.{unplanned_keys}
 
@@ -43,32 +39,34 @@ known : (plan : Plan) (h : History) → CauseLaw plan h → (p : KeyPlace) (send
     (there : Bool → Keys → Bool)
     → ((xs : SealedList) (s : SubStream) (ks : Keys) → Apart ks → seen (tx_slots plan xs s ks) ≡ there true ks)
     → ((port : PortName) (s : SubStream) (ks : Keys) → Apart ks → seen (rx_slots plan h port s ks) ≡ there false ks)
-    → seen (slots_at sends p.sub (standing plan h (port_at p.side p.line) p.stream))
+    → seen (slots_at sends p.sub (stream_state_due plan h (port_at p.side p.line) p.stream))
     ≡ there sends (place_keys h (place_at_end p.line p.stream sends p.side p.sub))
-unfolding standing
+unfolding stream_state_due
 known plan h law p true seen there out into =
     let port = port_at p.side p.line in
     let s = lane_out port p.stream p.sub in
-    ap (λ (x : TxSub). seen x.slots) (at_each (λ u. tx_standing plan h port (lane_out port p.stream u)) p.sub)
+    ap (λ (x : TxSub). seen x.slots) (at_each (λ u. tx_state_due plan h port (lane_out port p.stream u)) p.sub)
     ∙ (out (sealed_packets plan h) s (port_keys h port s) ((facts plan).apart h law port s) ∙ ap (there true)
     (keys_out h port p.stream p.sub))
 known plan h law p false seen there out into =
     let port = port_at p.side p.line in
     let s = lane_in port p.stream p.sub in
-    ap (λ (x : RxSub). seen x.slots) (at_each (λ u. rx_standing plan h port (lane_in port p.stream u)) p.sub)
+    ap (λ (x : RxSub). seen x.slots) (at_each (λ u. rx_state_due plan h port (lane_in port p.stream u)) p.sub)
     ∙ (into port s (port_keys h port s) ((facts plan).apart h law port s) ∙ ap (there false)
     (keys_into h port p.stream p.sub))
 
 reads : (plan : Plan) (st : LinkState) (h : History) → PortsStand plan st h
     → (p : KeyPlace) (at : Option StreamState → Bool) (there : Keys → Bool)
-    → at None ≡ there no_keys → at (Some (standing plan h (port_at p.side p.line) p.stream)) ≡ there (place_keys h p)
+    → at None ≡ there no_keys → at (Some (stream_state_due plan h (port_at p.side p.line) p.stream))
+    ≡ there (place_keys h p)
     → at (find plan st (port_at p.side p.line) p.stream) ≡ there (place_keys h p)
 reads plan st h stands p at there bare here =
     ap at (stands.streams (port_at p.side p.line) p.stream) ∙ by_known
     (has_stream plan (port_at p.side p.line) p.stream) refl
   where
     by_known : (b : Bool) → has_stream plan (port_at p.side p.line) p.stream ≡ b
-        → at (if b then Some (standing plan h (port_at p.side p.line) p.stream) else None) ≡ there (place_keys h p)
+        → at (if b then Some (stream_state_due plan h (port_at p.side p.line) p.stream) else None)
+        ≡ there (place_keys h p)
     by_known true has = here
     by_known false none = bare ∙ sym (ap there (unplanned_keys plan h stands.cause p none))
 

@@ -1,28 +1,22 @@
 -- The state after an operation stands for the history with its pair, whether it was refused or reached an exchange.
 use Rattle.machine_operations.proofs.Terms.{◌≡◌, ℕ, ◌==◌, Bool, true, false, Option, Some, None, [], ◌∷◌, length, refl}
-use Rattle.machine_operations.proofs.Terms.{ap}
-use Rattle.machine_operations.proofs.Terms.{sym, ◌∙◌, subst, arith, if◌then◌else◌, ◌&&◌, ◌||◌, base, touches_after, Cpl}
-use Rattle.machine_operations.proofs.Terms.{draws_after, draws_made, due, each_sub, place_at_end, Event, facts, failed}
-use Rattle.machine_operations.proofs.Terms.{failed_live, find, got_same, got_since, has_live_in, has_live_out}
-use Rattle.machine_operations.proofs.Terms.{has_stream}
-use Rattle.machine_operations.proofs.Terms.{held_same, History, is_on, is_on_stream, is_quiet, kept_all, Keys}
-use Rattle.machine_operations.proofs.Terms.{port_keys}
-use Rattle.machine_operations.proofs.Terms.{lane_in, lane_out, LinkState, Loss, manager, moments, touched_state}
-use Rattle.machine_operations.proofs.Terms.{touches_at}
-use Rattle.machine_operations.proofs.Terms.{Npr, on_it, StreamStage, op_after, Operation, KeyPlace, place_in_sub_stream}
-use Rattle.machine_operations.proofs.Terms.{Plan}
-use Rattle.machine_operations.proofs.Terms.{PortName, PortsStand}
-use Rattle.machine_operations.proofs.Terms.{PortView, posted_in, posted_sum, Pr, put_op, quiet_seals_none, Reach}
-use Rattle.machine_operations.proofs.Terms.{reach_of}
-use Rattle.machine_operations.proofs.Terms.{rx_slots, rx_slots_same, sealed_same, since_same, standing, StreamState}
-use Rattle.machine_operations.proofs.Terms.{SubKind, SubStream, total_in, touches, tx_slots, units_same, units_since}
-use Rattle.machine_operations.proofs.Terms.{Verdict, Work, work_done}
+use Rattle.machine_operations.proofs.Terms.{ap, sym, ◌∙◌, subst, arith, if◌then◌else◌, ◌&&◌, ◌||◌, base, touches_after}
+use Rattle.machine_operations.proofs.Terms.{Cpl, draws_after, draws_made, due, each_sub, place_at_end, Event, facts}
+use Rattle.machine_operations.proofs.Terms.{has_failed, failed_live, find, got_same, got_since, has_live_in}
+use Rattle.machine_operations.proofs.Terms.{has_live_out, has_stream, held_same, History, is_on, is_on_stream, is_quiet}
+use Rattle.machine_operations.proofs.Terms.{kept_all, Keys, port_keys, lane_in, lane_out, LinkState, Loss, manager}
+use Rattle.machine_operations.proofs.Terms.{moments, touched_state, touches_at, Npr, on_it, StreamStage, op_after}
+use Rattle.machine_operations.proofs.Terms.{Operation, KeyPlace, place_in_sub_stream, Plan, PortName, PortsStand}
+use Rattle.machine_operations.proofs.Terms.{PortView, posted_since_last, posted_sum, Pr, put_op, quiet_seals_none}
+use Rattle.machine_operations.proofs.Terms.{Reach, reach_of, rx_slots, rx_slots_same, sealed_same, since_same}
+use Rattle.machine_operations.proofs.Terms.{stream_state_due, StreamState, SubKind, SubStream, total_in, touches}
+use Rattle.machine_operations.proofs.Terms.{tx_slots, units_same, units_since, Verdict, Work, work_done}
 use Rattle.link_verdicts.specs.declared.verdict.Operation.TheVariants as op
 use Rattle.machine_ports.proofs.{seat_same}
 use Rattle.ide_types.specs.Lines.{is_hosted}
 use Rattle.machine_operations.proofs.Operations.{takes_nothing, failed_quiet}
 use Rattle.machine_operations.proofs.OperationSteps.{operation_steps}
-use Rattle.machine_operations.proofs.Operates.{outs, ins, asked, asked_quiet, asked_work, is_operation}
+use Rattle.machine_operations.proofs.Operates.{outs, ins, event_of_operation, asked_quiet, asked_work, is_operation}
 use Rattle.machine_operations.proofs.Views.{ports_is}
 
 -- ---- a pair that changes nothing anywhere
@@ -30,7 +24,7 @@ use Rattle.machine_operations.proofs.Views.{ports_is}
 pub record Still (plan : Plan) (h : History) (e : Event) (x : Verdict) : Type 0 where
   pub quiet : is_quiet x ≡ true
   pub keys : (port : PortName) (s : SubStream) → port_keys ((e, x) ∷ h) port s ≡ port_keys h port s
-  pub based : (link stream : ℕ) → base ((e, x) ∷ h) link stream ≡ base h link stream
+  pub based : (line stream : ℕ) → base ((e, x) ∷ h) line stream ≡ base h line stream
 
 -- one that changes nothing at a port
 pub record StillAt (plan : Plan) (h : History) (e : Event) (x : Verdict) (port : PortName) : Type 0 where
@@ -53,12 +47,12 @@ module _ (plan : Plan) (h : History) (e : Event) (x : Verdict) (port : PortName)
   still_in = let keys = λ (u : SubKind). is.keys (lane_in port stream u) refl in λ i. any_on (keys Pr i)
       || any_on (keys Npr i) || any_on (keys Cpl i)
 
-  still_failed : failed ((e, x) ∷ h) port stream ≡ failed h port stream
+  still_failed : has_failed ((e, x) ∷ h) port stream ≡ has_failed h port stream
   still_failed = failed_quiet plan h e x is.quiet port stream ∙
-      ((λ i. failed h port stream && (still_out i || still_in i)) ∙ failed_live plan h port stream)
+      ((λ i. has_failed h port stream && (still_out i || still_in i)) ∙ failed_live plan h port stream)
 
-  pub still_standing : standing plan ((e, x) ∷ h) port stream ≡ standing plan h port stream
-  unfolding standing
+  pub still_standing : stream_state_due plan ((e, x) ∷ h) port stream ≡ stream_state_due plan h port stream
+  unfolding stream_state_due
   still_standing =
       let g = (e, x) ∷ h in
       let xs = sealed_same plan h e x (quiet_seals_none x is.quiet) in
@@ -76,7 +70,7 @@ module _ (plan : Plan) (h : History) (e : Event) (x : Verdict) (port : PortName)
         tx = each_sub (λ u. let s = lane_out port stream u in
             record {
               slots = tx_slots plan (xs i) s (is.keys s refl i);
-              posted = if still_out i then posted_in (xs i) s (from i) else 0;
+              posted = if still_out i then posted_since_last (xs i) s (from i) else 0;
               total = if still_out i then total_in (xs i) s (from i) else 0;
             });
         rx = each_sub (λ u. record {
@@ -122,64 +116,66 @@ untouched plan h e x none port s = seat_same plan ((e, x) ∷ h) h port s
 no_end : (a b : Bool) → (a && (b && false)) ≡ false
 no_end a b = grind arith
 
-asked_still : (plan : Plan) (h : History) (o : Operation) (link stream : ℕ) (lose : Option Loss) (x : Verdict)
-    → x ≡ due plan h (asked o link stream lose) → reach_of o x ≡ None → Still plan h (asked o link stream lose) x
+asked_still : (plan : Plan) (h : History) (o : Operation) (line stream : ℕ) (lose : Option Loss) (x : Verdict)
+    → x ≡ due plan h (event_of_operation o line stream lose) → reach_of o x ≡ None
+    → Still plan h (event_of_operation o line stream lose) x
 unfolding base
-asked_still plan h o link stream lose x is refused = record {
-  quiet = ap is_quiet is ∙ asked_quiet plan h o link stream lose;
-  keys = untouched plan h (asked o link stream lose) x (none o refused);
+asked_still plan h o line stream lose x is refused = record {
+  quiet = ap is_quiet is ∙ asked_quiet plan h o line stream lose;
+  keys = untouched plan h (event_of_operation o line stream lose) x (none o refused);
   based = based o refused;
 }
   where
     none : (o : Operation) → reach_of o x ≡ None → (p : KeyPlace)
-        → touches (manager h).ops (draws_made h) (asked o link stream lose) x p ≡ []
-    none op.Establish refused p = rw refused (no_touch (is_on_stream p link stream))
-    none op.Refresh refused p = rw refused (no_touch (is_on_stream p link stream))
-    none op.Stop refused p = rw refused (no_touch (is_on_stream p link stream))
+        → touches (manager h).ops (draws_made h) (event_of_operation o line stream lose) x p ≡ []
+    none op.Establish refused p = rw refused (no_touch (is_on_stream p line stream))
+    none op.Refresh refused p = rw refused (no_touch (is_on_stream p line stream))
+    none op.Stop refused p = rw refused (no_touch (is_on_stream p line stream))
 
-    based : (o : Operation) → reach_of o x ≡ None → (l s : ℕ) → base ((asked o link stream lose, x) ∷ h) l s
+    based : (o : Operation) → reach_of o x ≡ None → (l s : ℕ)
+        → base ((event_of_operation o line stream lose, x) ∷ h) l s
         ≡ base h l s
     based op.Establish refused l s = rw
-        (refused, no_end ((link == l) && (stream == s)) (asked_work h op.Establish link stream).begins) refl
+        (refused, no_end ((line == l) && (stream == s)) (asked_work h op.Establish line stream).begins) refl
     based op.Refresh refused l s = refl
     based op.Stop refused l s = refl
 
 -- ---- one that reached an exchange
 
 -- ports and packets are not those of the manager
-beside : (plan : Plan) (st : LinkState) (h : History) (link stream : ℕ) (o : StreamStage) (n : ℕ) → PortsStand plan st h
-    → PortsStand plan (record (put_op plan st link stream o) { draws = n }) h
+beside : (plan : Plan) (st : LinkState) (h : History) (line stream : ℕ) (o : StreamStage) (n : ℕ) → PortsStand plan st h
+    → PortsStand plan (record (put_op plan st line stream o) { draws = n }) h
 unfolding find put_op
-beside plan st h link stream o n stands = record
+beside plan st h line stream o n stands = record
     { cause = stands.cause; streams = stands.streams; packets = stands.packets }
 
-by_ports : (plan : Plan) (st : LinkState) (h g : History) (link stream : ℕ) (w : Work) (r : Reach)
+by_ports : (plan : Plan) (st : LinkState) (h g : History) (line stream : ℕ) (w : Work) (r : Reach)
     → PortsStand plan st h → PortsStand plan
-    (touched_state plan st link stream (outs h link stream w r) (ins h link stream w r)) g
-    → PortsStand plan (work_done plan st link stream w (Some r)) g
-by_ports plan st h g link stream w r stands after =
-    beside plan _ g link stream (op_after (is_hosted link) w r) (draws_after st.draws w)
+    (touched_state plan st line stream (outs h line stream w r) (ins h line stream w r)) g
+    → PortsStand plan (work_done plan st line stream w (Some r)) g
+by_ports plan st h g line stream w r stands after =
+    beside plan _ g line stream (op_after (is_hosted line) w r) (draws_after st.draws w)
     (subst (λ (ports : PortView). PortsStand plan
-    (touched_state plan st link stream (λ side u. touches_at ports w r (place_at_end link stream true side u))
-    (λ side u. touches_at ports w r (place_at_end link stream false side u))) g)
+    (touched_state plan st line stream (λ side u. touches_at ports w r (place_at_end line stream true side u))
+    (λ side u. touches_at ports w r (place_at_end line stream false side u))) g)
     (sym (ports_is plan st h stands)) after)
 
-pub asked_stands : (plan : Plan) (st : LinkState) (h : History) (o : Operation) (link stream : ℕ) (lose : Option Loss)
+pub asked_stands : (plan : Plan) (st : LinkState) (h : History) (o : Operation) (line stream : ℕ) (lose : Option Loss)
     (x : Verdict) → PortsStand plan st h
-    → x ≡ due plan h (asked o link stream lose)
-    → PortsStand plan (work_done plan st link stream (asked_work h o link stream) (reach_of o x))
-    ((asked o link stream lose, x) ∷ h)
-asked_stands plan st h o link stream lose x stands is = by_reach (reach_of o x) refl
+    → x ≡ due plan h (event_of_operation o line stream lose)
+    → PortsStand plan (work_done plan st line stream (asked_work h o line stream) (reach_of o x))
+    ((event_of_operation o line stream lose, x) ∷ h)
+asked_stands plan st h o line stream lose x stands is = by_reach (reach_of o x) refl
   where
     e : Event
-    e = asked o link stream lose
+    e = event_of_operation o line stream lose
 
     w : Work
-    w = asked_work h o link stream
+    w = asked_work h o line stream
 
-    by_reach : (r : Option Reach) → reach_of o x ≡ r → PortsStand plan (work_done plan st link stream w r) ((e, x) ∷ h)
-    by_reach None refused = still_stands plan st h e x stands is (asked_still plan h o link stream lose x is refused)
+    by_reach : (r : Option Reach) → reach_of o x ≡ r → PortsStand plan (work_done plan st line stream w r) ((e, x) ∷ h)
+    by_reach None refused = still_stands plan st h e x stands is (asked_still plan h o line stream lose x is refused)
     by_reach (Some r) reached =
-        by_ports plan st h ((e, x) ∷ h) link stream w r stands
-        (operation_steps plan (facts plan) st h e x link stream (outs h link stream w r) (ins h link stream w r) stands
-        (is_operation plan h o link stream lose x r (is, stands.cause) reached))
+        by_ports plan st h ((e, x) ∷ h) line stream w r stands
+        (operation_steps plan (facts plan) st h e x line stream (outs h line stream w r) (ins h line stream w r) stands
+        (is_operation plan h o line stream lose x r (is, stands.cause) reached))

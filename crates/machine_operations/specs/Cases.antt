@@ -38,8 +38,8 @@ port_plan = record {
 }
 
 -- a write of 11 22 33 44 at 10000000h by the requester 0100h
-abbrev pub write : List ℕ
-write =
+abbrev pub host_write_tlp : List ℕ
+host_write_tlp =
     0x40 ∷ 0x00 ∷ 0x00 ∷ 0x01 ∷ 0x01 ∷ 0x00 ∷ 0x00 ∷ 0x0f ∷ 0x10 ∷ 0x00 ∷ 0x00 ∷ 0x00 ∷ 0x11 ∷ 0x22 ∷ 0x33 ∷ 0x44 ∷ []
 
 abbrev pub packet_of_port : ℕ → ℕ → ℕ → Bool → Bool → SealedPacket
@@ -80,8 +80,8 @@ answers_on st (e ∷ es) = let r = step_of port_plan no_interfaces st e in r.0 �
 -- a refresh of a set whose unit is unfinished at the device is refused there, and goes on once the unit ended
 abbrev pub held_up : List Event
 held_up =
-    Establish 0 5 None ∷ Send (device_port 0) write true false ∷ Refresh 0 5 None ∷ Refresh 0 5 None
-    ∷ Send (device_port 0) write false
+    Establish 0 5 None ∷ Send (device_port 0) host_write_tlp true false ∷ Refresh 0 5 None ∷ Refresh 0 5 None
+    ∷ Send (device_port 0) host_write_tlp false
     false ∷ Refresh 0 5 None ∷ []
 
 abbrev pub held_up_verdicts : List Verdict

@@ -4,15 +4,14 @@ pub mod Points
 pub use Rattle.machine_ports.specs.Forwards.{forward_of}
 pub use Rattle.machine_ports.specs.Machine.{BesidePorts, LinkState, altered_to, changed_by_id, cut_short, draws_after}
 pub use Rattle.machine_ports.specs.Machine.{find_op, first_state, found_by_id, is_last_in, is_live_at, packet_numbered}
-pub use Rattle.machine_ports.specs.Machine.{passed, place_at_end, port_at, ports_of, receiving_draw_at, refuses_at}
-pub use Rattle.machine_ports.specs.Machine.{refuses_in, machine_status, status_if_planned, step_of, touches_at}
-pub use Rattle.machine_ports.specs.Machine.{verdict_of_taken}
+pub use Rattle.machine_ports.specs.Machine.{whole_arrival, place_at_end, port_at, ports_of, receiving_draw_at}
+pub use Rattle.machine_ports.specs.Machine.{refuses_at, refuses_in, machine_status, status_if_planned, step_of}
+pub use Rattle.machine_ports.specs.Machine.{touches_at, verdict_of_taken}
 pub use Rattle.machine_ports.specs.Replies.{BoundCompletion, completion_first, site_completion, link_completion}
 pub use Rattle.machine_ports.specs.Stands.{PortsStand, PortsStandFor, beside_at, receiving_key, rx_slot, rx_slots}
-pub use Rattle.machine_ports.specs.Stands.{standing_if_planned, tx_slots}
+pub use Rattle.machine_ports.specs.Stands.{state_due_if_planned, tx_slots}
 pub use Rattle.machine_ports.specs.Stream.{Accepted, Failed, Held, Insecure, NotKeyed, StreamState, Taken}
-pub use Rattle.machine_ports.specs.Stream.{receiving_draw}
-pub use Rattle.machine_ports.specs.Stream.{stream_outcome}
+pub use Rattle.machine_ports.specs.Stream.{receiving_draw, stream_outcome}
 pub use Rattle.machine_ports.specs.Touches.{slots_touched, taken_touches, touched_stream}
-unfoldable pub use Rattle.machine_ports.specs.Stands.{standing}
+unfoldable pub use Rattle.machine_ports.specs.Stands.{stream_state_due}
 unfoldable pub use Rattle.machine_ports.specs.Machine.{find}

@@ -1,6 +1,5 @@
 -- What an operation owes of the keys that it touches, and that the slots then stand for the history with it.
-use Rattle.std.specs.Prelude.{◌≡◌, ℕ, Bool, true, false, not, nat_lt, List, [], ◌∷◌, length, ◌==◌, ◌&&◌}
-use Rattle.std.specs.Prelude.{if◌then◌else◌}
+use Rattle.std.specs.Prelude.{◌≡◌, ℕ, Bool, true, false, not, nat_lt, List, [], ◌∷◌, length, ◌==◌, ◌&&◌, if◌then◌else◌}
 use Rattle.ide_types.specs.declared.sub.SubKind.{SubKind}
 use Rattle.ide_types.specs.declared.port.Side.{Side}
 use Rattle.ide_types.specs.declared.port.PortName.{PortName}
@@ -8,14 +7,13 @@ use Rattle.link_events.specs.declared.event.Event.{Event}
 use Rattle.link_verdicts.specs.declared.verdict.Verdict.{Verdict}
 use Rattle.ide_types.specs.declared.plan.Plan.{Plan}
 use Rattle.machine_ports.specs.{SubStream, lane_out, lane_in, open_unit, SealedList, waits, port_keys}
-use Rattle.machine_ports.specs.{sub_stream_packets}
-use Rattle.machine_ports.specs.{sealed_packets, posted_count, has_live_out, has_live_in, total_in, units_since, due}
-use Rattle.machine_ports.specs.{KeyFacts, is_quiet, operates}
+use Rattle.machine_ports.specs.{sub_stream_packets, sealed_packets, posted_count, has_live_out, has_live_in, total_in}
+use Rattle.machine_ports.specs.{units_since, due, KeyFacts, is_quiet, operates}
 use Rattle.spec_keys.specs.History.{History, base}
 use Rattle.spec_keys.specs.Keys.{Touch, Program, Go, Stop, Clear, Keyed, Off, Loaded, On, Keys, no_keys, key_in}
 use Rattle.spec_keys.specs.Keys.{with_key}
 use Rattle.machine_ports.specs.Machine.{LinkState, new_key, touched_state}
-use Rattle.machine_ports.specs.Stands.{PortsStand, receiving_key, got_in, standing}
+use Rattle.machine_ports.specs.Stands.{PortsStand, receiving_key, got_in, stream_state_due}
 use Rattle.machine_ports.specs.Touches.{touched_stream}
 
 -- ---- what a touch of an operation makes of keys; nothing is sealed or accepted
@@ -107,24 +105,24 @@ abbrev pub OperationStands : Type 0
 OperationStands =
     (plan : Plan) (h : History) (e : Event) (w : Verdict) (port : PortName) (stream : ℕ) (out into : SubKind
     → List Touch) → Operated plan h e w port stream out into
-    → touched_stream plan port stream out into (standing plan h port stream) ≡ standing plan ((e, w) ∷ h) port stream
+    → touched_stream plan port stream out into (stream_state_due plan h port stream)
+    ≡ stream_state_due plan ((e, w) ∷ h) port stream
 
 -- ---- an operation on a stream of a line
 
 -- the event is an operation on this stream alone, and its verdict is due
-pub record IsOperation (plan : Plan) (h : History) (e : Event) (w : Verdict) (link stream : ℕ) (out into : Side
+pub record IsOperation (plan : Plan) (h : History) (e : Event) (w : Verdict) (line stream : ℕ) (out into : Side
     → SubKind → List Touch) : Type 0 where
   pub due_is : w ≡ due plan h e
   pub quiet : is_quiet w ≡ true
-  pub alone : (l s : ℕ) → ((link == l) && (stream == s)) ≡ false → operates e l s ≡ false
-  pub each : (side : Side) → Operated plan h e w (record { side = side; line = link }) stream (out side) (into side)
+  pub alone : (l s : ℕ) → ((line == l) && (stream == s)) ≡ false → operates e l s ≡ false
+  pub each : (side : Side) → Operated plan h e w (record { side = side; line = line }) stream (out side) (into side)
 
 -- The state after an operation stands for the history with its pair.
 abbrev pub OperationSteps : Type 0
 OperationSteps =
     (plan : Plan) → KeyFacts plan
-    → (st : LinkState) (h : History) (e : Event) (w : Verdict) (link stream : ℕ)
+    → (st : LinkState) (h : History) (e : Event) (w : Verdict) (line stream : ℕ)
     (out into : Side → SubKind → List Touch)
-    → PortsStand plan st h
-    → IsOperation plan h e w link stream out into
-    → PortsStand plan (touched_state plan st link stream out into) ((e, w) ∷ h)
+    → PortsStand plan st h → IsOperation plan h e w line stream out into
+    → PortsStand plan (touched_state plan st line stream out into) ((e, w) ∷ h)

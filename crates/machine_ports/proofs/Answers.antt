@@ -5,18 +5,16 @@
 use Rattle.machine_ports.specs.Stands.{beside_at}
 use Rattle.machine_ports.proofs.Terms.{◌≡◌, ℕ, ◌+◌, Bool, true, false, List, [], ◌∷◌, ◌++◌, Option, Some, None, Ok, Err}
 use Rattle.machine_ports.proofs.Terms.{option_map, refl, ap, sym, ◌∙◌, subst, arith, if◌then◌else◌, not, ◌||◌, Accepted}
-use Rattle.machine_ports.proofs.Terms.{at_sub, base, outcome_of_checks, Cpl, each_sub, effects_of, Failed, failed}
-use Rattle.machine_ports.proofs.Terms.{ahead_of_unit}
-use Rattle.machine_ports.proofs.Terms.{got_in, has_live_in, Held, History, holds_any, Insecure, is_allowed, is_closed}
-use Rattle.machine_ports.proofs.Terms.{is_keyed, is_mixed, is_on, is_overfull, is_tagged, is_verified, key_in, key_of}
-use Rattle.machine_ports.proofs.Terms.{Keys, port_keys, lane_in, live_in, LiveKey, meets_counts, aggregation_of}
-use Rattle.machine_ports.proofs.Terms.{NotKeyed, Npr}
-use Rattle.machine_ports.proofs.Terms.{on_draw, on_in, Packet, pending_packets, Plan, PortName, Pr}
-use Rattle.machine_ports.proofs.Terms.{receiving_sub_stream, rx_slots}
-use Rattle.machine_ports.proofs.Terms.{rx_standing, RxSub, ending_due, slot_in_set, LaneSlots, standing, SubKind}
-use Rattle.machine_ports.proofs.Terms.{SubStream, sum_by-append, Taken, stream_outcome, stream_outcome_by_keys, Three}
-use Rattle.machine_ports.proofs.Terms.{under_keys}
-use Rattle.machine_ports.proofs.Terms.{unit_under, units_got, units_since, Verdict, verdict_of_taken}
+use Rattle.machine_ports.proofs.Terms.{at_sub, base, outcome_of_checks, Cpl, each_sub, effects_of, Failed, has_failed}
+use Rattle.machine_ports.proofs.Terms.{ahead_of_unit, got_in, has_live_in, Held, History, holds_any, Insecure}
+use Rattle.machine_ports.proofs.Terms.{is_allowed, is_closed, is_keyed, is_mixed, is_on, is_overfull, is_tagged}
+use Rattle.machine_ports.proofs.Terms.{is_verified, key_in, key_of, Keys, port_keys, lane_in, live_in, LiveKey}
+use Rattle.machine_ports.proofs.Terms.{meets_counts, aggregation_of, NotKeyed, Npr, on_draw, on_in, Packet}
+use Rattle.machine_ports.proofs.Terms.{pending_packets, Plan, PortName, Pr, receiving_sub_stream, rx_slots}
+use Rattle.machine_ports.proofs.Terms.{rx_state_due, RxSub, ending_due, slot_in_set, LaneSlots, stream_state_due}
+use Rattle.machine_ports.proofs.Terms.{SubKind, SubStream, sum_by-append, Taken, stream_outcome, stream_outcome_by_keys}
+use Rattle.machine_ports.proofs.Terms.{Three, under_keys, next_unit_name, units_got, units_since, Verdict}
+use Rattle.machine_ports.proofs.Terms.{verdict_of_taken}
 use Rattle.ide_types.specs.declared.sub.FailCause.TheVariants as fail
 use Rattle.link_verdicts.specs.declared.verdict.Verdict.TheVariants as v
 
@@ -50,12 +48,14 @@ abbrev pub key_for : Plan → History → SubStream → ℕ → LiveKey
 key_for plan h s j = record
     { draw = j; key = key_of plan j s; units = units_got h s j; packets = pending_packets plan h s j }
 
-live_of : (plan : Plan) (h : History) (port : PortName) (s : SubStream) (ks : Keys) (k : Bool) → failed h port s.stream
+live_of : (plan : Plan) (h : History) (port : PortName) (s : SubStream) (ks : Keys) (k : Bool)
+    → has_failed h port s.stream
     ≡ false
     → live_in (slot_in_set (rx_slots plan h port s ks) k) ≡ option_map (key_for plan h s) (on_in (key_in ks k))
 live_of plan h port s ks k secure = grind arith
 
-pub live_is : (plan : Plan) (h : History) (port : PortName) (s : SubStream) (k : Bool) → failed h port s.stream ≡ false
+pub live_is : (plan : Plan) (h : History) (port : PortName) (s : SubStream) (k : Bool) → has_failed h port s.stream
+    ≡ false
     → live_in (slot_in_set (rx_slots plan h port s (port_keys h port s)) k)
     ≡ option_map (key_for plan h s) (on_draw h port s k)
 live_is plan h port s k secure = live_of plan h port s (port_keys h port s) k secure
@@ -64,7 +64,7 @@ live_is plan h port s k secure = live_of plan h port s (port_keys h port s) k se
 
 -- the receivers that stand for a history
 abbrev receivers : Plan → History → PortName → ℕ → Three RxSub
-receivers plan h port stream = each_sub (λ u. rx_standing plan h port (lane_in port stream u))
+receivers plan h port stream = each_sub (λ u. rx_state_due plan h port (lane_in port stream u))
 
 -- what the machine makes of a packet there, under the draws of its set and of the other one
 abbrev taken_from : Plan → History → PortName → Packet → Option ℕ → Option ℕ → Taken
@@ -80,7 +80,7 @@ allowed_is : (plan : Plan) (h : History) (port : PortName) (stream : ℕ) (u : S
 unfolding meets_counts
 allowed_is plan h port stream u unit live =
     rw (
-      at_each (λ (u : SubKind). rx_standing plan h port (lane_in port stream u)) u,
+      at_each (λ (u : SubKind). rx_state_due plan h port (lane_in port stream u)) u,
       live,
       sum_by-append (λ (p : Packet). p.prefix.posted) (got_in plan h (lane_in port stream u)) unit,
     ) refl
@@ -88,7 +88,7 @@ allowed_is plan h port stream u unit live =
 total_is : (plan : Plan) (h : History) (port : PortName) (stream : ℕ) (u : SubKind) → has_live_in h port stream ≡ true
     → (at_sub (receivers plan h port stream) u).total ≡ units_since h (lane_in port stream u) (base h port.line stream)
 total_is plan h port stream u live = rw
-    (at_each (λ (u : SubKind). rx_standing plan h port (lane_in port stream u)) u, live) refl
+    (at_each (λ (u : SubKind). rx_state_due plan h port (lane_in port stream u)) u, live) refl
 
 taken_is : (plan : Plan) (h : History) (port : PortName) (p : Packet) (o other : Option ℕ)
     → ((j : ℕ) → o ≡ Some j → has_live_in h port p.prefix.stream ≡ true)
@@ -118,8 +118,8 @@ taken_is plan h port p (Some j) other live =
         (outcome_of_checks verified counts (key_for plan h s j) p)
         ≡ (if not verified then v.Fail port p.prefix.stream p.prefix.sub fail.Tag else if not counts then v.Fail port
         p.prefix.stream p.prefix.sub fail.Order
-        else v.Accepted port (unit_under h s j)
-        (effects_of plan h port (unit_under h s j) (pending_packets plan h s j ++ p ∷ [])))
+        else v.Accepted port (next_unit_name h s j)
+        (effects_of plan h port (next_unit_name h s j) (pending_packets plan h s j ++ p ∷ [])))
     by_checks verified counts = grind arith
 
     by_room : (full m : Bool) → verdict_of_taken (beside_at plan h) port p (if full then Failed fail.Unit
@@ -129,7 +129,8 @@ taken_is plan h port p (Some j) other live =
         (meets_counts plan h s (pending_packets plan h s j ++ p ∷ [])) (key_for plan h s j) p else Held j
         (units_got h s j + 1))
         ≡ ending_due plan h port (if full then Err (v.Fail port p.prefix.stream p.prefix.sub fail.Unit)
-        else if m then Ok (record { packet = p; unit = unit_under h s j }) else Err (v.Held port (unit_under h s j)))
+        else if m then Ok (record { packet = p; unit = next_unit_name h s j })
+        else Err (v.Held port (next_unit_name h s j)))
     by_room true m = refl
     by_room false false = refl
     by_room false true = by_checks
@@ -140,7 +141,7 @@ taken_is plan h port p (Some j) other live =
 -- what is due of a packet of a stream that the port has
 abbrev pub packet_due : Plan → History → PortName → Packet → Verdict
 packet_due plan h port p =
-    ending_due plan h port (if failed h port p.prefix.stream then Err (v.Insecure port p.prefix.stream)
+    ending_due plan h port (if has_failed h port p.prefix.stream then Err (v.Insecure port p.prefix.stream)
     else under_keys plan h port p (on_draw h port (receiving_sub_stream port p) p.prefix.k)
     (on_draw h port (receiving_sub_stream port p) (not p.prefix.k)))
 
@@ -153,15 +154,15 @@ found_keys plan h port p = taken_from plan h port p (on_draw h port (receiving_s
 abbrev pub taken_at : Plan → History → PortName → Packet → Taken
 taken_at plan h port p = stream_outcome (aggregation_of plan port.line p.prefix.stream)
     (is_closed plan port.line p.prefix.stream)
-    (standing plan h port p.prefix.stream) p
+    (stream_state_due plan h port p.prefix.stream) p
 
 taken_by_is : (plan : Plan) (h : History) (port : PortName) (p : Packet)
-    → taken_at plan h port p ≡ (if failed h port p.prefix.stream then Insecure else found_keys plan h port p)
-unfolding standing
-taken_by_is plan h port p = by_failure (failed h port p.prefix.stream) refl
+    → taken_at plan h port p ≡ (if has_failed h port p.prefix.stream then Insecure else found_keys plan h port p)
+unfolding stream_state_due
+taken_by_is plan h port p = by_failure (has_failed h port p.prefix.stream) refl
   where
     rx : SubKind → RxSub
-    rx = λ w. rx_standing plan h port (lane_in port p.prefix.stream w)
+    rx = λ w. rx_state_due plan h port (lane_in port p.prefix.stream w)
 
     under : LaneSlots → Taken
     under slots =
@@ -170,7 +171,7 @@ taken_by_is plan h port p = by_failure (failed h port p.prefix.stream) refl
         (each_sub rx) p
         (live_in (slot_in_set slots p.prefix.k)) (live_in (slot_in_set slots (not p.prefix.k)))
 
-    by_failure : (b : Bool) → failed h port p.prefix.stream ≡ b
+    by_failure : (b : Bool) → has_failed h port p.prefix.stream ≡ b
         → (if b then Insecure else under (at_sub (each_sub rx) p.prefix.sub).slots)
         ≡ (if b then Insecure else found_keys plan h port p)
     by_failure true bad = refl
@@ -185,7 +186,7 @@ taken_by_is plan h port p = by_failure (failed h port p.prefix.stream) refl
 pub answer_is : (plan : Plan) (h : History) (port : PortName) (p : Packet)
     → verdict_of_taken (beside_at plan h) port p (taken_at plan h port p) ≡ packet_due plan h port p
 answer_is plan h port p = ap (verdict_of_taken (beside_at plan h) port p) (taken_by_is plan h port p) ∙ by_failure
-    (failed h port p.prefix.stream)
+    (has_failed h port p.prefix.stream)
   where
     draw : Bool → Option ℕ
     draw k = on_draw h port (receiving_sub_stream port p) k
@@ -207,15 +208,14 @@ Says plan h port p NotKeyed = Unit {0}
 Says plan h port p (Failed cause) = has_live_in h port p.prefix.stream ≡ true
 Says plan h port p (Held j n) =
     let s = receiving_sub_stream port p in
-    (failed h port p.prefix.stream ≡ false) × (on_draw h port s p.prefix.k ≡ Some j) × (n ≡ units_got h s j + 1)
+    (has_failed h port p.prefix.stream ≡ false) × (on_draw h port s p.prefix.k ≡ Some j) × (n ≡ units_got h s j + 1)
 Says plan h port p (Accepted j n unit) =
     let s = receiving_sub_stream port p in
-    (failed h port p.prefix.stream ≡ false) × (on_draw h port s p.prefix.k ≡ Some j) × (n ≡ units_got h s j + 1)
+    (has_failed h port p.prefix.stream ≡ false) × (on_draw h port s p.prefix.k ≡ Some j) × (n ≡ units_got h s j + 1)
     × (unit ≡ pending_packets plan h s j ++ p ∷ [])
 
-says_under : (plan : Plan) (h : History) (port : PortName) (p : Packet) → failed h port p.prefix.stream ≡ false
-    → (o other : Option ℕ)
-    → on_draw h port (receiving_sub_stream port p) p.prefix.k ≡ o
+says_under : (plan : Plan) (h : History) (port : PortName) (p : Packet) → has_failed h port p.prefix.stream ≡ false
+    → (o other : Option ℕ) → on_draw h port (receiving_sub_stream port p) p.prefix.k ≡ o
     → on_draw h port (receiving_sub_stream port p) (not p.prefix.k) ≡ other
     → Says plan h port p (taken_from plan h port p o other)
 says_under plan h port p secure None None on rest = tt
@@ -245,9 +245,9 @@ says_under plan h port p secure (Some j) other on rest =
 
 pub says : (plan : Plan) (h : History) (port : PortName) (p : Packet) → Says plan h port p (taken_at plan h port p)
 says plan h port p = subst (Says plan h port p) (sym (taken_by_is plan h port p))
-    (by_failure (failed h port p.prefix.stream) refl)
+    (by_failure (has_failed h port p.prefix.stream) refl)
   where
-    by_failure : (b : Bool) → failed h port p.prefix.stream ≡ b
+    by_failure : (b : Bool) → has_failed h port p.prefix.stream ≡ b
         → Says plan h port p (if b then Insecure else found_keys plan h port p)
     by_failure true bad = tt
     by_failure false secure = says_under plan h port p secure (on_draw h port (receiving_sub_stream port p) p.prefix.k)

@@ -4,18 +4,15 @@ use Rattle.spec_stream.specs.Stream.{unit_name}
 use Rattle.machine_ports.specs.Stands.{beside_at}
 use Rattle.spec_links.specs.Due.{through_due}
 unfoldable use Rattle.spec_links.specs.Ports.{port_of, goes_through}
-use Rattle.machine_ports.proofs.Terms.{if◌then◌else◌, Bool, false}
-use Rattle.machine_ports.proofs.Terms.{◌≡◌, true, List, [], ◌∷◌, ◌++◌, Option, Some, None, Result, Ok, Err, refl, ap}
-use Rattle.machine_ports.proofs.Terms.{sym, ◌∙◌, subst, arith, Accepted, Arrival, arrival_due}
-use Rattle.machine_ports.proofs.Terms.{arrival_of_event, before_tag, before_tag_of, Came, due, effects_of, Event}
-use Rattle.machine_ports.proofs.Terms.{Failed, find}
-use Rattle.machine_ports.proofs.Terms.{has_stream, Held, History, Insecure, IsNoOperation, KeyFacts, LinkState}
-use Rattle.machine_ports.proofs.Terms.{NotKeyed}
-use Rattle.machine_ports.proofs.Terms.{Packet, packet_that_came, packet_word, pending_packets, Plan, PortName}
-use Rattle.machine_ports.proofs.Terms.{PortsStand, put}
-use Rattle.machine_ports.proofs.Terms.{receiving_sub_stream, sealed_same, seals_none, ending_due, standing, state_after}
-use Rattle.machine_ports.proofs.Terms.{StreamState}
-use Rattle.machine_ports.proofs.Terms.{stepped_packet, stepped_cut, stepped_arrival, Taken, verdict_of_taken}
+use Rattle.machine_ports.proofs.Terms.{if◌then◌else◌, Bool, false, ◌≡◌, true, List, [], ◌∷◌, ◌++◌, Option, Some, None}
+use Rattle.machine_ports.proofs.Terms.{Result, Ok, Err, refl, ap, sym, ◌∙◌, subst, arith, Accepted, Arrival}
+use Rattle.machine_ports.proofs.Terms.{arrival_due, arrival_of_event, before_tag, before_tag_of, Came, due, effects_of}
+use Rattle.machine_ports.proofs.Terms.{Event, Failed, find, has_stream, Held, History, Insecure, IsNoOperation}
+use Rattle.machine_ports.proofs.Terms.{KeyFacts, LinkState, NotKeyed, Packet, packet_that_came, packet_word}
+use Rattle.machine_ports.proofs.Terms.{pending_packets, Plan, PortName, PortsStand, with_stream_state}
+use Rattle.machine_ports.proofs.Terms.{receiving_sub_stream, sealed_same, seals_none, ending_due, stream_state_due}
+use Rattle.machine_ports.proofs.Terms.{state_after, StreamState, stepped_packet, stepped_cut, stepped_arrival, Taken}
+use Rattle.machine_ports.proofs.Terms.{verdict_of_taken}
 use Rattle.link_verdicts.specs.declared.verdict.Verdict.TheVariants as v
 use Rattle.ide_prefix.specs.declared.fault.PacketFault.{PacketFault}
 use Rattle.ide_prefix.specs.Faults.{packet_place}
@@ -39,8 +36,8 @@ module _ (plan : Plan) (facts : KeyFacts plan) (st : LinkState) (h : History) (e
     (stands : PortsStand plan st h) where
   after : (port : PortName) (p : Packet) → Came plan h e port p → (t : Taken) → Says plan h port p t
       → verdict_of_taken (beside_at plan h) port p t ≡ due plan h e
-      → state_after (standing plan h port p.prefix.stream) p t
-      ≡ standing plan ((e, verdict_of_taken (beside_at plan h) port p t) ∷ h) port p.prefix.stream
+      → state_after (stream_state_due plan h port p.prefix.stream) p t
+      ≡ stream_state_due plan ((e, verdict_of_taken (beside_at plan h) port p t) ∷ h) port p.prefix.stream
   after port p came Insecure said is =
       sym (frame plan facts h e (v.Insecure port p.prefix.stream) (is, stands.cause) port p.prefix.stream
       (still port.line p.prefix.stream) refl refl)
@@ -60,8 +57,9 @@ module _ (plan : Plan) (facts : KeyFacts plan) (st : LinkState) (h : History) (e
       })
   after port p came (Accepted j n unit) said is =
       subst (λ (ps : List Packet). verdict_of_taken (beside_at plan h) port p (Accepted j n ps) ≡ due plan h e
-      → state_after (standing plan h port p.prefix.stream) p (Accepted j n ps)
-      ≡ standing plan ((e, verdict_of_taken (beside_at plan h) port p (Accepted j n ps)) ∷ h) port p.prefix.stream)
+      → state_after (stream_state_due plan h port p.prefix.stream) p (Accepted j n ps)
+      ≡ stream_state_due plan ((e, verdict_of_taken (beside_at plan h) port p (Accepted j n ps)) ∷ h) port
+      p.prefix.stream)
       (sym said.3)
       (λ due_is. after_accepted plan facts h e port p j n
       (effects_of plan h port (unit_name p j n)
@@ -76,7 +74,7 @@ module _ (plan : Plan) (facts : KeyFacts plan) (st : LinkState) (h : History) (e
 
   -- a packet of a stream that the port has
   standing_takes : (port : PortName) (p : Packet) → Came plan h e port p → packet_due plan h port p ≡ due plan h e
-      → let x = standing plan h port p.prefix.stream in
+      → let x = stream_state_due plan h port p.prefix.stream in
       has_stream plan port p.prefix.stream ≡ true → find plan st port p.prefix.stream ≡ Some x
       → Steps plan h e (stepped_packet plan (beside_at plan h) st port p (Some x))
   standing_takes port p came is known found =
@@ -84,8 +82,8 @@ module _ (plan : Plan) (facts : KeyFacts plan) (st : LinkState) (h : History) (e
       let t = taken_at plan h port p in
       let w = verdict_of_taken (beside_at plan h) port p t in
       let due_is : w ≡ due plan h e = answer_is plan h port p ∙ is in
-      let new = state_after (standing plan h port stream) p t in
-      changes plan facts st (put plan st port stream new) h e w port stream new stands due_is still known
+      let new = state_after (stream_state_due plan h port stream) p t in
+      changes plan facts st (with_stream_state plan st port stream new) h e w port stream new stands due_is still known
       (only_there (beside_at plan h) port p t)
       (find-put plan st port stream new (rw found refl)) (find-put_other plan st port stream new)
       (after port p came t (says plan h port p) due_is)

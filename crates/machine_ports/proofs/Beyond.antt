@@ -1,15 +1,15 @@
 -- Nothing is held for a unit beyond the next.
 use Rattle.machine_ports.proofs.Terms.{◌≡◌, ℕ, ◌+◌, ◌<◌, ◌==◌, Bool, [], ◌∷◌, ◌++◌, refl, arith, if◌then◌else◌, ◌&&◌}
-use Rattle.machine_ports.proofs.Terms.{arrived_packet, CauseLaw, packets_in_hold, held_by, History, is_of, nat_tests}
-use Rattle.machine_ports.proofs.Terms.{numbered}
-use Rattle.machine_ports.proofs.Terms.{Packet, Plan, PortName, received_in, same_stream, SubStream, UnitName, units_got}
+use Rattle.machine_ports.proofs.Terms.{arrived_packet, CauseLaw, packets_in_hold, held_by, History, is_received_under}
+use Rattle.machine_ports.proofs.Terms.{nat_tests, numbered, Packet, Plan, PortName, received_in, same_stream, SubStream}
+use Rattle.machine_ports.proofs.Terms.{UnitName, units_got}
 use Rattle.link_verdicts.specs.declared.verdict.Verdict.TheVariants as v
 
 -- what is held is of the next unit
 held_next : (plan : Plan) (h : History) (s : SubStream) (j n : ℕ) (port : PortName) (unit : UnitName) (p : Packet)
     → unit.unit ≡ units_got h (received_in port unit) unit.draw + 1 → units_got h s j + 1 < n
     → packets_in_hold plan h s j n ≡ [] →
-    (if is_of s j port unit && (unit.unit == n) then packets_in_hold plan h s j n ++ p
+    (if is_received_under s j port unit && (unit.unit == n) then packets_in_hold plan h s j n ++ p
     ∷ [] else packets_in_hold plan h s j n) ≡ []
 held_next plan h s j n port unit p next beyond before =
     let same = same_stream (received_in port unit) s in grind (arith, nat_tests, same)
@@ -26,5 +26,5 @@ none_beyond plan ((e, v.Held port unit) ∷ h) cause s j n beyond =
     held_next plan h s j n port unit (arrived_packet plan h e) (numbered plan h port x.packet unit x.passed) beyond
     (none_beyond plan h cause.1 s j n beyond)
 none_beyond plan ((e, v.Accepted port unit effects) ∷ h) cause s j n beyond = none_beyond plan h cause.1 s j n
-    (below (is_of s j port unit) (units_got h s j) n beyond)
+    (below (is_received_under s j port unit) (units_got h s j) n beyond)
 none_beyond plan (_ ∷ h) cause s j n beyond = none_beyond plan h cause.1 s j n beyond

@@ -3,22 +3,17 @@
 -- stay by `KeyFacts`; what was sealed, got and held stays by the verdict; a failure stays since the stream still has a
 -- Live key. Senders and receivers are put together from these parts.
 use Rattle.machine_ports.proofs.Terms.{◌≡◌, ℕ, ◌==◌, Bool, true, false, List, [], ◌∷◌, length, refl, ap, sym, ◌∙◌}
-use Rattle.machine_ports.proofs.Terms.{subst}
-use Rattle.machine_ports.proofs.Terms.{arith, if◌then◌else◌, ◌&&◌, ◌||◌, after_ends, ahead_of_packet, any_out, base}
-use Rattle.machine_ports.proofs.Terms.{CauseLaw, Cpl, each_sub, ends_unit_at, Event, failed, failed_there, fails_at}
-use Rattle.machine_ports.proofs.Terms.{got_in}
-use Rattle.machine_ports.proofs.Terms.{got_since, has_live_key, has_live_in, has_live_out, packets_in_hold, History}
-use Rattle.machine_ports.proofs.Terms.{is_out, is_same}
-use Rattle.machine_ports.proofs.Terms.{is_same_port, Keyed, KeyFacts, Keys, port_keys, lane_in, lane_out, Loaded}
-use Rattle.machine_ports.proofs.Terms.{nat_tests}
-use Rattle.machine_ports.proofs.Terms.{not_here, Npr, Off, On, operates, Plan, PortName, posted_elsewhere, posted_in}
-use Rattle.machine_ports.proofs.Terms.{posted_sum, Pr, received_in, rx_slot, rx_slots, rx_standing, RxSub, same_in}
-use Rattle.machine_ports.proofs.Terms.{sealed_packets, SealedList, SealedPacket, sent_elsewhere, sub_stream_packets}
-use Rattle.machine_ports.proofs.Terms.{LaneSlots}
-use Rattle.machine_ports.proofs.Terms.{standing, StreamState, sub_stream_of, SubKind, SubStream, total_elsewhere}
-use Rattle.machine_ports.proofs.Terms.{total_in}
-use Rattle.machine_ports.proofs.Terms.{tx_slot, tx_slots, tx_standing, TxSub, UnitName, units, units_got, units_since}
-use Rattle.machine_ports.proofs.Terms.{Verdict, with_sealed}
+use Rattle.machine_ports.proofs.Terms.{subst, arith, if◌then◌else◌, ◌&&◌, ◌||◌, after_ends, ahead_of_packet, any_out}
+use Rattle.machine_ports.proofs.Terms.{base, CauseLaw, Cpl, each_sub, ends_port_unit, Event, has_failed, failed_there}
+use Rattle.machine_ports.proofs.Terms.{fails_at, got_in, got_since, has_live_key, has_live_in, has_live_out}
+use Rattle.machine_ports.proofs.Terms.{packets_in_hold, History, is_out, is_same, is_same_port, Keyed, KeyFacts, Keys}
+use Rattle.machine_ports.proofs.Terms.{port_keys, lane_in, lane_out, Loaded, nat_tests, not_here, Npr, Off, On}
+use Rattle.machine_ports.proofs.Terms.{operates, Plan, PortName, posted_elsewhere, posted_since_last, posted_sum, Pr}
+use Rattle.machine_ports.proofs.Terms.{received_in, rx_slot, rx_slots, rx_state_due, RxSub, same_in, sealed_packets}
+use Rattle.machine_ports.proofs.Terms.{SealedList, SealedPacket, sent_elsewhere, sub_stream_packets, LaneSlots}
+use Rattle.machine_ports.proofs.Terms.{stream_state_due, StreamState, sub_stream_of, SubKind, SubStream}
+use Rattle.machine_ports.proofs.Terms.{total_elsewhere, total_in, tx_slot, tx_slots, tx_state_due, TxSub, UnitName}
+use Rattle.machine_ports.proofs.Terms.{units, units_got, units_since, Verdict, with_sealed}
 use Rattle.link_verdicts.specs.declared.verdict.Verdict.TheVariants as v
 use Rattle.spec_links.specs.History.{sent_bytes}
 use Rattle.law_key_facts.proofs.Failures.{failed_next}
@@ -70,7 +65,7 @@ no_ends : (port : PortName) (s : SubStream) (ds : List SealedPacket) (keys : Key
     → ((d : SealedPacket) → (is_same_port d.port port && is_same (sub_stream_of d) s) ≡ false)
     → after_ends port s ds keys ≡ keys
 no_ends port s [] keys none = refl
-no_ends port s (d ∷ ds) keys none = let here : ends_unit_at port s d
+no_ends port s (d ∷ ds) keys none = let here : ends_port_unit port s d
     ≡ false = grind (arith, none d) in rw here (no_ends port s ds keys none)
 
 no_ends_out : (port : PortName) (stream : ℕ) (u : SubKind) (ds : List SealedPacket) (keys : Keys)
@@ -78,7 +73,7 @@ no_ends_out : (port : PortName) (stream : ℕ) (u : SubKind) (ds : List SealedPa
 no_ends_out port stream u [] keys none = refl
 no_ends_out port stream u (d ∷ ds) keys none =
     let here : is_out port stream d ≡ false = grind arith in
-    let other : ends_unit_at port (lane_out port stream u) d ≡ false = grind (arith, not_here port stream u d here) in
+    let other : ends_port_unit port (lane_out port stream u) d ≡ false = grind (arith, not_here port stream u d here) in
     rw other (no_ends_out port stream u ds keys (grind arith))
 
 if_none : (b c : Bool) (x y : Keys) → c ≡ false → (if b && c then x else y) ≡ y
@@ -126,8 +121,7 @@ keys_in plan facts h e w cause port stream still u none = facts.steady h e w cau
 -- what is read of the list of sealed packets is the same, if packets that the port did not seal on the stream leave it
 sealed_elsewhere : {A : Type 0} (plan : Plan) (h : History) (e : Event) (w : Verdict) (port : PortName) (stream : ℕ)
     (f : SealedList → A)
-    → seals_at port stream w ≡ false
-    → ((bytes : List ℕ) (ds : List SealedPacket) → any_out port stream ds ≡ false
+    → seals_at port stream w ≡ false → ((bytes : List ℕ) (ds : List SealedPacket) → any_out port stream ds ≡ false
     → f (with_sealed plan (ahead_of_packet plan (sealed_packets plan h) (base h)) bytes ds (sealed_packets plan h))
     ≡ f (sealed_packets plan h))
     → f (sealed_packets plan ((e, w) ∷ h)) ≡ f (sealed_packets plan h)
@@ -172,7 +166,8 @@ since_same h e w s from none = grind arith
 
 -- a slot stays as it is if what is read of its draw does
 pub rx_slot_same : (plan : Plan) (g h : History) (port : PortName) (s : SubStream) (a : Keyed)
-    → ((j : ℕ) → a ≡ On j → (failed g port s.stream ≡ failed h port s.stream) × (units_got g s j ≡ units_got h s j)
+    → ((j : ℕ) → a ≡ On j → (has_failed g port s.stream ≡ has_failed h port s.stream)
+    × (units_got g s j ≡ units_got h s j)
     × ((n : ℕ) → packets_in_hold plan g s j n ≡ packets_in_hold plan h s j n))
     → rx_slot plan g port s a ≡ rx_slot plan h port s a
 rx_slot_same plan g h port s Off same = refl
@@ -180,8 +175,7 @@ rx_slot_same plan g h port s (Loaded j) same = refl
 rx_slot_same plan g h port s (On j) same = let of = same j refl in rw (of.0, of.1, of.2 _) refl
 
 pub rx_slots_same : (plan : Plan) (g h : History) (port : PortName) (s : SubStream) (keys : Keys)
-    → failed g port s.stream ≡ failed h port s.stream
-    → ((j : ℕ) → units_got g s j ≡ units_got h s j)
+    → has_failed g port s.stream ≡ has_failed h port s.stream → ((j : ℕ) → units_got g s j ≡ units_got h s j)
     → ((j n : ℕ) → packets_in_hold plan g s j n ≡ packets_in_hold plan h s j n) → rx_slots plan g port s keys
     ≡ rx_slots plan h port s keys
 rx_slots_same plan g h port s keys bad units same_hold =
@@ -196,12 +190,12 @@ and_again a b = grind arith
 
 -- if a stream failed, it has a Live key
 pub failed_live : (plan : Plan) (h : History) (port : PortName) (stream : ℕ)
-    → (failed h port stream && has_live_key h port stream) ≡ failed h port stream
+    → (has_failed h port stream && has_live_key h port stream) ≡ has_failed h port stream
 unfolding failed_there
 failed_live plan [] port stream = refl
 failed_live plan ((e, w) ∷ h) port stream =
     subst (λ (b : Bool). (b && has_live_key ((e, w) ∷ h) port stream) ≡ b) (sym (failed_next h e w port stream))
-    (and_again (fails_at port stream w || failed h port stream) (has_live_key ((e, w) ∷ h) port stream))
+    (and_again (fails_at port stream w || has_failed h port stream) (has_live_key ((e, w) ∷ h) port stream))
 
 -- ---- what a pair leaves at a port and stream on which it is no operation
 
@@ -221,17 +215,17 @@ module _ (plan : Plan) (facts : KeyFacts plan) (h : History) (e : Event) (w : Ve
   based : base ((e, w) ∷ h) port.line stream ≡ base h port.line stream
   based = facts.base_same h e w cause port.line stream still
 
-  pub failed_more : failed ((e, w) ∷ h) port stream ≡
-      ((fails_at port stream w || failed h port stream) && has_live_key h port stream)
+  pub failed_more : has_failed ((e, w) ∷ h) port stream ≡
+      ((fails_at port stream w || has_failed h port stream) && has_live_key h port stream)
   failed_more = failed_next h e w port stream ∙
-      (λ i. (fails_at port stream w || failed h port stream) && (live_out i || live_in i))
+      (λ i. (fails_at port stream w || has_failed h port stream) && (live_out i || live_in i))
 
-  pub failed_same : fails_at port stream w ≡ false → failed ((e, w) ∷ h) port stream ≡ failed h port stream
+  pub failed_same : fails_at port stream w ≡ false → has_failed ((e, w) ∷ h) port stream ≡ has_failed h port stream
   failed_same none = failed_more ∙ (rw none refl ∙ failed_live plan h port stream)
 
   -- a sender stays as it is but for what its port seals on the stream
   pub tx_frame : (u : SubKind) → seals_at port stream w ≡ false
-      → tx_standing plan ((e, w) ∷ h) port (lane_out port stream u) ≡ tx_standing plan h port (lane_out port stream u)
+      → tx_state_due plan ((e, w) ∷ h) port (lane_out port stream u) ≡ tx_state_due plan h port (lane_out port stream u)
   tx_frame u none =
       let g = (e, w) ∷ h in
       let s = lane_out port stream u in
@@ -243,8 +237,8 @@ module _ (plan : Plan) (facts : KeyFacts plan) (h : History) (e : Event) (w : Ve
       (λ j. sealed_elsewhere plan h e w port stream (λ ys. sub_stream_packets ys s j) none
       (λ bytes ds. sent_elsewhere plan unfinished bytes ds xs port stream u j))
       ∙ ap (tx_slots plan xs s) (keys_out plan facts h e w cause port stream still u none))
-      (if_same _ _ _ _ live_out (ap (posted_in (sealed_packets plan g) s) based
-      ∙ sealed_elsewhere plan h e w port stream (λ ys. posted_in ys s from) none
+      (if_same _ _ _ _ live_out (ap (posted_since_last (sealed_packets plan g) s) based
+      ∙ sealed_elsewhere plan h e w port stream (λ ys. posted_since_last ys s from) none
       (λ bytes ds. posted_elsewhere plan unfinished bytes ds xs port stream u from)))
       (if_same _ _ _ _ live_out (ap (total_in (sealed_packets plan g) s) based
       ∙ sealed_elsewhere plan h e w port stream (λ ys. total_in ys s from) none
@@ -254,7 +248,7 @@ module _ (plan : Plan) (facts : KeyFacts plan) (h : History) (e : Event) (w : Ve
   pub rx_with : (u : SubKind) → let s = lane_in port stream u in
       accepts_in s w ≡ false → (slots : LaneSlots) → rx_slots plan ((e, w) ∷ h) port s (port_keys ((e, w) ∷ h) port s)
       ≡ slots
-      → rx_standing plan ((e, w) ∷ h) port s ≡ record (rx_standing plan h port s) { slots = slots }
+      → rx_state_due plan ((e, w) ∷ h) port s ≡ record (rx_state_due plan h port s) { slots = slots }
   rx_with u none slots same =
       let g = (e, w) ∷ h in
       let s = lane_in port stream u in
@@ -265,7 +259,7 @@ module _ (plan : Plan) (facts : KeyFacts plan) (h : History) (e : Event) (w : Ve
   -- a receiver stays as it is but for what it takes, and what fails on the stream
   pub rx_frame : (u : SubKind) → accepts_in (lane_in port stream u) w ≡ false → holds_in (lane_in port stream u) w
       ≡ false → fails_at port stream w ≡ false
-      → rx_standing plan ((e, w) ∷ h) port (lane_in port stream u) ≡ rx_standing plan h port (lane_in port stream u)
+      → rx_state_due plan ((e, w) ∷ h) port (lane_in port stream u) ≡ rx_state_due plan h port (lane_in port stream u)
   rx_frame u accepts holds fails =
       let g = (e, w) ∷ h in
       let s = lane_in port stream u in
@@ -288,8 +282,8 @@ elsewhere port stream u _ none = (refl, refl, refl)
 pub frame : (plan : Plan) → KeyFacts plan → (h : History) (e : Event) (w : Verdict) → CauseLaw plan ((e, w) ∷ h)
     → (port : PortName) (stream : ℕ)
     → operates e port.line stream ≡ false → seals_at port stream w ≡ false → takes_at port stream w ≡ false
-    → standing plan ((e, w) ∷ h) port stream ≡ standing plan h port stream
-unfolding standing
+    → stream_state_due plan ((e, w) ∷ h) port stream ≡ stream_state_due plan h port stream
+unfolding stream_state_due
 frame plan facts h e w cause port stream still seals takes =
     let none = λ (u : SubKind). elsewhere port stream u w takes in
     stream_is _ _ (each_same _ _ (λ u. tx_frame plan facts h e w cause port stream still u seals))

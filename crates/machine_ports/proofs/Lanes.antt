@@ -1,12 +1,11 @@
 -- What the rules of sealing see of the senders that stand for a history is what the history says.
 use Rattle.machine_ports.proofs.Terms.{◌≡◌, ℕ, Bool, true, length, Option, Some, None, refl, ap, ◌∙◌, arith, is_none}
-use Rattle.machine_ports.proofs.Terms.{if◌then◌else◌, at_sub, each_sub, failed, has_live_out, History, is_keyless}
-use Rattle.machine_ports.proofs.Terms.{KeyName}
-use Rattle.machine_ports.proofs.Terms.{Keys, port_keys, Lane, lane_at, lane_of, lane_out, lanes_at, lanes_of, lesser}
-use Rattle.machine_ports.proofs.Terms.{live_sender, LiveKey, aggregation_of, open_unit, Plan, PortName, posted_count}
-use Rattle.machine_ports.proofs.Terms.{sealed_packets, SealedList, sealing_key, packets_under_key, standing, SubKind}
-use Rattle.machine_ports.proofs.Terms.{SubStream}
-use Rattle.machine_ports.proofs.Terms.{tx_slots, tx_standing, TxSub, units}
+use Rattle.machine_ports.proofs.Terms.{if◌then◌else◌, at_sub, each_sub, has_failed, has_live_out, History, is_keyless}
+use Rattle.machine_ports.proofs.Terms.{KeyName, Keys, port_keys, Lane, lane_contents, lane_of, lane_out, lanes_at}
+use Rattle.machine_ports.proofs.Terms.{lanes_of, lesser, live_sender, LiveKey, aggregation_of, open_unit, Plan}
+use Rattle.machine_ports.proofs.Terms.{PortName, posted_count, sealed_packets, SealedList, sealing_key}
+use Rattle.machine_ports.proofs.Terms.{packets_under_key, stream_state_due, SubKind, SubStream, tx_slots, tx_state_due}
+use Rattle.machine_ports.proofs.Terms.{TxSub, units}
 use Rattle.machine_ports.proofs.Answers.{at_each}
 
 -- the key of a sender that stands for a list of sealed packets
@@ -20,8 +19,8 @@ live_sender_is plan xs s keys = grind arith
 
 -- with any posted count
 lane_is : (plan : Plan) (h : History) (port : PortName) (stream : ℕ) (u : SubKind) (n : ℕ)
-    → lane_of n (live_sender (tx_standing plan h port (lane_out port stream u)).slots)
-    ≡ record (lane_at plan h port (lane_out port stream u))
+    → lane_of n (live_sender (tx_state_due plan h port (lane_out port stream u)).slots)
+    ≡ record (lane_contents plan h port (lane_out port stream u))
     { posted = n }
 unfolding units open_unit
 lane_is plan h port stream u n =
@@ -43,36 +42,38 @@ lane_is plan h port stream u n =
 
 -- while the port seals on the stream
 pub lanes_is : (plan : Plan) (h : History) (port : PortName) (stream : ℕ) → has_live_out h port stream ≡ true
-    → lanes_of (aggregation_of plan port.line stream) plan.units_per_key (standing plan h port stream)
+    → lanes_of (aggregation_of plan port.line stream) plan.units_per_key (stream_state_due plan h port stream)
     ≡ lanes_at plan h port stream
-unfolding standing
+unfolding stream_state_due
 lanes_is plan h port stream live =
-    let tx : SubKind → TxSub = λ u. tx_standing plan h port (lane_out port stream u) in
+    let tx : SubKind → TxSub = λ u. tx_state_due plan h port (lane_out port stream u) in
     let lane : (u : SubKind) → lane_of (at_sub (each_sub tx) u).posted (live_sender (at_sub (each_sub tx) u).slots)
-    ≡ lane_at plan h port (lane_out port stream u) =
+    ≡ lane_contents plan h port (lane_out port stream u) =
     λ u. ap (λ (x : TxSub). lane_of x.posted (live_sender x.slots)) (at_each tx u)
     ∙ (lane_is plan h port stream u (tx u).posted
-    ∙ ap (λ (b : Bool). record (lane_at plan h port (lane_out port stream u))
+    ∙ ap (λ (b : Bool). record (lane_contents plan h port (lane_out port stream u))
     { posted = if b then posted_count plan h (lane_out port stream u) else 0 }) live) in
     λ i. record {
       aggregation = aggregation_of plan port.line stream;
       limit = plan.units_per_key;
       failed =
-          (standing plan h port stream).failed;
+          (stream_state_due plan h port stream).failed;
       lane = λ u. lane u i;
     }
 
 -- whether a sub-stream has no key
 pub keyless_is : (plan : Plan) (h : History) (port : PortName) (stream : ℕ) (u : SubKind)
-    → is_keyless (lanes_of (aggregation_of plan port.line stream) plan.units_per_key (standing plan h port stream)) u
+    → is_keyless (lanes_of (aggregation_of plan port.line stream) plan.units_per_key
+    (stream_state_due plan h port stream)) u
     ≡ is_keyless (lanes_at plan h port stream) u
-unfolding standing
+unfolding stream_state_due
 keyless_is plan h port stream u =
-    let tx : SubKind → TxSub = λ u. tx_standing plan h port (lane_out port stream u) in
+    let tx : SubKind → TxSub = λ u. tx_state_due plan h port (lane_out port stream u) in
     ap (λ (x : TxSub). is_none (lane_of x.posted (live_sender x.slots)).key) (at_each tx u) ∙ ap
     (λ (x : Lane). is_none x.key) (lane_is plan h port stream u (tx u).posted)
 
-pub failed_is : (plan : Plan) (h : History) (port : PortName) (stream : ℕ) → (standing plan h port stream).failed
-    ≡ failed h port stream
-unfolding standing
+pub failed_is : (plan : Plan) (h : History) (port : PortName) (stream : ℕ)
+    → (stream_state_due plan h port stream).failed
+    ≡ has_failed h port stream
+unfolding stream_state_due
 failed_is plan h port stream = refl

@@ -21,8 +21,7 @@ pub use Rattle.law_key_facts.proofs.AllFacts.{facts}
 pub use Rattle.law_key_facts.proofs.Failures.{failed_next, in_keyed, out_keyed}
 pub use Rattle.law_key_facts.proofs.Given.{key_cause}
 pub use Rattle.law_key_facts.proofs.Moments.{busy_is, no_units, none_finished, none_got, none_held, none_posted}
-pub use Rattle.law_key_facts.proofs.Moments.{none_sent}
-pub use Rattle.law_key_facts.proofs.Moments.{none_since, sends_lane}
+pub use Rattle.law_key_facts.proofs.Moments.{none_sent, none_since, sends_lane}
 pub use Rattle.law_key_facts.proofs.RealFacts.{InOrder, in_order, seat_same}
 pub use Rattle.law_key_facts.proofs.Seats.{keys_into, keys_out}
 pub use Rattle.law_key_facts.proofs.Unplanned.{unplanned_keys}

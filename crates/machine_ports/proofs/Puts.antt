@@ -1,12 +1,9 @@
 -- One stream at a port is changed, and no other.
 use Rattle.machine_ports.proofs.Terms.{◌≡◌, ◌≢◌, ℕ, ◌<◌, ◌≤◌, ◌==◌, true, false, List, [], ◌∷◌, length, Some, None}
-use Rattle.machine_ports.proofs.Terms.{refl}
-use Rattle.machine_ports.proofs.Terms.{ap, sym, ◌∙◌, subst, arith, ⊎_elim, ◌&&◌, is_some, slice_set, changed_by_id}
-use Rattle.machine_ports.proofs.Terms.{find}
-use Rattle.machine_ports.proofs.Terms.{found_by_id}
-use Rattle.machine_ports.proofs.Terms.{get_or-set_other, get_or-set_same, get_or_past, is_same_port, LinkState}
-use Rattle.machine_ports.proofs.Terms.{nat_tests}
-use Rattle.machine_ports.proofs.Terms.{Plan, port_place, PortName, put, same_port, set_past, streams_of, StreamState}
+use Rattle.machine_ports.proofs.Terms.{refl, ap, sym, ◌∙◌, subst, arith, ⊎_elim, ◌&&◌, is_some, slice_set}
+use Rattle.machine_ports.proofs.Terms.{changed_by_id, find, found_by_id, get_or-set_other, get_or-set_same, get_or_past}
+use Rattle.machine_ports.proofs.Terms.{is_same_port, LinkState, nat_tests, Plan, port_place, PortName}
+use Rattle.machine_ports.proofs.Terms.{with_stream_state, same_port, set_past, streams_of, StreamState}
 use Rattle.std.specs.List.{slice_index_or}
 use Rattle.std.proofs.lemmas.Bool.{cases_lt, cases_eq}
 use Rattle.ide_types.specs.declared.stream.StreamPlan.{StreamPlan}
@@ -60,8 +57,9 @@ put_beside ss rows i id t y other = ⊎_elim inside (λ le. rw (set_past rows i 
 -- ---- a stream at a port
 
 pub find-put : (plan : Plan) (st : LinkState) (port : PortName) (stream : ℕ) (x : StreamState)
-    → is_some (find plan st port stream) ≡ true → find plan (put plan st port stream x) port stream ≡ Some x
-unfolding find put
+    → is_some (find plan st port stream) ≡ true → find plan (with_stream_state plan st port stream x) port stream
+    ≡ Some x
+unfolding find with_stream_state
 find-put plan st port stream x is = put_same (streams_of plan port.line) st.ports (port_place port) stream x is
 
 pub place_is : (p q : PortName) → port_place p ≡ port_place q → is_same_port p q ≡ true
@@ -69,8 +67,8 @@ place_is p q same = grind (arith, nat_tests)
 
 pub find-put_other : (plan : Plan) (st : LinkState) (port : PortName) (stream : ℕ) (x : StreamState) (q : PortName)
     (t : ℕ) → (is_same_port port q && (stream == t)) ≡ false
-    → find plan (put plan st port stream x) q t ≡ find plan st q t
-unfolding find put
+    → find plan (with_stream_state plan st port stream x) q t ≡ find plan st q t
+unfolding find with_stream_state
 find-put_other plan st port stream x q t other = ⊎_elim here elsewhere (cases_eq (port_place port) (port_place q))
   where
     new : List (List StreamState)

@@ -4,17 +4,15 @@
 -- nothing was sealed, becomes Live (the hard case). In the others at most the posted count rises.
 use Rattle.machine_ports.proofs.Terms.{◌≡◌, ℕ, ◌+◌, ◌==◌, Bool, true, false, List, [], ◌∷◌, ◌++◌, map, Option, Some, Ok}
 use Rattle.machine_ports.proofs.Terms.{refl, ap, sym, ◌∙◌, subst, arith, length-append, append_assoc, if◌then◌else◌}
-use Rattle.machine_ports.proofs.Terms.{not}
-use Rattle.machine_ports.proofs.Terms.{◌&&◌, nat_le, after_ends, append-nil, AreOther, at_sub, body, counted_unit}
-use Rattle.machine_ports.proofs.Terms.{each_sub, ended_keys, ended_slots, ends_unit_at, eqb-refl, total_ahead, gone_on}
-use Rattle.machine_ports.proofs.Terms.{head_bytes, header, in_lane, is_in, is_same, is_same_port, is_same_port-refl}
-use Rattle.machine_ports.proofs.Terms.{is_same_sub, kept_packet, key_in, key_of, Keys, lane_is, lane_out, lesser, Live}
-use Rattle.machine_ports.proofs.Terms.{live_sender, LiveKey, map-append, nat_tests, On, open_unit, Packet, packet_of}
-use Rattle.machine_ports.proofs.Terms.{packet_under, Plan, PortName, posted-more, posted-own, posted-same, posted_in}
-use Rattle.machine_ports.proofs.Terms.{posted_of, Pr, read_of, same_sub, sealed_all, sealed_slots, sealed_sub}
-use Rattle.machine_ports.proofs.Terms.{SealedList}
-use Rattle.machine_ports.proofs.Terms.{SealedPacket, sealing_key, sent-same, sub_stream_packets}
-use Rattle.machine_ports.proofs.Terms.{sub_stream_packets-snoc, LaneSlot, LaneSlots}
+use Rattle.machine_ports.proofs.Terms.{not, ◌&&◌, nat_le, after_ends, append-nil, AreOther, at_sub, body, counted_unit}
+use Rattle.machine_ports.proofs.Terms.{each_sub, ended_keys, ended_slots, ends_port_unit, eqb-refl, total_ahead}
+use Rattle.machine_ports.proofs.Terms.{gone_on, head_bytes, header, in_lane, is_sealed_since, is_same, is_same_port}
+use Rattle.machine_ports.proofs.Terms.{is_same_port-refl, is_same_sub, kept_packet, key_in, key_of, Keys, lane_is}
+use Rattle.machine_ports.proofs.Terms.{lane_out, lesser, Live, live_sender, LiveKey, map-append, nat_tests, On}
+use Rattle.machine_ports.proofs.Terms.{open_unit, Packet, packet_of, packet_under, Plan, PortName, posted-more}
+use Rattle.machine_ports.proofs.Terms.{posted-own, posted-same, posted_since_last, posted_lane, Pr, read_of, same_sub}
+use Rattle.machine_ports.proofs.Terms.{sealed_all, sealed_slots, sealed_sub, SealedList, SealedPacket, sealing_key}
+use Rattle.machine_ports.proofs.Terms.{sent-same, sub_stream_packets, sub_stream_packets-snoc, LaneSlot, LaneSlots}
 use Rattle.machine_ports.proofs.Terms.{sub_bits, sub_stream_of, SubKind, SubStream, Three, Tlp, total-same, total-snoc}
 use Rattle.machine_ports.proofs.Terms.{total_in, tx_slots, TxSub, units, waits, with_sealed}
 use Rattle.spec_links.proofs.UnitLemmas.{units-end, units-more, open_unit-end, open_unit-more}
@@ -28,7 +26,7 @@ use Rattle.machine_ports.proofs.Lanes.{sealer, live_sender_is}
 abbrev pub tx_at : Plan → PortName → ℕ → ℕ → SealedList → (SubKind → Keys) → SubKind → TxSub
 tx_at plan port stream from xs keys u = record {
   slots = tx_slots plan xs (lane_out port stream u) (keys u);
-  posted = posted_in xs (lane_out port stream u) from;
+  posted = posted_since_last xs (lane_out port stream u) from;
   total = total_in xs (lane_out port stream u) from;
 }
 
@@ -91,13 +89,11 @@ record_slots x y = record { first = x; second = y }
 
 -- the draw that waits beside the Live one
 other_waits : (ks : Keys) (k : Bool) (n j : ℕ) → lesser ks.first ks.second ≡ Some (record { k = k; draw = n })
-    → key_in ks (not k) ≡ On j
-    → waits (not k) j (key_in ks (not (not k))) ≡ true
+    → key_in ks (not k) ≡ On j → waits (not k) j (key_in ks (not (not k))) ≡ true
 other_waits ks k n j live on = grind (arith, nat_tests)
 
 other_apart : (ks : Keys) (k : Bool) (n j : ℕ) → lesser ks.first ks.second ≡ Some (record { k = k; draw = n })
-    → key_in ks (not k) ≡ On j
-    → ((i j : ℕ) → ks.first ≡ On i → ks.second ≡ On j → (i == j) ≡ false) → (n == j) ≡ false
+    → key_in ks (not k) ≡ On j → ((i j : ℕ) → ks.first ≡ On i → ks.second ≡ On j → (i == j) ≡ false) → (n == j) ≡ false
 other_apart ks k n j live on apart = grind (arith, nat_tests, apart)
 
 -- its unit ends
@@ -120,7 +116,7 @@ slots_more plan xs ys s k n ks p live more = grind (arith, nat_tests)
 -- ---- one packet
 
 abbrev pub after_one : PortName → ℕ → SealedPacket → (SubKind → Keys) → SubKind → Keys
-after_one port stream d keys u = if ends_unit_at port (lane_out port stream u) d then ended_keys (keys u).first
+after_one port stream d keys u = if ends_port_unit port (lane_out port stream u) d then ended_keys (keys u).first
     (keys u).second else keys u
 
 if_true : {A : Type 0} (b : Bool) (x y : A) → b ≡ true → (if b then x else y) ≡ x
@@ -192,10 +188,10 @@ module _ (plan : Plan) (closed : Bool) (ahead : SealedPacket → List ℕ) (port
       own =
           let s = lane_out port stream d.sub in
           let here : is_same (sub_stream_of d) s ≡ true = in_place d.sub ∙ eqb-refl (sub_bits d.sub) in
-          let ends : ends_unit_at port s d ≡ d.m = ap
+          let ends : ends_port_unit port s d ≡ d.m = ap
           (λ (q : PortName). is_same_port q port && is_same (sub_stream_of d) s && d.m) fits.port_is
           ∙ rw (is_same_port-refl port, here) refl in
-          let inside : is_in s from (d, p) ≡ true = rw (here, fits.counts) refl in
+          let inside : is_sealed_since s from (d, p) ≡ true = rw (here, fits.counts) refl in
           if_true _ _ _ (eqb-refl (sub_bits d.sub)) ∙ tx_is _ _
           (sealed_slots_is xs keys d p fits here d.m m
           ∙ ap (λ (b : Bool). tx_slots plan ys s
@@ -206,27 +202,28 @@ module _ (plan : Plan) (closed : Bool) (ahead : SealedPacket → List ℕ) (port
           (ap (λ (b : Bool). b && p.prefix.m) inside ∙ m)))
 
       other : is_same_sub d.sub u ≡ false → (b : Bool) → is_same_sub d.sub Pr ≡ b
-          → (if b then record (old u) { posted = posted_in xs (lane_out port stream u) from + 1 } else old u)
+          → (if b then record (old u) { posted = posted_since_last xs (lane_out port stream u) from + 1 } else old u)
           ≡ new u
       other off b posted =
           let s = lane_out port stream u in
           let out : is_same (sub_stream_of d) s ≡ false = in_place u ∙ off in
-          let none : ends_unit_at port s d ≡ false = grind (arith, out) in
+          let none : ends_port_unit port s d ≡ false = grind (arith, out) in
           let slots : tx_slots plan xs s (keys u) ≡ tx_slots plan ys s (after_one port stream d keys u) =
           rw none (sym (tx_slots_same plan ys xs s (keys u) (λ j. sent-same xs (d, p) s j out))) in
           by_posted b posted slots (rw out refl) (sym (total-same xs (d, p) s from out))
         where
           by_posted : (b : Bool) → is_same_sub d.sub Pr ≡ b → let s = lane_out port stream u in
               tx_slots plan xs s (keys u) ≡ tx_slots plan ys s (after_one port stream d keys u)
-              → is_in s from (d, p) ≡ false → total_in xs s from ≡ total_in ys s from
-              → (if b then record (old u) { posted = posted_in xs s from + 1 } else old u) ≡ new u
+              → is_sealed_since s from (d, p) ≡ false → total_in xs s from ≡ total_in ys s from
+              → (if b then record (old u) { posted = posted_since_last xs s from + 1 } else old u) ≡ new u
           by_posted true is slots out total =
-              let counted_unit : is_in (posted_of (lane_out port stream u)) from (d, p)
+              let counted_unit : is_sealed_since (posted_lane (lane_out port stream u)) from (d, p)
               ≡ true = rw (in_place Pr, is, fits.counts) refl in
               tx_is _ _ slots (sym (posted-more xs (d, p) (lane_out port stream u) from out ∙ rw counted_unit refl))
               total
           by_posted false is slots out total =
-              let none : is_in (posted_of (lane_out port stream u)) from (d, p) ≡ false = rw (in_place Pr, is) refl in
+              let none : is_sealed_since (posted_lane (lane_out port stream u)) from (d, p) ≡ false =
+              rw (in_place Pr, is) refl in
               tx_is _ _ slots (sym (posted-same xs (d, p) (lane_out port stream u) from out none)) total
 
       by_test : (b : Bool) → is_same_sub d.sub u ≡ b → Sealed u
@@ -259,7 +256,7 @@ module _ (plan : Plan) (closed : Bool) (ahead : SealedPacket → List ℕ) (port
   fits_still xs keys d x p one fits other =
       let s = lane_out port stream x.sub in
       let off : is_same (sub_stream_of d) s ≡ false = in_lane port stream d x.sub one.port_is one.stream_is ∙ other in
-      let none : ends_unit_at port s d ≡ false = grind (arith, off) in
+      let none : ends_port_unit port s d ≡ false = grind (arith, off) in
       let stays : after_one port stream d keys x.sub ≡ keys x.sub = rw none refl in
       record {
         port_is = fits.port_is;

@@ -3,39 +3,34 @@
 -- nothing, and packets that are sealed fit the senders, which then stand for the list with them. Without one the kept
 -- counts are 0, whatever the history counts, but the TLP is refused before any count is looked at.
 use Rattle.machine_ports.specs.Stands.{beside_at, is_of_packets}
-use Rattle.machine_ports.specs.Machine.{Stepped}
+use Rattle.machine_ports.specs.Machine.{Stepped, stepped_bytes}
 use Rattle.spec_links.specs.History.{sent_bytes}
 unfoldable use Rattle.spec_links.specs.Sent.{bytes_by}
 use Rattle.link_events.specs.declared.event.Event.{Event}
 unfoldable use Rattle.spec_links.specs.Due.{t_sealed}
 use Rattle.spec_links.specs.Ports.{may_send, outgoing_at}
 unfoldable use Rattle.spec_links.specs.Ports.{port_of, sealing_end}
-use Rattle.machine_ports.specs.Machine.{stepped_bytes}
 use Rattle.machine_ports.proofs.Terms.{◌≡◌, ℕ, ◌+◌, ◌==◌, Bool, true, false, List, [], ◌∷◌, ◌++◌, length, map, Option}
 use Rattle.machine_ports.proofs.Terms.{Some, None, Ok, refl, ap, sym, ◌∙◌, subst, arith, if◌then◌else◌, ◌&&◌, ◌||◌}
 use Rattle.machine_ports.proofs.Terms.{is_some, is_none, unwrap_or, after_ends, ahead_of_packet, and_false}
-use Rattle.machine_ports.proofs.Terms.{stepped_answer}
-use Rattle.machine_ports.proofs.Terms.{any_out, AreFalse, base, body, CauseLaw, Cpl, described_seal, due, send_due}
-use Rattle.machine_ports.proofs.Terms.{each_sub}
-use Rattle.machine_ports.proofs.Terms.{failed, find, first_that_holds, ahead_of_unit, has_key, has_live_out}
-use Rattle.machine_ports.proofs.Terms.{has_stream, head_bytes, header, History, is_closed, is_keyed, is_keyless, is_on}
-use Rattle.machine_ports.proofs.Terms.{is_out, is_quiet, is_same_port, is_same_sub, kept_packet, KeyFacts, KeyName}
-use Rattle.machine_ports.proofs.Terms.{Keys}
-use Rattle.machine_ports.proofs.Terms.{port_keys, lane_out, Lanes, lanes_at, lanes_of, length-map, lesser, LinkPacket}
-use Rattle.machine_ports.proofs.Terms.{LinkState, listed, live_key, aggregation_of, needs_posted, needs_sync, no_key}
-use Rattle.machine_ports.proofs.Terms.{none_holds}
-use Rattle.machine_ports.proofs.Terms.{Npr, on_live, operates, Packet, Plan, PortName, PortsStand, posted_in, Pr, put}
-use Rattle.machine_ports.proofs.Terms.{read_of, refusals, sealed_all, sealed_with_syncs, sealed_by_is, sealed_packets}
-use Rattle.machine_ports.proofs.Terms.{SealedList}
-use Rattle.machine_ports.proofs.Terms.{SealedPacket, Send, stepped_on_stream, stepped_send, streams_of, Sending}
-use Rattle.machine_ports.proofs.Terms.{verdict_of_send}
-use Rattle.machine_ports.proofs.Terms.{standing, StreamState, SubKind, Three, Tlp, tlp_word, total_in, tx_slots, TxSub}
-use Rattle.machine_ports.proofs.Terms.{Verdict, with_sealed}
+use Rattle.machine_ports.proofs.Terms.{stepped_answer, any_out, AreFalse, base, body, CauseLaw, Cpl, described_seal}
+use Rattle.machine_ports.proofs.Terms.{due, send_due, each_sub, has_failed, find, first_that_holds, ahead_of_unit}
+use Rattle.machine_ports.proofs.Terms.{has_key, has_live_out, has_stream, head_bytes, header, History, is_closed}
+use Rattle.machine_ports.proofs.Terms.{is_keyed, is_keyless, is_on, is_out, is_quiet, is_same_port, is_same_sub}
+use Rattle.machine_ports.proofs.Terms.{kept_packet, KeyFacts, KeyName, Keys, port_keys, lane_out, Lanes, lanes_at}
+use Rattle.machine_ports.proofs.Terms.{lanes_of, length-map, lesser, LinkPacket, LinkState, listed_seals, live_key}
+use Rattle.machine_ports.proofs.Terms.{aggregation_of, needs_posted, needs_sync, no_key, none_holds, Npr, on_live}
+use Rattle.machine_ports.proofs.Terms.{operates, Packet, Plan, PortName, PortsStand, posted_since_last, Pr}
+use Rattle.machine_ports.proofs.Terms.{with_stream_state, read_of, refusals, sealed_all, sealed_with_syncs}
+use Rattle.machine_ports.proofs.Terms.{sealed_by_is, sealed_packets, SealedList, SealedPacket, Send, stepped_on_stream}
+use Rattle.machine_ports.proofs.Terms.{stepped_send, streams_of, Sending, verdict_of_send, stream_state_due}
+use Rattle.machine_ports.proofs.Terms.{StreamState, SubKind, Three, Tlp, tlp_word, total_in, tx_slots, TxSub, Verdict}
+use Rattle.machine_ports.proofs.Terms.{with_sealed}
 use Rattle.link_verdicts.specs.declared.verdict.Verdict.TheVariants as v
 use Rattle.tlp_layout.specs.Class.{class_of}
 use Rattle.tlp_layout.specs.Faults.{place_in}
-use Rattle.association.specs.Outgoing.{Outgoing, NoTlp, OnNone, OnStream, outgoing_of}
-use Rattle.association.proofs.Outgoing.{on_stream_reads}
+use Rattle.tlp_layout.specs.Outgoing.{Outgoing, NoTlp, OnNone, OnStream, outgoing_of}
+use Rattle.tlp_layout.proofs.Outgoing.{on_stream_reads}
 use Rattle.spec_links.proofs.Choices.{stream_known}
 use Rattle.machine_ports.proofs.Puts.{find-put, find-put_other}
 use Rattle.machine_ports.proofs.Frames.{each_same, stream_is, rx_frame, live_out, failed_same}
@@ -92,8 +87,8 @@ module _ (plan : Plan) (facts : KeyFacts plan) (h : History) (law : CauseLaw pla
   all_fit : (number : ℕ) (n c : Bool) → let x = lanes_at plan h s.port s.stream in is_keyless x s.class ≡ false
       → (n ≡ true → (s.class ≡ Pr) × (is_keyless x Npr ≡ false))
       → (c ≡ true → (s.class ≡ Pr) × (is_keyless x Cpl ≡ false))
-      → FitBehind plan h s (listed x s number n c)
-  unfolding listed
+      → FitBehind plan h s (listed_seals x s number n c)
+  unfolding listed_seals
   all_fit number false false keyed r c = (describes s.class _ _ _ _ keyed, tt, tt)
   all_fit number true false keyed r c = (
     describes Npr _ _ _ _ (r refl).1,
@@ -129,8 +124,7 @@ module _ (plan : Plan) (facts : KeyFacts plan) (h : History) (law : CauseLaw pla
 only_out : (closed : Bool) (ahead : SealedPacket → List ℕ) (port : PortName) (stream from : ℕ) (xs : SealedList)
     (keys : SubKind → Keys)
     (ds : List SealedPacket) → AllFit closed ahead port stream from xs keys ds → (q : PortName) (t : ℕ)
-    → (is_same_port port q && (stream == t)) ≡ false
-    → any_out q t ds ≡ false
+    → (is_same_port port q && (stream == t)) ≡ false → any_out q t ds ≡ false
 only_out closed ahead port stream from xs keys [] all q t other = refl
 only_out closed ahead port stream from xs keys (d ∷ ds) all q t other =
     let off : is_out q t d ≡ false = (λ i. is_same_port (all.0.port_is i) q && (all.0.stream_is i == t)) ∙ other in
@@ -138,17 +132,17 @@ only_out closed ahead port stream from xs keys (d ∷ ds) all q t other =
 
 -- while a port seals on a stream, its senders are those of the list of sealed packets
 senders_before : (plan : Plan) (h : History) (port : PortName) (stream : ℕ) → has_live_out h port stream ≡ true
-    → (standing plan h port stream).tx
+    → (stream_state_due plan h port stream).tx
     ≡ each_sub (tx_at plan port stream (base h port.line stream) (sealed_packets plan h)
     (λ u. port_keys h port (lane_out port stream u)))
-unfolding standing
+unfolding stream_state_due
 senders_before plan h port stream live =
     let xs = sealed_packets plan h in
     let from = base h port.line stream in
     λ i. each_sub (λ u. let s = lane_out port stream u in
     record {
       slots = tx_slots plan xs s (port_keys h port s);
-      posted = if live i then posted_in xs s from else 0;
+      posted = if live i then posted_since_last xs s from else 0;
       total = if live i then total_in xs s from else 0;
     })
 
@@ -175,9 +169,9 @@ module _ (plan : Plan) (facts : KeyFacts plan) (h : History) (s : Sending) (e : 
       (with_sealed plan (ahead_of_packet plan (sealed_packets plan h) (base h)) (sent_bytes plan h e) ds
       (sealed_packets plan h))
       (λ u. after_ends s.port (lane_out s.port s.stream u) ds (port_keys h s.port (lane_out s.port s.stream u))))
-      → record (standing plan h s.port s.stream) { tx = tx } ≡ standing plan
+      → record (stream_state_due plan h s.port s.stream) { tx = tx } ≡ stream_state_due plan
       ((e, v.Sealed ds) ∷ h) s.port s.stream
-  unfolding standing
+  unfolding stream_state_due
   after_seals tx live same =
       let w = v.Sealed ds in
       let now = live_out plan facts h e w law s.port s.stream still ∙ live in
@@ -185,7 +179,7 @@ module _ (plan : Plan) (facts : KeyFacts plan) (h : History) (s : Sending) (e : 
       stream_is _ _ (same ∙ sym (λ i. each_sub (λ u. let place = lane_out s.port s.stream u in
       record {
         slots = tx_slots plan (sealed_with i) place (facts.sealed h e ds law s.port place i);
-        posted = if now i then posted_in (sealed_with i) place (from i) else 0;
+        posted = if now i then posted_since_last (sealed_with i) place (from i) else 0;
         total = if now i then total_in (sealed_with i) place (from i) else 0;
       }))) (sym (each_same _ _ (λ u. rx_frame plan facts h e w law s.port s.stream still u refl refl refl)))
       (sym (failed_same plan facts h e w law s.port s.stream still refl))
@@ -230,22 +224,22 @@ module _ (plan : Plan) (facts : KeyFacts plan) (st : LinkState) (h : History) (s
       → is_some (find plan st s.port s.stream) ≡ true
       → read_of (sent_bytes plan h e) ≡ Ok t → v.Sealed ds ≡ due plan h e
       → has_live_out h s.port s.stream ≡ true → FitBehind plan h s ds
-      → Steps plan h e (stepped_answer plan st s t (standing plan h s.port s.stream) None ds)
+      → Steps plan h e (stepped_answer plan st s t (stream_state_due plan h s.port s.stream) None ds)
   seals s t ds known found reads is live all =
       let closed = is_closed plan s.port.line s.stream in
       let unfinished = ahead_of_packet plan (sealed_packets plan h) (base h) in
       let from = base h s.port.line s.stream in
       let xs = sealed_packets plan h in
       let keys : SubKind → Keys = λ u. port_keys h s.port (lane_out s.port s.stream u) in
-      let r = sealed_all closed (head_bytes (header t)) (body t) ds (standing plan h s.port s.stream).tx in
+      let r = sealed_all closed (head_bytes (header t)) (body t) ds (stream_state_due plan h s.port s.stream).tx in
       let done : IsSealed plan unfinished s.port s.stream from (sent_bytes plan h e) xs keys ds r =
       subst (λ (tx : Three TxSub). IsSealed plan unfinished s.port s.stream from (sent_bytes plan h e) xs keys ds
       (sealed_all closed (head_bytes (header t)) (body t) ds tx))
       (sym (senders_before plan h s.port s.stream live))
       (all_sealed plan closed unfinished s.port s.stream from (sent_bytes plan h e) t reads ds xs keys all) in
-      let x : StreamState = record (standing plan h s.port s.stream) { tx = r.1 } in
+      let x : StreamState = record (stream_state_due plan h s.port s.stream) { tx = r.1 } in
       let ps : List LinkPacket = st.packets ++ map (kept_packet s.port) r.0 in
-      let new = put plan st s.port s.stream x in
+      let new = with_stream_state plan st s.port s.stream x in
       let law : CauseLaw plan ((e, v.Sealed ds) ∷ h) = (is, stands.cause) in
       changes plan facts st (record new { packets = ps }) h e (v.Sealed ds) s.port s.stream x stands is
       (none_of_packets e on) known
@@ -263,7 +257,7 @@ module _ (plan : Plan) (facts : KeyFacts plan) (st : LinkState) (h : History) (s
       ≡ due plan h e
       → (o : Option Verdict) → first_that_holds (refusals x s.class) ≡ o
       → Steps plan h e
-      (stepped_answer plan st s t (standing plan h s.port s.stream) o (sealed_with_syncs x s number))
+      (stepped_answer plan st s t (stream_state_due plan h s.port s.stream) o (sealed_with_syncs x s number))
   answers s t known found reads number is (Some w) first =
       let x = lanes_at plan h s.port s.stream in
       tells s.port w (first_quiet (refusals x s.class) w
@@ -280,19 +274,20 @@ module _ (plan : Plan) (facts : KeyFacts plan) (st : LinkState) (h : History) (s
   refuses : (s : Sending) (t : Tlp) (number : ℕ) → verdict_of_send (lanes_at plan h s.port s.stream) s number
       ≡ due plan h e
       → has_live_out h s.port s.stream ≡ false → Steps plan h e
-      (stepped_on_stream plan st s t (Some (standing plan h s.port s.stream)))
+      (stepped_on_stream plan st s t (Some (stream_state_due plan h s.port s.stream)))
   refuses s t number is none =
       let x = lanes_at plan h s.port s.stream in
-      let y = lanes_of (aggregation_of plan s.port.line s.stream) plan.units_per_key (standing plan h s.port s.stream)
+      let y = lanes_of (aggregation_of plan s.port.line s.stream) plan.units_per_key
+      (stream_state_due plan h s.port s.stream)
       in
-      let w = if failed h s.port s.stream then v.RefusedInsecure else v.RefusedNoKey s.class in
+      let w = if has_failed h s.port s.stream then v.RefusedInsecure else v.RefusedNoKey s.class in
       let live = seals_live plan h s.port s.stream s.class in
       let keyless : is_keyless x s.class ≡ true = grind (arith, live) in
       let first : first_that_holds (refusals y s.class) ≡ Some w =
       refused_keyless y s.class (keyless_is plan h s.port s.stream s.class ∙ keyless)
       ∙ ap (λ (b : Bool). Some (if b then v.RefusedInsecure else v.RefusedNoKey s.class))
       (failed_is plan h s.port s.stream) in
-      rw first (tells s.port w (refusal_quiet (failed h s.port s.stream) s.class)
+      rw first (tells s.port w (refusal_quiet (has_failed h s.port s.stream) s.class)
       (ap (λ (o : Option Verdict). unwrap_or o (v.Sealed (sealed_with_syncs x s number)))
       (sym (refused_keyless x s.class keyless)) ∙ is))
 
@@ -307,13 +302,13 @@ module _ (plan : Plan) (facts : KeyFacts plan) (st : LinkState) (h : History) (s
       (by_live kept.known (has_live_out h s.port s.stream) refl)
     where
       by_live : has_stream plan s.port s.stream ≡ true → (b : Bool) → has_live_out h s.port s.stream ≡ b
-          → Steps plan h e (stepped_on_stream plan st s t (Some (standing plan h s.port s.stream)))
+          → Steps plan h e (stepped_on_stream plan st s t (Some (stream_state_due plan h s.port s.stream)))
       by_live known true live =
           let x = lanes_at plan h s.port s.stream in
           let number : length st.packets ≡ length (sealed_packets plan h) = ap length stands.packets
           ∙ length-map (sealed_packets plan h) (λ (z : SealedPacket × Packet). kept_packet z.0.port z.1) in
           subst (λ (l : Lanes). Steps plan h e
-          (stepped_answer plan st s t (standing plan h s.port s.stream)
+          (stepped_answer plan st s t (stream_state_due plan h s.port s.stream)
           (first_that_holds (refusals l s.class)) (sealed_with_syncs l s (length st.packets + 1))))
           (sym (lanes_is plan h s.port s.stream live))
           (answers s t known (rw found refl) reads (length st.packets + 1)
@@ -352,8 +347,7 @@ if_steps plan h e true x y one two = one refl
 if_steps plan h e false x y one two = two refl
 
 pub sends : (plan : Plan) → KeyFacts plan → (st : LinkState) (h : History) → PortsStand plan st h
-    → (bytes : List ℕ) (more trusted : Bool) (port : PortName)
-    → Steps plan h (Send port bytes more trusted)
+    → (bytes : List ℕ) (more trusted : Bool) (port : PortName) → Steps plan h (Send port bytes more trusted)
     (if may_send plan port
     then stepped_bytes plan (beside_at plan h) st (sealing_end plan port bytes) bytes more trusted
     else (v.Nothing, st))

@@ -3,13 +3,11 @@ use Rattle.machine_ports.specs.Stands.{beside_at}
 use Rattle.spec_links.specs.Packets.{arrival_at}
 use Rattle.machine_ports.proofs.Terms.{◌≡◌, ℕ, Bool, true, false, List, Option, Some, None, option_map, option_and_then}
 use Rattle.machine_ports.proofs.Terms.{refl, ap, sym, ◌∙◌, arith, if◌then◌else◌, Alter, altered_arrival, altered_to}
-use Rattle.machine_ports.proofs.Terms.{Arrival}
-use Rattle.machine_ports.proofs.Terms.{arrival_due, Arrive, arrival_of_event, arrival_at_partner, Cut, cut_short, due}
-use Rattle.machine_ports.proofs.Terms.{Dump, dump_due, Event}
-use Rattle.machine_ports.proofs.Terms.{has_port, History, is_of_packets, IsNoOperation, KeyFacts, LinkPacket, LinkState}
-use Rattle.machine_ports.proofs.Terms.{operates, packet_bytes, packet_numbered, PacketsStand, Pass, passed, Plan}
-use Rattle.machine_ports.proofs.Terms.{PortName}
-use Rattle.machine_ports.proofs.Terms.{PortsStand, quiet_test, sealed_packets, Send, shortened_arrival, packet_verdict}
+use Rattle.machine_ports.proofs.Terms.{Arrival, arrival_due, Arrive, arrival_of_event, arrival_at_partner, Cut}
+use Rattle.machine_ports.proofs.Terms.{cut_short, due, Dump, dump_due, Event, has_port, History, is_of_packets}
+use Rattle.machine_ports.proofs.Terms.{IsNoOperation, KeyFacts, LinkPacket, LinkState, operates, packet_bytes}
+use Rattle.machine_ports.proofs.Terms.{packet_numbered, PacketsStand, Pass, whole_arrival, Plan, PortName, PortsStand}
+use Rattle.machine_ports.proofs.Terms.{quiet_test, sealed_packets, Send, shortened_arrival, packet_verdict}
 use Rattle.machine_ports.proofs.Terms.{stepped_arrival, Status, step_of}
 use Rattle.link_verdicts.specs.declared.verdict.Verdict.TheVariants as v
 use Rattle.machine_ports.proofs.Changes.{Steps, none_of_packets, quiet}
@@ -23,20 +21,18 @@ use Rattle.link_events.specs.declared.event.AccessEvent.TheVariants as ae
 
 pub none_status : (l s : ℕ) → IsNoOperation (Status l s)
 unfolding operates
-none_status l s link stream = refl
+none_status l s line stream = refl
 
 -- the machine finds what the event brings
 brought_to : (plan : Plan) → KeyFacts plan → (st : LinkState) (h : History) (e : Event) → is_of_packets e ≡ true
-    → PortsStand plan st h → (o : Option Arrival)
-    → o ≡ arrival_of_event plan h e
+    → PortsStand plan st h → (o : Option Arrival) → o ≡ arrival_of_event plan h e
     → arrival_due plan h (arrival_of_event plan h e) ≡ due plan h e
     → Steps plan h e (stepped_arrival plan (beside_at plan h) st o)
 brought_to plan facts st h e of stands o found is = arrives plan facts st h e (none_of_packets e of) stands o
     (sym found) (ap (arrival_due plan h) found ∙ is)
 
 given : (plan : Plan) → KeyFacts plan → (st : LinkState) (h : History) (port : PortName) (bytes : List ℕ)
-    → PortsStand plan st h
-    → Steps plan h (Arrive port bytes)
+    → PortsStand plan st h → Steps plan h (Arrive port bytes)
     (if has_port plan port
     then stepped_arrival plan (beside_at plan h) st (Some (arrival_at plan port bytes))
     else (v.Nothing, st))
@@ -74,7 +70,7 @@ packets_stand plan facts st h (Access (ae.Answer link)) is stands = replies plan
 packets_stand plan facts st h (Forward link d) is stands = forwards plan facts st h stands link d
 packets_stand plan facts st h (Pass n) is stands =
     brought_to plan facts st h (Pass n) refl stands _
-    (of_numbered st.packets (sealed_packets plan h) n stands.packets (option_and_then (passed plan))
+    (of_numbered st.packets (sealed_packets plan h) n stands.packets (option_and_then (whole_arrival plan))
     (option_map (λ x. arrival_at_partner plan x (packet_bytes x.1))) refl
     (λ x. refl)) refl
 packets_stand plan facts st h (Alter n at mask) is stands =

@@ -3,26 +3,18 @@
 -- unit: it is counted from Base on, a smaller draw in the other set ends, and nothing stays held, since nothing is ever
 -- held for a unit beyond the next.
 use Rattle.machine_ports.proofs.Terms.{◌≡◌, ℕ, ◌+◌, ◌==◌, Bool, true, false, List, [], ◌∷◌, ◌++◌, length, Some, refl}
-use Rattle.machine_ports.proofs.Terms.{ap}
-use Rattle.machine_ports.proofs.Terms.{sym, ◌∙◌, arith, length-append, not, ◌||◌, nat_lt, nat_le, Accepted}
-use Rattle.machine_ports.proofs.Terms.{accepted_keys}
-use Rattle.machine_ports.proofs.Terms.{accepted_slots, accepted_sub, arrived_packet, at_sub, base, CauseLaw}
-use Rattle.machine_ports.proofs.Terms.{counted_unit}
-use Rattle.machine_ports.proofs.Terms.{Cpl}
-use Rattle.machine_ports.proofs.Terms.{slot_without_packets, dropped_held, each_sub, eqb-refl, eqb-sym, Event, Failed}
-use Rattle.machine_ports.proofs.Terms.{failed, fails_at}
-use Rattle.machine_ports.proofs.Terms.{gone_on, got_in, got_since, has_live_in, has_live_out, Held, packets_in_hold}
-use Rattle.machine_ports.proofs.Terms.{held_in}
-use Rattle.machine_ports.proofs.Terms.{held_sub, History, is_of, is_same, is_same-refl, is_same_port-refl, key_in}
-use Rattle.machine_ports.proofs.Terms.{Keyed}
-use Rattle.machine_ports.proofs.Terms.{KeyFacts, Keys, port_keys, lane_in, Loaded, nat_tests, Npr, Off, On, on_draw}
-use Rattle.machine_ports.proofs.Terms.{on_in}
-use Rattle.machine_ports.proofs.Terms.{operates, Packet, pending_packets, Plan, PortName, posted_sum, Pr}
-use Rattle.machine_ports.proofs.Terms.{receiving_sub_stream, slot_unless_older}
-use Rattle.machine_ports.proofs.Terms.{rx_slot, rx_slots, rx_standing, RxSub, set_sub, slot_in_set, standing}
-use Rattle.machine_ports.proofs.Terms.{state_after}
-use Rattle.machine_ports.proofs.Terms.{sub_bits, SubKind, SubStream, sum_by-append, unit_name, UnitName, units_got}
-use Rattle.machine_ports.proofs.Terms.{units_since, unless_below, Verdict, with_slot}
+use Rattle.machine_ports.proofs.Terms.{ap, sym, ◌∙◌, arith, length-append, not, ◌||◌, nat_lt, nat_le, Accepted}
+use Rattle.machine_ports.proofs.Terms.{accepted_keys, accepted_slots, accepted_sub, arrived_packet, at_sub, base}
+use Rattle.machine_ports.proofs.Terms.{CauseLaw, counted_unit, Cpl, slot_without_packets, dropped_held, each_sub}
+use Rattle.machine_ports.proofs.Terms.{eqb-refl, eqb-sym, Event, Failed, has_failed, fails_at, gone_on, got_in}
+use Rattle.machine_ports.proofs.Terms.{got_since, has_live_in, has_live_out, Held, packets_in_hold, held_in, held_sub}
+use Rattle.machine_ports.proofs.Terms.{History, is_received_under, is_same, is_same-refl, is_same_port-refl, key_in}
+use Rattle.machine_ports.proofs.Terms.{Keyed, KeyFacts, Keys, port_keys, lane_in, Loaded, nat_tests, Npr, Off, On}
+use Rattle.machine_ports.proofs.Terms.{on_draw, on_in, operates, Packet, pending_packets, Plan, PortName, posted_sum}
+use Rattle.machine_ports.proofs.Terms.{Pr, receiving_sub_stream, slot_unless_older, rx_slot, rx_slots, rx_state_due}
+use Rattle.machine_ports.proofs.Terms.{RxSub, set_sub, slot_in_set, stream_state_due, state_after, sub_bits, SubKind}
+use Rattle.machine_ports.proofs.Terms.{SubStream, sum_by-append, unit_name, UnitName, units_got, units_since}
+use Rattle.machine_ports.proofs.Terms.{unless_below, Verdict, with_slot}
 use Rattle.link_verdicts.specs.declared.verdict.Verdict.TheVariants as v
 use Rattle.ide_types.specs.declared.sub.FailCause.{FailCause}
 use Rattle.link_verdicts.specs.declared.verdict.Effect.{Effect}
@@ -49,13 +41,13 @@ taken_one : (plan : Plan) → KeyFacts plan → (h : History) (e : Event) (w : V
     → operates e port.line stream ≡ false → (u : SubKind) (made : RxSub → RxSub) → seals_at port stream w ≡ false
     → fails_at port stream w ≡ false
     → ((s : SubStream) → is_same (lane_in port stream u) s ≡ false → (accepts_in s w ≡ false) × (holds_in s w ≡ false))
-    → rx_standing plan ((e, w) ∷ h) port (lane_in port stream u)
-    ≡ made (rx_standing plan h port (lane_in port stream u))
-    → let old = standing plan h port stream in record old { rx = set_sub old.rx u (made (at_sub old.rx u)) }
-    ≡ standing plan ((e, w) ∷ h) port stream
-unfolding standing
+    → rx_state_due plan ((e, w) ∷ h) port (lane_in port stream u)
+    ≡ made (rx_state_due plan h port (lane_in port stream u))
+    → let old = stream_state_due plan h port stream in record old { rx = set_sub old.rx u (made (at_sub old.rx u)) }
+    ≡ stream_state_due plan ((e, w) ∷ h) port stream
+unfolding stream_state_due
 taken_one plan facts h e w law port stream still u made unsealed secure none own =
-    let rx : SubKind → RxSub = λ x. rx_standing plan h port (lane_in port stream x) in
+    let rx : SubKind → RxSub = λ x. rx_state_due plan h port (lane_in port stream x) in
     sym (stream_is _ _ (each_same _ _ (λ x. tx_frame plan facts h e w law port stream still x unsealed))
     (one_new _ rx u _ (own ∙ ap made (sym (at_each rx u)))
     (λ x other. let off = none (lane_in port stream x) (other_lane port stream u x other) in
@@ -64,7 +56,7 @@ taken_one plan facts h e w law port stream still u made unsealed secure none own
 
 -- ---- a failure
 
-drops : (plan : Plan) (g h : History) (port : PortName) (s : SubStream) (a : Keyed) → failed g port s.stream ≡ true
+drops : (plan : Plan) (g h : History) (port : PortName) (s : SubStream) (a : Keyed) → has_failed g port s.stream ≡ true
     → ((j : ℕ) → units_got g s j ≡ units_got h s j) → rx_slot plan g port s a
     ≡ slot_without_packets (rx_slot plan h port s a)
 drops plan g h port s Off bad units = refl
@@ -78,17 +70,17 @@ pub after_failure : (plan : Plan) → KeyFacts plan → (h : History) (e : Event
     (cause : FailCause)
     → let stream = p.prefix.stream in let g = (e, v.Fail port stream p.prefix.sub cause) ∷ h in
     CauseLaw plan g → operates e port.line stream ≡ false → has_live_in h port stream ≡ true
-    → state_after (standing plan h port stream) p (Failed cause) ≡ standing plan g port stream
-unfolding standing
+    → state_after (stream_state_due plan h port stream) p (Failed cause) ≡ stream_state_due plan g port stream
+unfolding stream_state_due
 after_failure plan facts h e port p cause law still live =
     let stream = p.prefix.stream in
     let w = v.Fail port stream p.prefix.sub cause in
     let g = (e, w) ∷ h in
-    let bad : failed g port stream ≡ true =
+    let bad : has_failed g port stream ≡ true =
     failed_more plan facts h e w law port stream still ∙ rw (is_same_port-refl port, eqb-refl stream, live)
     (or_true (has_live_out h port stream)) in
-    let each : (u : SubKind) → rx_standing plan g port (lane_in port stream u)
-    ≡ dropped_held (rx_standing plan h port (lane_in port stream u)) =
+    let each : (u : SubKind) → rx_state_due plan g port (lane_in port stream u)
+    ≡ dropped_held (rx_state_due plan h port (lane_in port stream u)) =
     λ u. let s = lane_in port stream u in
     let drop : (a : Keyed) → rx_slot plan g port s a ≡ slot_without_packets (rx_slot plan h port s a) = λ a. drops plan
     g h port s a
@@ -120,11 +112,11 @@ abbrev unit_of : ℕ → SubKind → ℕ → ℕ → UnitName
 unit_of stream u j n = record { stream = stream; sub = u; draw = j; unit = n }
 
 of_it : (port : PortName) (stream : ℕ) (u : SubKind) (j n : ℕ)
-    → is_of (lane_in port stream u) j port (unit_of stream u j n) ≡ true
+    → is_received_under (lane_in port stream u) j port (unit_of stream u j n) ≡ true
 of_it port stream u j n = rw (is_same-refl (lane_in port stream u), eqb-refl j) refl
 
 not_of_it : (port : PortName) (stream : ℕ) (u : SubKind) (i j n : ℕ) → (j == i) ≡ false
-    → is_of (lane_in port stream u) i port (unit_of stream u j n) ≡ false
+    → is_received_under (lane_in port stream u) i port (unit_of stream u j n) ≡ false
 not_of_it port stream u i j n other = rw (is_same-refl (lane_in port stream u), other) refl
 
 -- ---- a held packet
@@ -136,8 +128,7 @@ unfolding packets_in_hold
 held_more plan h e port stream u j n = rw (of_it port stream u j n, eqb-refl n) refl
 
 held_other : (plan : Plan) (h : History) (e : Event) (port : PortName) (stream : ℕ) (u : SubKind) (j n i m : ℕ)
-    → (j == i) ≡ false
-    → packets_in_hold plan ((e, v.Held port (unit_of stream u j n)) ∷ h) (lane_in port stream u) i m
+    → (j == i) ≡ false → packets_in_hold plan ((e, v.Held port (unit_of stream u j n)) ∷ h) (lane_in port stream u) i m
     ≡ packets_in_hold plan h (lane_in port stream u) i m
 unfolding packets_in_hold
 held_other plan h e port stream u j n i m other = rw (not_of_it port stream u i j n other) refl
@@ -147,15 +138,15 @@ pub record Next (plan : Plan) (h : History) (e : Event) (w : Verdict) (port : Po
   where
     pub law : CauseLaw plan ((e, w) ∷ h)
     pub still : operates e port.line p.prefix.stream ≡ false
-    pub secure : failed h port p.prefix.stream ≡ false
+    pub secure : has_failed h port p.prefix.stream ≡ false
     pub on : on_draw h port (receiving_sub_stream port p) p.prefix.k ≡ Some j
     pub next : n ≡ units_got h (receiving_sub_stream port p) j + 1
     pub came : arrived_packet plan h e ≡ p
 
 module _ (plan : Plan) (facts : KeyFacts plan) (h : History) (e : Event) (port : PortName) (p : Packet) (j n : ℕ)
     (is : Next plan h e (v.Held port (unit_name p j n)) port p j n) where
-  fails_as_held : let w = v.Held port (unit_name p j n) in failed ((e, w) ∷ h) port p.prefix.stream
-      ≡ failed h port p.prefix.stream
+  fails_as_held : let w = v.Held port (unit_name p j n) in has_failed ((e, w) ∷ h) port p.prefix.stream
+      ≡ has_failed h port p.prefix.stream
   fails_as_held = failed_same plan facts h e (v.Held port (unit_name p j n)) is.law port p.prefix.stream is.still refl
 
   held_slot : (a : Keyed) → a ≡ On j → let s = receiving_sub_stream port p in
@@ -164,7 +155,7 @@ module _ (plan : Plan) (facts : KeyFacts plan) (h : History) (e : Event) (port :
       let w = v.Held port (unit_name p j n) in
       let g = (e, w) ∷ h in
       let s = receiving_sub_stream port p in
-      let secure : failed g port p.prefix.stream ≡ false = fails_as_held ∙ is.secure in
+      let secure : has_failed g port p.prefix.stream ≡ false = fails_as_held ∙ is.secure in
       let more : pending_packets plan g s j ≡ pending_packets plan h s j ++ p ∷ [] =
       ap (held_in plan g s j) (ap (λ (m : ℕ). m + 1) (units_same h e w s j refl) ∙ sym is.next)
       ∙ (held_more plan h e port p.prefix.stream p.prefix.sub j n ∙
@@ -192,7 +183,8 @@ module _ (plan : Plan) (facts : KeyFacts plan) (h : History) (e : Event) (port :
   held_slots false are = slots_is _ _ (held_slot _ are.0) (held_other_slot _ are.1)
 
   pub after_held : let stream = p.prefix.stream in
-      state_after (standing plan h port stream) p (Held j n) ≡ standing plan ((e, v.Held port (unit_name p j n)) ∷ h)
+      state_after (stream_state_due plan h port stream) p (Held j n)
+      ≡ stream_state_due plan ((e, v.Held port (unit_name p j n)) ∷ h)
       port stream
   after_held =
       let stream = p.prefix.stream in
@@ -242,8 +234,8 @@ retired_is plan g port s j a = grind arith
 module _ (plan : Plan) (facts : KeyFacts plan) (h : History) (e : Event) (port : PortName) (p : Packet) (j n : ℕ)
     (effects : List Effect)
     (is : Next plan h e (v.Accepted port (unit_name p j n) effects) port p j n) where
-  fails_as_got : let w = v.Accepted port (unit_name p j n) effects in failed ((e, w) ∷ h) port p.prefix.stream
-      ≡ failed h port p.prefix.stream
+  fails_as_got : let w = v.Accepted port (unit_name p j n) effects in has_failed ((e, w) ∷ h) port p.prefix.stream
+      ≡ has_failed h port p.prefix.stream
   fails_as_got = failed_same plan facts h e (v.Accepted port (unit_name p j n) effects) is.law port p.prefix.stream
       is.still refl
 
@@ -254,7 +246,7 @@ module _ (plan : Plan) (facts : KeyFacts plan) (h : History) (e : Event) (port :
       let w = v.Accepted port (unit_name p j n) effects in
       let g = (e, w) ∷ h in
       let s = receiving_sub_stream port p in
-      let secure : failed g port p.prefix.stream ≡ false = fails_as_got ∙ is.secure in
+      let secure : has_failed g port p.prefix.stream ≡ false = fails_as_got ∙ is.secure in
       let units : units_got g s j ≡ units_got h s j + 1 = units_accepted h e port p.prefix.stream p.prefix.sub j n
       effects in
       let none : pending_packets plan g s j ≡ [] =
@@ -283,9 +275,9 @@ module _ (plan : Plan) (facts : KeyFacts plan) (h : History) (e : Event) (port :
   got_slots true are = slots_is _ _ (got_other_slot _ are.1) (got_slot _ are.0)
   got_slots false are = slots_is _ _ (got_slot _ are.0) (got_other_slot _ are.1)
 
-  got_lane : let s = receiving_sub_stream port p in rx_standing plan
+  got_lane : let s = receiving_sub_stream port p in rx_state_due plan
       ((e, v.Accepted port (unit_name p j n) effects) ∷ h) port s
-      ≡ accepted_sub j p.prefix.k (pending_packets plan h s j ++ p ∷ []) (rx_standing plan h port s)
+      ≡ accepted_sub j p.prefix.k (pending_packets plan h s j ++ p ∷ []) (rx_state_due plan h port s)
   got_lane =
       let w = v.Accepted port (unit_name p j n) effects in
       let g = (e, w) ∷ h in
@@ -311,9 +303,9 @@ module _ (plan : Plan) (facts : KeyFacts plan) (h : History) (e : Event) (port :
       (rw (now, live) (ap length got ∙ length-append (got_in plan h s) unit)) (rw (now, live) since)
 
   pub after_accepted : let stream = p.prefix.stream in
-      state_after (standing plan h port stream) p
+      state_after (stream_state_due plan h port stream) p
       (Accepted j n (pending_packets plan h (receiving_sub_stream port p) j ++ p ∷ []))
-      ≡ standing plan ((e, v.Accepted port (unit_name p j n) effects) ∷ h) port stream
+      ≡ stream_state_due plan ((e, v.Accepted port (unit_name p j n) effects) ∷ h) port stream
   after_accepted =
       taken_one plan facts h e (v.Accepted port (unit_name p j n) effects) is.law port p.prefix.stream is.still
       p.prefix.sub

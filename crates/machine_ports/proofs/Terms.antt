@@ -20,60 +20,52 @@ pub use Rattle.link_events.specs.declared.event.Event.TheVariants.{Alter, Arrive
 pub use Rattle.spec_links.proofs.Causes.{Came, held_by, numbered, packet_that_came}
 pub use Rattle.spec_links.proofs.Sealed.{any_out, is_out, not_here, posted-more, posted-own, posted-same}
 pub use Rattle.spec_links.proofs.Sealed.{posted_elsewhere, sent-same, sent_elsewhere, sub_stream_packets-snoc}
-pub use Rattle.spec_links.proofs.Sealed.{total-same}
-pub use Rattle.spec_links.proofs.Sealed.{total-snoc, total_elsewhere}
+pub use Rattle.spec_links.proofs.Sealed.{total-same, total-snoc, total_elsewhere}
 pub use Rattle.spec_links.proofs.SealingIs.{quiet_seals_none, sealed_same, seals_none}
 pub use Rattle.spec_links.proofs.Senders.{AreFalse, AreOther, and_false, has_key, in_lane, lane_is, needs_posted}
 pub use Rattle.spec_links.proofs.Senders.{none_holds, on_live, sealed_by_is}
-unfoldable pub use Rattle.spec_links.proofs.Senders.{listed}
+unfoldable pub use Rattle.spec_links.proofs.Senders.{listed_seals}
 pub use Rattle.spec_links.proofs.Tests.{eqb-refl, eqb-sym, is_same-refl, is_same_port-refl, same_in, same_port}
 pub use Rattle.spec_links.proofs.Tests.{same_stream, same_sub}
 pub use Rattle.spec_links.specs.Cause.{CauseLaw}
 pub use Rattle.spec_links.specs.Due.{Lane, Lanes, Sending, arrival_due, before_tag_of, described_seal, dump_due}
-pub use Rattle.spec_links.specs.Due.{effects_of, first_that_holds, is_keyless, is_mixed, is_overfull, lane_at}
+pub use Rattle.spec_links.specs.Due.{effects_of, first_that_holds, is_keyless, is_mixed, is_overfull, lane_contents}
 pub use Rattle.spec_links.specs.Due.{lanes_at, needs_sync, no_key, receiving_sub_stream, refusals, sealed_with_syncs}
 pub use Rattle.spec_links.specs.Due.{send_due, verdict_of_send}
-pub use Rattle.spec_links.specs.Due.{packets_under_key, ending_due, under_keys, unit_under}
+pub use Rattle.spec_links.specs.Due.{packets_under_key, ending_due, under_keys, next_unit_name}
 unfoldable pub use Rattle.spec_links.specs.Due.{before_tag, due, is_verified}
 pub use Rattle.spec_links.specs.History.{Arrival, KeyName, SealedList, accepted_keys, after_ends, ahead_of_packet}
-pub use Rattle.spec_links.specs.History.{altered_arrival, arrived_packet, arrival_at_partner, ended_keys, ends_unit_at}
-pub use Rattle.spec_links.specs.History.{failed, fails_at}
-pub use Rattle.spec_links.specs.History.{total_ahead, has_live_key, packets_in_hold as held_in, is_in, is_keyed, is_of}
-pub use Rattle.spec_links.specs.History.{port_keys}
-pub use Rattle.spec_links.specs.History.{lesser, live_key, on_draw, packet_at, pending_packets, posted_count, posted_in}
-pub use Rattle.spec_links.specs.History.{posted_of, received_in, sub_stream_packets, shortened_arrival, sub_stream_of}
-pub use Rattle.spec_links.specs.History.{total_in, waits}
-pub use Rattle.spec_links.specs.History.{with_sealed}
+pub use Rattle.spec_links.specs.History.{altered_arrival, arrived_packet, arrival_at_partner, ended_keys}
+pub use Rattle.spec_links.specs.History.{ends_port_unit, has_failed, fails_at, total_ahead, has_live_key}
+pub use Rattle.spec_links.specs.History.{packets_in_hold as held_in, is_sealed_since, is_keyed, is_received_under}
+pub use Rattle.spec_links.specs.History.{port_keys, lesser, live_key, on_draw, packet_by_number, pending_packets}
+pub use Rattle.spec_links.specs.History.{posted_count, posted_since_last, posted_lane, received_in, sub_stream_packets}
+pub use Rattle.spec_links.specs.History.{shortened_arrival, sub_stream_of, total_in, waits, with_sealed}
 unfoldable pub use Rattle.spec_links.specs.History.{arrival_of_event, ahead_of_unit, got_since, has_live_in}
-unfoldable pub use Rattle.spec_links.specs.History.{has_live_out}
-unfoldable pub use Rattle.spec_links.specs.History.{packets_in_hold, meets_counts, packet_of, sealed_packets, units_got}
-unfoldable pub use Rattle.spec_links.specs.History.{units_since}
+unfoldable pub use Rattle.spec_links.specs.History.{has_live_out, packets_in_hold, meets_counts, packet_of}
+unfoldable pub use Rattle.spec_links.specs.History.{sealed_packets, units_got, units_since}
 pub use Rattle.spec_links.specs.KeyFacts.{IsNoOperation, KeyFacts, is_quiet, is_quiet as quiet_test}
 unfoldable pub use Rattle.spec_links.specs.KeyFacts.{operates}
 pub use Rattle.spec_links.specs.Plan.{SubStream, has_port, has_stream, is_closed, is_same, is_same_port, key_of}
 pub use Rattle.spec_links.specs.Plan.{lane_in, lane_out, aggregation_of, streams_of}
 unfoldable pub use Rattle.spec_links.specs.Units.{open_unit, units}
 pub use Rattle.machine_ports.specs.Machine.{LinkPacket, LinkState, Stepped, altered_to, stepped_answer, changed_by_id}
-pub use Rattle.machine_ports.specs.Machine.{cut_short, found_by_id, kept_packet, packet_numbered, passed, port_place}
-pub use Rattle.machine_ports.specs.Machine.{stepped_on_stream, stepped_send, stepped_packet, stepped_cut}
-pub use Rattle.machine_ports.specs.Machine.{stepped_arrival}
-pub use Rattle.machine_ports.specs.Machine.{packet_verdict, verdict_of_taken}
+pub use Rattle.machine_ports.specs.Machine.{cut_short, found_by_id, kept_packet, packet_numbered, whole_arrival}
+pub use Rattle.machine_ports.specs.Machine.{port_place, stepped_on_stream, stepped_send, stepped_packet, stepped_cut}
+pub use Rattle.machine_ports.specs.Machine.{stepped_arrival, packet_verdict, verdict_of_taken}
 pub use Rattle.spec_stream.specs.Stream.{unit_name}
-unfoldable pub use Rattle.machine_ports.specs.Machine.{find, put, step_of}
+unfoldable pub use Rattle.machine_ports.specs.Machine.{find, with_stream_state, step_of}
 pub use Rattle.machine_ports.specs.Stands.{PacketsStand, PortsStand, got_in, is_of_packets, rx_slot, rx_slots}
-pub use Rattle.machine_ports.specs.Stands.{rx_standing}
-pub use Rattle.machine_ports.specs.Stands.{sealing_key, standing_if_planned, tx_slot, tx_slots, tx_standing}
-unfoldable pub use Rattle.machine_ports.specs.Stands.{standing}
+pub use Rattle.machine_ports.specs.Stands.{rx_state_due}
+pub use Rattle.machine_ports.specs.Stands.{sealing_key, state_due_if_planned, tx_slot, tx_slots, tx_state_due}
+unfoldable pub use Rattle.machine_ports.specs.Stands.{stream_state_due}
 pub use Rattle.machine_ports.specs.Stream.{Accepted, Failed, Held, Insecure, Live, LiveKey, NotKeyed, RxSub, LaneSlot}
 pub use Rattle.machine_ports.specs.Stream.{LaneSlots, StreamState, Taken, Three, TxSub, accepted_slots, accepted_sub}
 pub use Rattle.machine_ports.specs.Stream.{at_sub, outcome_of_checks, counted_unit, slot_without_packets, dropped_held}
-pub use Rattle.machine_ports.specs.Stream.{each_sub, ended_slots}
-pub use Rattle.machine_ports.specs.Stream.{gone_on, held_sub, holds_any, is_allowed, is_tagged, lane_of, lanes_of}
-pub use Rattle.machine_ports.specs.Stream.{live_in}
-pub use Rattle.machine_ports.specs.Stream.{live_sender, packet_under, posted_sum, slot_unless_older, sealed_all}
-pub use Rattle.machine_ports.specs.Stream.{sealed_slots}
-pub use Rattle.machine_ports.specs.Stream.{sealed_sub, set_sub, slot_in_set, state_after, stream_outcome}
-pub use Rattle.machine_ports.specs.Stream.{stream_outcome_by_keys, with_slot}
+pub use Rattle.machine_ports.specs.Stream.{each_sub, ended_slots, gone_on, held_sub, holds_any, is_allowed, is_tagged}
+pub use Rattle.machine_ports.specs.Stream.{lane_of, lanes_of, live_in, live_sender, packet_under, posted_sum}
+pub use Rattle.machine_ports.specs.Stream.{slot_unless_older, sealed_all, sealed_slots, sealed_sub, set_sub}
+pub use Rattle.machine_ports.specs.Stream.{slot_in_set, state_after, stream_outcome, stream_outcome_by_keys, with_slot}
 pub use Rattle.link_verdicts.specs.declared.verdict.SealedPacket.{SealedPacket}
 pub use Rattle.link_verdicts.specs.declared.verdict.UnitName.{UnitName}
 pub use Rattle.link_verdicts.specs.declared.verdict.Verdict.{Verdict}

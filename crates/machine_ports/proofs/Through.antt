@@ -1,9 +1,8 @@
 -- A step that answers `through` leaves the state: no packet that is looked at gets that answer.
 use Rattle.machine_ports.proofs.Terms.{◌≡◌, ℕ, Bool, true, false, Option, Some, None, Ok, Err, Result, arith, refl}
-use Rattle.machine_ports.proofs.Terms.{option_and_then, if◌then◌else◌, Plan, PortName, Event, LinkState, Arrival}
-use Rattle.machine_ports.proofs.Terms.{Packet}
-use Rattle.machine_ports.proofs.Terms.{has_port, packet_numbered, passed, altered_to, cut_short, find, StreamState}
-use Rattle.machine_ports.proofs.Terms.{stepped_arrival, step_of, Pass, Alter, Cut, Arrive}
+use Rattle.machine_ports.proofs.Terms.{option_and_then, if◌then◌else◌, Plan, PortName, LinkState, Arrival, Event}
+use Rattle.machine_ports.proofs.Terms.{Packet, has_port, packet_numbered, whole_arrival, altered_to, cut_short, find}
+use Rattle.machine_ports.proofs.Terms.{StreamState, stepped_arrival, step_of, Pass, Alter, Cut, Arrive}
 use Rattle.ide_prefix.specs.declared.fault.PacketFault.{PacketFault}
 use Rattle.ide_prefix.specs.Reading.{CutValue, PlainTlp, IdePacket, cut_of}
 use Rattle.link_verdicts.specs.declared.verdict.Verdict.TheVariants as v
@@ -54,7 +53,7 @@ given_stays plan beside st q o false is = refl
 pub through_stays : ThroughStays
 unfolding step_of
 through_stays plan beside st (Pass n) q brings is = arrival_stays plan beside st q
-    (option_and_then (passed plan) (packet_numbered st.packets n)) is
+    (option_and_then (whole_arrival plan) (packet_numbered st.packets n)) is
 through_stays plan beside st (Alter n at mask) q brings is = arrival_stays plan beside st q
     (option_and_then (altered_to plan at mask) (packet_numbered st.packets n)) is
 through_stays plan beside st (Cut n len) q brings is = arrival_stays plan beside st q

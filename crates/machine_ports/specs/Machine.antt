@@ -6,7 +6,6 @@ use Rattle.std.specs.List.{slice_index_or}
 use Rattle.std.specs.Option.{option_and_then}
 use Rattle.spec_stream.specs.Stream.{unit_name}
 use Rattle.ide_types.specs.declared.port.PortName.{PortName}
-use Rattle.link_events.specs.declared.event.Event.{Event}
 use Rattle.link_events.specs.declared.event.Event.TheVariants.{Send, Pass, Alter, Cut, Arrive, Dump, Establish, Refresh}
 use Rattle.link_events.specs.declared.event.Event.TheVariants.{Stop, Reset, Status, Interface, Access, Forward, Absent}
 use Rattle.link_events.specs.declared.event.AccessEvent.TheVariants as ae
@@ -20,7 +19,7 @@ use Rattle.tlp_layout.specs.Class.{class_of}
 use Rattle.tlp_layout.specs.Faults.{place_in}
 use Rattle.tlp_layout.specs.Head.{head_bytes}
 use Rattle.tlp_layout.specs.Tlp.{header, body}
-use Rattle.association.specs.Outgoing.{Outgoing, NoTlp, OnNone, OnStream, outgoing_of}
+use Rattle.tlp_layout.specs.Outgoing.{Outgoing, NoTlp, OnNone, OnStream, outgoing_of}
 use Rattle.ide_prefix.specs.declared.fault.PacketFault.{PacketFault}
 use Rattle.ide_prefix.specs.Faults.{packet_place}
 use Rattle.ide_prefix.specs.Packet.{Packet, packet_bytes}
@@ -61,6 +60,7 @@ use Rattle.machine_ports.specs.Stream.{LaneSlot, LaneSlots, slot_in_set, LiveKey
 use Rattle.machine_ports.specs.Stream.{is_live_slot, slots_at, stream_status, no_stream, sealing_draw, receiving_draw}
 use Rattle.machine_ports.specs.Stream.{Taken, Insecure, NotKeyed, Failed, Held, Accepted, lanes_of, sealed_all}
 use Rattle.machine_ports.specs.Stream.{stream_outcome, state_after}
+use Rattle.link_events.specs.declared.event.Event.{Event}
 
 -- a sealed packet: the end that sealed it, and its bytes
 pub record LinkPacket : Type 0 where
@@ -91,8 +91,8 @@ changed_by_id _ xs id y = xs
 unfoldable pub find : Plan → LinkState → PortName → ℕ → Option StreamState
 find plan st port stream = found_by_id (streams_of plan port.line) (slice_index_or st.ports (port_place port) []) stream
 
-unfoldable pub put : Plan → LinkState → PortName → ℕ → StreamState → LinkState
-put plan st port stream x =
+unfoldable pub with_stream_state : Plan → LinkState → PortName → ℕ → StreamState → LinkState
+with_stream_state plan st port stream x =
     record st {
       ports = slice_set st.ports (port_place port) (changed_by_id (streams_of plan port.line)
           (slice_index_or st.ports (port_place port) []) stream x);
@@ -100,13 +100,13 @@ put plan st port stream x =
 
 -- the manager's operation on a stream of a line
 unfoldable pub find_op : Plan → LinkState → ℕ → ℕ → Option StreamStage
-find_op plan st link stream = found_by_id (streams_of plan link) (slice_index_or st.ops link []) stream
+find_op plan st line stream = found_by_id (streams_of plan line) (slice_index_or st.ops line []) stream
 
 unfoldable pub put_op : Plan → LinkState → ℕ → ℕ → StreamStage → LinkState
-put_op plan st link stream o =
+put_op plan st line stream o =
     record st {
-      ops = slice_set st.ops link
-          (changed_by_id (streams_of plan link) (slice_index_or st.ops link []) stream o);
+      ops = slice_set st.ops line
+          (changed_by_id (streams_of plan line) (slice_index_or st.ops line []) stream o);
     }
 
 -- a verdict and the state after it
@@ -135,7 +135,7 @@ abbrev pub stepped_answer : Plan → LinkState → Sending → Tlp → StreamSta
 stepped_answer plan st s t x (Some verdict) ds = (verdict, st)
 stepped_answer plan st s t x None ds =
     let sealed = sealed_all (is_closed plan s.port.line s.stream) (head_bytes (header t)) (body t) ds x.tx in
-    let new = put plan st s.port s.stream (record x { tx = sealed.1 }) in
+    let new = with_stream_state plan st s.port s.stream (record x { tx = sealed.1 }) in
     (v.Sealed ds, record new { packets = st.packets ++ map (kept_packet s.port) sealed.0 })
 
 abbrev pub stepped_on_stream : Plan → LinkState → Sending → Tlp → Option StreamState → Stepped
@@ -168,7 +168,7 @@ stepped_bytes plan beside st end bytes more trusted =
 -- ---- answers to reads that wait
 
 abbrev pub port_at : Side → ℕ → PortName
-port_at side link = record { side = side; line = link }
+port_at side line = record { side = side; line = line }
 
 -- the draw that a port seals a sub-stream of a stream under, and the greatest that it opens one under
 abbrev pub sealing_draw_at : SubKind → Option StreamState → Option ℕ
@@ -180,13 +180,13 @@ receiving_draw_at u o = option_and_then (λ (x : StreamState). receiving_draw (s
 -- under a key of the bound stream from the floor on the completion is sent as any TLP is, with T
 abbrev pub stepped_completion : Plan → BesidePorts → LinkState → PortName → BoundCompletion → Option ℕ → Stepped
 stepped_completion plan beside st port r draw =
-    if is_below draw r.floor then (v.Interface (iv.RefusedRefreshFirst (unwrap_or draw 0) r.floor), st)
+    if is_below draw r.bound.floor then (v.Interface (iv.RefusedRefreshFirst (unwrap_or draw 0) r.bound.floor), st)
     else stepped_send plan beside st port (outgoing_of (streams_of plan port.line) port.side r.bytes) false true
 
 abbrev pub stepped_reply : Plan → BesidePorts → LinkState → PortName → Result BoundCompletion Verdict → Stepped
 stepped_reply plan beside st port (Err verdict) = (verdict, st)
 stepped_reply plan beside st port (Ok r) =
-    stepped_completion plan beside st port r (sealing_draw_at Cpl (find plan st port r.stream))
+    stepped_completion plan beside st port r (sealing_draw_at Cpl (find plan st port r.bound.stream))
 
 -- ---- what waits at switches
 
@@ -211,7 +211,7 @@ stepped_packet plan beside st port p (Some x) =
     let taken = stream_outcome (aggregation_of plan port.line p.prefix.stream)
     (is_closed plan port.line p.prefix.stream) x p
     in
-    (verdict_of_taken beside port p taken, put plan st port p.prefix.stream (state_after x p taken))
+    (verdict_of_taken beside port p taken, with_stream_state plan st port p.prefix.stream (state_after x p taken))
 
 abbrev pub stepped_cut : Plan → BesidePorts → LinkState → PortName → Result CutValue PacketFault → Stepped
 stepped_cut plan beside st port (Err f) = (v.Malformed (port_of plan port) (packet_word f) (packet_place f), st)
@@ -235,8 +235,8 @@ abbrev pub brought_to : Plan → LinkPacket → List ℕ → Arrival
 brought_to plan x bytes = arrival_at plan (partner x.port) bytes
 
 -- the whole packet arrives
-abbrev pub passed : Plan → LinkPacket → Option Arrival
-passed plan x = Some (brought_to plan x x.bytes)
+abbrev pub whole_arrival : Plan → LinkPacket → Option Arrival
+whole_arrival plan x = Some (brought_to plan x x.bytes)
 
 abbrev pub altered_to : Plan → ℕ → ℕ → LinkPacket → Option Arrival
 altered_to plan at mask x =
@@ -257,19 +257,19 @@ abbrev pub touched_found : Plan → LinkState → PortName → ℕ → (SubKind 
     → Option StreamState → LinkState
 touched_found plan st port stream out into None = st
 touched_found plan st port stream out into (Some x) =
-    put plan st port stream (touched_stream plan port stream out into x)
+    with_stream_state plan st port stream (touched_stream plan port stream out into x)
 
 abbrev pub touched_at : Plan → LinkState → ℕ → ℕ → (Side → SubKind → List Touch) → (Side → SubKind → List Touch) → Side
     → LinkState
-touched_at plan st link stream out into side =
-    let port : PortName = record { side = side; line = link } in
+touched_at plan st line stream out into side =
+    let port : PortName = record { side = side; line = line } in
     touched_found plan st port stream (out side) (into side) (find plan st port stream)
 
 -- the state after it
 abbrev pub touched_state : Plan → LinkState → ℕ → ℕ → (Side → SubKind → List Touch) → (Side → SubKind → List Touch)
     → LinkState
-touched_state plan st link stream out into =
-    touched_at plan (touched_at plan st link stream out into Host) link stream out into Device
+touched_state plan st line stream out into =
+    touched_at plan (touched_at plan st line stream out into Host) line stream out into Device
 
 -- ---- what operations read of the ports
 
@@ -304,12 +304,12 @@ status_if_planned None = status.Idle
 status_if_planned (Some x) = stream_status x
 
 abbrev pub machine_status : Plan → LinkState → Side → ℕ → ℕ → StreamStatus
-machine_status plan st side link stream = status_if_planned (find plan st (port_at side link) stream)
+machine_status plan st side line stream = status_if_planned (find plan st (port_at side line) stream)
 
 -- ---- operations
 
 abbrev pub place_at_end : ℕ → ℕ → Bool → Side → SubKind → KeyPlace
-place_at_end link stream sends side u = record { side = side; line = link; stream = stream; sends = sends; sub = u }
+place_at_end line stream sends side u = record { side = side; line = line; stream = stream; sends = sends; sub = u }
 
 -- what an event of an operation does to the slots of a place
 abbrev pub touches_at : PortView → Work → Reach → KeyPlace → List Touch
@@ -319,39 +319,39 @@ abbrev pub draws_after : ℕ → Work → ℕ
 draws_after next w = if w.begins && makes_draw w.operation then next + 1 else next
 
 abbrev pub work_done : Plan → LinkState → ℕ → ℕ → Work → Option Reach → LinkState
-work_done plan st link stream w None = st
-work_done plan st link stream w (Some r) =
+work_done plan st line stream w None = st
+work_done plan st line stream w (Some r) =
     let ports = ports_of plan st in
     let touched =
-    touched_state plan st link stream (λ side u. touches_at ports w r (place_at_end link stream true side u))
-    (λ side u. touches_at ports w r (place_at_end link stream false side u)) in
-    record (put_op plan touched link stream (op_after (is_hosted link) w r)) { draws = draws_after st.draws w }
+    touched_state plan st line stream (λ side u. touches_at ports w r (place_at_end line stream true side u))
+    (λ side u. touches_at ports w r (place_at_end line stream false side u)) in
+    record (put_op plan touched line stream (op_after (is_hosted line) w r)) { draws = draws_after st.draws w }
 
 abbrev pub stepped_operation : Plan → LinkState → Operation → ℕ → ℕ → StreamStage → Verdict → Stepped
-stepped_operation plan st o link stream q verdict =
-    (verdict, work_done plan st link stream (work_of o q st.draws) (reach_of o verdict))
+stepped_operation plan st o line stream q verdict =
+    (verdict, work_done plan st line stream (work_of o q st.draws) (reach_of o verdict))
 
 abbrev pub establish_found : Plan → LinkState → ℕ → ℕ → Option Loss → Option StreamStage → Stepped
-establish_found plan st link stream lose None = (v.Nothing, st)
-establish_found plan st link stream lose (Some q) =
-    stepped_operation plan st op.Establish link stream q (establish_on (key_plan plan) q st.draws (ports_of plan st)
-    link stream lose)
+establish_found plan st line stream lose None = (v.Nothing, st)
+establish_found plan st line stream lose (Some q) =
+    stepped_operation plan st op.Establish line stream q (establish_on (key_plan plan) q st.draws (ports_of plan st)
+    line stream lose)
 
 abbrev pub refresh_found : Plan → LinkState → ℕ → ℕ → Option Loss → Option StreamStage → Stepped
-refresh_found plan st link stream lose None = (v.Nothing, st)
-refresh_found plan st link stream lose (Some q) =
-    stepped_operation plan st op.Refresh link stream q (refresh_on (key_plan plan) q st.draws (ports_of plan st)
-    (machine_status plan st Host link stream) link stream lose)
+refresh_found plan st line stream lose None = (v.Nothing, st)
+refresh_found plan st line stream lose (Some q) =
+    stepped_operation plan st op.Refresh line stream q (refresh_on (key_plan plan) q st.draws (ports_of plan st)
+    (machine_status plan st Host line stream) line stream lose)
 
 abbrev pub stop_found : Plan → LinkState → ℕ → ℕ → Option Loss → Option StreamStage → Stepped
-stop_found plan st link stream lose None = (v.Nothing, st)
-stop_found plan st link stream lose (Some q) =
-    stepped_operation plan st op.Stop link stream q (stop_on q st.draws (ports_of plan st) link stream lose)
+stop_found plan st line stream lose None = (v.Nothing, st)
+stop_found plan st line stream lose (Some q) =
+    stepped_operation plan st op.Stop line stream q (stop_on q st.draws (ports_of plan st) line stream lose)
 
 abbrev pub status_found : Plan → LinkState → ℕ → ℕ → Option StreamStage → Stepped
-status_found plan st link stream None = (v.Nothing, st)
-status_found plan st link stream (Some q) =
-    (v.Status link stream (machine_status plan st Host link stream) (machine_status plan st Device link stream), st)
+status_found plan st line stream None = (v.Nothing, st)
+status_found plan st line stream (Some q) =
+    (v.Status line stream (machine_status plan st Host line stream) (machine_status plan st Device line stream), st)
 
 -- ---- a reset
 
@@ -390,7 +390,7 @@ step_of plan beside st (Send port bytes more trusted) =
     if may_send plan port then stepped_bytes plan beside st (sealing_end plan port bytes) bytes more trusted
     else (v.Nothing, st)
 step_of plan beside st (Pass n) = stepped_arrival plan beside st
-    (option_and_then (passed plan) (packet_numbered st.packets n))
+    (option_and_then (whole_arrival plan) (packet_numbered st.packets n))
 step_of plan beside st (Alter n at mask) = stepped_arrival plan beside st
     (option_and_then (altered_to plan at mask) (packet_numbered st.packets n))
 step_of plan beside st (Cut n len) = stepped_arrival plan beside st
@@ -400,14 +400,14 @@ step_of plan beside st (Arrive port bytes) =
     then stepped_arrival plan beside st (Some (arrival_at plan port bytes))
     else (v.Nothing, st)
 step_of plan beside st (Dump n) = (packet_verdict n (packet_numbered st.packets n), st)
-step_of plan beside st (Establish link stream lose) = establish_found plan st link stream lose
-    (find_op plan st link stream)
-step_of plan beside st (Refresh link stream lose) =
-    if is_link_line link then refresh_found plan st link stream lose (find_op plan st link stream) else (v.Nothing, st)
-step_of plan beside st (Stop link stream lose) = stop_found plan st link stream lose (find_op plan st link stream)
+step_of plan beside st (Establish line stream lose) = establish_found plan st line stream lose
+    (find_op plan st line stream)
+step_of plan beside st (Refresh line stream lose) =
+    if is_link_line line then refresh_found plan st line stream lose (find_op plan st line stream) else (v.Nothing, st)
+step_of plan beside st (Stop line stream lose) = stop_found plan st line stream lose (find_op plan st line stream)
 step_of plan beside st (Reset link ends) =
     if nat_lt link (length plan.links) then (v.Reset link, reset_state plan st ends) else (v.Nothing, st)
-step_of plan beside st (Status link stream) = status_found plan st link stream (find_op plan st link stream)
+step_of plan beside st (Status line stream) = status_found plan st line stream (find_op plan st line stream)
 step_of plan beside st (Interface e) = (beside.answer e, st)
 step_of plan beside st (Access (ae.Answer link)) = stepped_reply plan beside st (port_at Host link) (beside.reply link)
 step_of plan beside st (Access (ae.Mmio interface bar offset len)) = (beside.shows interface bar offset len, st)

@@ -7,8 +7,7 @@ use Rattle.ide_types.specs.declared.plan.Plan.{Plan}
 use Rattle.spec_links.specs.Plan.{SubStream, key_of, lane_out, lane_in}
 use Rattle.spec_keys.specs.Keys.{Touch, Program, Go, Stop, Clear}
 use Rattle.machine_ports.specs.Stream.{Empty, Programmed, LaneSlots, slot_in_set, with_slot, StreamState, at_sub}
-use Rattle.machine_ports.specs.Stream.{each_sub}
-use Rattle.machine_ports.specs.Stream.{both_slots, begun, slot_gone, woken_slot, no_slots, rested_stream}
+use Rattle.machine_ports.specs.Stream.{each_sub, both_slots, begun_slot, slot_gone, woken_slot, no_slots, rested_stream}
 
 -- those that are taken, if a KEY_PROG of these sets is refused; only the first may be one
 abbrev pub taken_touches : (Bool → Bool) → List Touch → List Touch
@@ -22,7 +21,7 @@ taken_touches refuses (t ∷ ts) = t ∷ taken_touches refuses ts
 abbrev pub slot_touched : Bool → Plan → SubStream → Touch → LaneSlots → LaneSlots
 slot_touched sends plan s (Program k j) slots = with_slot slots k (Programmed j (key_of plan j s))
 slot_touched true plan s (Go k j) slots = slot_gone k (slot_in_set slots k) (slot_in_set slots (not k))
-slot_touched false plan s (Go k j) slots = with_slot slots k (begun (slot_in_set slots k))
+slot_touched false plan s (Go k j) slots = with_slot slots k (begun_slot (slot_in_set slots k))
 slot_touched true plan s (Stop k) slots = both_slots k Empty (woken_slot (slot_in_set slots (not k)))
 slot_touched false plan s (Stop k) slots = with_slot slots k Empty
 slot_touched sends plan s Clear slots = no_slots

@@ -16,29 +16,28 @@ use Rattle.link_verdicts.specs.declared.verdict.Verdict.{Verdict}
 use Rattle.link_verdicts.specs.declared.verdict.Verdict.TheVariants as v
 use Rattle.link_verdicts.specs.declared.access.AccessVerdict.TheVariants as av
 use Rattle.spec_keys.specs.Keys.{Keys, Keyed, On}
-use Rattle.spec_keys.specs.History.{History}
+use Rattle.spec_keys.specs.History.{History, place_keys}
 use Rattle.spec_interfaces.specs.Sites.{Site, sites}
 unfoldable use Rattle.spec_interfaces.specs.Floors.{device_floor}
-use Rattle.spec_interfaces.specs.Floors.{greatest_on, draw_at_device, device_standing, history_standings}
+use Rattle.spec_interfaces.specs.Floors.{greatest_on, draw_at_device, device_status, history_statuses}
 use Rattle.spec_interfaces.specs.Peers.{receiver_at}
 use Rattle.ide_types.specs.declared.port.PortName.{PortName}
-use Rattle.spec_keys.specs.History.{place_keys}
-use Rattle.machine_interfaces.specs.Machine.{Face}
-use Rattle.machine_interfaces.specs.Stands.{face_at}
+use Rattle.machine_whole.specs.Interfaces.{Face}
+use Rattle.machine_whole.specs.InterfacesStand.{face_at}
 use Rattle.spec_interfaces.specs.{InterfaceStatus, Happened, newest_happened}
 use Rattle.spec_links.specs.{WaitingRead}
 use Rattle.spec_links.specs.Plan.{SubStream, lane_in, stream_plan}
 use Rattle.spec_links.specs.Cause.{CauseLaw}
 use Rattle.spec_links.specs.Ports.{port_of}
 use Rattle.spec_links.specs.History.{SealedList, sealed_packets, port_keys}
-use Rattle.spec_links.specs.Memory.{queued, waiting, unit_ended}
+use Rattle.spec_links.specs.Memory.{queued_reads, waiting_reads, unit_ended, hop_waiting, plain_of}
 unfoldable use Rattle.spec_links.specs.Sent.{reads_taken, queued_in}
 use Rattle.spec_links.specs.Sent.{is_answer_on, reads_by, unit_accepted}
-unfoldable use Rattle.spec_links.specs.Guarded.{happened}
-use Rattle.spec_links.specs.Guarded.{happens_by, unit_of}
+unfoldable use Rattle.spec_links.specs.Guarded.{link_happenings}
+use Rattle.spec_links.specs.Guarded.{happens_by, verdict_unit}
 use Rattle.machine_operations.proofs.{unplanned_keys, keys_into}
-use Rattle.machine_operations.specs.{LinkState, port_at, receiving_draw_at, PortsStand, standing_if_planned, rx_slots}
-unfoldable use Rattle.machine_operations.specs.{standing}
+use Rattle.machine_operations.specs.{LinkState, port_at, receiving_draw_at, PortsStand, state_due_if_planned, rx_slots}
+unfoldable use Rattle.machine_operations.specs.{stream_state_due}
 use Rattle.machine_operations.specs.{StreamState, receiving_draw}
 use Rattle.law_reads.proofs.Order.{here_after, takes_first}
 use Rattle.law_reads.proofs.ByNumber.{unit_again}
@@ -46,9 +45,7 @@ use Rattle.law_reads.specs.Waiting.{tlps_ended, waiting_next}
 use Rattle.law_reads.proofs.Followed.{waiting_follows}
 use Rattle.ide_types.specs.declared.direction.Direction.{Direction}
 use Rattle.spec_links.specs.Hops.{HopTlp, tlps_with}
-use Rattle.spec_links.specs.Memory.{hop_waiting, plain_of}
-use Rattle.machine_whole.specs.Accesses.{unit_tlps}
-use Rattle.machine_whole.specs.Accesses.{face_standings, waiting_reads_after, device_draw_at, posted_draw_at}
+use Rattle.machine_whole.specs.Accesses.{unit_tlps, face_statuses, waiting_reads_after, device_draw_at, posted_draw_at}
 use Rattle.machine_whole.specs.Accesses.{floors_after}
 
 -- these are the packets of the unit that a verdict ends, if it ends one
@@ -72,7 +69,8 @@ one_taken false n xs ys same = ap (drop n) (sym same)
 
 pub waiting_is : (plan : Plan) (h : History) (e : Event) (w : Verdict) (ps : List Packet)
     → CauseLaw plan ((e, w) ∷ h) → AreEnded plan h ps e w
-    → (link : ℕ) → waiting_reads_after plan ps e w link (waiting plan h link) ≡ waiting plan ((e, w) ∷ h) link
+    → (link : ℕ) → waiting_reads_after plan ps e w link (waiting_reads plan h link)
+    ≡ waiting_reads plan ((e, w) ∷ h) link
 unfolding reads_taken queued_in
 waiting_is plan h e (v.Accepted port unit effects) ps law units link =
     by ((port_of plan port).line == link) (here_after plan h e (v.Accepted port unit effects) law link)
@@ -82,32 +80,32 @@ waiting_is plan h e (v.Accepted port unit effects) ps law units link =
     xs = sealed_packets plan ((e, v.Accepted port unit effects) ∷ h)
 
     by : (b : Bool) → queued_in plan (sealed_packets plan ((e, v.Accepted port unit effects) ∷ h)) h link
-        ≡ queued plan h link
+        ≡ queued_reads plan h link
         → ps ≡ unit_accepted plan (sealed_packets plan ((e, v.Accepted port unit effects) ∷ h)) h e port unit
-        → (if b then waiting plan h link ++ reads_by unit.draw effects ps else waiting plan h link)
+        → (if b then waiting_reads plan h link ++ reads_by unit.draw effects ps else waiting_reads plan h link)
         ≡ drop (reads_taken h link)
         (if b then queued_in plan (sealed_packets plan ((e, v.Accepted port unit effects) ∷ h)) h link
         ++ reads_by unit.draw effects
         (unit_accepted plan (sealed_packets plan ((e, v.Accepted port unit effects) ∷ h)) h e port unit)
         else queued_in plan (sealed_packets plan ((e, v.Accepted port unit effects) ∷ h)) h link)
     by true here same =
-        ap (λ (us : List Packet). waiting plan h link ++ reads_by unit.draw effects us) same
-        ∙ (sym (drop-append-le (reads_taken h link) (queued plan h link) _ (takes_first plan h law.1 link))
+        ap (λ (us : List Packet). waiting_reads plan h link ++ reads_by unit.draw effects us) same
+        ∙ (sym (drop-append-le (reads_taken h link) (queued_reads plan h link) _ (takes_first plan h law.1 link))
         ∙ ap (λ (ys : List WaitingRead). drop (reads_taken h link)
         (ys ++ reads_by unit.draw effects (unit_accepted plan xs h e port unit))) (sym here))
     by false here same = ap (drop (reads_taken h link)) (sym here)
 waiting_is plan h e (v.Sealed ds) ps law units link =
-    one_taken (is_answer_on link e) (reads_taken h link) (queued plan h link) _
+    one_taken (is_answer_on link e) (reads_taken h link) (queued_reads plan h link) _
     (here_after plan h e (v.Sealed ds) law link)
 waiting_is plan h e (v.Access (av.Dropped i c)) ps law units link =
-    one_taken (is_answer_on link e) (reads_taken h link) (queued plan h link) _
+    one_taken (is_answer_on link e) (reads_taken h link) (queued_reads plan h link) _
     (here_after plan h e (v.Access (av.Dropped i c)) law link)
 waiting_is plan h (event.Reset k ends) (v.Reset l) ps law units link = by (l == link)
     (here_after plan h (event.Reset k ends) (v.Reset l) law link)
   where
     by : (b : Bool) → queued_in plan (sealed_packets plan ((event.Reset k ends, v.Reset l) ∷ h)) h link
-        ≡ queued plan h link
-        → (if b then [] else waiting plan h link) ≡ drop (if b then 0 else reads_taken h link)
+        ≡ queued_reads plan h link
+        → (if b then [] else waiting_reads plan h link) ≡ drop (if b then 0 else reads_taken h link)
         (if b then [] else queued_in plan (sealed_packets plan ((event.Reset k ends, v.Reset l) ∷ h)) h link)
     by true here = refl
     by false here = ap (drop (reads_taken h link)) (sym here)
@@ -128,15 +126,15 @@ greatest_is plan h port s ks = by ks.first ks.second
 pub posted_draw_is : (plan : Plan) (st : LinkState) (h : History) → PortsStand plan st h
     → (port : PortName) (stream : ℕ)
     → posted_draw_at plan st port stream ≡ greatest_on (place_keys h (receiver_at port stream))
-unfolding standing
+unfolding stream_state_due
 posted_draw_is plan st h stands port stream = elim (cases_Bool (is_some (stream_plan plan port.line stream))) [
   | inl known ↦
       let s = lane_in port stream Pr in
-      let here : standing_if_planned plan h port stream ≡ Some (standing plan h port stream) = rw known refl in
+      let here : state_due_if_planned plan h port stream ≡ Some (stream_state_due plan h port stream) = rw known refl in
       ap (λ (o : Option StreamState). unwrap_or (receiving_draw_at Pr o) 0) (stands.streams port stream ∙ here)
       ∙ (greatest_is plan h port s (port_keys h port s) ∙ ap greatest_on (keys_into h port stream Pr))
   | inr none ↦
-      let here : standing_if_planned plan h port stream ≡ None = rw none refl in
+      let here : state_due_if_planned plan h port stream ≡ None = rw none refl in
       ap (λ (o : Option StreamState). unwrap_or (receiving_draw_at Pr o) 0) (stands.streams port stream ∙ here)
       ∙ sym (ap greatest_on (unplanned_keys plan h stands.cause (receiver_at port stream) none))
 ]
@@ -165,33 +163,33 @@ floors_are plan st h e w before after floors stands old new same =
 -- ---- how interfaces stand
 
 standings_map : (plan : Plan) (h : History) (link : ℕ) (xs : List Site)
-    → face_standings link xs (map (face_at plan h) xs) (map (device_floor plan h) xs)
-    ≡ map (device_standing plan h) (filter (λ x. x.link == link) xs)
+    → face_statuses link xs (map (face_at plan h) xs) (map (device_floor plan h) xs)
+    ≡ map (device_status plan h) (filter (λ x. x.link == link) xs)
 standings_map plan h link [] = refl
 standings_map plan h link (x ∷ xs) = by (x.link == link) (standings_map plan h link xs)
   where
-    by : (b : Bool) → face_standings link xs (map (face_at plan h) xs) (map (device_floor plan h) xs)
-        ≡ map (device_standing plan h) (filter (λ x. x.link == link) xs)
-        → (if b then device_standing plan h x
-        ∷ face_standings link xs (map (face_at plan h) xs) (map (device_floor plan h) xs)
-        else face_standings link xs (map (face_at plan h) xs) (map (device_floor plan h) xs))
-        ≡ map (device_standing plan h)
+    by : (b : Bool) → face_statuses link xs (map (face_at plan h) xs) (map (device_floor plan h) xs)
+        ≡ map (device_status plan h) (filter (λ x. x.link == link) xs)
+        → (if b then device_status plan h x
+        ∷ face_statuses link xs (map (face_at plan h) xs) (map (device_floor plan h) xs)
+        else face_statuses link xs (map (face_at plan h) xs) (map (device_floor plan h) xs))
+        ≡ map (device_status plan h)
         (if b then x ∷ filter (λ x. x.link == link) xs else filter (λ x. x.link == link) xs)
-    by true rest = ap (λ (ys : List InterfaceStatus). device_standing plan h x ∷ ys) rest
+    by true rest = ap (λ (ys : List InterfaceStatus). device_status plan h x ∷ ys) rest
     by false rest = rest
 
 pub standings_are : (plan : Plan) (h : History) (faces : List Face) (floors : List ℕ)
     → faces ≡ map (face_at plan h) (sites plan) → floors ≡ map (device_floor plan h) (sites plan)
-    → (link : ℕ) → face_standings link (sites plan) faces floors ≡ history_standings plan h link
+    → (link : ℕ) → face_statuses link (sites plan) faces floors ≡ history_statuses plan h link
 standings_are plan h faces floors old same link =
-    (λ i. face_standings link (sites plan) (old i) (same i)) ∙ standings_map plan h link (sites plan)
+    (λ i. face_statuses link (sites plan) (old i) (same i)) ∙ standings_map plan h link (sites plan)
 
 -- ---- what happened
 
 happens_same : (plan : Plan) (standings : ℕ → List InterfaceStatus) (h : History) (ps : List Packet) (e : Event)
     (w : Verdict)
     (link : ℕ) → AreEnded plan h ps e w
-    → happens_by plan standings ps e w link ≡ happens_by plan standings (unit_of plan h e w) e w link
+    → happens_by plan standings ps e w link ≡ happens_by plan standings (verdict_unit plan h e w) e w link
 happens_same plan standings h ps e (v.Accepted port unit effects) link units =
     ap (λ (us : List Packet). happens_by plan standings us e (v.Accepted port unit effects) link) units
 happens_same plan standings h ps (event.Reset k ends) (v.Reset l) link units = refl
@@ -200,13 +198,13 @@ happens_same plan standings h ps e w link units = refl
 pub happened_is : (plan : Plan) (h : History) (e : Event) (w : Verdict) (ps : List Packet) (faces : List Face)
     (floors : List ℕ) → faces ≡ map (face_at plan h) (sites plan) → floors ≡ map (device_floor plan h) (sites plan)
     → AreEnded plan h ps e w → (link : ℕ)
-    → newest_happened (happens_by plan (λ l. face_standings l (sites plan) faces floors) ps e w link)
-    (happened plan h link) ≡ happened plan ((e, w) ∷ h) link
-unfolding happened
+    → newest_happened (happens_by plan (λ l. face_statuses l (sites plan) faces floors) ps e w link)
+    (link_happenings plan h link) ≡ link_happenings plan ((e, w) ∷ h) link
+unfolding link_happenings
 happened_is plan h e w ps faces floors old same units link =
-    ap (λ (hs : List (Option Happened)). newest_happened hs (happened plan h link))
+    ap (λ (hs : List (Option Happened)). newest_happened hs (link_happenings plan h link))
     ((λ i. happens_by plan (λ l. standings_are plan h faces floors old same l i) ps e w link)
-    ∙ happens_same plan (history_standings plan h) h ps e w link units)
+    ∙ happens_same plan (history_statuses plan h) h ps e w link units)
 
 -- ---- the TLPs that wait at switches
 

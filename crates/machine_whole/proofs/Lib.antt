@@ -2,3 +2,4 @@ pub mod Streams
 pub mod Accesses
 pub mod Units
 pub mod Whole
+pub mod Faces

@@ -1,30 +1,30 @@
 -- What the interfaces read of the ports is what the history says of streams, also of those that the plan does not have.
 use Rattle.std.proofs.Common.{◌≡◌, inl, inr, ℕ, ◌∷◌, ◌&&◌, Bool, true, false, [], None, refl, sym, ap, ◌∙◌, arith}
 use Rattle.std.proofs.lemmas.Bool.{cases_Bool}
-use Rattle.std.specs.Prelude.{is_some}
+use Rattle.std.specs.Prelude.{is_some, nat_lt, slice_get, suc, ◌+◌, ◌-◌, ◌≤◌, ◌||◌}
 use Rattle.ide_types.specs.declared.port.Side.{Side}
 use Rattle.ide_types.specs.declared.port.Side.TheVariants.{Host, Device}
 use Rattle.ide_types.specs.declared.sub.SubKind.TheVariants.{Pr, Npr, Cpl}
 use Rattle.ide_types.specs.declared.plan.Plan.{Plan}
 use Rattle.spec_keys.specs.Places.{KeyPlace, key_place_at}
 use Rattle.spec_keys.specs.Keys.{Keys}
-use Rattle.spec_keys.specs.History.{History, op_of, place_keys, keeps_live, has_key, has_all, history_status}
-use Rattle.ide_types.specs.Ports.{keyed_status}
+use Rattle.spec_keys.specs.History.{History, op_of, place_keys, keeps_live, has_key, has_all, history_status, draws}
+use Rattle.ide_types.specs.Ports.{keyed_status, host_port, device_port}
 unfoldable use Rattle.spec_keys.specs.History.{failed_there}
 use Rattle.spec_links.specs.Plan.{stream_plan}
 use Rattle.spec_links.specs.Cause.{CauseLaw}
 use Rattle.machine_operations.specs.{LinkState, find_op, port_at, machine_status, status_if_planned, PortsStand}
-use Rattle.machine_operations.specs.{standing_if_planned, PortsStandFor}
+use Rattle.machine_operations.specs.{state_due_if_planned, PortsStandFor}
 use Rattle.machine_operations.proofs.{unplanned_keys}
 use Rattle.std.proofs.Common.{if◌then◌else◌, Option, Some, List, ◌==◌}
-use Rattle.spec_keys.specs.History.{draws}
 use Rattle.spec_keys.specs.Operations.{StreamStage, Idle, Reach, reach_of, work_of}
 use Rattle.spec_keys.specs.Terms.{Operation}
 unfoldable use Rattle.spec_keys.specs.Due.{key_due}
 unfoldable use Rattle.spec_links.specs.Due.{due}
-use Rattle.machine_interfaces.specs.Machine.{Streams, Face, Faces, with_each, face_after, faces_after}
+use Rattle.machine_whole.specs.Interfaces.{Streams, Face, Faces, with_each, face_after, faces_after, EndsRead}
+use Rattle.machine_whole.specs.Interfaces.{asked_state_of_face, asked_due_of, answer_to, interface_answer, find_face}
 use Rattle.spec_interfaces.specs.Sites.{Site, sites}
-use Rattle.spec_interfaces.specs.Views.{Managed, managed_after, view_broken}
+use Rattle.spec_interfaces.specs.Views.{Managed, managed_after, view_broken, stream_draw, is_bind_asked, number_in}
 use Rattle.link_events.specs.declared.event.Event.{Event}
 use Rattle.link_events.specs.declared.event.Event.TheVariants as event
 use Rattle.link_verdicts.specs.declared.verdict.Operation.TheVariants as op
@@ -32,31 +32,22 @@ use Rattle.link_verdicts.specs.declared.verdict.Verdict.{Verdict}
 use Rattle.link_verdicts.specs.declared.verdict.Verdict.TheVariants as v
 use Rattle.machine_whole.specs.Machine.{draw_after}
 use Rattle.machine_operations.proofs.Statuses.{status_is}
-use Rattle.machine_interfaces.specs.Stands.{streams_at, secure_of}
+use Rattle.machine_whole.specs.InterfacesStand.{streams_at, secure_of, ends_read}
 use Rattle.spec_interfaces.specs.Devices.{is_secure}
-use Rattle.spec_interfaces.specs.Views.{stream_draw}
-use Rattle.machine_whole.specs.Machine.{Whole, op_or_idle, secure_in, live_if, live_in, ends_in, whole_streams}
-use Rattle.machine_whole.specs.Accesses.{posted_draw_at}
+use Rattle.machine_whole.specs.Machine.{Whole, op_or_idle, secure_in, live_if, live_draw_at_end, ends_in, whole_streams}
 use Rattle.machine_whole.proofs.Accesses.{posted_draw_is}
 use Rattle.ide_types.specs.declared.port.PortName.{PortName}
 use Rattle.ide_types.specs.Lines.{peer_line}
-use Rattle.ide_types.specs.Ports.{host_port, device_port}
 use Rattle.ide_types.specs.Ends.{peer_has_id}
 use Rattle.ide_types.specs.declared.plan.PeerPlan.{PeerPlan}
 use Rattle.spec_interfaces.specs.Peers.{has_peer, live_at}
 unfoldable use Rattle.spec_interfaces.specs.Peers.{peer_end}
 use Rattle.spec_interfaces.specs.Due.{asked_due, bind_due}
-use Rattle.spec_interfaces.specs.Views.{is_bind_asked}
-use Rattle.machine_interfaces.specs.Machine.{EndsRead, face_standing, asked_due_of, answer_to, interface_answer}
-use Rattle.machine_interfaces.specs.Machine.{find_face}
-use Rattle.machine_interfaces.specs.Stands.{ends_read}
 use Rattle.spec_links.proofs.Ends.{stream_is_there}
 use Rattle.link_events.specs.declared.event.InterfaceEvent.{InterfaceEvent}
 use Rattle.link_events.specs.declared.event.InterfaceEvent.TheVariants as ie
 use Rattle.std.specs.Option.{option_map_or}
-use Rattle.std.specs.Prelude.{nat_lt, slice_get, suc, ◌+◌, ◌-◌, ◌≤◌, ◌||◌}
 use Rattle.std.proofs.lemmas.Bool.Decides.{nat_tests}
-use Rattle.spec_interfaces.specs.Views.{number_in}
 
 -- ---- a stream that the plan does not have
 
@@ -64,78 +55,78 @@ not_keyed : (plan : Plan) (h : History) → CauseLaw plan h → (p : KeyPlace) �
     ≡ false → keeps_live (place_keys h p) ≡ false
 not_keyed plan h cause p none = ap (λ (ks : Keys). keeps_live ks) (unplanned_keys plan h cause p none)
 
-no_key_there : (plan : Plan) (h : History) → CauseLaw plan h → (side : Side) (link stream : ℕ)
-    → is_some (stream_plan plan link stream) ≡ false → has_key (place_keys h) side link stream ≡ false
-no_key_there plan h cause side link stream none =
+no_key_there : (plan : Plan) (h : History) → CauseLaw plan h → (side : Side) (line stream : ℕ)
+    → is_some (stream_plan plan line stream) ≡ false → has_key (place_keys h) side line stream ≡ false
+no_key_there plan h cause side line stream none =
     let at : (p : KeyPlace) → is_some (stream_plan plan p.line p.stream) ≡ false → keeps_live (place_keys h p)
     ≡ false = not_keyed plan h cause in
     rw (
-      at (key_place_at side link stream false Pr) none,
-      at (key_place_at side link stream false Npr) none,
-      at (key_place_at side link stream false Cpl) none,
-      at (key_place_at side link stream true Pr) none,
-      at (key_place_at side link stream true Npr) none,
-      at (key_place_at side link stream true Cpl) none,
+      at (key_place_at side line stream false Pr) none,
+      at (key_place_at side line stream false Npr) none,
+      at (key_place_at side line stream false Cpl) none,
+      at (key_place_at side line stream true Pr) none,
+      at (key_place_at side line stream true Npr) none,
+      at (key_place_at side line stream true Cpl) none,
     ) refl
 
-not_all_there : (plan : Plan) (h : History) → CauseLaw plan h → (side : Side) (link stream : ℕ)
-    → is_some (stream_plan plan link stream) ≡ false → has_all (place_keys h) side link stream ≡ false
-not_all_there plan h cause side link stream none = rw
-    (not_keyed plan h cause (key_place_at side link stream false Pr) none)
+not_all_there : (plan : Plan) (h : History) → CauseLaw plan h → (side : Side) (line stream : ℕ)
+    → is_some (stream_plan plan line stream) ≡ false → has_all (place_keys h) side line stream ≡ false
+not_all_there plan h cause side line stream none = rw
+    (not_keyed plan h cause (key_place_at side line stream false Pr) none)
     refl
 
 both_false : (a b : Bool) → b ≡ false → (a && b) ≡ false
 both_false a b e = grind arith
 
-not_failed : (plan : Plan) (h : History) → CauseLaw plan h → (side : Side) (link stream : ℕ)
-    → is_some (stream_plan plan link stream) ≡ false → failed_there h side link stream ≡ false
+not_failed : (plan : Plan) (h : History) → CauseLaw plan h → (side : Side) (line stream : ℕ)
+    → is_some (stream_plan plan line stream) ≡ false → failed_there h side line stream ≡ false
 unfolding failed_there
-not_failed plan [] cause side link stream none = refl
-not_failed plan ((e, w) ∷ h) cause side link stream none = both_false _
-    (has_key (place_keys ((e, w) ∷ h)) side link stream) (no_key_there plan ((e, w) ∷ h) cause side link stream none)
+not_failed plan [] cause side line stream none = refl
+not_failed plan ((e, w) ∷ h) cause side line stream none = both_false _
+    (has_key (place_keys ((e, w) ∷ h)) side line stream) (no_key_there plan ((e, w) ∷ h) cause side line stream none)
 
-unplanned_status : (plan : Plan) (h : History) → CauseLaw plan h → (side : Side) (link stream : ℕ)
-    → is_some (stream_plan plan link stream) ≡ false → history_status h side link stream
+unplanned_status : (plan : Plan) (h : History) → CauseLaw plan h → (side : Side) (line stream : ℕ)
+    → is_some (stream_plan plan line stream) ≡ false → history_status h side line stream
     ≡ keyed_status false false false
-unplanned_status plan h cause side link stream none =
-    λ i. keyed_status (not_failed plan h cause side link stream none i)
-    (no_key_there plan h cause side link stream none i)
-    (not_all_there plan h cause side link stream none i)
+unplanned_status plan h cause side line stream none =
+    λ i. keyed_status (not_failed plan h cause side line stream none i)
+    (no_key_there plan h cause side line stream none i)
+    (not_all_there plan h cause side line stream none i)
 
 -- ---- all streams
 
-pub status_all : (plan : Plan) (st : LinkState) (h : History) → PortsStand plan st h → (side : Side) (link stream : ℕ)
-    → machine_status plan st side link stream ≡ history_status h side link stream
-status_all plan st h stands side link stream = elim (cases_Bool (is_some (stream_plan plan link stream))) [
-  | inl known ↦ status_is plan st h stands side link stream known
+pub status_all : (plan : Plan) (st : LinkState) (h : History) → PortsStand plan st h → (side : Side) (line stream : ℕ)
+    → machine_status plan st side line stream ≡ history_status h side line stream
+status_all plan st h stands side line stream = elim (cases_Bool (is_some (stream_plan plan line stream))) [
+  | inl known ↦ status_is plan st h stands side line stream known
   | inr none ↦
-      let here : standing_if_planned plan h (port_at side link) stream ≡ None = rw none refl in
-      ap status_if_planned (stands.streams (port_at side link) stream ∙ here) ∙ sym
-      (unplanned_status plan h stands.cause side link stream none)
+      let here : state_due_if_planned plan h (port_at side line) stream ≡ None = rw none refl in
+      ap status_if_planned (stands.streams (port_at side line) stream ∙ here) ∙ sym
+      (unplanned_status plan h stands.cause side line stream none)
 ]
 
 -- what the manager knows of the streams that the plan has; of others nothing is asked
 abbrev pub seen_ops : Plan → History → ℕ → ℕ → StreamStage
-seen_ops plan h link stream = if is_some (stream_plan plan link stream) then op_of h link stream else Idle
+seen_ops plan h line stream = if is_some (stream_plan plan line stream) then op_of h line stream else Idle
 
 abbrev pub seen_at : Plan → History → Streams
 seen_at plan h = record (streams_at h) { op = seen_ops plan h }
 
-ops_all : (plan : Plan) (st : LinkState) (h : History) → PortsStandFor plan st h → (link stream : ℕ)
-    → op_or_idle (find_op plan st link stream) ≡ seen_ops plan h link stream
-ops_all plan st h stands link stream = ap op_or_idle (stands.ops_is link stream)
-    ∙ by (is_some (stream_plan plan link stream))
+ops_all : (plan : Plan) (st : LinkState) (h : History) → PortsStandFor plan st h → (line stream : ℕ)
+    → op_or_idle (find_op plan st line stream) ≡ seen_ops plan h line stream
+ops_all plan st h stands line stream = ap op_or_idle (stands.ops_is line stream)
+    ∙ by (is_some (stream_plan plan line stream))
   where
-    by : (b : Bool) → op_or_idle (if b then Some (op_of h link stream) else None)
-        ≡ (if b then op_of h link stream else Idle)
+    by : (b : Bool) → op_or_idle (if b then Some (op_of h line stream) else None)
+        ≡ (if b then op_of h line stream else Idle)
     by true = refl
     by false = refl
 
 pub secure_all : (plan : Plan) (st : LinkState) (h : History) → PortsStand plan st h → secure_in plan st ≡ secure_of h
-secure_all plan st h stands = λ i link stream. is_secure (status_all plan st h stands Device link stream i)
+secure_all plan st h stands = λ i line stream. is_secure (status_all plan st h stands Device line stream i)
 
 live_all : (plan : Plan) (st : LinkState) (h : History) → PortsStand plan st h → (end : PortName) (stream : ℕ)
-    → live_in plan st end stream ≡ live_at h end stream
+    → live_draw_at_end plan st end stream ≡ live_at h end stream
 live_all plan st h stands end stream = λ i. live_if
     (is_secure (status_all plan st h stands end.side end.line stream i)) (posted_draw_is plan st h stands end stream i)
 
@@ -150,9 +141,9 @@ pub streams_are : (plan : Plan) (w : Whole) (h : History) → PortsStandFor plan
 streams_are plan w h stands draw = λ i. record {
   secure = secure_all plan w.links h stands.ports_stand i;
   live = λ end stream. live_all plan w.links h stands.ports_stand end stream i;
-  host = λ link stream. status_all plan w.links h stands.ports_stand Host link stream i;
+  host = λ line stream. status_all plan w.links h stands.ports_stand Host line stream i;
   draw = draw i;
-  op = λ link stream. ops_all plan w.links h stands link stream i;
+  op = λ line stream. ops_all plan w.links h stands line stream i;
   drawn = stands.draws_is i;
 }
 
@@ -164,8 +155,7 @@ comes_none true o x y is none = absurd cc
 comes_none false o x y is none = ap (reach_of o) is
 
 begins_same : (planned : Bool) (o : Operation) (q : StreamStage) (next : ℕ) (r : Option Reach)
-    → (planned ≡ false → r ≡ None)
-    → ((work_of o (if planned then q else Idle) next).begins && is_some r)
+    → (planned ≡ false → r ≡ None) → ((work_of o (if planned then q else Idle) next).begins && is_some r)
     ≡ ((work_of o q next).begins && is_some r)
 begins_same true o q next r none = refl
 begins_same false o q next r none = rw (none refl)
@@ -177,12 +167,12 @@ begins_same false o q next r none = rw (none refl)
 managed_same : (plan : Plan) (h : History) (e : Event) (w : Verdict) → w ≡ due plan h e → (x : Site) (m : Managed)
     → managed_after (seen_ops plan h) (draws h) x e w m ≡ managed_after (op_of h) (draws h) x e w m
 unfolding due key_due
-managed_same plan h (event.Stop link stream loss) w is x m =
-    ap (λ (b : Bool). if ((link == x.link) && (stream == x.plan.stream) && b)
-    || (is_bind_asked link m.asked && is_some (reach_of op.Stop w))
+managed_same plan h (event.Stop line stream loss) w is x m =
+    ap (λ (b : Bool). if ((line == x.link) && (stream == x.plan.stream) && b)
+    || (is_bind_asked line m.asked && is_some (reach_of op.Stop w))
     then record m { view = view_broken m.view } else m)
-    (begins_same (is_some (stream_plan plan link stream)) op.Stop (op_of h link stream) (draws h) (reach_of op.Stop w)
-    (comes_none (is_some (stream_plan plan link stream)) op.Stop w _ is))
+    (begins_same (is_some (stream_plan plan line stream)) op.Stop (op_of h line stream) (draws h) (reach_of op.Stop w)
+    (comes_none (is_some (stream_plan plan line stream)) op.Stop w _ is))
 managed_same plan h (event.Interface e) w is x m = refl
 managed_same plan h (event.Reset link ends) (v.Reset l) is x m = refl
 managed_same plan h e w is x m = refl
@@ -260,14 +250,14 @@ peer_planned plan link line stream is =
 
 -- so what is due of an operation on an interface reads of the manager's streams only those that the plan has
 asked_same : (plan : Plan) (h : History) (used : ℕ → ℕ) (x : Site) (f : Face) (e : InterfaceEvent)
-    → asked_due plan x (face_standing plan (seen_at plan h) used x f) e
-    ≡ asked_due plan x (face_standing plan (streams_at h) used x f) e
+    → asked_due plan x (asked_state_of_face plan (seen_at plan h) used x f) e
+    ≡ asked_due plan x (asked_state_of_face plan (streams_at h) used x f) e
 asked_same plan h used x f (ie.Bind i line stream loss) =
     by (has_peer plan.peers x.link line stream) (λ is. peer_planned plan x.link line stream is)
   where
     by : (b : Bool) → (b ≡ true → is_some (stream_plan plan line stream) ≡ true)
-        → (if b then bind_due x (face_standing plan (seen_at plan h) used x f) line stream loss else v.Nothing)
-        ≡ (if b then bind_due x (face_standing plan (streams_at h) used x f) line stream loss else v.Nothing)
+        → (if b then bind_due x (asked_state_of_face plan (seen_at plan h) used x f) line stream loss else v.Nothing)
+        ≡ (if b then bind_due x (asked_state_of_face plan (streams_at h) used x f) line stream loss else v.Nothing)
     by true known = rw (known refl) refl
     by false known = refl
 asked_same plan h used x f (ie.Unbind i line stream loss) = refl
@@ -293,6 +283,6 @@ unfolding due key_due
 draw_same plan h (event.Establish l s loss) w draw is =
     let same = begins_same (is_some (stream_plan plan l s)) op.Establish (op_of h l s) (draws h)
     (reach_of op.Establish w) (comes_none (is_some (stream_plan plan l s)) op.Establish w _ is) in
-    λ i link stream. if (l == link) && (s == stream) && same i then draws h else draw link stream
+    λ i line stream. if (l == line) && (s == stream) && same i then draws h else draw line stream
 draw_same plan h (event.Refresh l s loss) (v.Refreshed a b j) draw is = refl
 draw_same plan h e w draw is = refl

@@ -14,21 +14,18 @@ use Rattle.link_verdicts.specs.declared.verdict.Verdict.TheVariants as v
 use Rattle.spec_keys.specs.History.{History}
 use Rattle.spec_links.specs.Plan.{SubStream, has_stream}
 use Rattle.spec_links.specs.History.{sealed_packets, arrival_at_partner, altered_arrival, shortened_arrival}
-use Rattle.spec_links.specs.History.{arrived_packet, received_in, packets_in_hold}
-use Rattle.spec_links.specs.History.{pending_packets, failed, on_draw}
+use Rattle.spec_links.specs.History.{arrived_packet, received_in, packets_in_hold, pending_packets, has_failed, on_draw}
 unfoldable use Rattle.spec_links.specs.History.{arrival_of_event}
 use Rattle.spec_links.specs.Due.{Ending, effects_of, due, ending_due, before_tag_of, under_keys, receiving_sub_stream}
-use Rattle.spec_links.specs.Due.{ended}
+use Rattle.spec_links.specs.Due.{unit_packets_ended, through_due}
 unfoldable use Rattle.spec_links.specs.Due.{before_tag}
-use Rattle.spec_links.specs.Due.{through_due}
 use Rattle.spec_links.specs.Ports.{goes_through}
 use Rattle.spec_links.specs.Memory.{unit_ended}
-use Rattle.spec_links.proofs.Causes.{Came, Passed, AcceptedBy, accepted_by, ending, packet_that_came, received_there}
-use Rattle.spec_links.proofs.Causes.{numbered}
+use Rattle.spec_links.proofs.Causes.{Came, Passed, AcceptedBy, accepted_by, unit_ending, packet_that_came}
+use Rattle.spec_links.proofs.Causes.{received_there, numbered}
 use Rattle.machine_operations.specs.{Taken, Insecure, NotKeyed, Failed, Held, Accepted, LinkState, find}
-use Rattle.machine_operations.specs.{verdict_of_taken}
-use Rattle.machine_operations.specs.{passed, altered_to, cut_short, PortsStand, standing, standing_if_planned}
-use Rattle.machine_operations.specs.{beside_at}
+use Rattle.machine_operations.specs.{verdict_of_taken, whole_arrival, altered_to, cut_short, PortsStand}
+use Rattle.machine_operations.specs.{stream_state_due, state_due_if_planned, beside_at}
 use Rattle.machine_operations.proofs.{of_numbered, answer_is, packet_due, taken_at, Says, says}
 use Rattle.machine_whole.specs.Machine.{arrival_of, unit_taken, unit_found, unit_cut, unit_in}
 
@@ -38,7 +35,7 @@ arrival_is : (plan : Plan) (st : LinkState) (h : History) → PortsStand plan st
     ≡ arrival_of_event plan h e
 unfolding arrival_of_event
 arrival_is plan st h stands (event.Pass n) =
-    of_numbered st.packets (sealed_packets plan h) n stands.packets (option_and_then (passed plan))
+    of_numbered st.packets (sealed_packets plan h) n stands.packets (option_and_then (whole_arrival plan))
     (option_map (λ x. arrival_at_partner plan x (packet_bytes x.1))) refl (λ x. refl)
 arrival_is plan st h stands (event.Alter n at mask) =
     of_numbered st.packets (sealed_packets plan h) n stands.packets (option_and_then (altered_to plan at mask))
@@ -69,11 +66,11 @@ due_accepted plan h e port unit effects by =
     let p = by.packet in
     let before = ap (before_tag_of plan h port) (sym by.came.cut)
     ∙ read_there (goes_through plan port by.came.bytes) (through_due plan port) _ _ by.before in
-    let keyed : (if failed h port p.prefix.stream then Err (v.Insecure port p.prefix.stream)
+    let keyed : (if has_failed h port p.prefix.stream then Err (v.Insecure port p.prefix.stream)
     else under_keys plan h port p (on_draw h port (receiving_sub_stream port p) p.prefix.k)
-    (on_draw h port (receiving_sub_stream port p) (not p.prefix.k))) ≡ Ok (ending p unit) =
+    (on_draw h port (receiving_sub_stream port p) (not p.prefix.k))) ≡ Ok (unit_ending p unit) =
     is_known (has_stream plan port p.prefix.stream) _ _ _ by.passed.known before in (
-      effects_of plan h port unit (ended plan h port (ending p unit)),
+      effects_of plan h port unit (unit_packets_ended plan h port (unit_ending p unit)),
       ap (ending_due plan h port) keyed ∙ rw
           (by.verified, by.counts) refl,
     )
@@ -105,8 +102,8 @@ found_standing : (plan : Plan) (st : LinkState) (h : History) → PortsStand pla
     → has_stream plan port p.prefix.stream ≡ true
     → unit_found plan port p (find plan st port p.prefix.stream) ≡ unit_taken (taken_at plan h port p)
 found_standing plan st h stands port p known =
-    let here : standing_if_planned plan h port p.prefix.stream
-    ≡ Some (standing plan h port p.prefix.stream) = rw known refl in
+    let here : state_due_if_planned plan h port p.prefix.stream
+    ≡ Some (stream_state_due plan h port p.prefix.stream) = rw known refl in
     ap (unit_found plan port p) (stands.streams port p.prefix.stream ∙ here)
 
 pub unit_is : (plan : Plan) (st : LinkState) (h : History) (e : Event) (port : PortName) (unit : UnitName)

@@ -14,22 +14,23 @@ use Rattle.link_verdicts.specs.declared.verdict.Verdict.{Verdict}
 use Rattle.link_verdicts.specs.declared.verdict.Verdict.TheVariants as v
 use Rattle.spec_keys.specs.History.{History, op_of, draws}
 unfoldable use Rattle.spec_interfaces.specs.Views.{stream_draw}
-use Rattle.spec_interfaces.specs.Cause.{is_peer, owner_of, owner_at, t_due}
+use Rattle.spec_interfaces.specs.Cause.{is_peer, owner_id, owner_site, t_due}
 use Rattle.spec_interfaces.specs.Devices.{peer_t}
-use Rattle.ide_types.specs.Ends.{port_at}
-unfoldable use Rattle.spec_links.specs.Due.{t_sealed}
+use Rattle.ide_types.specs.Ends.{port_beside_end}
+unfoldable use Rattle.spec_links.specs.Due.{t_sealed, due}
 use Rattle.spec_links.specs.Ports.{at_switch}
 unfoldable use Rattle.spec_links.specs.Ports.{port_of}
 use Rattle.spec_interfaces.specs.Views.{grant_at}
-use Rattle.machine_interfaces.specs.Machine.{Faces, faces_after, interface_answer, grant_of}
-use Rattle.machine_interfaces.specs.Stands.{FacesStandFor}
-use Rattle.machine_interfaces.proofs.Faces.{faces_stand}
+use Rattle.machine_whole.specs.Interfaces.{Faces, faces_after, interface_answer, grant_of, peer_t_of}
+use Rattle.machine_whole.specs.InterfacesStand.{FacesStandFor, ends_read}
+use Rattle.machine_whole.proofs.Faces.{faces_stand}
 use Rattle.spec_links.specs.Cause.{CauseLaw}
 use Rattle.spec_links.specs.Plan.{has_link}
 use Rattle.spec_links.specs.History.{sent_bytes}
-use Rattle.spec_links.specs.Memory.{policy_at, effects_by, admitted_writes, shown_if, memory_due, queued, waiting}
+use Rattle.spec_links.specs.Memory.{policy_at, effects_under_policy, admitted_writes, shown_if, memory_due}
+use Rattle.spec_links.specs.Memory.{queued_reads, waiting_reads}
 unfoldable use Rattle.spec_links.specs.Sent.{reads_taken, queued_in}
-unfoldable use Rattle.spec_links.specs.Guarded.{happened}
+unfoldable use Rattle.spec_links.specs.Guarded.{link_happenings}
 use Rattle.spec_links.specs.Guarded.{mmio_by, happens_by}
 use Rattle.spec_interfaces.specs.{newest_happened}
 unfoldable use Rattle.spec_interfaces.specs.Floors.{device_floor}
@@ -46,32 +47,28 @@ unfoldable use Rattle.trusted_memory.specs.Writes.{byte_after}
 use Rattle.trusted_memory.specs.Regions.{in_one_region}
 use Rattle.trusted_memory.specs.Memory.{bytes_from}
 use Rattle.link_events.specs.declared.event.InterfaceEvent.TheVariants as ie
-unfoldable use Rattle.spec_links.specs.Due.{due}
 use Rattle.machine_operations.specs.{BesidePorts, LinkState, step_of, beside_at, PortsStandFor, forward_of}
 use Rattle.machine_operations.proofs.AllSteps.{steps}
 use Rattle.machine_operations.proofs.Resets.{begins as first}
 use Rattle.machine_whole.specs.Machine.{Whole, t_by, t_kept, memory_shown, written_after, beside_of, whole_streams}
-use Rattle.machine_whole.specs.Machine.{draw_after}
-use Rattle.machine_whole.specs.Machine.{policy_of, completion_from_memory, machine_completion, ended_unit}
+use Rattle.machine_whole.specs.Machine.{draw_after, policy_of, completion_from_memory, machine_completion, ended_unit}
 use Rattle.machine_whole.specs.Machine.{whole_faces_after, whole_after}
-use Rattle.machine_whole.specs.Accesses.{face_standings, waiting_reads_after, accesses_after}
+use Rattle.machine_whole.specs.Accesses.{face_statuses, waiting_reads_after, accesses_after, unit_tlps}
 use Rattle.machine_whole.specs.Stands.{AccessesStandFor, StandsFor, WholeBegins, WholeSteps}
 use Rattle.machine_whole.proofs.Units.{unit_is}
 use Rattle.machine_whole.proofs.Streams.{answer_same, draw_same, ends_all, faces_same, streams_are}
-use Rattle.machine_interfaces.specs.Stands.{ends_read}
-use Rattle.machine_interfaces.specs.Machine.{peer_t_of}
 unfoldable use Rattle.spec_links.specs.Hops.{accepted_tlps_in, forwarded_count}
 use Rattle.law_reads.specs.Waiting.{waiting_next}
-use Rattle.machine_whole.specs.Accesses.{unit_tlps}
 use Rattle.machine_whole.proofs.Accesses.{AreEnded, waiting_is, floors_are, standings_are, happened_is, carried_is}
 
 -- ---- what the ports read of the interfaces
 
 t_by_says : (plan : Plan) (fs : Faces) (h : History) → FacesStandFor plan fs h
     → (port : PortName) (side : Side) (head : HeadView) (stream : ℕ) (trusted : Bool)
-    → t_by plan fs port side head stream trusted ≡ t_due plan h port side (owner_at plan port.line head) stream trusted
+    → t_by plan fs port side head stream trusted
+    ≡ t_due plan h port side (owner_site plan port.line head) stream trusted
 t_by_says plan fs h stands port Host head stream trusted = refl
-t_by_says plan fs h stands port Device head stream trusted = faces_stand.t plan fs h port.line stream (owner_of head)
+t_by_says plan fs h stands port Device head stream trusted = faces_stand.t plan fs h port.line stream (owner_id head)
     stands
 
 t_says : (plan : Plan) (fs : Faces) (h : History) → FacesStandFor plan fs h
@@ -82,16 +79,18 @@ t_says plan fs h stands port head stream trusted = by (at_switch plan port) (is_
   where
     by : (switch late : Bool)
         → (if switch then trusted
-        else if late then peer_t_of plan fs (if late then (port_at plan.peers port).line else port.line) stream
-        (owner_of head)
+        else if late then peer_t_of plan fs (if late then (port_beside_end plan.peers port).line else port.line) stream
+        (owner_id head)
         else t_by plan fs port port.side head stream trusted)
         ≡ (if switch then trusted
-        else if late then peer_t plan h (owner_at plan (if late then (port_at plan.peers port).line else port.line)
+        else if late then peer_t plan h (owner_site plan
+        (if late then (port_beside_end plan.peers port).line else port.line)
         head) stream
-        else t_due plan h port port.side (owner_at plan (if late then (port_at plan.peers port).line else port.line)
+        else t_due plan h port port.side (owner_site plan
+        (if late then (port_beside_end plan.peers port).line else port.line)
         head) stream trusted)
     by true late = refl
-    by false true = faces_stand.peer plan fs h (port_at plan.peers port).line stream (owner_of head) stands
+    by false true = faces_stand.peer plan fs h (port_beside_end plan.peers port).line stream (owner_id head) stands
     by false false = t_by_says plan fs h stands port port.side head stream trusted
 
 memory_says : (plan : Plan) (h : History) (ws : List Write) → ws ≡ writes plan h → (e : InterfaceEvent)
@@ -123,38 +122,37 @@ policy_is plan w h stands = λ i. record {
 
 -- the completion of the first of the reads that wait is what an answer seals
 completed_is : (plan : Plan) (w : Whole) (h : History) → StandsFor plan w h → (link : ℕ) (rs : List WaitingRead)
-    → waiting plan h link ≡ rs
-    → completion_first plan (grant_of plan w.faces) (completion_from_memory w) link rs
+    → waiting_reads plan h link ≡ rs → completion_first plan (grant_of plan w.faces) (completion_from_memory w) link rs
     ≡ completion_first plan (grant_at plan h) (λ r. sent_bytes plan h (event.Access (ae.Answer link))) link rs
 completed_is plan w h stands link [] waits = refl
 completed_is plan w h stands link (r ∷ rs) waits =
-    let oldest = drop_first (reads_taken h link) (queued plan h link) r rs waits in
+    let oldest = drop_first (reads_taken h link) (queued_reads plan h link) r rs waits in
     let bytes = ap (λ (ws : List Write). completion_bytes (byte_after ws) r.read) stands.written
     ∙ sym (bytes_are plan h link r stands.links.ports_stand.cause oldest) in
     λ i. site_completion plan link r.draw (bytes i)
     (grants_are plan w.faces h stands.faces i link r.read.requester) (site_with plan link r.read.requester)
 
-reply_is : (plan : Plan) (w : Whole) (h : History) → StandsFor plan w h → (link : ℕ)
-    → machine_completion plan w link
+reply_is : (plan : Plan) (w : Whole) (h : History) → StandsFor plan w h → (link : ℕ) → machine_completion plan w link
     ≡ link_completion plan (grant_at plan h) (λ r. sent_bytes plan h (event.Access (ae.Answer link))) link
-    (waiting plan h link)
+    (waiting_reads plan h link)
 reply_is plan w h stands link =
     ap (link_completion plan (grant_of plan w.faces) (completion_from_memory w) link) (stands.accesses.waiting link)
     ∙ by (has_link plan link)
   where
     by : (b : Bool)
-        → (if b then completion_first plan (grant_of plan w.faces) (completion_from_memory w) link (waiting plan h link)
+        → (if b then completion_first plan (grant_of plan w.faces) (completion_from_memory w) link
+        (waiting_reads plan h link)
         else Err v.Nothing)
         ≡ (if b then completion_first plan (grant_at plan h) (λ r. sent_bytes plan h (event.Access (ae.Answer link)))
         link
-        (waiting plan h link) else Err v.Nothing)
-    by true = completed_is plan w h stands link (waiting plan h link) refl
+        (waiting_reads plan h link) else Err v.Nothing)
+    by true = completed_is plan w h stands link (waiting_reads plan h link) refl
     by false = refl
 
 beside_is : (plan : Plan) (w : Whole) (h : History) → StandsFor plan w h → beside_of plan w ≡ beside_at plan h
 beside_is plan w h stands = λ i. record {
   t = λ port head stream trusted. t_says plan w.faces h stands.faces port head stream trusted i;
-  effects = λ port. effects_by plan (policy_is plan w h stands i) (port_of plan port);
+  effects = λ port. effects_under_policy plan (policy_is plan w h stands i) (port_of plan port);
   answer = λ e. answer_says plan w h stands e i;
   reply = λ link. reply_is plan w h stands link i;
   shows = mmio_by plan (λ link. stands.accesses.happened link i);
@@ -201,7 +199,7 @@ accesses_are plan w h e x faces stands is next =
       floors = floors_are plan w.links h e x w.faces.list faces.list w.accesses.floors stands.links.ports_stand
           stands.faces.faces next.faces stands.accesses.floors;
       happened = λ link. ap (newest_happened
-          (happens_by plan (λ l. face_standings l (sites plan) w.faces.list w.accesses.floors) (ended_unit plan w e) e x
+          (happens_by plan (λ l. face_statuses l (sites plan) w.faces.list w.accesses.floors) (ended_unit plan w e) e x
           link)) (stands.accesses.happened link)
           ∙ happened_is plan h e x (ended_unit plan w e) w.faces.list w.accesses.floors stands.faces.faces
           stands.accesses.floors units link;
@@ -232,8 +230,7 @@ after_stands plan w h e x links stands is next =
     }
 
 at_step : (plan : Plan) (w : Whole) (h : History) (e : Event) (b : BesidePorts) → b ≡ beside_at plan h
-    → StandsFor plan w h
-    → ((step_of plan b w.links e).0 ≡ due plan h e) × StandsFor plan
+    → StandsFor plan w h → ((step_of plan b w.links e).0 ≡ due plan h e) × StandsFor plan
     (whole_after plan w e (step_of plan b w.links e).0 (step_of plan b w.links e).1)
     ((e, (step_of plan b w.links e).0) ∷ h)
 at_step plan w h e b same stands =
@@ -251,7 +248,7 @@ pub whole_steps : WholeSteps
 whole_steps plan w h e stands = at_step plan w h e (beside_of plan w) (beside_is plan w h stands) stands
 
 pub whole_begins : WholeBegins
-unfolding stream_draw writes reads_taken queued_in device_floor happened accepted_tlps_in forwarded_count
+unfolding stream_draw writes reads_taken queued_in device_floor link_happenings accepted_tlps_in forwarded_count
 whole_begins plan = record {
   links = first plan;
   faces = faces_stand.first plan;

@@ -15,9 +15,9 @@ use Rattle.link_verdicts.specs.declared.access.AccessVerdict.TheVariants as av
 use Rattle.spec_interfaces.specs.Sites.{Site, sites}
 use Rattle.spec_interfaces.specs.Devices.{is_run}
 use Rattle.spec_interfaces.specs.Floors.{floor_after}
-use Rattle.machine_interfaces.specs.Machine.{Face, Faces}
+use Rattle.machine_whole.specs.Interfaces.{Face, Faces}
 use Rattle.spec_links.specs.{WaitingRead}
-use Rattle.spec_interfaces.specs.{InterfaceStatus, standing_of, Happened, newest_happened}
+use Rattle.spec_interfaces.specs.{InterfaceStatus, interface_status, Happened, newest_happened}
 use Rattle.spec_links.specs.Sent.{is_answer_on, reads_by}
 use Rattle.spec_links.specs.Hops.{HopTlp, tlps_with}
 use Rattle.spec_links.specs.Memory.{plain_of}
@@ -46,10 +46,10 @@ first_accesses plan =
 
 -- ---- how a device's interfaces stand
 
-abbrev pub face_standings : ℕ → List Site → List Face → List ℕ → List InterfaceStatus
-face_standings link (x ∷ xs) (f ∷ fs) (n ∷ ns) =
-    if x.link == link then standing_of f.tdi n ∷ face_standings link xs fs ns else face_standings link xs fs ns
-face_standings link _ _ _ = []
+abbrev pub face_statuses : ℕ → List Site → List Face → List ℕ → List InterfaceStatus
+face_statuses link (x ∷ xs) (f ∷ fs) (n ∷ ns) =
+    if x.link == link then interface_status f.tdi n ∷ face_statuses link xs fs ns else face_statuses link xs fs ns
+face_statuses link _ _ _ = []
 
 -- ---- one step
 
@@ -88,6 +88,6 @@ accesses_after plan st before after ps e w a = record {
   waiting = λ link. waiting_reads_after plan ps e w link (a.waiting link);
   floors = floors_after e (device_draw_at plan st) (sites plan) before.list after.list a.floors;
   happened = λ link. newest_happened
-      (happens_by plan (λ l. face_standings l (sites plan) before.list a.floors) ps e w link) (a.happened link);
+      (happens_by plan (λ l. face_statuses l (sites plan) before.list a.floors) ps e w link) (a.happened link);
   carried = λ link d. waiting_next (unit_tlps plan ps w) link d e w (a.carried link d);
 }

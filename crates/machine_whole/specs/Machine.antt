@@ -1,6 +1,5 @@
 -- All that is kept of ports and interfaces, and one step of it.
-use Rattle.std.specs.Prelude.{ℕ, ◌==◌, ◌&&◌, Bool, false, if◌then◌else◌, Option, Some, None, Result, Ok, [], List}
-use Rattle.std.specs.Prelude.{length}
+use Rattle.std.specs.Prelude.{ℕ, ◌==◌, ◌&&◌, Bool, if◌then◌else◌, Option, Some, None, Result, Ok, [], List, length}
 use Rattle.std.specs.Option.{option_and_then}
 use Rattle.ide_types.specs.declared.port.PortName.{PortName}
 use Rattle.ide_types.specs.declared.port.Side.{Side}
@@ -16,11 +15,13 @@ use Rattle.link_verdicts.specs.declared.verdict.Verdict.TheVariants as v
 use Rattle.spec_keys.specs.Operations.{StreamStage, Idle}
 use Rattle.spec_keys.specs.History.{begins_keyed}
 use Rattle.spec_interfaces.specs.Devices.{is_secure}
-use Rattle.spec_interfaces.specs.Cause.{is_peer, owner_of, owners_link}
-use Rattle.machine_interfaces.specs.Machine.{Faces, new_faces, Streams, EndsRead, faces_after, interface_answer, t_of}
-use Rattle.machine_interfaces.specs.Machine.{peer_t_of, grant_of}
-use Rattle.machine_operations.specs.{forward_of}
-use Rattle.spec_links.specs.Memory.{Policy, effects_by, admitted_writes, shown_if}
+use Rattle.spec_interfaces.specs.Cause.{is_peer, owner_id, owners_link}
+use Rattle.machine_whole.specs.Interfaces.{Faces, new_faces, Streams, EndsRead, faces_after, interface_answer, t_of}
+use Rattle.machine_whole.specs.Interfaces.{peer_t_of, grant_of}
+use Rattle.machine_operations.specs.{forward_of, StreamState, Taken, Accepted, stream_outcome, BesidePorts, LinkState}
+use Rattle.machine_operations.specs.{find, find_op, machine_status, step_of, first_state, whole_arrival, altered_to}
+use Rattle.machine_operations.specs.{cut_short, packet_numbered, BoundCompletion, link_completion}
+use Rattle.spec_links.specs.Memory.{Policy, effects_under_policy, admitted_writes, shown_if}
 use Rattle.spec_links.specs.Guarded.{mmio_by}
 use Rattle.spec_links.specs.History.{Arrival}
 use Rattle.spec_links.specs.Plan.{has_port, aggregation_of, is_closed}
@@ -33,15 +34,10 @@ use Rattle.trusted_memory.specs.Memory.{bytes_from}
 use Rattle.ide_prefix.specs.declared.fault.PacketFault.{PacketFault}
 use Rattle.ide_prefix.specs.Reading.{CutValue, IdePacket, cut_of}
 use Rattle.link_events.specs.declared.event.InterfaceEvent.TheVariants as ie
-use Rattle.machine_operations.specs.{StreamState, Taken, Accepted, stream_outcome, BesidePorts, LinkState, find}
-use Rattle.machine_operations.specs.{find_op, machine_status}
-use Rattle.machine_operations.specs.{step_of, first_state, passed, altered_to, cut_short, packet_numbered}
-use Rattle.machine_operations.specs.{BoundCompletion}
-use Rattle.machine_operations.specs.{link_completion}
 use Rattle.spec_interfaces.specs.Sites.{sites}
 use Rattle.spec_links.specs.{WaitingRead}
 unfoldable use Rattle.spec_links.specs.{completion_bytes}
-use Rattle.machine_whole.specs.Accesses.{Accesses, first_accesses, face_standings, posted_draw_at, accesses_after}
+use Rattle.machine_whole.specs.Accesses.{Accesses, first_accesses, face_statuses, posted_draw_at, accesses_after}
 
 -- ---- what is kept
 
@@ -58,7 +54,7 @@ abbrev pub new_whole : Plan → Whole
 new_whole plan = record {
   links = first_state plan;
   faces = new_faces plan;
-  draw = λ link stream. 0;
+  draw = λ line stream. 0;
   written = [];
   accesses = first_accesses plan;
 }
@@ -76,32 +72,32 @@ secure_in plan st link stream = is_secure (machine_status plan st Device link st
 abbrev pub live_if : Bool → ℕ → Option ℕ
 live_if secure draw = if secure then Some draw else None
 
-abbrev pub live_in : Plan → LinkState → PortName → ℕ → Option ℕ
-live_in plan st end stream =
+abbrev pub live_draw_at_end : Plan → LinkState → PortName → ℕ → Option ℕ
+live_draw_at_end plan st end stream =
     live_if (is_secure (machine_status plan st end.side end.line stream)) (posted_draw_at plan st end stream)
 
 abbrev pub ends_in : Plan → LinkState → EndsRead
-ends_in plan st = record { secure = secure_in plan st; live = live_in plan st }
+ends_in plan st = record { secure = secure_in plan st; live = live_draw_at_end plan st }
 
 abbrev pub whole_streams : Plan → Whole → Streams
 whole_streams plan w = record {
   secure = secure_in plan w.links;
-  live = live_in plan w.links;
-  host = λ link stream. machine_status plan w.links Host link stream;
+  live = live_draw_at_end plan w.links;
+  host = λ line stream. machine_status plan w.links Host line stream;
   draw = w.draw;
-  op = λ link stream. op_or_idle (find_op plan w.links link stream);
+  op = λ line stream. op_or_idle (find_op plan w.links line stream);
   drawn = w.links.draws;
 }
 
 abbrev pub t_by : Plan → Faces → PortName → Side → HeadView → ℕ → Bool → Bool
 t_by plan fs port Host head stream trusted = trusted
-t_by plan fs port Device head stream trusted = t_of plan fs port.line stream (owner_of head)
+t_by plan fs port Device head stream trusted = t_of plan fs port.line stream (owner_id head)
 
 -- T of a TLP that an end seals on a stream
 abbrev pub t_kept : Plan → Faces → PortName → HeadView → ℕ → Bool → Bool
 t_kept plan fs end head stream trusted =
     if at_switch plan end then trusted
-    else if is_peer plan end then peer_t_of plan fs (owners_link plan end) stream (owner_of head)
+    else if is_peer plan end then peer_t_of plan fs (owners_link plan end) stream (owner_id head)
     else t_by plan fs end end.side head stream trusted
 
 -- ---- memory
@@ -114,7 +110,7 @@ memory_shown plan written e = v.Nothing
 
 -- what an event brings
 abbrev pub arrival_of : Plan → LinkState → Event → Option Arrival
-arrival_of plan st (event.Pass n) = option_and_then (passed plan) (packet_numbered st.packets n)
+arrival_of plan st (event.Pass n) = option_and_then (whole_arrival plan) (packet_numbered st.packets n)
 arrival_of plan st (event.Alter n at mask) = option_and_then (altered_to plan at mask) (packet_numbered st.packets n)
 arrival_of plan st (event.Cut n len) = option_and_then (cut_short plan len) (packet_numbered st.packets n)
 arrival_of plan st (event.Arrive port bytes) =
@@ -147,7 +143,7 @@ abbrev pub policy_of : Plan → Whole → Policy
 policy_of plan w = record {
   grants = grant_of plan w.faces;
   waiting = λ link. length (w.accesses.waiting link);
-  standings = λ link. face_standings link (sites plan) w.faces.list w.accesses.floors;
+  standings = λ link. face_statuses link (sites plan) w.faces.list w.accesses.floors;
 }
 
 -- the completion of a read, from memory as it is now
@@ -161,7 +157,7 @@ machine_completion plan w link = link_completion plan (grant_of plan w.faces) (c
 abbrev pub beside_of : Plan → Whole → BesidePorts
 beside_of plan w = record {
   t = t_kept plan w.faces;
-  effects = λ port. effects_by plan (policy_of plan w) (port_of plan port);
+  effects = λ port. effects_under_policy plan (policy_of plan w) (port_of plan port);
   answer = λ e. interface_answer plan (whole_streams plan w) w.faces e (memory_shown plan w.written e);
   reply = machine_completion plan w;
   shows = mmio_by plan w.accesses.happened;
@@ -172,9 +168,9 @@ beside_of plan w = record {
 
 abbrev pub draw_after : (ℕ → ℕ → StreamStage) → ℕ → Event → Verdict → (ℕ → ℕ → ℕ) → ℕ → ℕ → ℕ
 draw_after ops drawn (event.Establish l s loss) w draw =
-    λ link stream. if (l == link) && (s == stream) && begins_keyed (ops l s) drawn w then drawn else draw link stream
+    λ line stream. if (l == line) && (s == stream) && begins_keyed (ops l s) drawn w then drawn else draw line stream
 draw_after ops drawn (event.Refresh l s loss) (v.Refreshed a b j) draw =
-    λ link stream. if (l == link) && (s == stream) then j else draw link stream
+    λ line stream. if (l == line) && (s == stream) then j else draw line stream
 draw_after ops drawn e w draw = draw
 
 -- the packets of the unit that an event ends

@@ -4,10 +4,10 @@ use Rattle.ide_types.specs.declared.plan.Plan.{Plan}
 use Rattle.link_events.specs.declared.event.Event.{Event}
 use Rattle.spec_keys.specs.History.{History}
 use Rattle.spec_interfaces.specs.Views.{stream_draw}
-use Rattle.machine_interfaces.specs.Stands.{FacesStandFor}
+use Rattle.machine_whole.specs.InterfacesStand.{FacesStandFor}
 use Rattle.ide_types.specs.declared.direction.Direction.{Direction}
-use Rattle.spec_links.specs.Memory.{writes, waiting, hop_waiting}
-use Rattle.spec_links.specs.Guarded.{happened}
+use Rattle.spec_links.specs.Memory.{writes, waiting_reads, hop_waiting}
+use Rattle.spec_links.specs.Guarded.{link_happenings}
 use Rattle.spec_interfaces.specs.Sites.{sites}
 use Rattle.spec_interfaces.specs.Floors.{device_floor}
 use Rattle.machine_whole.specs.Accesses.{Accesses}
@@ -16,9 +16,9 @@ use Rattle.machine_operations.specs.{PortsStandFor}
 use Rattle.machine_whole.specs.Machine.{Whole, new_whole, whole_step}
 
 pub record AccessesStandFor (plan : Plan) (a : Accesses) (h : History) : Type 0 where
-  pub waiting : (link : ℕ) → a.waiting link ≡ waiting plan h link
+  pub waiting : (link : ℕ) → a.waiting link ≡ waiting_reads plan h link
   pub floors : a.floors ≡ map (device_floor plan h) (sites plan)
-  pub happened : (link : ℕ) → a.happened link ≡ happened plan h link
+  pub happened : (link : ℕ) → a.happened link ≡ link_happenings plan h link
   pub carried : (link : ℕ) (d : Direction) → a.carried link d ≡ hop_waiting plan h link d
 
 pub record StandsFor (plan : Plan) (w : Whole) (h : History) : Type 0 where

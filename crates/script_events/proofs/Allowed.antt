@@ -10,7 +10,7 @@ use Rattle.ide_types.specs.Lines.{is_peer_line}
 use Rattle.ide_types.specs.declared.plan.PeerPlan.{PeerPlan}
 use Rattle.ide_types.specs.declared.plan.Plan.{Plan}
 use Rattle.ide_types.specs.Fits.{FitsPlan}
-use Rattle.ide_types.specs.Ends.{has_port, interface_link}
+use Rattle.ide_types.specs.Ends.{is_planned_port, interface_link}
 use Rattle.script_events.specs.Terms.{Establish, Refresh, Stop, Send, PeerSend, Pass, Alter, Cut, Arrive}
 use Rattle.script_events.specs.Terms.{Dump, Reset, Status, Interface, Access, Peer, Hop, Loss}
 use Rattle.script_events.specs.Terms.event
@@ -18,10 +18,8 @@ use Rattle.script_events.specs.Terms.pe
 use Rattle.script_events.specs.Terms.he
 use Rattle.link_events.specs.Spells.{IsAllowed, IsAllowedInScript}
 use Rattle.script_events.specs.Events.{event_of, peer_stream, peer_stream_in, bound_stream, ends_at, own_stream}
-use Rattle.script_events.specs.Events.{hop_stream}
-use Rattle.script_events.specs.Events.{establish_event, refresh_event, stop_event, status_event, send_event, bind_event}
-use Rattle.script_events.specs.Events.{unbind_event, forward_event, arrive_event}
-use Rattle.script_events.specs.Events.{reset}
+use Rattle.script_events.specs.Events.{hop_stream, establish_event, refresh_event, stop_event, status_event, send_event}
+use Rattle.script_events.specs.Events.{bind_event, unbind_event, forward_event, arrive_event, reset}
 use Rattle.script_events.specs.Laws.{EventsAreAllowed}
 
 -- operations on streams are allowed
@@ -81,7 +79,7 @@ bound_of plan fits interface peer =
     if_of (ends_at (slice_get plan.peers peer) (interface_link plan.links 0 interface)) (peer_stream plan peer)
     (peer_is plan fits peer (slice_get plan.peers peer) refl)
 
-arrived_is : (plan : Plan) (port : PortName) (bytes : List ℕ) (b : Bool) → has_port plan port ≡ b
+arrived_is : (plan : Plan) (port : PortName) (bytes : List ℕ) (b : Bool) → is_planned_port plan port ≡ b
     → IsAllowedInScript (Arrive port bytes) → IsAllowed (arrive_event plan port bytes)
 arrived_is plan port bytes true is h = rw is h
 arrived_is plan port bytes false is h = rw is tt
@@ -110,7 +108,7 @@ events_are_allowed plan fits (PeerSend peer side bytes more) h = sent_is side by
 events_are_allowed plan fits (Pass packet) h = tt
 events_are_allowed plan fits (Alter packet at mask) h = tt
 events_are_allowed plan fits (Cut packet len) h = tt
-events_are_allowed plan fits (Arrive port bytes) h = arrived_is plan port bytes (has_port plan port) refl h
+events_are_allowed plan fits (Arrive port bytes) h = arrived_is plan port bytes (is_planned_port plan port) refl h
 events_are_allowed plan fits (Dump packet) h = tt
 events_are_allowed plan fits (Reset link) h = reset_is plan link (nat_lt link (length plan.links)) refl
 events_are_allowed plan fits (Status link stream) h = status_is (own_stream plan link stream)

@@ -11,10 +11,9 @@ use Rattle.script_events.specs.declared.round.Round.{Round}
 use Rattle.script_events.specs.declared.step.Step.{Step}
 use Rattle.script_events.specs.declared.step.Step.TheVariants as step
 use Rattle.script_events.specs.GeneratedEvents.{RoundFits, arrival, byte_with_weight, event_rounds, events_from}
-use Rattle.script_events.specs.GeneratedEvents.{first_numbers}
-use Rattle.script_events.specs.GeneratedEvents.{following, generated, numbers_with_packet, round_by, round_events}
-use Rattle.script_events.specs.GeneratedEvents.{round_of}
-use Rattle.script_events.specs.GeneratedEvents.{sending_round, setting_up, step_event, value_of, write_at}
+use Rattle.script_events.specs.GeneratedEvents.{first_numbers, following_number, generated_events, numbers_with_packet}
+use Rattle.script_events.specs.GeneratedEvents.{round_by, round_events, round_of, sending_round, setting_up, step_event}
+use Rattle.script_events.specs.GeneratedEvents.{value_of, write_at}
 use Rattle.script_events.specs.Forms.{IsForm}
 
 -- ---- numbers stay small
@@ -60,7 +59,7 @@ by_turn_fits turn s near =
 -- the number of the recurrence changes none of these
 round_fits : (s : Numbers) → s.arriving ≤ s.packets + 1 → RoundFits s (round_of s)
 round_fits s near =
-    let fits = by_turn_fits (value_of (following s.x) % 16) (record s { x = following s.x }) near in
+    let fits = by_turn_fits (value_of (following_number s.x) % 16) (record s { x = following_number s.x }) near in
     record { packets = fits.packets; arriving = fits.arriving }
 
 -- so many rounds seal few packets
@@ -124,7 +123,7 @@ round_form turn s few =
     (either (nat_lt s.packets s.arriving) _ _ (refl, refl) (arrival_form turn s few)))
 
 first_form : (s : Numbers) → s.arriving < 2 ^ 64 → IsForm (round_of s).event
-first_form s few = round_form (value_of (following s.x) % 16) (record s { x = following s.x }) few
+first_form s few = round_form (value_of (following_number s.x) % 16) (record s { x = following_number s.x }) few
 
 setting_up_form : AllByRecursion IsForm setting_up
 setting_up_form = ((refl, refl, refl), ((refl, refl), ((refl, refl), ((refl, refl), tt))))
@@ -153,7 +152,7 @@ rounds_form (suc n) s near few =
     both_form (round_events r) (event_rounds n r.numbers) (first_form s (omega (arith, near, few)), from_form r.ahead)
     (rounds_form n r.numbers fits.arriving (omega (arith, few, packets)))
 
-pub generated_form : (seed count : ℕ) → count ≤ 100000 → AllByRecursion IsForm (generated seed count)
+pub generated_form : (seed count : ℕ) → count ≤ 100000 → AllByRecursion IsForm (generated_events seed count)
 generated_form seed count few = both_form setting_up (event_rounds count (first_numbers seed)) setting_up_form
     (rounds_form count (first_numbers seed) (lit≤ tt) (omega (arith, few)))
 
@@ -214,7 +213,7 @@ rounds_weigh weight w (suc n) s near few =
     omega (arith, all, one, first, steps, later)
 
 pub generated_weigh : (weight : Event → ℕ) → Weighs weight → (seed count : ℕ) → count ≤ 100000
-    → sum_by weight (generated seed count) ≤ 84 + 145 * count
+    → sum_by weight (generated_events seed count) ≤ 84 + 145 * count
 generated_weigh weight w seed count few =
     let first = from_weigh weight w (Some step.Establish) in
     let later = rounds_weigh weight w count (first_numbers seed) (lit≤ tt) (omega (arith, few)) in

@@ -9,8 +9,9 @@ use Rattle.script_events.specs.declared.numbers.Numbers.{Numbers}
 use Rattle.script_events.specs.declared.step.Step.{Step}
 use Rattle.script_events.specs.declared.step.Step.TheVariants as step
 use Rattle.script_events.specs.declared.round.Round.{Round}
-use Rattle.script_events.specs.GeneratedEvents.{arrival, events_from, following, value_of, round_events, first_numbers}
-use Rattle.script_events.specs.GeneratedEvents.{generated, round_by, round_of, event_rounds, setting_up}
+use Rattle.script_events.specs.GeneratedEvents.{arrival, events_from, following_number, value_of, round_events}
+use Rattle.script_events.specs.GeneratedEvents.{first_numbers}
+use Rattle.script_events.specs.GeneratedEvents.{generated_events, round_by, round_of, event_rounds, setting_up}
 
 -- ---- each is allowed
 
@@ -49,10 +50,10 @@ rounds_allowed zero s = tt
 rounds_allowed (suc n) s =
     let r = round_of s in
     both_allowed (round_events r) (event_rounds n r.numbers)
-    (round_allowed (value_of (following s.x) % 16) (record s { x = following s.x }), from_allowed r.ahead)
+    (round_allowed (value_of (following_number s.x) % 16) (record s { x = following_number s.x }), from_allowed r.ahead)
     (rounds_allowed n r.numbers)
 
-pub all_allowed : (seed count : ℕ) → AllByRecursion IsAllowed (generated seed count)
+pub all_allowed : (seed count : ℕ) → AllByRecursion IsAllowed (generated_events seed count)
 all_allowed seed count = both_allowed (events_from (Some step.Establish)) (event_rounds count (first_numbers seed))
     (from_allowed (Some step.Establish)) (rounds_allowed count (first_numbers seed))
 
@@ -76,7 +77,7 @@ few_rounds (suc n) s =
     let later = few_rounds n r.numbers in
     omega (arith, both, few, later)
 
-pub few_events : (seed count : ℕ) → length (generated seed count) ≤ 4 + 7 * count
+pub few_events : (seed count : ℕ) → length (generated_events seed count) ≤ 4 + 7 * count
 few_events seed count =
     let both = length-append (events_from (Some step.Establish)) (event_rounds count (first_numbers seed)) in
     let later = few_rounds count (first_numbers seed) in

@@ -1,7 +1,6 @@
 -- Numbers and bytes as words, and that they are read back.
-use Rattle.std.proofs.Common.{◌≡◌, refl, ℕ, zero, suc, ◌/◌, ◌%◌, ◌<◌, ◌≤◌, ◌^◌, ◌==◌, ◌&&◌, nat_le}
-use Rattle.std.proofs.Common.{Bool, true, false, List, [], ◌∷◌, length, Some, arith}
-use Rattle.std.proofs.Common.{codes, slice_index, lit≤}
+use Rattle.std.proofs.Common.{◌≡◌, refl, ℕ, zero, suc, ◌/◌, ◌%◌, ◌<◌, ◌≤◌, ◌^◌, ◌==◌, ◌&&◌, nat_le, Bool, true, false}
+use Rattle.std.proofs.Common.{List, [], ◌∷◌, length, Some, arith, codes, slice_index, lit≤}
 use Rattle.std.specs.Prelude.{nat_eq}
 use Rattle.std.specs.List.{AllByRecursion, list_all, starts_with}
 use Rattle.std.proofs.lemmas.List.Sums.{AllPass-from_list_all}

@@ -1,9 +1,8 @@
 -- The topology's text prints the table.
-use Rattle.std.proofs.Common.{◌≡◌, refl, sym, ◌∙◌, subst, ℕ, ◌≤◌, pos, Bool, true, false, List, []}
-use Rattle.std.proofs.Common.{◌∷◌, ◌++◌, length, arith, append_assoc, codes}
+use Rattle.std.proofs.Common.{◌≡◌, refl, sym, ◌∙◌, subst, ℕ, ◌≤◌, pos, Bool, true, false, List, [], ◌∷◌, ◌++◌, length}
+use Rattle.std.proofs.Common.{arith, append_assoc, codes, SFits}
 use Rattle.std.specs.Fmt.{decimal, digits}
 use Rattle.std.specs.Int.{w64}
-use Rattle.std.proofs.Common.{SFits}
 use Rattle.std.proofs.Math.Facts.{sfits_lit}
 use Rattle.hex.specs.Hex.{encode_lower}
 use Rattle.toml.specs.Data.{Data, string, array}
@@ -16,27 +15,26 @@ use Rattle.script_events.specs.TopologyText.{range_text, stream_text, topology_w
 use Rattle.script_events.proofs.TextKeys.{Key, Keys}
 use Rattle.script_events.proofs.Strings.{hex_plain, string_plain}
 use Rattle.script_events.proofs.Table.{header, info_digits, key_data, key_list, lines_are, lines_with, number, own}
-use Rattle.script_events.proofs.Table.{only}
-use Rattle.script_events.proofs.Table.{pair, table_with}
+use Rattle.script_events.proofs.Table.{only, pair, table_with}
 
 -- ---- values
 
-abbrev quoted : Text → Text
-quoted s = 34 ∷ (s ++ 34 ∷ [])
+abbrev text_in_quotes : Text → Text
+text_in_quotes s = 34 ∷ (s ++ 34 ∷ [])
 
-key_value_text : (k : List ℕ) → Key k → IsValueText true (key_data k) (quoted (encode_lower k))
+key_value_text : (k : List ℕ) → Key k → IsValueText true (key_data k) (text_in_quotes (encode_lower k))
 key_value_text k key = sym (string_plain (encode_lower k) (hex_plain k key.bytes))
 
 -- what stands after the digits of a key
 item_whole : (digits rest : Text) → (codes "\n    \"" ++ (digits ++ codes "\",")) ++ rest
-    ≡ codes "\n    " ++ (quoted digits ++ (codes "," ++ rest))
+    ≡ codes "\n    " ++ (text_in_quotes digits ++ (codes "," ++ rest))
 item_whole digits rest = simp append_assoc refl
 
 keys_text : (first : Bool) (ks : List (List ℕ)) → Keys ks
     → IsItemsText true true first (key_list ks) (key_items ks ++ codes "\n]")
 keys_text first [] keys = refl
 keys_text first (k ∷ ks) keys = (
-  quoted (encode_lower k),
+  text_in_quotes (encode_lower k),
   key_items ks ++ codes "\n]",
   append_assoc (key_item k) (key_items ks) (codes "\n]") ∙ item_whole (encode_lower k) (key_items ks ++ codes "\n]"),
   key_value_text k keys.0,
@@ -167,7 +165,7 @@ stream_lines es rest more =
     refl
     two_ids more))))
 
-zeros_plain : string_text info_digits ≡ quoted info_digits
+zeros_plain : string_text info_digits ≡ text_in_quotes info_digits
 unfolding string_text encoding_of escaped needs_escape quotes_after
 zeros_plain = refl
 
@@ -197,7 +195,7 @@ interface_lines es rest more =
     header_line (codes "link" ∷ []) (codes "interface") (codes "link.interface") _ _ refl
     (number_line (codes "cacheline") 16 (codes "16") _ _ refl (sfits_lit tt) refl
     (number_line (codes "command") 6 (codes "6") _ _ refl (sfits_lit tt) refl
-    (own_line true (codes "info") (string info_digits) (quoted info_digits) _ _ refl (sym zeros_plain)
+    (own_line true (codes "info") (string info_digits) (text_in_quotes info_digits) _ _ refl (sym zeros_plain)
     (number_line (codes "rid") 256 (codes "256") _ _ refl (sfits_lit tt) refl
     (number_line (codes "stream") 5 (codes "5") _ _ refl (sfits_lit tt) refl
     (header_line (codes "link" ∷ codes "interface" ∷ []) (codes "bars") (codes "link.interface.bars") _ _ refl

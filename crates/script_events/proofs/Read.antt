@@ -1,7 +1,6 @@
 -- The table means the topology of generated events.
-use Rattle.std.proofs.Common.{◌≡◌, ◌≢◌, refl, ℕ, ◌+◌, ◌%◌, ◌≤◌, pos}
-use Rattle.std.proofs.Common.{false, nat_lt, List, [], ◌∷◌, ◌++◌, length, None, Ok}
-use Rattle.std.proofs.Common.{arith, codes, inl, inr}
+use Rattle.std.proofs.Common.{◌≡◌, ◌≢◌, refl, ℕ, ◌+◌, ◌%◌, ◌≤◌, pos, false, nat_lt, List, [], ◌∷◌, ◌++◌, length, None}
+use Rattle.std.proofs.Common.{Ok, arith, codes, inl, inr}
 use Rattle.std.specs.List.{position_from}
 use Rattle.std.specs.Str.{bytes_eq}
 use Rattle.std.proofs.lemmas.Bool.{cases_Bool}
@@ -11,7 +10,7 @@ use Rattle.hex.proofs.HexLemmas.{decode_sized-encode_lower}
 use Rattle.hex.proofs.OnLiterals.{hex_on_literals}
 use Rattle.toml.specs.Data.{Data, array}
 use Rattle.toml_walk.specs.Values.{key_bytes}
-use Rattle.toml_walk.specs.Walk.{Text, between, each, list, list_of, place, within_span}
+use Rattle.toml_walk.specs.Walk.{Text, count_between, each, list, list_of, place, within_span}
 use Rattle.ide_types.specs.declared.plan.Plan.{Plan}
 use Rattle.script_events.specs.GeneratedTopology.{the_interface, the_link, the_plan, the_stream}
 use Rattle.topology.specs.declared.draft.LinkDraft.{LinkDraft}
@@ -40,11 +39,11 @@ not_less : (m n : ℕ) → n ≤ m → nat_lt m n ≡ false
 not_less m n le = grind (arith, nat_tests)
 
 counted : (least most : ℕ) (path : Text) (ds : List Data) → least ≤ length ds → length ds ≤ most
-    → within_span (between least most) path ds ≡ Ok ds
+    → within_span (count_between least most) path ds ≡ Ok ds
 counted least most path ds enough few = rw (not_less most (length ds) few, not_less (length ds) least enough) refl
 
 keys_read : (least most : ℕ) (path : Text) (ks : List (List ℕ)) → Keys ks → least ≤ length ks → length ks ≤ most
-    → list (between least most) key_bytes path (array (key_list ks)) ≡ Ok ks
+    → list (count_between least most) key_bytes path (array (key_list ks)) ≡ Ok ks
 keys_read least most path ks keys enough few =
     let many = as_many ks in
     rw (
@@ -118,8 +117,7 @@ no_pair : (ks : List (List ℕ)) (i : ℕ) → Differ ks → pair_from bytes_eq 
 no_pair [] i differ = refl
 no_pair (k ∷ ks) i differ = rw (none_later k ks (i + 1) differ.0, no_pair ks (i + 1) differ.1) refl
 
-rules_hold : (pool nonces : List (List ℕ)) → Differ pool → length pool % 6 ≡ 0
-    → rules (plan_draft pool nonces) ≡ Ok tt
+rules_hold : (pool nonces : List (List ℕ)) → Differ pool → length pool % 6 ≡ 0 → rules (plan_draft pool nonces) ≡ Ok tt
 unfolding rules link_rules peer_rules hop_rules plan_draft link_draft
 rules_hold pool nonces differ sixes = rw (sixes, no_pair pool 0 differ) refl
 

@@ -24,8 +24,7 @@ round_first (suc k) n some = let less : suc k - 1 ≡ k = omega arith in rw less
 
 -- the same of what is known to be that step, and that round
 pub step_of : (ahead after : Option Step) (s : Step) (e : Event) (count : ℕ) (n : Numbers) → ahead ≡ Some s
-    → after ≡ step_after s → e ≡ step_event s
-    → events_left ahead count n ≡ e ∷ events_left after count n
+    → after ≡ step_after s → e ≡ step_event s → events_left ahead count n ≡ e ∷ events_left after count n
 step_of ahead after s e count n is then event = rw (is, then, event) (step_first s count n)
 
 pub round_is : (ahead : Option Step) (count : ℕ) (n : Numbers) (r : Round) → ahead ≡ None → (count ≡ 0 → ⊥) → r

@@ -1,6 +1,5 @@
 -- The table that the topology's text prints, by the keys of its pool and its nonces.
-use Rattle.std.proofs.Common.{◌≡◌, refl, ℕ, ◌≤◌, pos, true, false, List, [], ◌∷◌, ◌++◌, map}
-use Rattle.std.proofs.Common.{codes, lit≤}
+use Rattle.std.proofs.Common.{◌≡◌, refl, ℕ, ◌≤◌, pos, true, false, List, [], ◌∷◌, ◌++◌, map, codes, lit≤}
 use Rattle.hex.specs.Hex.{encode_lower}
 use Rattle.toml.specs.Data.{Data, string, integer, array, table, Items, no_items, item, Members, no_members, member}
 use Rattle.toml.specs.Data.{items_depth, members_depth, items_have_valid_dates, members_have_valid_dates}

@@ -7,7 +7,7 @@ use Rattle.std.proofs.lemmas.List.Concat.{length-flat_map}
 use Rattle.std.proofs.lemmas.List.Splits.{slice_split_at}
 use Rattle.script_events.specs.declared.step.Step.{Step}
 use Rattle.script_events.specs.declared.step.Step.TheVariants as step
-use Rattle.script_events.specs.GeneratedEvents.{generated, step_event}
+use Rattle.script_events.specs.GeneratedEvents.{generated_events, step_event}
 use Rattle.script_events.specs.Forms.{IsForm, IsInterfaceForm}
 use Rattle.script_events.proofs.Forms.{generated_form, generated_weigh}
 use Rattle.ide_types.specs.Names.{Text}
@@ -20,8 +20,7 @@ use Rattle.script_events.specs.TextLaws.{Spells}
 use Rattle.script_events.specs.ScriptText.{asked_line, generated_script, operation_line, event_spelling}
 use Rattle.script_events.proofs.TextForms.{Reads, alter_reads, cut_reads, establish_reads, halt_reads, lock_reads}
 use Rattle.script_events.proofs.TextForms.{memory_reads, pass_reads, refresh_reads, report_reads, send_reads}
-use Rattle.script_events.proofs.TextForms.{start_reads}
-use Rattle.script_events.proofs.TextForms.{stop_reads}
+use Rattle.script_events.proofs.TextForms.{start_reads, stop_reads}
 
 -- ---- each form is read back
 
@@ -78,7 +77,7 @@ step_short step.Start = asked_short (codes "start") (lit≤ tt)
 pub script_short : (seed count : ℕ) → count ≤ 100000 → length (generated_script seed count) ≤ 16777216
 unfolding generated_script
 script_short seed count few =
-    let whole = length-flat_map event_spelling (generated seed count) in
+    let whole = length-flat_map event_spelling (generated_events seed count) in
     let all = generated_weigh (λ e. length (event_spelling e)) (record { steps = step_short; forms = line_short }) seed
     count
     few in
@@ -102,6 +101,7 @@ spells (e ∷ es) all =
       are_events = ap₂ (λ x xs. x ∷ xs) r.same later.are_events;
     }
 
-pub script_spells : (seed count : ℕ) → count ≤ 100000 → Spells (generated_script seed count) (generated seed count)
+pub script_spells : (seed count : ℕ) → count ≤ 100000
+    → Spells (generated_script seed count) (generated_events seed count)
 unfolding generated_script
-script_spells seed count few = spells (generated seed count) (generated_form seed count few)
+script_spells seed count few = spells (generated_events seed count) (generated_form seed count few)

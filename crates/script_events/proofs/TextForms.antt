@@ -1,14 +1,13 @@
 -- The line of each form of event that is generated is read back as that event.
 use Rattle.std.proofs.Common.{◌≡◌, refl, sym, ap, ap₂, ◌∙◌, subst, ℕ, ◌+◌, ◌<◌, ◌≤◌, ◌^◌, ◌==◌, true, false, List, []}
-use Rattle.std.proofs.Common.{◌∷◌, ◌++◌}
-use Rattle.std.proofs.Common.{length, Some, None, Ok, arith, lit≤, codes}
+use Rattle.std.proofs.Common.{◌∷◌, ◌++◌, length, Some, None, Ok, arith, lit≤, codes}
 use Rattle.std.specs.List.{All, AllByRecursion, list_all}
 use Rattle.std.specs.Fmt.{decimal, digits}
 use Rattle.std.proofs.lemmas.Fmt.{decimal_digit, length-decimal-le}
 use Rattle.hex.specs.Hex.{encode_lower, lower_digits}
 use Rattle.hex.proofs.HexLemmas.{length-encode_with}
 use Rattle.hex.proofs.OnLiterals.{hex_on_literals}
-use Rattle.ide_types.specs.Names.{Text, joined, port_word}
+use Rattle.ide_types.specs.Names.{Text, joined_words, port_word}
 use Rattle.ide_types.specs.Ports.{device_port}
 use Rattle.script_events.specs.GeneratedTopology.{the_plan}
 use Rattle.link_events.specs.declared.event.Event.{Event}
@@ -23,7 +22,7 @@ use Rattle.link_events.proofs.Meanings.{meaning_is_spelling}
 use Rattle.script_events.specs.Events.{event_of}
 use Rattle.script_events.specs.ScriptText.{event_spelling}
 use Rattle.script_events.proofs.Words.{AreWords, IsWord, ended, is_glyph, length_of, length_spaced, no_ends, printed}
-use Rattle.script_events.proofs.Words.{spaced, words_are}
+use Rattle.script_events.proofs.Words.{spaced_words, words_are}
 use Rattle.script_events.proofs.Parts.{bytes_back, decimal_short, decimal_word, hex_word, number_back}
 
 -- the line of an event ends once, means an event of a script, and that is the event in the generated topology
@@ -37,18 +36,18 @@ pub record Reads (e : Event) : Type 0 where
   pub short : length line ≤ 60
 
 -- a line of words that spell an event
-reads : (e : Event) (asks : ScriptEvent) (w : Text) (ws : List Text) → event_spelling e ≡ w ++ joined ws
-    → IsWord w → AreWords ws → is_comment (spaced w ws) ≡ false → SpelledBy asks (w ∷ ws)
+reads : (e : Event) (asks : ScriptEvent) (w : Text) (ws : List Text) → event_spelling e ≡ w ++ joined_words ws
+    → IsWord w → AreWords ws → is_comment (spaced_words w ws) ≡ false → SpelledBy asks (w ∷ ws)
     → event_of the_plan asks ≡ e → length w + length_of ws ≤ 60 → Reads e
 reads e asks w ws is word words plain spelled same short =
     let long = length_spaced w ws in
     let all = printed w ws word words in
     record {
-      line = spaced w ws;
+      line = spaced_words w ws;
       is = is ∙ ended w ws;
-      no_end = no_ends (spaced w ws) all;
+      no_end = no_ends (spaced_words w ws) all;
       asks = asks;
-      meaning = (meaning_is_spelling (spaced w ws) asks).1 (record {
+      meaning = (meaning_is_spelling (spaced_words w ws) asks).1 (record {
         short_enough = omega (arith, long, short);
         no_comment = plain;
         printable = all;
@@ -59,8 +58,8 @@ reads e asks w ws is word words plain spelled same short =
     }
 
 -- a known word
-abbrev known : (w : Text) → 0 < length w → list_all is_glyph w ≡ true → IsWord w
-known w some glyphs = record { some = some; glyphs = glyphs }
+abbrev known_word : (w : Text) → 0 < length w → list_all is_glyph w ≡ true → IsWord w
+known_word w some glyphs = record { some = some; glyphs = glyphs }
 
 five : 5 < 2 ^ 64
 five = omega arith
@@ -76,7 +75,7 @@ establish_reads =
     let zero_short = decimal_short 0 nought in
     let five_short = decimal_short 5 five in
     reads (event.Establish 0 5 None) (script.Establish 0 5 None) (codes "establish") (decimal 0 ∷ decimal 5 ∷ []) refl
-    (known (codes "establish") (omega arith) refl) (decimal_word 0 nought, (decimal_word 5 five, tt)) refl
+    (known_word (codes "establish") (omega arith) refl) (decimal_word 0 nought, (decimal_word 5 five, tt)) refl
     ((decimal 0, number_back 0 nought), (decimal 5, number_back 5 five), [], refl, refl) refl
     (omega (arith, zero_short, five_short))
 
@@ -86,7 +85,7 @@ refresh_reads =
     let zero_short = decimal_short 0 nought in
     let five_short = decimal_short 5 five in
     reads (event.Refresh 0 5 None) (script.Refresh 0 5 None) (codes "refresh") (decimal 0 ∷ decimal 5 ∷ []) refl
-    (known (codes "refresh") (omega arith) refl) (decimal_word 0 nought, (decimal_word 5 five, tt)) refl
+    (known_word (codes "refresh") (omega arith) refl) (decimal_word 0 nought, (decimal_word 5 five, tt)) refl
     ((decimal 0, number_back 0 nought), (decimal 5, number_back 5 five), [], refl, refl) refl
     (omega (arith, zero_short, five_short))
 
@@ -96,7 +95,7 @@ stop_reads =
     let zero_short = decimal_short 0 nought in
     let five_short = decimal_short 5 five in
     reads (event.Stop 0 5 None) (script.Stop 0 5 None) (codes "stop") (decimal 0 ∷ decimal 5 ∷ []) refl
-    (known (codes "stop") (omega arith) refl) (decimal_word 0 nought, (decimal_word 5 five, tt)) refl
+    (known_word (codes "stop") (omega arith) refl) (decimal_word 0 nought, (decimal_word 5 five, tt)) refl
     ((decimal 0, number_back 0 nought), (decimal 5, number_back 5 five), [], refl, refl) refl
     (omega (arith, zero_short, five_short))
 
@@ -105,7 +104,7 @@ unfolding event_of
 lock_reads =
     let zero_short = decimal_short 0 nought in
     reads (event.Interface (ie.Lock 0 None)) (script.Interface (ie.Lock 0 None)) (codes "lock") (decimal 0 ∷ []) refl
-    (known (codes "lock") (omega arith) refl) (decimal_word 0 nought, tt) refl
+    (known_word (codes "lock") (omega arith) refl) (decimal_word 0 nought, tt) refl
     ((decimal 0, number_back 0 nought), [], refl, refl) refl (omega (arith, zero_short))
 
 pub report_reads : Reads (event.Interface (ie.Report 0 None))
@@ -113,7 +112,7 @@ unfolding event_of
 report_reads =
     let zero_short = decimal_short 0 nought in
     reads (event.Interface (ie.Report 0 None)) (script.Interface (ie.Report 0 None)) (codes "report") (decimal 0 ∷ [])
-    refl (known (codes "report") (omega arith) refl) (decimal_word 0 nought, tt) refl
+    refl (known_word (codes "report") (omega arith) refl) (decimal_word 0 nought, tt) refl
     ((decimal 0, number_back 0 nought), [], refl, refl) refl (omega (arith, zero_short))
 
 pub start_reads : Reads (event.Interface (ie.Start 0 None))
@@ -121,7 +120,7 @@ unfolding event_of
 start_reads =
     let zero_short = decimal_short 0 nought in
     reads (event.Interface (ie.Start 0 None)) (script.Interface (ie.Start 0 None)) (codes "start") (decimal 0 ∷ [])
-    refl (known (codes "start") (omega arith) refl) (decimal_word 0 nought, tt) refl
+    refl (known_word (codes "start") (omega arith) refl) (decimal_word 0 nought, tt) refl
     ((decimal 0, number_back 0 nought), [], refl, refl) refl (omega (arith, zero_short))
 
 pub halt_reads : Reads (event.Interface (ie.Halt 0 None))
@@ -129,7 +128,7 @@ unfolding event_of
 halt_reads =
     let zero_short = decimal_short 0 nought in
     reads (event.Interface (ie.Halt 0 None)) (script.Interface (ie.Halt 0 None)) (codes "halt") (decimal 0 ∷ []) refl
-    (known (codes "halt") (omega arith) refl) (decimal_word 0 nought, tt) refl
+    (known_word (codes "halt") (omega arith) refl) (decimal_word 0 nought, tt) refl
     ((decimal 0, number_back 0 nought), [], refl, refl) refl (omega (arith, zero_short))
 
 -- ---- bytes that are shown, and packets
@@ -154,10 +153,10 @@ pub memory_reads : Reads (event.Interface (ie.Memory 268435456 16))
 unfolding event_of
 memory_reads =
     let shown = codes "0x10000000" in
-    let is = ap₂ (λ (a l : Text). codes "memory" ++ joined (a ∷ l ∷ [])) address_is length_is in
+    let is = ap₂ (λ (a l : Text). codes "memory" ++ joined_words (a ∷ l ∷ [])) address_is length_is in
     reads (event.Interface (ie.Memory 268435456 16)) (script.Interface (ie.Memory 268435456 16)) (codes "memory")
-    (shown ∷ codes "16" ∷ []) is (known (codes "memory") (omega arith) refl)
-    (known shown (omega arith) refl, (known (codes "16") (omega arith) refl, tt)) refl
+    (shown ∷ codes "16" ∷ []) is (known_word (codes "memory") (omega arith) refl)
+    (known_word shown (omega arith) refl, (known_word (codes "16") (omega arith) refl, tt)) refl
     ((shown, address_back), (codes "16", length_back), lit≤ tt, lit≤ tt, refl) refl (omega arith)
 
 pub pass_reads : (packet : ℕ) → packet < 2 ^ 64 → Reads (event.Pass packet)
@@ -165,7 +164,7 @@ unfolding event_of
 pass_reads packet few =
     let short = decimal_short packet few in
     reads (event.Pass packet) (script.Pass packet) (codes "pass") (decimal packet ∷ []) refl
-    (known (codes "pass") (omega arith) refl) (decimal_word packet few, tt) refl
+    (known_word (codes "pass") (omega arith) refl) (decimal_word packet few, tt) refl
     ((decimal packet, number_back packet few), refl) refl (omega (arith, short))
 
 pub cut_reads : (packet len : ℕ) → packet < 2 ^ 64 → len < 2 ^ 64 → Reads (event.Cut packet len)
@@ -174,7 +173,7 @@ cut_reads packet len few l =
     let short = decimal_short packet few in
     let len_short = decimal_short len l in
     reads (event.Cut packet len) (script.Cut packet len) (codes "cut") (decimal packet ∷ decimal len ∷ []) refl
-    (known (codes "cut") (omega arith) refl) (decimal_word packet few, (decimal_word len l, tt)) refl
+    (known_word (codes "cut") (omega arith) refl) (decimal_word packet few, (decimal_word len l, tt)) refl
     ((decimal packet, number_back packet few), (decimal len, number_back len l), refl) refl
     (omega (arith, short, len_short))
 
@@ -190,7 +189,7 @@ alter_reads packet at few low =
     let at_short = length-decimal-le 1 at (lit≤ tt) low a in
     let long = length-encode_with lower_digits (32 ∷ []) in
     reads (event.Alter packet at 32) (script.Alter packet at 32) (codes "alter")
-    (decimal packet ∷ decimal at ∷ encode_lower (32 ∷ []) ∷ []) refl (known (codes "alter") (omega arith) refl)
+    (decimal packet ∷ decimal at ∷ encode_lower (32 ∷ []) ∷ []) refl (known_word (codes "alter") (omega arith) refl)
     (decimal_word packet few, (decimal_word at a, (hex_word 32 [] (lit≤ tt, tt), tt))) refl (
       (decimal packet, number_back packet few),
       (decimal at, number_back at a),
@@ -215,8 +214,9 @@ send_reads b bs all few =
     let digits = encode_lower (b ∷ bs) in
     let long = length-encode_with lower_digits (b ∷ bs) in
     reads (event.Send (device_port 0) (b ∷ bs) false false) (script.Send (device_port 0) (b ∷ bs) false false)
-    (codes "send") (codes "d0" ∷ digits ∷ []) (ap (λ (w : Text). codes "send" ++ joined (w ∷ digits ∷ [])) port_is)
-    (known (codes "send") (omega arith) refl)
-    (known (codes "d0") (omega arith) refl, (hex_word b bs all, tt)) refl
+    (codes "send") (codes "d0" ∷ digits ∷ [])
+    (ap (λ (w : Text). codes "send" ++ joined_words (w ∷ digits ∷ [])) port_is)
+    (known_word (codes "send") (omega arith) refl)
+    (known_word (codes "d0") (omega arith) refl, (hex_word b bs all, tt)) refl
     ((codes "d0", port_back), (digits, bytes_back b bs all), refl, (λ asked. absurd cc)) refl
     (omega (arith, long, few))

@@ -1,6 +1,5 @@
 -- Keys of 32 bytes, as lists of them and by recursion.
-use Rattle.std.proofs.Common.{◌≡◌, ◌≢◌, ℕ, suc, ◌<◌, List, [], ◌∷◌, length}
-use Rattle.std.proofs.Common.{arith, get_or}
+use Rattle.std.proofs.Common.{◌≡◌, ◌≢◌, ℕ, suc, ◌<◌, List, [], ◌∷◌, length, arith, get_or}
 use Rattle.std.specs.List.{All, AllByRecursion, AllPairs}
 use Rattle.std.proofs.lemmas.List.Elements.{All-head, All-tail, recursion_from_All}
 use Rattle.ide_types.specs.Fits.{IsKey}

@@ -16,8 +16,7 @@ use Rattle.ide_types.specs.Names.{Text}
 use Rattle.topology.specs.Meaning.{plan_of, plan_of_document}
 use Rattle.topology.proofs.Document.{document_read}
 use Rattle.script_events.specs.TopologyText.{bar_text, generated_topology, interface_text, key_item, key_items}
-use Rattle.script_events.specs.TopologyText.{link_text}
-use Rattle.script_events.specs.TopologyText.{memory_text, range_text, stream_text, topology_with}
+use Rattle.script_events.specs.TopologyText.{link_text, memory_text, range_text, stream_text, topology_with}
 use Rattle.script_events.proofs.TextKeys.{Differ, Key, Keys, differ_of, keys_of}
 use Rattle.script_events.proofs.Printed.{printed}
 use Rattle.script_events.proofs.Read.{plan_read, plan_with}

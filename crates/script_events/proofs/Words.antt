@@ -7,7 +7,7 @@ use Rattle.std.proofs.lemmas.Bool.Decides.{nat_tests}
 use Rattle.std.proofs.lemmas.List.Folds.{list_all-append}
 use Rattle.std.proofs.lemmas.List.Splits.{slice_split_at, slice_split_none}
 use Rattle.std.proofs.lemmas.List.Sums.{AllPass-from_list_all}
-use Rattle.ide_types.specs.Names.{Text, joined, is_printable}
+use Rattle.ide_types.specs.Names.{Text, joined_words, is_printable}
 use Rattle.link_events.specs.Words.{words_in}
 
 -- ---- words
@@ -25,24 +25,24 @@ AreWords [] = Unit {0}
 AreWords (w ∷ ws) = IsWord w × AreWords ws
 
 -- a word, and the others, each after a space
-abbrev pub spaced : Text → List Text → Text
-spaced w [] = w
-spaced w (v ∷ ws) = w ++ 32 ∷ spaced v ws
+abbrev pub spaced_words : Text → List Text → Text
+spaced_words w [] = w
+spaced_words w (v ∷ ws) = w ++ 32 ∷ spaced_words v ws
 
 -- how many bytes the words take, each with one byte more
 abbrev pub length_of : List Text → ℕ
 length_of [] = 0
 length_of (w ∷ ws) = length w + (1 + length_of ws)
 
-pub ended : (w : Text) (ws : List Text) → w ++ joined ws ≡ spaced w ws ++ 10 ∷ []
+pub ended : (w : Text) (ws : List Text) → w ++ joined_words ws ≡ spaced_words w ws ++ 10 ∷ []
 ended w [] = refl
-ended w (v ∷ ws) = rw (ended v ws) (sym (append_assoc w (32 ∷ spaced v ws) (10 ∷ [])))
+ended w (v ∷ ws) = rw (ended v ws) (sym (append_assoc w (32 ∷ spaced_words v ws) (10 ∷ [])))
 
-pub length_spaced : (w : Text) (ws : List Text) → length (spaced w ws) ≡ length w + length_of ws
+pub length_spaced : (w : Text) (ws : List Text) → length (spaced_words w ws) ≡ length w + length_of ws
 length_spaced w [] = omega arith
 length_spaced w (v ∷ ws) =
     let e = length_spaced v ws in
-    let both = length-append w (32 ∷ spaced v ws) in
+    let both = length-append w (32 ∷ spaced_words v ws) in
     omega (arith, e, both)
 
 -- ---- their bytes
@@ -74,11 +74,11 @@ word_printed (b ∷ bs) h =
 no_spaces : (w : Text) → list_all is_glyph w ≡ true → All (λ b. (b == 32) ≡ false) w
 no_spaces w h k d lt = no_space (get_or w k d) (AllPass-from_list_all is_glyph w h k d lt)
 
-pub printed : (w : Text) (ws : List Text) → IsWord w → AreWords ws → list_all is_printable (spaced w ws) ≡ true
+pub printed : (w : Text) (ws : List Text) → IsWord w → AreWords ws → list_all is_printable (spaced_words w ws) ≡ true
 printed w [] word words = word_printed w word.glyphs
 printed w (v ∷ ws) word words =
     rw (
-      list_all-append is_printable w (32 ∷ spaced v ws),
+      list_all-append is_printable w (32 ∷ spaced_words v ws),
       word_printed w word.glyphs,
       printed v ws words.0 words.1,
     ) refl
@@ -89,10 +89,11 @@ no_ends line h k d lt = no_end (get_or line k d) (AllPass-from_list_all is_print
 
 -- ---- its words
 
-cut_words : (w : Text) (ws : List Text) → IsWord w → AreWords ws → slice_split (λ b. b == 32) (spaced w ws) ≡ w ∷ ws
+cut_words : (w : Text) (ws : List Text) → IsWord w → AreWords ws → slice_split (λ b. b == 32) (spaced_words w ws) ≡ w
+    ∷ ws
 cut_words w [] word words = slice_split_none (λ b. b == 32) w (no_spaces w word.glyphs)
 cut_words w (v ∷ ws) word words =
-    slice_split_at (λ b. b == 32) w 32 (spaced v ws) (no_spaces w word.glyphs) refl
+    slice_split_at (λ b. b == 32) w 32 (spaced_words v ws) (no_spaces w word.glyphs) refl
     ∙ ap (λ (ps : List Text). w ∷ ps) (cut_words v ws words.0 words.1)
 
 positive : (n : ℕ) → 0 < n → (n == 0) ≡ false
@@ -105,5 +106,5 @@ kept : (ws : List Text) → AreWords ws → filter (λ w. not (length w == 0)) w
 kept [] words = refl
 kept (w ∷ ws) words = rw (some_length w words.0, kept ws words.1) refl
 
-pub words_are : (w : Text) (ws : List Text) → IsWord w → AreWords ws → words_in (spaced w ws) ≡ w ∷ ws
+pub words_are : (w : Text) (ws : List Text) → IsWord w → AreWords ws → words_in (spaced_words w ws) ≡ w ∷ ws
 words_are w ws word words = rw (cut_words w ws word words) (kept (w ∷ ws) (word, words))

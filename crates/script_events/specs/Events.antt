@@ -9,8 +9,8 @@ use Rattle.ide_types.specs.Lines.{near_hop_line, far_hop_line, peer_line}
 use Rattle.ide_types.specs.declared.plan.HopPlan.{HopPlan}
 use Rattle.ide_types.specs.declared.plan.PeerPlan.{PeerPlan}
 use Rattle.ide_types.specs.declared.plan.Plan.{Plan}
-use Rattle.ide_types.specs.Ends.{own_has_id, link_hop, has_port, reset_ends, interface_link}
-use Rattle.script_events.specs.Terms.{ScriptEvent, Establish, Refresh, Stop, Send, PeerSend, Pass, Alter, Cut, Arrive}
+use Rattle.ide_types.specs.Ends.{own_has_id, link_hop, is_planned_port, reset_ends, interface_link}
+use Rattle.script_events.specs.Terms.{Establish, Refresh, Stop, Send, PeerSend, Pass, Alter, Cut, Arrive, ScriptEvent}
 use Rattle.script_events.specs.Terms.{Dump, Reset, Status, Interface, Access, Peer, PeerEvent, Hop, HopEvent, Event}
 use Rattle.script_events.specs.Terms.{Loss}
 use Rattle.script_events.specs.Terms.event
@@ -92,7 +92,7 @@ forward_event plan link direction =
     else event.Absent
 
 abbrev pub arrive_event : Plan → PortName → List ℕ → Event
-arrive_event plan port bytes = if has_port plan port then event.Arrive port bytes else event.Absent
+arrive_event plan port bytes = if is_planned_port plan port then event.Arrive port bytes else event.Absent
 
 abbrev pub reset : Plan → ℕ → Event
 reset plan link = if nat_lt link (length plan.links) then event.Reset link (reset_ends plan link) else event.Absent

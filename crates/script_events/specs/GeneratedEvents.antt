@@ -12,8 +12,8 @@ use Rattle.script_events.specs.declared.step.Step.TheVariants as step
 
 -- ---- numbers: a linear congruence, and the upper 16 bits of each number
 
-abbrev pub following : ℕ → ℕ
-following x = (1664525 * x + 1013904223) % 4294967296
+abbrev pub following_number : ℕ → ℕ
+following_number x = (1664525 * x + 1013904223) % 4294967296
 
 abbrev pub value_of : ℕ → ℕ
 value_of x = x / 65536
@@ -62,8 +62,8 @@ pass packet = event.Pass packet
 abbrev pub alter : ℕ → Event
 alter packet = event.Alter packet 1 32
 
-abbrev pub cut : ℕ → Event
-cut packet = event.Cut packet 5
+abbrev pub cut_event : ℕ → Event
+cut_event packet = event.Cut packet 5
 
 -- ---- steps
 
@@ -106,8 +106,8 @@ alone e s = record { event = e; ahead = None; numbers = s }
 -- a memory write goes out at the device's port, at the place and with the value of the next two numbers
 abbrev pub sending_round : Numbers → Round
 sending_round s =
-    let place = following s.x in
-    let value = following place in
+    let place = following_number s.x in
+    let value = following_number place in
     alone (event.Send (device_port 0) (write_bytes (value_of place) (value_of value)) false false)
     (record (numbers_with_packet s) { x = value })
 
@@ -116,7 +116,7 @@ abbrev pub arrival : ℕ → Numbers → Round
 arrival turn s =
     if nat_lt turn 13 then alone (pass s.arriving) (record s { arriving = s.arriving + 1 })
     else if turn == 14 then record { event = alter s.arriving; ahead = Some step.Stop; numbers = without_packets s }
-    else alone (cut s.arriving) s
+    else alone (cut_event s.arriving) s
 
 -- by the turn, of 16
 abbrev pub round_by : ℕ → Numbers → Round
@@ -127,7 +127,7 @@ round_by turn s =
     else arrival turn s
 
 abbrev pub round_of : Numbers → Round
-round_of s = round_by (value_of (following s.x) % 16) (record s { x = following s.x })
+round_of s = round_by (value_of (following_number s.x) % 16) (record s { x = following_number s.x })
 
 abbrev pub round_events : Round → List Event
 round_events r = r.event ∷ events_from r.ahead
@@ -137,8 +137,8 @@ event_rounds zero s = []
 event_rounds (suc n) s = round_events (round_of s) ++ event_rounds n (round_of s).numbers
 
 -- all events
-abbrev pub generated : (seed count : ℕ) → List Event
-generated seed count = setting_up ++ event_rounds count (first_numbers seed)
+abbrev pub generated_events : (seed count : ℕ) → List Event
+generated_events seed count = setting_up ++ event_rounds count (first_numbers seed)
 
 -- a round seals three packets at the most, and what arrives next was sealed or is sealed next
 pub record RoundFits (s : Numbers) (r : Round) : Type 0 where

@@ -5,8 +5,7 @@ pub use Rattle.link_events.specs.declared.event.Loss.{Loss}
 pub use Rattle.link_events.specs.declared.event.InterfaceEvent.TheVariants as ie
 pub use Rattle.link_events.specs.declared.script.ScriptEvent.{ScriptEvent}
 pub use Rattle.link_events.specs.declared.script.ScriptEvent.TheVariants.{Establish, Refresh, Stop, Send, PeerSend}
-pub use Rattle.link_events.specs.declared.script.ScriptEvent.TheVariants.{Pass}
-pub use Rattle.link_events.specs.declared.script.ScriptEvent.TheVariants.{Alter, Cut, Arrive, Dump, Reset, Status}
+pub use Rattle.link_events.specs.declared.script.ScriptEvent.TheVariants.{Pass, Alter, Cut, Arrive, Dump, Reset, Status}
 pub use Rattle.link_events.specs.declared.script.ScriptEvent.TheVariants.{Interface, Access, Peer, Hop}
 pub use Rattle.link_events.specs.declared.script.PeerEvent.{PeerEvent}
 pub use Rattle.link_events.specs.declared.script.PeerEvent.TheVariants as pe

@@ -1,8 +1,7 @@
 -- What the texts of generated events read as.
-use Rattle.std.specs.Prelude.{ℕ, ◌≡◌, ◌≤◌, List, [], ◌∷◌, ◌++◌, length, map, Some, Ok}
+use Rattle.std.specs.Prelude.{ℕ, ◌≡◌, ◌≤◌, List, [], ◌∷◌, ◌++◌, length, map, Some, Ok, ◌==◌}
 use Rattle.std.specs.List.{slice_split}
-use Rattle.std.specs.Prelude.{◌==◌}
-use Rattle.script_events.specs.GeneratedEvents.{generated}
+use Rattle.script_events.specs.GeneratedEvents.{generated_events}
 use Rattle.script_events.specs.GeneratedTopology.{the_plan}
 use Rattle.ide_types.specs.Names.{Text}
 use Rattle.link_events.specs.declared.event.Event.{Event}
@@ -24,7 +23,7 @@ pub record Spells (text : Text) (events : List Event) : Type 0 where
 
 -- the script of so many rounds at the most spells the generated events, and those alone
 abbrev pub ScriptSpells : Type 0
-ScriptSpells = (seed count : ℕ) → count ≤ 100000 → Spells (generated_script seed count) (generated seed count)
+ScriptSpells = (seed count : ℕ) → count ≤ 100000 → Spells (generated_script seed count) (generated_events seed count)
 
 -- it has no more bytes than count of a script
 abbrev pub ScriptIsShort : Type 0

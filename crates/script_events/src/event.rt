@@ -18,7 +18,7 @@ fn establish(stream: Option<(u64, u64)>, lose: Option<Loss>) -> Event
 {
     match stream {
         None => Event::Absent,
-        Some((link, stream)) => Event::Establish { link, stream, lose },
+        Some((line, stream)) => Event::Establish { line, stream, lose },
     }
 }
 
@@ -27,7 +27,7 @@ fn refresh(stream: Option<(u64, u64)>, lose: Option<Loss>) -> Event
 {
     match stream {
         None => Event::Absent,
-        Some((link, stream)) => Event::Refresh { link, stream, lose },
+        Some((line, stream)) => Event::Refresh { line, stream, lose },
     }
 }
 
@@ -36,7 +36,7 @@ fn stop(stream: Option<(u64, u64)>, lose: Option<Loss>) -> Event
 {
     match stream {
         None => Event::Absent,
-        Some((link, stream)) => Event::Stop { link, stream, lose },
+        Some((line, stream)) => Event::Stop { line, stream, lose },
     }
 }
 
@@ -45,7 +45,7 @@ fn status(stream: Option<(u64, u64)>) -> Event
 {
     match stream {
         None => Event::Absent,
-        Some((link, stream)) => Event::Status { link, stream },
+        Some((line, stream)) => Event::Status { line, stream },
     }
 }
 

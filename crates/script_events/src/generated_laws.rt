@@ -3,12 +3,12 @@
 ghost use Rattle.std.specs.Prelude.{◌≤◌, ◌+◌, ◌*◌, ℕ, length};
 ghost use Rattle.std.specs.List.{AllByRecursion};
 ghost use Rattle.link_events.specs.Spells.{IsAllowed};
-ghost use Rattle.script_events.specs.GeneratedEvents.{generated};
+ghost use Rattle.script_events.specs.GeneratedEvents.{generated_events};
 ghost use Rattle.script_events.specs.Forms.{IsForm};
 
 /// Each event is one that a script may ask for, and of one of a few forms; a round has seven events at the most.
 pub fn generated_are_allowed()
-    ensures allowed { (seed count : ℕ) → AllByRecursion IsAllowed (generated seed count) }
-    ensures forms { (seed count : ℕ) → count ≤ 100000 → AllByRecursion IsForm (generated seed count) }
-    ensures few { (seed count : ℕ) → length (generated seed count) ≤ 4 + 7 * count }
+    ensures allowed { (seed count : ℕ) → AllByRecursion IsAllowed (generated_events seed count) }
+    ensures forms { (seed count : ℕ) → count ≤ 100000 → AllByRecursion IsForm (generated_events seed count) }
+    ensures few { (seed count : ℕ) → length (generated_events seed count) ≤ 4 + 7 * count }
 {}

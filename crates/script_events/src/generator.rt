@@ -1,7 +1,7 @@
 //! Generated events, one after another.
 
 ghost use Rattle.std.specs.Prelude.{◌≡◌, ◌<◌, ◌≤◌, ◌^◌};
-ghost use Rattle.script_events.specs.GeneratedEvents.{generated};
+ghost use Rattle.script_events.specs.GeneratedEvents.{generated_events};
 ghost use Rattle.script_events.specs.Left.{Takes};
 
 use crate::numbers::Numbers;
@@ -36,7 +36,7 @@ impl Model for Generator {
 impl Generator {
     /// All events of a seed and a number of rounds.
     pub fn new(seed: u32, rounds: u32) -> Generator
-        ensures { result ≡ generated seed rounds }
+        ensures { result ≡ generated_events seed rounds }
     {
         let numbers = Numbers {
             x: seed,

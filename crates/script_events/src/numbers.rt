@@ -1,7 +1,7 @@
 //! The numbers that generated events are made of.
 
 ghost use Rattle.std.specs.Prelude.{◌≡◌, ◌<◌, ◌≤◌, ◌+◌, ◌^◌};
-ghost use Rattle.script_events.specs.GeneratedEvents.{following, value_of, numbers_with_packet, without_packets};
+ghost use Rattle.script_events.specs.GeneratedEvents.{following_number, value_of, numbers_with_packet, without_packets};
 
 /// What is kept between events.
 #[derive(Clone, Copy, PartialEq, Eq)]
@@ -18,7 +18,7 @@ pub(crate) struct Numbers {
 
 /// The number after x in the recurrence.
 pub(crate) fn following(x: u32) -> u32
-    ensures { result ≡ following x }
+    ensures { result ≡ following_number x }
 {
     ((1664525 * (x as u64) + 1013904223) % 4294967296) as u32
 }

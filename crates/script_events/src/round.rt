@@ -1,7 +1,7 @@
 //! One round of generated events: an event, and the steps after it.
 
 ghost use Rattle.std.specs.Prelude.{◌≡◌, ◌<◌, ◌≤◌, ◌+◌, ◌/◌, ◌%◌, ◌^◌, None, IfOk};
-ghost use Rattle.script_events.specs.GeneratedEvents.{RoundFits, alter, arrival, cut, pass, refresh, round_of};
+ghost use Rattle.script_events.specs.GeneratedEvents.{RoundFits, alter, arrival, cut_event, pass, refresh, round_of};
 ghost use Rattle.script_events.specs.GeneratedEvents.{sending_round};
 ghost use Rattle.script_events.specs.GeneratedEvents.{shown_memory, write_bytes};
 
@@ -94,8 +94,8 @@ fn sending(alloc: Global, numbers: Numbers) -> Result<Round, OutOfMemory>
 fn refresh() -> Event
     ensures { result ≡ refresh }
 {
-    let (link, stream, lose) = (0, 5, None);
-    Event::Refresh { link, stream, lose }
+    let (line, stream, lose) = (0, 5, None);
+    Event::Refresh { line, stream, lose }
 }
 
 fn shown_memory() -> Event
@@ -122,7 +122,7 @@ fn alter(packet: u64) -> Event
 }
 
 fn cut(packet: u64) -> Event
-    ensures { result ≡ cut packet }
+    ensures { result ≡ cut_event packet }
 {
     Event::Cut { packet, length: 5 }
 }

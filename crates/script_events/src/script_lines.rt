@@ -97,13 +97,13 @@ fn push_line(alloc: Global, text: &mut String, event: &Event) -> Result<(), Allo
     ensures { OnOk result (string_bytes text.new ≡ string_bytes text.old ++ event_spelling event.now) }
 {
     match event {
-        Event::Establish { link, stream, lose } => {
-            push_operation(text, "establish", *link, *stream, lose)
+        Event::Establish { line, stream, lose } => {
+            push_operation(text, "establish", *line, *stream, lose)
         }
-        Event::Refresh { link, stream, lose } => {
-            push_operation(text, "refresh", *link, *stream, lose)
+        Event::Refresh { line, stream, lose } => {
+            push_operation(text, "refresh", *line, *stream, lose)
         }
-        Event::Stop { link, stream, lose } => push_operation(text, "stop", *link, *stream, lose),
+        Event::Stop { line, stream, lose } => push_operation(text, "stop", *line, *stream, lose),
         Event::Send {
             port,
             bytes,

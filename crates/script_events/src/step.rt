@@ -28,11 +28,11 @@ impl Step {
     pub(crate) fn event(self) -> Event
         ensures { result ≡ step_event self }
     {
-        let (link, stream, interface, lose) = (0, 5, 0, None);
+        let (line, stream, interface, lose) = (0, 5, 0, None);
         match self {
-            Step::Stop => Event::Stop { link, stream, lose },
+            Step::Stop => Event::Stop { line, stream, lose },
             Step::Halt => of_interface(InterfaceEvent::Halt { interface, lose }),
-            Step::Establish => Event::Establish { link, stream, lose },
+            Step::Establish => Event::Establish { line, stream, lose },
             Step::Lock => of_interface(InterfaceEvent::Lock { interface, lose }),
             Step::Report => of_interface(InterfaceEvent::Report { interface, lose }),
             Step::Start => of_interface(InterfaceEvent::Start { interface, lose }),

@@ -2,7 +2,7 @@
 
 ghost use Rattle.std.specs.Prelude.{◌≡◌, ◌<◌, Some, option_map, slice_get, IfSome};
 ghost use Rattle.ide_types.specs.Plans.{has_stream_id};
-ghost use Rattle.ide_types.specs.Ends.{own_has_id, link_hop, has_port as has_port_in};
+ghost use Rattle.ide_types.specs.Ends.{own_has_id, link_hop, is_planned_port as has_port_in};
 ghost use Rattle.ide_types.specs.Ends.{interface_link as link_of_interface};
 ghost use Rattle.script_events.specs.Events.{own_stream as own_stream_of, peer_stream as peer_stream_of};
 ghost use Rattle.script_events.specs.Events.{segment_stream};

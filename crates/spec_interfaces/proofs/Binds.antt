@@ -9,7 +9,7 @@ use Rattle.link_events.specs.declared.event.Event.TheVariants as event
 use Rattle.link_events.specs.declared.event.InterfaceEvent.{InterfaceEvent}
 use Rattle.link_events.specs.declared.event.InterfaceEvent.TheVariants as ie
 use Rattle.link_verdicts.specs.declared.verdict.Verdict.{Verdict}
-use Rattle.interface_state.specs.declared.bindings.Binding.{Binding}
+use Rattle.ide_types.specs.declared.binding.Binding.{Binding}
 use Rattle.interface_state.specs.declared.states.TdiState.{TdiState}
 use Rattle.interface_state.specs.declared.states.TdiState.TheVariants.{ConfigUnlocked, ConfigLocked}
 use Rattle.interface_state.specs.declared.states.Lock.{Lock}
@@ -65,8 +65,7 @@ filtered_by stream true b bs kept later is =
     (or_either (b.stream == stream) (binds stream kept) is)
 filtered_by stream false b bs kept later is = or_right (b.stream == stream) (binds stream bs) (later is)
 
-bound_without : (stream other : ℕ) (bs : List Binding) → binds stream (without other bs) ≡ true
-    → binds stream bs ≡ true
+bound_without : (stream other : ℕ) (bs : List Binding) → binds stream (without other bs) ≡ true → binds stream bs ≡ true
 bound_without stream other [] is = is
 bound_without stream other (b ∷ bs) is =
     filtered_by stream (not (is_binding_on other b)) b bs (without other bs) (bound_without stream other bs) is

@@ -1,11 +1,9 @@
 -- An interface is bound to streams between devices in CONFIG_LOCKED and RUN alone.
 use Rattle.std.proofs.Common.{◌≡◌, ℕ, ◌&&◌, ◌⊎◌, inl, inr, Bool, true, false, List, [], Option, Some, None, refl, sym}
-use Rattle.std.proofs.Common.{ap}
-use Rattle.std.proofs.Common.{◌∙◌, if◌then◌else◌, arith}
+use Rattle.std.proofs.Common.{ap, ◌∙◌, if◌then◌else◌, arith}
 use Rattle.std.proofs.lemmas.Bool.{cases_Bool, true≢false}
 use Rattle.spec_interfaces.specs.Terms.{Plan, History, Binding, TdiState, ConfigUnlocked, ConfigLocked, Run, Error}
-use Rattle.spec_interfaces.specs.Terms.{binds}
-use Rattle.spec_interfaces.specs.Terms.{state_code}
+use Rattle.spec_interfaces.specs.Terms.{binds, state_code}
 use Rattle.interface_state.specs.Machine.{is_locked}
 use Rattle.spec_interfaces.specs.Sites.{Site}
 use Rattle.spec_interfaces.specs.Devices.{interface_at, runs_at, is_bound_at, peer_t}
@@ -33,8 +31,7 @@ unsynced : (sync t : Bool) → (if sync then false else t) ≡ true → t ≡ tr
 unsynced sync t e = grind arith
 
 owner_bound : (plan : Plan) (h : History) (link stream : ℕ) (bytes : List ℕ) (o : Option Site)
-    → owner_read plan link (read_of bytes) ≡ o → peer_t plan h o stream ≡ true
-    → OwnerIsBound plan h link stream bytes
+    → owner_read plan link (read_of bytes) ≡ o → peer_t plan h o stream ≡ true → OwnerIsBound plan h link stream bytes
 owner_bound plan h link stream bytes None is e = absurd cc
 owner_bound plan h link stream bytes (Some x) is e =
     let parts = both (runs_at plan h x) (is_bound_at plan h x stream) e in

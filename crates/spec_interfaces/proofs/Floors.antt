@@ -7,9 +7,9 @@ use Rattle.std.proofs.lemmas.Bool.{cases_Bool, eqb-true}
 use Rattle.std.proofs.lemmas.Bool.Decides.{nat_tests}
 use Rattle.std.proofs.lemmas.Option.{slice_get-map}
 use Rattle.spec_interfaces.specs.Terms.{Plan, LinkPlan, InterfacePlan, History}
-use Rattle.spec_interfaces.specs.Sites.{Site, sites_on, sites_from, site_at}
+use Rattle.spec_interfaces.specs.Sites.{Site, sites_of_plans, sites_of_links, site_at}
 unfoldable use Rattle.spec_interfaces.specs.Sites.{sites}
-use Rattle.spec_interfaces.specs.Floors.{sites_of, interfaces_before, place_of, device_standing, history_standings}
+use Rattle.spec_interfaces.specs.Floors.{link_sites, interfaces_before, place_of, device_status, history_statuses}
 
 some_is : {A : Type 0} (x y : A) → Some x ≡ Some y → x ≡ y
 some_is x y is = cc
@@ -80,20 +80,22 @@ same_link link = grind (arith, nat_tests)
 other_link : (l link : ℕ) → l ≢ link → (l == link) ≡ false
 other_link l link other = grind (arith, nat_tests, other)
 
-all_on : (number link : ℕ) (ps : List InterfacePlan) → filter (is_on link) (sites_on number link ps)
-    ≡ sites_on number link ps
+all_on : (number link : ℕ) (ps : List InterfacePlan) → filter (is_on link) (sites_of_plans number link ps)
+    ≡ sites_of_plans number link ps
 all_on number link [] = refl
 all_on number link (p ∷ ps) = rw (same_link link)
     (ap (λ xs. record { number = number; link = link; plan = p } ∷ xs) (all_on (number + 1) link ps))
 
-none_on : (number l link : ℕ) (ps : List InterfacePlan) → l ≢ link → filter (is_on link) (sites_on number l ps) ≡ []
+none_on : (number l link : ℕ) (ps : List InterfacePlan) → l ≢ link → filter (is_on link) (sites_of_plans number l ps)
+    ≡ []
 none_on number l link [] other = refl
 none_on number l link (p ∷ ps) other = rw (other_link l link other) (none_on (number + 1) l link ps other)
 
-none_from : (number l link : ℕ) (ls : List LinkPlan) → link < l → filter (is_on link) (sites_from number l ls) ≡ []
+none_from : (number l link : ℕ) (ls : List LinkPlan) → link < l → filter (is_on link) (sites_of_links number l ls) ≡ []
 none_from number l link [] less = refl
 none_from number l link (x ∷ xs) less =
-    filter-append (is_on link) (sites_on number l x.interfaces) (sites_from (number + length x.interfaces) (l + 1) xs)
+    filter-append (is_on link) (sites_of_plans number l x.interfaces)
+    (sites_of_links (number + length x.interfaces) (l + 1) xs)
     ∙ rw (none_on number l link x.interfaces (λ e. absurd (omega (arith, less, e))))
     (none_from (number + length x.interfaces) (l + 1) link xs (omega (arith, less)))
 
@@ -103,27 +105,27 @@ planned_on [] link = []
 planned_on (l ∷ ls) zero = l.interfaces
 planned_on (l ∷ ls) (suc link) = planned_on ls link
 
-of_from : (number l on : ℕ) (ls : List LinkPlan) → filter (is_on (l + on)) (sites_from number l ls)
-    ≡ sites_on (number + interfaces_before ls on) (l + on) (planned_on ls on)
+of_from : (number l on : ℕ) (ls : List LinkPlan) → filter (is_on (l + on)) (sites_of_links number l ls)
+    ≡ sites_of_plans (number + interfaces_before ls on) (l + on) (planned_on ls on)
 of_from number l on [] = refl
 of_from number l zero (x ∷ xs) =
     let e : l + 0 ≡ l = omega arith in
     let n : number + 0 ≡ number = omega arith in
-    rw (e, n) (filter-append (is_on l) (sites_on number l x.interfaces)
-    (sites_from (number + length x.interfaces) (l + 1) xs)
+    rw (e, n) (filter-append (is_on l) (sites_of_plans number l x.interfaces)
+    (sites_of_links (number + length x.interfaces) (l + 1) xs)
     ∙ rw (all_on number l x.interfaces, none_from (number + length x.interfaces) (l + 1) l xs (omega arith))
-    (append-none (sites_on number l x.interfaces)))
+    (append-none (sites_of_plans number l x.interfaces)))
 of_from number l (suc on) (x ∷ xs) =
     let e : (l + 1) + on ≡ l + suc on = omega arith in
     let n : (number + length x.interfaces) + interfaces_before xs on
     ≡ number + (length x.interfaces + interfaces_before xs on) = omega arith in
-    filter-append (is_on (l + suc on)) (sites_on number l x.interfaces)
-    (sites_from (number + length x.interfaces) (l + 1) xs)
+    filter-append (is_on (l + suc on)) (sites_of_plans number l x.interfaces)
+    (sites_of_links (number + length x.interfaces) (l + 1) xs)
     ∙ rw (none_on number l (l + suc on) x.interfaces (λ d. absurd (omega (arith, d))))
     (rw (e, n) at (of_from (number + length x.interfaces) (l + 1) on xs))
 
-pub sites_of_is : (plan : Plan) (link : ℕ) → sites_of plan link
-    ≡ sites_on (interfaces_before plan.links link) link (planned_on plan.links link)
+pub sites_of_is : (plan : Plan) (link : ℕ) → link_sites plan link
+    ≡ sites_of_plans (interfaces_before plan.links link) link (planned_on plan.links link)
 unfolding sites
 sites_of_is plan link =
     let l : 0 + link ≡ link = omega arith in
@@ -137,7 +139,7 @@ record IsAt (number link place : ℕ) (x : Site) : Type 0 where
   link_is : x.link ≡ link
 
 at_place : (number link : ℕ) (ps : List InterfacePlan) (place : ℕ) (x : Site)
-    → slice_get (sites_on number link ps) place ≡ Some x → IsAt number link place x
+    → slice_get (sites_of_plans number link ps) place ≡ Some x → IsAt number link place x
 at_place number link [] place x is = absurd (none_is_not x is)
 at_place number link (p ∷ ps) zero x is =
     let same = some_is (record { number = number; link = link; plan = p }) x is in
@@ -155,7 +157,7 @@ pub record IsPlacedOn (plan : Plan) (link place : ℕ) (x : Site) : Type 0 where
   pub place_is : place_of plan x ≡ place
   pub number_is : x.number ≡ interfaces_before plan.links link + place
 
-pub placed_on : (plan : Plan) (link place : ℕ) (x : Site) → slice_get (sites_of plan link) place ≡ Some x
+pub placed_on : (plan : Plan) (link place : ℕ) (x : Site) → slice_get (link_sites plan link) place ≡ Some x
     → IsPlacedOn plan link place x
 placed_on plan link place x is =
     let at = at_place (interfaces_before plan.links link) link (planned_on plan.links link) place x
@@ -171,11 +173,11 @@ pub number_at : (plan : Plan) (i : ℕ) (x : Site) → site_at plan i ≡ Some x
 number_at plan i x is = eqb-true x.number i (found (λ y. y.number == i) (sites plan) x is).passes
 
 pub site_placed : (plan : Plan) (i : ℕ) (x : Site) → site_at plan i ≡ Some x
-    → slice_get (sites_of plan x.link) (place_of plan x) ≡ Some x
+    → slice_get (link_sites plan x.link) (place_of plan x) ≡ Some x
 site_placed plan i x is =
     let at = found (λ y. y.number == i) (sites plan) x is in
     let among = kept (is_on x.link) (sites plan) x at.place at.stands (same_link x.link) in
-    ap (slice_get (sites_of plan x.link)) (placed_on plan x.link among.place x among.stands).place_is ∙ among.stands
+    ap (slice_get (link_sites plan x.link)) (placed_on plan x.link among.place x among.stands).place_is ∙ among.stands
 
 -- two interfaces of a link have two places
 pub places_apart : (plan : Plan) (i j : ℕ) (x y : Site) → site_at plan i ≡ Some x → site_at plan j ≡ Some y
@@ -189,7 +191,7 @@ places_apart plan i j x y first second link place =
 
 -- how it stands
 pub standing_placed : (plan : Plan) (h : History) (i : ℕ) (x : Site) → site_at plan i ≡ Some x
-    → slice_get (history_standings plan h x.link) (place_of plan x) ≡ Some (device_standing plan h x)
+    → slice_get (history_statuses plan h x.link) (place_of plan x) ≡ Some (device_status plan h x)
 standing_placed plan h i x is =
-    slice_get-map (device_standing plan h) (sites_of plan x.link) (place_of plan x)
-    ∙ ap (option_map (device_standing plan h)) (site_placed plan i x is)
+    slice_get-map (device_status plan h) (link_sites plan x.link) (place_of plan x)
+    ∙ ap (option_map (device_status plan h)) (site_placed plan i x is)

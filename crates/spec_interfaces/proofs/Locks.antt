@@ -1,14 +1,12 @@
 -- What a lock of an interface keeps, pair by pair.
 use Rattle.std.proofs.Common.{◌≡◌, ℕ, ◌==◌, ◌&&◌, ◌||◌, ◌∷◌, ◌⊎◌, inl, inr, Bool, true, false, List, [], Some, Result}
-use Rattle.std.proofs.Common.{Ok}
-use Rattle.std.proofs.Common.{Err, if◌then◌else◌, refl, sym, ap, ◌∙◌, arith}
+use Rattle.std.proofs.Common.{Ok, Err, if◌then◌else◌, refl, sym, ap, ◌∙◌, arith}
 use Rattle.std.proofs.lemmas.Bool.Decides.{nat_tests}
 use Rattle.std.specs.Prelude.{is_ok}
 use Rattle.spec_interfaces.specs.Terms.{Plan, Event, InterfaceEvent, Verdict, History, Registers, Lock, Tdi, lock_of}
 use Rattle.spec_interfaces.specs.Terms.{lock_answer, Call, LockInterface, StartInterface, StopInterface, WriteRegister}
 use Rattle.spec_interfaces.specs.Terms.{LevelReset, FirmwareUpdate, StreamLeft, LinkReset, tdi_after, BindStream}
-use Rattle.spec_interfaces.specs.Terms.{UnbindStream}
-use Rattle.spec_interfaces.specs.Terms.{TdiState, bind_answer, unbind_answer}
+use Rattle.spec_interfaces.specs.Terms.{UnbindStream, TdiState, bind_answer, unbind_answer}
 use Rattle.interface_state.specs.Machine.{new_lock, interface_after_lock, interface_after_bind, unbound_with}
 use Rattle.interface_state.specs.Machine.{KeepsListed}
 use Rattle.interface_state.specs.Held.{IsBound}
@@ -18,9 +16,8 @@ use Rattle.spec_interfaces.specs.Sites.{Site}
 use Rattle.spec_interfaces.specs.Exchanges.{carries, changes_device}
 use Rattle.spec_interfaces.specs.Views.{is_number, number_in}
 use Rattle.spec_interfaces.specs.Devices.{Around, around_at, interface_if_called, lock_call, reset_call}
-use Rattle.spec_interfaces.specs.Devices.{interface_asked, next_interface}
-use Rattle.spec_interfaces.specs.Devices.{accepts_lock, is_stream_left, devices, interface_at, registers_locked}
-use Rattle.spec_interfaces.specs.Devices.{locks_in}
+use Rattle.spec_interfaces.specs.Devices.{interface_asked, next_interface, accepts_lock, is_stream_left, devices}
+use Rattle.spec_interfaces.specs.Devices.{interface_at, registers_locked, is_lock_accepted}
 use Rattle.link_events.specs.declared.event.Event.TheVariants as event
 use Rattle.link_events.specs.declared.event.InterfaceEvent.TheVariants as ie
 use Rattle.link_verdicts.specs.declared.verdict.Verdict.TheVariants as v
@@ -221,7 +218,7 @@ lock_with x registers = record
 lock_step : (plan : Plan) (h : History) (e : Event) (w : Verdict) (x : Site) (l : Lock)
     → (lock_of (interface_at plan h x).state ≡ Some l → l ≡ lock_with x (registers_locked plan h x))
     → Made (around_at plan h x) x e w (interface_at plan h x) l
-    → l ≡ lock_with x (if locks_in plan h (devices plan h) e w x then (interface_at plan h x).registers else
+    → l ≡ lock_with x (if is_lock_accepted plan h (devices plan h) e w x then (interface_at plan h x).registers else
     registers_locked
     plan h x)
 lock_step plan h e w x l before (inl stood) = rw stood.1 (before stood.0)

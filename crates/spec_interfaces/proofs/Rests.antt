@@ -1,12 +1,10 @@
 -- What makes an interface run, and what locks it.
 use Rattle.std.proofs.Common.{◌≡◌, ℕ, ◌==◌, ◌&&◌, ◌||◌, ◌∷◌, Bool, true, false, List, Result, Ok, Err, if◌then◌else◌}
-use Rattle.std.proofs.Common.{refl}
-use Rattle.std.proofs.Common.{ap, ◌∙◌, arith}
+use Rattle.std.proofs.Common.{refl, ap, ◌∙◌, arith}
 use Rattle.std.proofs.lemmas.Bool.Decides.{nat_tests}
 use Rattle.spec_interfaces.specs.Terms.{Plan, Event, Verdict, History, Lock, Tdi, lock_answer, Call, LockInterface}
 use Rattle.spec_interfaces.specs.Terms.{StartInterface, StopInterface, WriteRegister, LevelReset, FirmwareUpdate}
-use Rattle.spec_interfaces.specs.Terms.{StreamLeft, BindStream, UnbindStream, tdi_after, bind_answer}
-use Rattle.spec_interfaces.specs.Terms.{unbind_answer}
+use Rattle.spec_interfaces.specs.Terms.{StreamLeft, BindStream, UnbindStream, tdi_after, bind_answer, unbind_answer}
 use Rattle.interface_state.proofs.Bound.{bound_state, unbound_state}
 use Rattle.interface_state.specs.Machine.{new_lock, interface_after_lock}
 use Rattle.spec_interfaces.specs.Sites.{Site}
@@ -14,7 +12,7 @@ use Rattle.spec_interfaces.specs.Exchanges.{carries, changes_device}
 use Rattle.spec_interfaces.specs.Views.{is_number, number_in}
 use Rattle.spec_interfaces.specs.Devices.{Around, around_at, interface_if_called, lock_call, next_interface}
 use Rattle.spec_interfaces.specs.Devices.{accepts_lock, is_run}
-use Rattle.spec_interfaces.specs.Devices.{reset_call, runs_at, is_stream_left, devices, interface_at, locks_at}
+use Rattle.spec_interfaces.specs.Devices.{reset_call, runs_at, is_stream_left, devices, interface_at, locks_accepted}
 use Rattle.link_events.specs.declared.event.Event.TheVariants as event
 use Rattle.link_events.specs.declared.event.InterfaceEvent.TheVariants as ie
 use Rattle.link_verdicts.specs.declared.verdict.Verdict.TheVariants as v
@@ -114,6 +112,6 @@ not_accepted a x (event.Interface e) w tdi none = refl
 not_accepted a x e w tdi none = refl
 
 pub locks_stay : (plan : Plan) (h : History) (e : Event) (w : Verdict) (x : Site) → locks_it x e w ≡ false
-    → locks_at plan ((e, w) ∷ h) x ≡ locks_at plan h x
+    → locks_accepted plan ((e, w) ∷ h) x ≡ locks_accepted plan h x
 unfolding devices
 locks_stay plan h e w x none = rw (not_accepted (around_at plan h x) x e w (interface_at plan h x) none) (omega arith)

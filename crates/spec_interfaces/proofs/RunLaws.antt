@@ -4,11 +4,11 @@ use Rattle.std.proofs.Common.{arith}
 use Rattle.std.proofs.lemmas.Bool.Decides.{nat_tests}
 use Rattle.spec_interfaces.specs.Terms.{Plan, View, Event, InterfaceEvent, Verdict, Loss, History, Register}
 use Rattle.spec_interfaces.specs.Terms.{has_register, Registers, Lock, TdiState, ConfigUnlocked, ConfigLocked, Run}
-use Rattle.spec_interfaces.specs.Terms.{Error, lock_of, listed, has_bit, changes_listed, state_code, kept_report}
-use Rattle.spec_interfaces.specs.Terms.{option_map, WriteRegister, LevelReset, FirmwareUpdate}
+use Rattle.spec_interfaces.specs.Terms.{Error, lock_of, listed_registers, has_bit, changes_listed, state_code}
+use Rattle.spec_interfaces.specs.Terms.{kept_report, option_map, WriteRegister, LevelReset, FirmwareUpdate}
 use Rattle.interface_state.specs.Machine.{KeepsListed, after_change, after_failure, lock_flags}
 use Rattle.spec_interfaces.specs.Sites.{Site, site_at}
-use Rattle.spec_interfaces.specs.Views.{managed}
+use Rattle.spec_interfaces.specs.Views.{managed_view}
 use Rattle.spec_interfaces.specs.Devices.{interface_at}
 use Rattle.spec_interfaces.specs.Due.{interface_verdict_due, interface_due, on_site, if_locked_or_running, reported_as}
 use Rattle.spec_interfaces.specs.Due.{code_after}
@@ -30,14 +30,15 @@ has_lock ConfigUnlocked is = absurd (grind (arith, nat_tests))
 has_lock Error is = absurd (grind (arith, nat_tests))
 
 kept_listed : (registers : Registers) (s : TdiState) (l : Lock) → lock_of s ≡ Some l → KeepsListed registers s
-    → listed l.flags registers ≡ listed l.flags l.registers
+    → listed_registers l.flags registers ≡ listed_registers l.flags l.registers
 kept_listed registers s l is keeps = rw is at keeps
 
 pub keeps_reported : (plan : Plan) (h : History) (x : Site) → KeepsReported plan h x
 keeps_reported plan h x is =
     let l = has_lock (interface_at plan h x).state is in
     let same = lock_stands plan h x l.0 l.1 in
-    subst (λ (k : Lock). listed k.flags (interface_at plan h x).registers ≡ listed k.flags k.registers) same
+    subst (λ (k : Lock). listed_registers k.flags (interface_at plan h x).registers
+    ≡ listed_registers k.flags k.registers) same
     (kept_listed (interface_at plan h x).registers (interface_at plan h x).state l.0 l.1 (listed_at plan h x))
 
 -- ---- reports
@@ -58,7 +59,8 @@ shows_report : (plan : Plan) (h : History) (x : Site) (i : ℕ) (loss : Option L
     → ShowsReport plan h x (ie.Report i loss) w
 unfolding interface_verdict_due
 shows_report plan h x i loss (v.Interface (iv.Reported n report)) cause at =
-    let of = reported_of plan x (managed h x).view loss (kept_report x.plan) (lock_of (interface_at plan h x).state) n
+    let of = reported_of plan x (managed_view h x).view loss (kept_report x.plan)
+    (lock_of (interface_at plan h x).state) n
     report
     (cause ∙ due_is plan h x i (ie.Report i loss) at) in
     of.2 ∙ ap (kept_report x.plan) (lock_stands plan h x of.0 of.1)

@@ -8,18 +8,17 @@ use Rattle.spec_interfaces.specs.Sites.{Site}
 use Rattle.spec_interfaces.specs.Devices.{peer_t, runs_at, sets_t}
 use Rattle.spec_interfaces.proofs.OnLinks.{owner_on_link}
 use Rattle.std.specs.Prelude.{nat_le, nat_lt, not}
-use Rattle.spec_interfaces.specs.Cause.{InterfaceCause, PairFits, SealFits, t_at, owners_link}
-use Rattle.spec_interfaces.specs.Cause.{owner_read}
-use Rattle.ide_types.specs.Ends.{port_at}
+use Rattle.spec_interfaces.specs.Cause.{InterfaceCause, PairFits, SealFits, t_at, owners_link, owner_read}
+use Rattle.ide_types.specs.Ends.{port_beside_end}
 use Rattle.spec_interfaces.specs.Laws.{IsTrusted, OfTrusted}
 use Rattle.tlp_layout.specs.Reading.{read_of}
 use Rattle.spec_keys.specs.Laws.{KeyCauseLaw}
 use Rattle.spec_keys.specs.Places.{KeyPlan, KeyPlace}
 use Rattle.spec_keys.specs.Keys.{Touch, Seal}
 use Rattle.spec_keys.specs.Operations.{Manager, Reach, manager_after_operation, manager_after, work_of, reach_of}
-use Rattle.spec_keys.specs.History.{manager, moments, touches_after, is_sender, seal_touches, when}
+use Rattle.spec_keys.specs.History.{manager, moments, touches_after, is_sender, seal_touches, touches_if}
 use Rattle.spec_keys.specs.Terms.{Operation}
-use Rattle.spec_keys.proofs.Shapes.{used}
+use Rattle.spec_keys.proofs.Shapes.{draws_used}
 use Rattle.spec_keys.proofs.Whole.{fits, more_begun}
 use Rattle.link_events.specs.declared.event.Event.TheVariants as event
 use Rattle.link_verdicts.specs.declared.verdict.Operation.TheVariants as op
@@ -27,16 +26,16 @@ use Rattle.link_verdicts.specs.declared.verdict.Verdict.TheVariants as v
 
 -- ---- draws
 
-operated_grows : (m : Manager) (o : Operation) (link stream : ℕ) (r : Option Reach)
-    → length m.begun ≤ length (manager_after_operation m o link stream r).begun
-operated_grows m o link stream None = omega arith
-operated_grows m o link stream (Some r) = more_begun m.begun link stream
-    (work_of o (m.ops link stream) (length m.begun))
+operated_grows : (m : Manager) (o : Operation) (line stream : ℕ) (r : Option Reach)
+    → length m.begun ≤ length (manager_after_operation m o line stream r).begun
+operated_grows m o line stream None = omega arith
+operated_grows m o line stream (Some r) = more_begun m.begun line stream
+    (work_of o (m.ops line stream) (length m.begun))
 
 after_grows : (m : Manager) (e : Event) (w : Verdict) → length m.begun ≤ length (manager_after m e w).begun
-after_grows m (event.Establish link stream loss) w = operated_grows m op.Establish link stream (reach_of op.Establish w)
-after_grows m (event.Refresh link stream loss) w = operated_grows m op.Refresh link stream (reach_of op.Refresh w)
-after_grows m (event.Stop link stream loss) w = operated_grows m op.Stop link stream (reach_of op.Stop w)
+after_grows m (event.Establish line stream loss) w = operated_grows m op.Establish line stream (reach_of op.Establish w)
+after_grows m (event.Refresh line stream loss) w = operated_grows m op.Refresh line stream (reach_of op.Refresh w)
+after_grows m (event.Stop line stream loss) w = operated_grows m op.Stop line stream (reach_of op.Stop w)
 after_grows m (event.Reset link ends) (v.Reset l) = omega arith
 after_grows m e w = omega arith
 
@@ -45,26 +44,26 @@ pub draws_grow : (h : History) (e : Event) (w : Verdict) → draws h ≤ draws (
 unfolding manager
 draws_grow h e w = after_grows (manager h) e w
 
-used_more : (ts : List Touch) (t : Touch) → used ts ≤ used (t ∷ ts)
-unfolding used
+used_more : (ts : List Touch) (t : Touch) → draws_used ts ≤ draws_used (t ∷ ts)
+unfolding draws_used
 used_more ts t = grind arith
 
-used_behind : (ts more : List Touch) → used ts ≤ used (touches_after ts more)
+used_behind : (ts more : List Touch) → draws_used ts ≤ draws_used (touches_after ts more)
 used_behind ts [] = omega arith
 used_behind ts (t ∷ more) = let a = used_more ts t in let b = used_behind (t ∷ ts) more in omega arith
 
-sealed_used : (ts more : List Touch) (j : ℕ) (m : Bool) → j < used (touches_after (Seal j m ∷ ts) more)
-unfolding used
+sealed_used : (ts more : List Touch) (j : ℕ) (m : Bool) → j < draws_used (touches_after (Seal j m ∷ ts) more)
+unfolding draws_used
 sealed_used ts more j m = let a = used_behind (Seal j m ∷ ts) more in grind arith
 
 used_when : (ts more : List Touch) (b m : Bool) (j : ℕ) → b ≡ true
-    → j < used (touches_after ts (when b (Seal j m) ++ more))
+    → j < draws_used (touches_after ts (touches_if b (Seal j m) ++ more))
 used_when ts more true m j is = sealed_used ts more j m
 used_when ts more false m j is = absurd cc
 
 -- the draws of the packets that a place seals are used there
 all_used : (p : KeyPlace) (ts : List Touch) (ds : List SealedPacket) (top : ℕ)
-    → used (touches_after ts (seal_touches p ds)) ≤ top
+    → draws_used (touches_after ts (seal_touches p ds)) ≤ top
     → AllByRecursion (λ d. is_sender p d ≡ true → d.draw < top) ds
 all_used p ts [] top le = tt
 all_used p ts (d ∷ ds) top le = (
@@ -72,11 +71,11 @@ all_used p ts (d ∷ ds) top le = (
   by_test (all_used p ts ds top) (all_used p (Seal d.draw d.m ∷ ts) ds top) (is_sender p d) le,
 )
   where
-    by_test : (used (touches_after ts (seal_touches p ds)) ≤ top
+    by_test : (draws_used (touches_after ts (seal_touches p ds)) ≤ top
         → AllByRecursion (λ y. is_sender p y ≡ true → y.draw < top) ds)
-        → (used (touches_after (Seal d.draw d.m ∷ ts) (seal_touches p ds)) ≤ top
+        → (draws_used (touches_after (Seal d.draw d.m ∷ ts) (seal_touches p ds)) ≤ top
         → AllByRecursion (λ y. is_sender p y ≡ true → y.draw < top) ds)
-        → (b : Bool) → used (touches_after ts (when b (Seal d.draw d.m) ++ seal_touches p ds)) ≤ top
+        → (b : Bool) → draws_used (touches_after ts (touches_if b (Seal d.draw d.m) ++ seal_touches p ds)) ≤ top
         → AllByRecursion (λ y. is_sender p y ≡ true → y.draw < top) ds
     by_test without with_it true le = with_it le
     by_test without with_it false le = without le
@@ -122,10 +121,12 @@ sealed_in_run plan h x bytes trusted d fits is =
   where
     by : (late there : Bool) → there ≡ true
         → (if late && not there then peer_t plan h (owner_read plan
-        (if late && not there then (port_at plan.peers (record { side = Device; line = x.link })).line else x.link)
+        (if late && not there then (port_beside_end plan.peers (record { side = Device; line = x.link })).line
+        else x.link)
         (read_of bytes)) d.stream
         else sets_t plan h x.link d.stream (owner_read plan
-        (if late && not there then (port_at plan.peers (record { side = Device; line = x.link })).line else x.link)
+        (if late && not there then (port_beside_end plan.peers (record { side = Device; line = x.link })).line
+        else x.link)
         (read_of bytes))) ≡ true → runs_at plan h x ≡ true
     by late false on at = absurd cc
     by true true on at = both_first (runs_at plan h x) (x.plan.stream == d.stream) (rw is.owned at at)
@@ -147,15 +148,13 @@ all_fresh plan h x bytes trusted (d ∷ ds) fit below = (
 -- ---- all packets with T
 
 all_lead : (Q : SealedPacket → Type 0) (P R : SealedPacket → Type 0) (ds : List SealedPacket)
-    → ((d : SealedPacket) → P d → R d)
-    → AllByRecursion (λ d. Q d → P d) ds → AllByRecursion (λ d. Q d → R d) ds
+    → ((d : SealedPacket) → P d → R d) → AllByRecursion (λ d. Q d → P d) ds → AllByRecursion (λ d. Q d → R d) ds
 all_lead Q P R [] leads all = tt
 all_lead Q P R (d ∷ ds) leads all = (λ q. leads d (all.0 q), all_lead Q P R ds leads all.1)
 
 -- more is true of them
 pub trusted_lead : (plan : Plan) (x : Site) (P Q : History → SealedPacket → Type 0) (h : History)
-    → ((g : History) (d : SealedPacket) → P g d → Q g d)
-    → OfTrusted plan x P h → OfTrusted plan x Q h
+    → ((g : History) (d : SealedPacket) → P g d → Q g d) → OfTrusted plan x P h → OfTrusted plan x Q h
 trusted_lead plan x P Q [] leads all = tt
 trusted_lead plan x P Q ((event.Send port bytes more trusted, v.Sealed ds) ∷ h) leads all =
     (all_lead (IsTrusted plan x bytes) (P h) (Q h) ds (leads h) all.0, trusted_lead plan x P Q h leads all.1)

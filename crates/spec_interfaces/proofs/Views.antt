@@ -9,15 +9,12 @@ use Rattle.spec_interfaces.specs.Terms.{InterfaceEvent, Loss, Verdict, History, 
 use Rattle.spec_interfaces.specs.Terms.{start_answer, StopInterface}
 use Rattle.spec_interfaces.specs.Sites.{Site, site_at}
 use Rattle.spec_interfaces.specs.Exchanges.{carries, is_asked_at}
-use Rattle.spec_interfaces.specs.Views.{Managed, on_lock, on_report, on_start, on_halt, on_state, needs_then}
-use Rattle.spec_interfaces.specs.Views.{view_told, view_broken, on_operation, number_in, is_number, stop_breaks}
-use Rattle.spec_interfaces.specs.Views.{on_bind}
-use Rattle.spec_interfaces.specs.Views.{peer_of}
-use Rattle.spec_interfaces.specs.Views.{managed_after, managed, view_at, floor_at, needs_at, stream_draw}
-use Rattle.spec_interfaces.specs.Devices.{interface_if_called, is_run, runs_at, interface_at, locks_at, devices}
+use Rattle.spec_interfaces.specs.Views.{Managed, on_lock, on_report, on_start, on_halt, on_state, needs_then, view_told}
+use Rattle.spec_interfaces.specs.Views.{view_broken, on_operation, number_in, is_number, stop_breaks, on_bind, peer_of}
+use Rattle.spec_interfaces.specs.Views.{managed_after, managed_view, view_at, floor_at, needs_at, stream_draw}
+use Rattle.spec_interfaces.specs.Devices.{interface_if_called, is_run, runs_at, interface_at, locks_accepted, devices}
 use Rattle.spec_interfaces.specs.Due.{interface_verdict_due, interface_due, unless_lost, host_status, if_unlocked}
-use Rattle.spec_interfaces.specs.Due.{if_locked}
-use Rattle.spec_interfaces.specs.Due.{if_reported, if_fresh, started_as}
+use Rattle.spec_interfaces.specs.Due.{if_locked, if_reported, if_fresh, started_as}
 use Rattle.spec_interfaces.specs.Cause.{InterfaceCause, PairFits}
 use Rattle.spec_interfaces.specs.Laws.{OfTrusted, IsAtRest, InRun, IsRunning, ViewHolds, ViewsHold}
 use Rattle.spec_interfaces.proofs.Rests.{starts, rests_on, locks_it, locks_stay}
@@ -55,15 +52,14 @@ rest_on plan kp h e w x known rests le at = record {
 }
 
 run_on : (plan : Plan) (kp : KeyPlan) (h : History) (e : Event) (w : Verdict) (x : Site) → Known plan kp h e w x
-    → (managed ((e, w) ∷ h) x).started ≡ (managed h x).started → floor_at ((e, w) ∷ h) x ≡ floor_at h x
-    → locks_at plan ((e, w) ∷ h) x ≡ locks_at plan h x
-    → IsRunning plan h x → IsRunning plan ((e, w) ∷ h) x
+    → (managed_view ((e, w) ∷ h) x).started ≡ (managed_view h x).started → floor_at ((e, w) ∷ h) x ≡ floor_at h x
+    → locks_accepted plan ((e, w) ∷ h) x ≡ locks_accepted plan h x → IsRunning plan h x → IsRunning plan ((e, w) ∷ h) x
 run_on plan kp h e w x known started floor locks at = record {
   was_started = started ∙ at.was_started;
-  since = subst (λ (f : ℕ). OfTrusted plan x (λ g d. f ≤ d.draw → InRun plan x (locks_at plan ((e, w) ∷ h) x) g)
+  since = subst (λ (f : ℕ). OfTrusted plan x (λ g d. f ≤ d.draw → InRun plan x (locks_accepted plan ((e, w) ∷ h) x) g)
       ((e, w) ∷ h)) (sym floor)
       (subst (λ (k : ℕ). OfTrusted plan x (λ g d. floor_at h x ≤ d.draw → InRun plan x k g) ((e, w) ∷ h)) (sym locks)
-      (trusted_on plan kp h e w x (λ g d. floor_at h x ≤ d.draw → InRun plan x (locks_at plan h x) g) known.keys
+      (trusted_on plan kp h e w x (λ g d. floor_at h x ≤ d.draw → InRun plan x (locks_accepted plan h x) g) known.keys
       known.fit
       (λ d fresh le. record { runs = fresh.runs; same_lock = refl }) at.since));
 }
@@ -100,7 +96,7 @@ left_view m n leaves s whole is = by leaves.view
 
 still : (plan : Plan) (kp : KeyPlan) (h : History) (e : Event) (w : Verdict) (x : Site) → Known plan kp h e w x
     → starts x e w ≡ false → locks_it x e w ≡ false
-    → Leaves (managed h x) (managed ((e, w) ∷ h) x) → ViewHolds plan ((e, w) ∷ h) x
+    → Leaves (managed_view h x) (managed_view ((e, w) ∷ h) x) → ViewHolds plan ((e, w) ∷ h) x
 still plan kp h e w x known none unlocked leaves =
     let rest : IsAtRest plan h x → IsAtRest plan ((e, w) ∷ h) x =
     λ at. rest_on plan kp h e w x known (rests_on plan h e w x none at.rests) (omega (arith, leaves.needs)) at in
@@ -122,9 +118,9 @@ leaves_same m n same = record {
 
 -- ---- what the manager keeps after a pair
 
-pub managed_step : (h : History) (e : Event) (w : Verdict) (x : Site) → managed ((e, w) ∷ h) x
-    ≡ managed_after (op_of h) (draws h) x e w (managed h x)
-unfolding managed
+pub managed_step : (h : History) (e : Event) (w : Verdict) (x : Site) → managed_view ((e, w) ∷ h) x
+    ≡ managed_after (op_of h) (draws h) x e w (managed_view h x)
+unfolding managed_view
 managed_step h e w x = refl
 
 if_is : {A : Type 0} (b : Bool) (m n : A) → b ≡ true → (if b then m else n) ≡ m
@@ -135,12 +131,12 @@ if_not b m n is = rw is refl
 
 -- by an event on the interface
 pub managed_own : (h : History) (e : InterfaceEvent) (w : Verdict) (x : Site) → is_number (number_in e) x.number ≡ true
-    → managed ((event.Interface e, w) ∷ h) x ≡ on_operation (draws h) e w (managed h x)
+    → managed_view ((event.Interface e, w) ∷ h) x ≡ on_operation (draws h) e w (managed_view h x)
 managed_own h e w x own = managed_step h (event.Interface e) w x ∙ if_is (is_number (number_in e) x.number) _ _ own
 
 pub managed_other : (h : History) (e : InterfaceEvent) (w : Verdict) (x : Site) → is_number (number_in e) x.number
     ≡ false
-    → managed ((event.Interface e, w) ∷ h) x ≡ managed h x
+    → managed_view ((event.Interface e, w) ∷ h) x ≡ managed_view h x
 managed_other h e w x other = managed_step h (event.Interface e) w x ∙ if_not (is_number (number_in e) x.number) _ _
     other
 
@@ -181,29 +177,32 @@ lock_turn : (plan : Plan) (kp : KeyPlan) (h : History) (i : ℕ) (loss : Option 
     → Known plan kp h (event.Interface (ie.Lock i loss)) w x
     → (i == x.number) ≡ true → w ≡ interface_due plan h x (ie.Lock i loss)
     → ViewHolds plan ((event.Interface (ie.Lock i loss), w) ∷ h) x
-lock_turn plan kp h i loss w x known own cause = by (unlocked_or (managed h x).view)
+lock_turn plan kp h i loss w x known own cause = by (unlocked_or (managed_view h x).view)
   where
-    by : ((managed h x).view ≡ Unlocked) ⊎
-        ((z : Verdict) → if_unlocked (managed h x).view z ≡ v.Interface (iv.RefusedWrongState (managed h x).view))
+    by : ((managed_view h x).view ≡ Unlocked) ⊎
+        ((z : Verdict) → if_unlocked (managed_view h x).view z
+        ≡ v.Interface (iv.RefusedWrongState (managed_view h x).view))
         → ViewHolds plan ((event.Interface (ie.Lock i loss), w) ∷ h) x
     by (inl unlocked) =
         let at = known.holds.unlocked unlocked in
         let m = managed_own h (ie.Lock i loss) w x own in
         let needs : needs_at ((event.Interface (ie.Lock i loss), w) ∷ h) x
-        ≡ needs_at h x = ap (λ (k : Managed). k.needs) m ∙ lock_needs (managed h x) w in
+        ≡ needs_at h x = ap (λ (k : Managed). k.needs) m ∙ lock_needs (managed_view h x) w in
         let rest = rest_on plan kp h (event.Interface (ie.Lock i loss)) w x known
         (rests_on plan h (event.Interface (ie.Lock i loss)) w x refl at.rests) (omega (arith, needs)) at in
         record {
           unlocked = λ is. rest;
           locked = λ is. rest;
           unstarted = λ is. rest;
-          running = λ is. absurd (lock_runs_not (managed h x) w unlocked (sym (ap (λ (k : Managed). k.view) m) ∙ is));
+          running = λ is. absurd (lock_runs_not (managed_view h x) w unlocked
+              (sym (ap (λ (k : Managed). k.view) m) ∙ is));
         }
     by (inr refused) =
         let is = cause ∙ refused _ in
         still plan kp h (event.Interface (ie.Lock i loss)) w x known refl
         (not_carried (i == x.number) (carries w 3) (ap (λ (z : Verdict). carries z 3) is))
-        (leaves_same _ _ (managed_own h (ie.Lock i loss) w x own ∙ ap (λ (z : Verdict). on_lock (managed h x) z) is))
+        (leaves_same _ _ (managed_own h (ie.Lock i loss) w x own
+        ∙ ap (λ (z : Verdict). on_lock (managed_view h x) z) is))
 
 -- ---- start
 
@@ -238,8 +237,7 @@ start_lost m draw x loss w true e locked asks = subst (λ (n : ℕ). Asks m draw
     (sym (only_one loss.exchange e)) (lost_asks m draw loss.lost locked)
 
 start_asks : (m : Managed) (draw : ℕ) (x : Site) (loss : Option Loss) (answer : Result (Unit {0}) ℕ) → m.view ≡ Locked
-    → m.needs ≤ draw
-    → Asks m draw (unless_lost loss 1 (started_as x draw answer))
+    → m.needs ≤ draw → Asks m draw (unless_lost loss 1 (started_as x draw answer))
 start_asks m draw x None answer locked le = start_done m draw x answer locked le
 start_asks m draw x (Some loss) answer locked le = start_lost m draw x loss _
     (nat_le 1 loss.exchange && nat_le loss.exchange 1) refl locked (start_done m draw x answer locked le)
@@ -277,12 +275,12 @@ start_of m draw x s loss answer =
 
 -- a start was asked, and the view is another than before it
 asked_holds : (plan : Plan) (h : History) (x : Site) (s : View) → (s ≡ Unlocked → ⊥) → (s ≡ Locked → ⊥) → view_at h x
-    ≡ s → (managed h x).started ≡ true
+    ≡ s → (managed_view h x).started ≡ true
     → (s ≡ Running → IsRunning plan h x) → ViewHolds plan h x
 asked_holds plan h x s open_not locked_not is started running = record {
   unlocked = λ e. absurd (open_not (sym is ∙ e));
   locked = λ e. absurd (locked_not (sym is ∙ e));
-  unstarted = λ e. absurd (not_both (managed h x).started e started);
+  unstarted = λ e. absurd (not_both (managed_view h x).started e started);
   running = λ e. running (sym is ∙ e);
 }
 
@@ -291,11 +289,11 @@ start_turn : (plan : Plan) (kp : KeyPlan) (h : History) (i : ℕ) (loss : Option
     → (i == x.number) ≡ true → w ≡ interface_due plan h x (ie.Start i loss)
     → ViewHolds plan ((event.Interface (ie.Start i loss), w) ∷ h) x
 start_turn plan kp h i loss w x known own cause =
-    by (subst (λ (z : Verdict). StartsAs (managed h x) (stream_draw h x.link x.plan.stream) z) (sym cause)
-    (start_of (managed h x) (stream_draw h x.link x.plan.stream) x (host_status h x) loss
-    (start_answer (interface_at plan h x).state (managed h x).nonce)))
+    by (subst (λ (z : Verdict). StartsAs (managed_view h x) (stream_draw h x.link x.plan.stream) z) (sym cause)
+    (start_of (managed_view h x) (stream_draw h x.link x.plan.stream) x (host_status h x) loss
+    (start_answer (interface_at plan h x).state (managed_view h x).nonce)))
   where
-    by : StartsAs (managed h x) (stream_draw h x.link x.plan.stream) w
+    by : StartsAs (managed_view h x) (stream_draw h x.link x.plan.stream) w
         → ViewHolds plan ((event.Interface (ie.Start i loss), w) ∷ h) x
     by (inl refuses) =
         still plan kp h (event.Interface (ie.Start i loss)) w x known
@@ -320,7 +318,7 @@ start_turn plan kp h i loss w x known own cause =
                   was_started = started;
                   since = trusted_lead plan x (λ g d. d.draw < needs_at h x)
                       (λ g d. floor_at ((event.Interface (ie.Start i loss), w) ∷ h) x ≤ d.draw
-                      → InRun plan x (locks_at plan ((event.Interface (ie.Start i loss), w) ∷ h) x) g) h
+                      → InRun plan x (locks_accepted plan ((event.Interface (ie.Start i loss), w) ∷ h) x) g) h
                       (λ g d lt above. absurd (omega (arith, floor, le, lt, above))) at.below;
                 })
           ]
@@ -370,21 +368,20 @@ stopped_rests plan h i loss w x own carried = stopped_interface (i == x.number) 
 
 -- what it needs once it is halted is above all that it sealed
 needs_above : (plan : Plan) (kp : KeyPlan) (h : History) (x : Site) → KeyCauseLaw kp h → InterfaceCause plan h
-    → ViewHolds plan h x → (b : Bool) → (managed h x).started ≡ b
+    → ViewHolds plan h x → (b : Bool) → (managed_view h x).started ≡ b
     → OfTrusted plan x (λ g d. d.draw < (if b then draws h else needs_at h x)) h
 needs_above plan kp h x keys all holds true e = all_made plan kp h x keys all
 needs_above plan kp h x keys all holds false e = (holds.unstarted e).below
 
 halt_turn : (plan : Plan) (kp : KeyPlan) (h : History) (i : ℕ) (loss : Option Loss) (w : Verdict) (x : Site)
-    → Known plan kp h (event.Interface (ie.Halt i loss)) w x
-    → InterfaceCause plan h
+    → Known plan kp h (event.Interface (ie.Halt i loss)) w x → InterfaceCause plan h
     → (i == x.number) ≡ true → w ≡ interface_due plan h x (ie.Halt i loss)
     → ViewHolds plan ((event.Interface (ie.Halt i loss), w) ∷ h) x
 halt_turn plan kp h i loss w x known all own cause =
-    by (subst (λ (z : Verdict). HaltsAs (managed h x) (draws h) z) (sym cause)
-    (halt_of (managed h x) (draws h) x.number (needs_then (managed h x) (draws h)) loss))
+    by (subst (λ (z : Verdict). HaltsAs (managed_view h x) (draws h) z) (sym cause)
+    (halt_of (managed_view h x) (draws h) x.number (needs_then (managed_view h x) (draws h)) loss))
   where
-    by : HaltsAs (managed h x) (draws h) w → ViewHolds plan ((event.Interface (ie.Halt i loss), w) ∷ h) x
+    by : HaltsAs (managed_view h x) (draws h) w → ViewHolds plan ((event.Interface (ie.Halt i loss), w) ∷ h) x
     by (inl stopped) =
         let m = managed_own h (ie.Halt i loss) w x own in
         let needs = ap (λ (k : Managed). k.needs) m ∙ stopped.needs in
@@ -392,7 +389,7 @@ halt_turn plan kp h i loss w x known all own cause =
         let rest : IsAtRest plan ((event.Interface (ie.Halt i loss), w) ∷ h) x = record {
           rests = stopped_rests plan h i loss w x own stopped.carried;
           below = subst (λ (n : ℕ). OfTrusted plan x (λ g d. d.draw < n) h) (sym needs)
-              (needs_above plan kp h x known.keys.2 all known.holds (managed h x).started refl);
+              (needs_above plan kp h x known.keys.2 all known.holds (managed_view h x).started refl);
         } in
         record {
           unlocked = λ is. rest;
@@ -448,8 +445,8 @@ if_broken true m = record { view = broken_or m.view; started = refl; floor = ref
 if_broken false m = leaves_same m m refl
 
 by_leaves : (h : History) (e : Event) (w : Verdict) (x : Site)
-    → Leaves (managed h x) (managed_after (op_of h) (draws h) x e w (managed h x))
-    → Leaves (managed h x) (managed ((e, w) ∷ h) x)
+    → Leaves (managed_view h x) (managed_after (op_of h) (draws h) x e w (managed_view h x))
+    → Leaves (managed_view h x) (managed_view ((e, w) ∷ h) x)
 by_leaves h e w x leaves = rw (managed_step h e w x) leaves
 
 -- an event that leaves what is kept of the interface
@@ -461,8 +458,7 @@ not_own : (b c : Bool) → b ≡ false → (b && c) ≡ false
 not_own b c none = grind arith
 
 turn : (plan : Plan) (kp : KeyPlan) (h : History) (e : Event) (w : Verdict) (x : Site) → site_at plan x.number ≡ Some x
-    → InterfaceCause plan h → Known plan kp h e w x
-    → ViewHolds plan ((e, w) ∷ h) x
+    → InterfaceCause plan h → Known plan kp h e w x → ViewHolds plan ((e, w) ∷ h) x
 turn plan kp h (event.Interface (ie.Lock i loss)) w x at all known = elim (cases_Bool (i == x.number)) [
   | inl own ↦ lock_turn plan kp h i loss w x known own (due_own plan h x (ie.Lock i loss) i w at refl own known.fit)
   | inr other ↦ still plan kp h (event.Interface (ie.Lock i loss)) w x known refl
@@ -481,30 +477,30 @@ turn plan kp h (event.Interface (ie.Halt i loss)) w x at all known = elim (cases
 turn plan kp h (event.Interface (ie.Report i loss)) w x at all known =
     still plan kp h (event.Interface (ie.Report i loss)) w x known refl refl
     (by_leaves h (event.Interface (ie.Report i loss)) w x
-    (if_leaves (i == x.number) _ _ (report_leaves (managed h x) w)))
+    (if_leaves (i == x.number) _ _ (report_leaves (managed_view h x) w)))
 turn plan kp h (event.Interface (ie.State i loss)) w x at all known =
     still plan kp h (event.Interface (ie.State i loss)) w x known refl refl
     (by_leaves h (event.Interface (ie.State i loss)) w x
-    (if_leaves (i == x.number) _ _ (state_leaves (managed h x) w)))
+    (if_leaves (i == x.number) _ _ (state_leaves (managed_view h x) w)))
 turn plan kp h (event.Interface (ie.Bind i line stream loss)) w x at all known =
     still plan kp h (event.Interface (ie.Bind i line stream loss)) w x known refl refl
     (by_leaves h (event.Interface (ie.Bind i line stream loss)) w x
-    (if_leaves (i == x.number) _ _ (bind_leaves line (managed h x) w)))
+    (if_leaves (i == x.number) _ _ (bind_leaves line (managed_view h x) w)))
 turn plan kp h (event.Interface e) w x at all known =
     still plan kp h (event.Interface e) w x known refl refl
     (by_leaves h (event.Interface e) w x
-    (if_leaves (is_number (number_in e) x.number) _ _ (leaves_same (managed h x) (managed h x) refl)))
-turn plan kp h (event.Stop link stream loss) w x at all known =
-    still plan kp h (event.Stop link stream loss) w x known refl refl (by_leaves h (event.Stop link stream loss) w x
-    (if_broken (stop_breaks (op_of h) (draws h) x link stream w (managed h x)) (managed h x)))
+    (if_leaves (is_number (number_in e) x.number) _ _ (leaves_same (managed_view h x) (managed_view h x) refl)))
+turn plan kp h (event.Stop line stream loss) w x at all known =
+    still plan kp h (event.Stop line stream loss) w x known refl refl (by_leaves h (event.Stop line stream loss) w x
+    (if_broken (stop_breaks (op_of h) (draws h) x line stream w (managed_view h x)) (managed_view h x)))
 turn plan kp h (event.Reset link ends) (v.Reset l) x at all known =
     still plan kp h (event.Reset link ends) (v.Reset l) x known refl refl
-    (by_leaves h (event.Reset link ends) (v.Reset l) x (if_broken (link == x.link) (managed h x)))
+    (by_leaves h (event.Reset link ends) (v.Reset l) x (if_broken (link == x.link) (managed_view h x)))
 turn plan kp h e w x at all known = still plan kp h e w x known refl refl
-    (by_leaves h e w x (leaves_same (managed h x) (managed h x) refl))
+    (by_leaves h e w x (leaves_same (managed_view h x) (managed_view h x) refl))
 
 at_first : (plan : Plan) (x : Site) → ViewHolds plan [] x
-unfolding managed devices
+unfolding managed_view devices
 at_first plan x =
     let rest : IsAtRest plan [] x = record { rests = refl; below = tt } in
     record { unlocked = λ is. rest; locked = λ is. rest; unstarted = λ is. rest; running = λ is. absurd cc }

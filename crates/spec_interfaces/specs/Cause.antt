@@ -6,8 +6,8 @@ use Rattle.spec_interfaces.specs.Terms.{Verdict, SealedPacket, History}
 use Rattle.spec_interfaces.specs.Sites.{Site, site_with}
 use Rattle.spec_interfaces.specs.Devices.{peer_t, sets_t}
 use Rattle.spec_interfaces.specs.Due.{interface_verdict_due}
-use Rattle.ide_types.specs.Ends.{port_at}
-use Rattle.association.specs.Choice.{id_of}
+use Rattle.ide_types.specs.Ends.{port_beside_end}
+use Rattle.tlp_layout.specs.Choice.{id_of}
 use Rattle.tlp_layout.specs.declared.head.HeadView.{HeadView}
 use Rattle.tlp_layout.specs.declared.tlp.Tlp.{Tlp}
 use Rattle.tlp_layout.specs.declared.fault.TlpFault.{TlpFault}
@@ -19,15 +19,15 @@ use Rattle.link_verdicts.specs.declared.verdict.Verdict.TheVariants as v
 -- ---- the owner of a TLP
 
 -- the requester of a request, the completer of a completion
-abbrev pub owner_of : HeadView → Option ℕ
-owner_of head = id_of Device head.fields
+abbrev pub owner_id : HeadView → Option ℕ
+owner_id head = id_of Device head.fields
 
 -- the interface of a link that owns a TLP
-abbrev pub owner_at : Plan → ℕ → HeadView → Option Site
-owner_at plan link head = option_and_then (site_with plan link) (owner_of head)
+abbrev pub owner_site : Plan → ℕ → HeadView → Option Site
+owner_site plan link head = option_and_then (site_with plan link) (owner_id head)
 
 abbrev pub owner_read : Plan → ℕ → Result Tlp TlpFault → Option Site
-owner_read plan link (Ok t) = owner_at plan link (header t)
+owner_read plan link (Ok t) = owner_site plan link (header t)
 owner_read plan link (Err f) = None
 
 -- ---- T
@@ -43,7 +43,7 @@ is_peer plan end = nat_le 24 end.line && not (nat_lt end.line (length plan.links
 
 -- the link at whose device the owners of the TLPs are that an end sends
 abbrev pub owners_link : Plan → PortName → ℕ
-owners_link plan end = if is_peer plan end then (port_at plan.peers end).line else end.line
+owners_link plan end = if is_peer plan end then (port_beside_end plan.peers end).line else end.line
 
 -- T that an end sets, on a line that is no stream between devices, or on one
 abbrev pub t_at : Plan → History → PortName → Option Site → ℕ → Bool → Bool

@@ -1,10 +1,8 @@
 -- What each device's interfaces are, over whole histories.
 use Rattle.std.specs.Prelude.{ℕ, ◌+◌, ◌==◌, ◌&&◌, ◌||◌, ◌∷◌, Bool, true, false, not, if◌then◌else◌, List, [], Option}
-use Rattle.std.specs.Prelude.{Some}
-use Rattle.std.specs.Prelude.{None, is_ok}
-use Rattle.spec_interfaces.specs.Terms.{list_any, Device, Plan, Event, InterfaceEvent, Verdict, History}
-use Rattle.spec_interfaces.specs.Terms.{history_status, Registers, TdiState, Run, planned, Tdi, new_tdi, lock_answer}
-use Rattle.spec_interfaces.specs.Terms.{Call}
+use Rattle.std.specs.Prelude.{Some, None, is_ok}
+use Rattle.spec_interfaces.specs.Terms.{list_any, Device, Plan, Event, InterfaceEvent, Verdict, History, history_status}
+use Rattle.spec_interfaces.specs.Terms.{TdiState, Run, planned_registers, Tdi, new_tdi, lock_answer, Call, Registers}
 use Rattle.spec_interfaces.specs.Terms.{LockInterface, StartInterface, StopInterface, WriteRegister, LevelReset}
 use Rattle.spec_interfaces.specs.Terms.{FirmwareUpdate, StreamLeft, LinkReset, BindStream, UnbindStream, tdi_after}
 use Rattle.spec_interfaces.specs.Terms.{binds}
@@ -12,7 +10,7 @@ pub use Rattle.spec_interfaces.specs.Peers.{is_secure}
 use Rattle.spec_interfaces.specs.Peers.{live_at, live_by_id, any_leaves}
 use Rattle.spec_interfaces.specs.Sites.{Site, sites, nonce_behind}
 use Rattle.spec_interfaces.specs.Exchanges.{carries, changes_device}
-use Rattle.spec_interfaces.specs.Views.{managed, is_number, number_in}
+use Rattle.spec_interfaces.specs.Views.{managed_view, is_number, number_in}
 use Rattle.link_events.specs.declared.event.Event.TheVariants as event
 use Rattle.link_events.specs.declared.event.InterfaceEvent.TheVariants as ie
 use Rattle.link_verdicts.specs.declared.verdict.Verdict.TheVariants as v
@@ -37,7 +35,7 @@ abbrev pub around : Plan → History → (ℕ → ℕ) → Site → Around
 around plan h used x = record {
   secure = has_secure_stream h x;
   drawn = nonce_behind plan x.link (used x.link);
-  nonce = (managed h x).nonce;
+  nonce = (managed_view h x).nonce;
   live = live_by_id (live_at h) plan.peers x.link;
 }
 
@@ -106,14 +104,15 @@ abbrev pub one_if : Bool → ℕ
 one_if true = 1
 one_if false = 0
 
-abbrev pub locks_in : Plan → History → Devices → Event → Verdict → Site → Bool
-locks_in plan h d e w x = accepts_lock (around plan h d.used x) x e w (d.tdi x)
+abbrev pub is_lock_accepted : Plan → History → Devices → Event → Verdict → Site → Bool
+is_lock_accepted plan h d e w x = accepts_lock (around plan h d.used x) x e w (d.tdi x)
 
 abbrev pub devices_after : Plan → History → Devices → Event → Verdict → Devices
 devices_after plan h d e w = record {
   tdi = λ x. next_interface (around plan h d.used x) (is_stream_left plan h e w x (d.tdi x)) x e w (d.tdi x);
-  locks = λ x. d.locks x + one_if (locks_in plan h d e w x);
-  used = λ link. d.used link + one_if (list_any (λ x. (x.link == link) && locks_in plan h d e w x) (sites plan));
+  locks = λ x. d.locks x + one_if (is_lock_accepted plan h d e w x);
+  used = λ link. d.used link + one_if (list_any (λ x. (x.link == link) && is_lock_accepted plan h d e w x)
+      (sites plan));
 }
 
 unfoldable pub devices : Plan → History → Devices
@@ -125,8 +124,8 @@ abbrev pub interface_at : Plan → History → Site → Tdi
 interface_at plan h x = (devices plan h).tdi x
 
 -- how many LOCK_INTERFACE requests it accepted
-abbrev pub locks_at : Plan → History → Site → ℕ
-locks_at plan h x = (devices plan h).locks x
+abbrev pub locks_accepted : Plan → History → Site → ℕ
+locks_accepted plan h x = (devices plan h).locks x
 
 -- how many nonces the device of a link gave
 abbrev pub used_at : Plan → History → ℕ → ℕ
@@ -137,9 +136,10 @@ around_at plan h x = around plan h (devices plan h).used x
 
 -- its registers as they stood at the last LOCK_INTERFACE that it accepted
 unfoldable pub registers_locked : Plan → History → Site → Registers
-registers_locked plan [] x = planned x.plan
+registers_locked plan [] x = planned_registers x.plan
 registers_locked plan ((e, w) ∷ h) x =
-    if locks_in plan h (devices plan h) e w x then (interface_at plan h x).registers else registers_locked plan h x
+    if is_lock_accepted plan h (devices plan h) e w x then (interface_at plan h x).registers
+    else registers_locked plan h x
 
 -- ---- T
 

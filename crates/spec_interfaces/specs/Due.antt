@@ -3,13 +3,12 @@ use Rattle.std.specs.Prelude.{ℕ, ◌+◌, ◌-◌, ◌/◌, ◌&&◌, Bool, tr
 use Rattle.std.specs.Prelude.{Option, Some, None, Result, Ok, Err}
 use Rattle.spec_interfaces.specs.Terms.{option_map, Host, StreamStatus, Plan, View, Unlocked, Locked, Running}
 use Rattle.spec_interfaces.specs.Terms.{InterfaceEvent, Loss, Verdict, History, draws, history_status, lost_at}
-use Rattle.spec_interfaces.specs.Terms.{if_secure}
-use Rattle.spec_interfaces.specs.Terms.{Register, has_register, kept_report, Tdi, state_code, lock_of, lock_answer}
-use Rattle.spec_interfaces.specs.Terms.{bind_answer, unbind_answer, StreamStage, Idle, Up, op_of}
+use Rattle.spec_interfaces.specs.Terms.{if_secure, Register, has_register, kept_report, Tdi, state_code, lock_of}
+use Rattle.spec_interfaces.specs.Terms.{lock_answer, bind_answer, unbind_answer, StreamStage, Idle, Up, op_of}
 use Rattle.spec_interfaces.specs.Terms.{start_answer, Call, WriteRegister, LevelReset, FirmwareUpdate, tdi_after}
 use Rattle.spec_interfaces.specs.Sites.{Site, site_at}
 use Rattle.spec_interfaces.specs.Peers.{has_peer}
-use Rattle.spec_interfaces.specs.Views.{Managed, managed, needs_then, stream_draw, number_in}
+use Rattle.spec_interfaces.specs.Views.{Managed, managed_view, needs_then, stream_draw, number_in}
 use Rattle.spec_interfaces.specs.Devices.{Around, around_at, interface_at}
 use Rattle.ide_types.specs.declared.status.StreamStatus.TheVariants as status
 use Rattle.link_events.specs.declared.event.InterfaceEvent.TheVariants as ie
@@ -43,11 +42,11 @@ pub record AskedState : Type 0 where
 abbrev pub host_status : History → Site → StreamStatus
 host_status h x = history_status h Host x.link x.plan.stream
 
-abbrev pub standing_at : Plan → History → Site → AskedState
-standing_at plan h x = record {
+abbrev pub asked_state : Plan → History → Site → AskedState
+asked_state plan h x = record {
   around = around_at plan h x;
   tdi = interface_at plan h x;
-  managed = managed h x;
+  managed = managed_view h x;
   host = host_status h x;
   draw = stream_draw h x.link x.plan.stream;
   drawn = draws h;
@@ -180,7 +179,7 @@ asked_due plan x s (ie.Firmware i) = v.Interface (iv.Firmware x.number (code_aft
 asked_due plan x s (ie.Memory at len) = v.Nothing
 
 abbrev pub interface_due : Plan → History → Site → InterfaceEvent → Verdict
-interface_due plan h x e = asked_due plan x (standing_at plan h x) e
+interface_due plan h x e = asked_due plan x (asked_state plan h x) e
 
 abbrev pub on_site : (Site → Verdict) → Option Site → Verdict
 on_site f None = v.Nothing

@@ -6,7 +6,7 @@ use Rattle.spec_keys.specs.Places.{KeyPlace}
 use Rattle.spec_keys.specs.History.{place_keys}
 use Rattle.ide_types.specs.declared.sub.SubKind.TheVariants.{Pr}
 use Rattle.guarded_memory.specs.declared.standing.InterfaceStatus.{InterfaceStatus}
-use Rattle.guarded_memory.specs.Standings.{standing_of}
+use Rattle.guarded_memory.specs.Standings.{interface_status}
 use Rattle.spec_interfaces.specs.Terms.{Device, Plan, LinkPlan, Event, History}
 use Rattle.spec_interfaces.specs.Sites.{Site, sites}
 pub use Rattle.spec_interfaces.specs.Peers.{greatest_on}
@@ -40,8 +40,8 @@ device_floor plan ((e, w) ∷ h) x =
 -- ---- the interfaces of a link
 
 -- in order
-abbrev pub sites_of : Plan → ℕ → List Site
-sites_of plan link = filter (λ x. x.link == link) (sites plan)
+abbrev pub link_sites : Plan → ℕ → List Site
+link_sites plan link = filter (λ x. x.link == link) (sites plan)
 
 -- how many interfaces are on the links before this one
 abbrev pub interfaces_before : List LinkPlan → ℕ → ℕ
@@ -54,8 +54,8 @@ abbrev pub place_of : Plan → Site → ℕ
 place_of plan x = x.number - interfaces_before plan.links x.link
 
 -- how they stand
-abbrev pub device_standing : Plan → History → Site → InterfaceStatus
-device_standing plan h x = standing_of (interface_at plan h x) (device_floor plan h x)
+abbrev pub device_status : Plan → History → Site → InterfaceStatus
+device_status plan h x = interface_status (interface_at plan h x) (device_floor plan h x)
 
-abbrev pub history_standings : Plan → History → ℕ → List InterfaceStatus
-history_standings plan h link = map (device_standing plan h) (sites_of plan link)
+abbrev pub history_statuses : Plan → History → ℕ → List InterfaceStatus
+history_statuses plan h link = map (device_status plan h) (link_sites plan link)

@@ -1,11 +1,11 @@
 -- What the interfaces of a history obey.
 use Rattle.std.specs.Prelude.{◌≡◌, ℕ, ◌<◌, ◌≤◌, ◌∷◌, ◌⊎◌, true, false, if◌then◌else◌, List, [], Some}
-use Rattle.spec_interfaces.specs.Terms.{AllByRecursion, Device, PortName, Plan, Unlocked, Locked, Running, Event}
-use Rattle.spec_interfaces.specs.Terms.{InterfaceEvent, Verdict, SealedPacket, History, listed, has_bit}
+use Rattle.spec_interfaces.specs.Terms.{AllByRecursion, Device, Plan, Unlocked, Locked, Running, Event, PortName}
+use Rattle.spec_interfaces.specs.Terms.{InterfaceEvent, Verdict, SealedPacket, History, listed_registers, has_bit}
 use Rattle.spec_interfaces.specs.Terms.{changes_listed, interface_report_bytes, state_code}
 use Rattle.spec_interfaces.specs.Sites.{Site, site_at}
-use Rattle.spec_interfaces.specs.Views.{managed, view_at, floor_at, needs_at}
-use Rattle.spec_interfaces.specs.Devices.{interface_at, locks_at, runs_at, is_bound_at, peer_t, registers_locked}
+use Rattle.spec_interfaces.specs.Views.{managed_view, view_at, floor_at, needs_at}
+use Rattle.spec_interfaces.specs.Devices.{interface_at, locks_accepted, runs_at, is_bound_at, peer_t, registers_locked}
 use Rattle.spec_interfaces.specs.Cause.{InterfaceCause, owner_read}
 use Rattle.spec_keys.specs.Laws.{KeyCauseLaw}
 use Rattle.spec_keys.specs.Places.{KeyPlan}
@@ -24,7 +24,8 @@ IsLocked plan h x = (state_code (interface_at plan h x).state ≡ 1) ⊎ (state_
 -- in RUN, and locked, the listed registers are those that were reported
 abbrev pub KeepsReported : Plan → History → Site → Type 0
 KeepsReported plan h x = IsLocked plan h x
-    → listed x.plan.flags (interface_at plan h x).registers ≡ listed x.plan.flags (registers_locked plan h x)
+    → listed_registers x.plan.flags (interface_at plan h x).registers
+    ≡ listed_registers x.plan.flags (registers_locked plan h x)
 
 -- a report is that of the registers as they stood at the lock, under the flags and the offset of the topology
 abbrev pub ShowsReport : Plan → History → Site → InterfaceEvent → Verdict → Type 0
@@ -112,18 +113,18 @@ pub record IsAtRest (plan : Plan) (h : History) (x : Site) : Type 0 where
 -- it was sealed in RUN, under this many locks
 pub record InRun (plan : Plan) (x : Site) (locks : ℕ) (g : History) : Type 0 where
   pub runs : runs_at plan g x ≡ true
-  pub same_lock : locks_at plan g x ≡ locks
+  pub same_lock : locks_accepted plan g x ≡ locks
 
 -- a START was asked, and each such packet of a draw from the floor on was sealed in RUN under the present lock
 pub record IsRunning (plan : Plan) (h : History) (x : Site) : Type 0 where
-  pub was_started : (managed h x).started ≡ true
-  pub since : OfTrusted plan x (λ g d. floor_at h x ≤ d.draw → InRun plan x (locks_at plan h x) g) h
+  pub was_started : (managed_view h x).started ≡ true
+  pub since : OfTrusted plan x (λ g d. floor_at h x ≤ d.draw → InRun plan x (locks_accepted plan h x) g) h
 
 -- what the manager's view says of the device and of what it sealed
 pub record ViewHolds (plan : Plan) (h : History) (x : Site) : Type 0 where
   pub unlocked : view_at h x ≡ Unlocked → IsAtRest plan h x
   pub locked : view_at h x ≡ Locked → IsAtRest plan h x
-  pub unstarted : (managed h x).started ≡ false → IsAtRest plan h x
+  pub unstarted : (managed_view h x).started ≡ false → IsAtRest plan h x
   pub running : view_at h x ≡ Running → IsRunning plan h x
 
 abbrev pub InterfaceRunLawHolds : Type 0

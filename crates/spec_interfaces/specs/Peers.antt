@@ -1,7 +1,6 @@
 -- Streams between two devices, as a device knows them: by their IDs.
-use Rattle.std.specs.Prelude.{ℕ, ◌==◌, ◌&&◌, max, Bool, true, false, not, is_some, List, unwrap_or}
-use Rattle.std.specs.Prelude.{Option}
-use Rattle.std.specs.Prelude.{Some, None, if◌then◌else◌}
+use Rattle.std.specs.Prelude.{ℕ, ◌==◌, ◌&&◌, max, Bool, true, false, not, is_some, List, unwrap_or, Option, Some, None}
+use Rattle.std.specs.Prelude.{if◌then◌else◌}
 use Rattle.ide_types.specs.declared.status.StreamStatus.TheVariants as status
 use Rattle.ide_types.specs.declared.sub.SubKind.TheVariants.{Pr}
 use Rattle.ide_types.specs.declared.plan.PeerPlan.{PeerPlan}
@@ -9,7 +8,7 @@ unfoldable pub use Rattle.ide_types.specs.Ends.{peer_end}
 use Rattle.spec_keys.specs.Keys.{Keys, on_in}
 use Rattle.spec_keys.specs.Places.{KeyPlace}
 use Rattle.spec_keys.specs.History.{place_keys}
-use Rattle.interface_state.specs.declared.bindings.Binding.{Binding}
+use Rattle.ide_types.specs.declared.binding.Binding.{Binding}
 use Rattle.spec_interfaces.specs.Terms.{list_any, option_and_then, option_map_or, PortName, StreamStatus, History}
 use Rattle.spec_interfaces.specs.Terms.{history_status}
 

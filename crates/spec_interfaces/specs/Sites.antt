@@ -8,17 +8,18 @@ pub record Site : Type 0 where
   pub link : ℕ
   pub plan : InterfacePlan
 
-abbrev pub sites_on : ℕ → ℕ → List InterfacePlan → List Site
-sites_on number link [] = []
-sites_on number link (p ∷ ps) = record { number = number; link = link; plan = p } ∷ sites_on (number + 1) link ps
+abbrev pub sites_of_plans : ℕ → ℕ → List InterfacePlan → List Site
+sites_of_plans number link [] = []
+sites_of_plans number link (p ∷ ps) = record { number = number; link = link; plan = p }
+    ∷ sites_of_plans (number + 1) link ps
 
-abbrev pub sites_from : ℕ → ℕ → List LinkPlan → List Site
-sites_from number link [] = []
-sites_from number link (l ∷ ls) =
-    sites_on number link l.interfaces ++ sites_from (number + length l.interfaces) (link + 1) ls
+abbrev pub sites_of_links : ℕ → ℕ → List LinkPlan → List Site
+sites_of_links number link [] = []
+sites_of_links number link (l ∷ ls) =
+    sites_of_plans number link l.interfaces ++ sites_of_links (number + length l.interfaces) (link + 1) ls
 
 unfoldable pub sites : Plan → List Site
-sites plan = sites_from 0 0 plan.links
+sites plan = sites_of_links 0 0 plan.links
 
 -- the interface of a number
 abbrev pub site_at : Plan → ℕ → Option Site

@@ -21,16 +21,15 @@ pub use Rattle.spec_keys.specs.History.{History, op_of, draws, history_status, b
 pub use Rattle.spec_keys.specs.Operations.{StreamStage, Idle, Up, work_of, reach_of}
 pub use Rattle.spec_keys.specs.Due.{lost_at, if_secure}
 pub use Rattle.interface_state.specs.declared.register_set.Registers.{Registers}
-pub use Rattle.interface_state.specs.declared.bindings.Binding.{Binding}
+pub use Rattle.ide_types.specs.declared.binding.Binding.{Binding}
 pub use Rattle.interface_state.specs.declared.states.Lock.{Lock}
 pub use Rattle.interface_state.specs.declared.states.TdiState.{TdiState}
 pub use Rattle.interface_state.specs.declared.states.TdiState.TheVariants.{ConfigUnlocked, ConfigLocked, Run, Error}
-pub use Rattle.interface_state.specs.RegisterValues.{planned, listed, has_bit, changes_listed}
+pub use Rattle.interface_state.specs.RegisterValues.{planned_registers, listed_registers, has_bit, changes_listed}
 pub use Rattle.interface_state.specs.Kept.{interface_report_bytes, kept_report}
 pub use Rattle.interface_state.specs.Machine.{Tdi, new_tdi, state_code, lock_of, lock_answer, start_answer, Call}
 pub use Rattle.interface_state.specs.Machine.{LockInterface, StartInterface, StopInterface, WriteRegister, LevelReset}
 pub use Rattle.interface_state.specs.Machine.{FirmwareUpdate, StreamLeft, LinkReset, BindStream, UnbindStream}
-pub use Rattle.interface_state.specs.Machine.{tdi_after}
-pub use Rattle.interface_state.specs.Machine.{bind_answer, unbind_answer}
+pub use Rattle.interface_state.specs.Machine.{tdi_after, bind_answer, unbind_answer}
 pub use Rattle.interface_state.specs.Bindings.{binds}
 pub use Rattle.ide_types.specs.RegisterNames.{has_register}

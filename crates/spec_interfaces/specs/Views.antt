@@ -2,6 +2,7 @@
 use Rattle.std.specs.Prelude.{ℕ, ◌-◌, ◌==◌, ◌&&◌, ◌||◌, nat_le, Bool, true, false, if◌then◌else◌, List, [], ◌∷◌}
 use Rattle.std.specs.Prelude.{slice_get, slice_set, replicate, is_some, unwrap_or, Option, Some, None}
 use Rattle.spec_interfaces.specs.Terms.{Plan, View, Unlocked, Locked, Running, Doubt, Broken, Event, InterfaceEvent}
+use Rattle.spec_interfaces.specs.Terms.{Binding}
 use Rattle.spec_interfaces.specs.Terms.{Verdict, History, StreamStage, op_of, draws, work_of, reach_of, begins_keyed}
 use Rattle.spec_interfaces.specs.Sites.{Site, site_with}
 use Rattle.spec_interfaces.specs.Exchanges.{is_lost_at, is_asked_at, is_refused_at}
@@ -134,56 +135,56 @@ is_bind_asked line asked = nat_le 24 line && unwrap_or (slice_get asked (peer_of
 -- a stop of the stream of a link that the interface is bound to begins, or any event of a stop of a stream between
 -- devices to which a binding of it was asked
 abbrev pub stop_breaks : (ℕ → ℕ → StreamStage) → ℕ → Site → ℕ → ℕ → Verdict → Managed → Bool
-stop_breaks ops next x link stream w m =
-    ((link == x.link) && (stream == x.plan.stream) && stop_begins (ops link stream) next w)
-    || (is_bind_asked link m.asked && is_some (reach_of op.Stop w))
+stop_breaks ops next x line stream w m =
+    ((line == x.link) && (stream == x.plan.stream) && stop_begins (ops line stream) next w)
+    || (is_bind_asked line m.asked && is_some (reach_of op.Stop w))
 
 -- ---- all pairs
 
 abbrev pub managed_after : (ℕ → ℕ → StreamStage) → ℕ → Site → Event → Verdict → Managed → Managed
 managed_after ops drawn x (event.Interface e) w m =
     if is_number (number_in e) x.number then on_operation drawn e w m else m
-managed_after ops drawn x (event.Stop link stream loss) w m =
-    if stop_breaks ops drawn x link stream w m then record m { view = view_broken m.view } else m
+managed_after ops drawn x (event.Stop line stream loss) w m =
+    if stop_breaks ops drawn x line stream w m then record m { view = view_broken m.view } else m
 managed_after ops drawn x (event.Reset link ends) (v.Reset l) m =
     if link == x.link then record m { view = view_broken m.view } else m
 managed_after ops drawn x e w m = m
 
-unfoldable pub managed : History → Site → Managed
-managed [] x = new_managed
-managed ((e, w) ∷ h) x = managed_after (op_of h) (draws h) x e w (managed h x)
+unfoldable pub managed_view : History → Site → Managed
+managed_view [] x = new_managed
+managed_view ((e, w) ∷ h) x = managed_after (op_of h) (draws h) x e w (managed_view h x)
 
 abbrev pub view_at : History → Site → View
-view_at h x = (managed h x).view
+view_at h x = (managed_view h x).view
 
 abbrev pub floor_at : History → Site → ℕ
-floor_at h x = (managed h x).floor
+floor_at h x = (managed_view h x).floor
 
 abbrev pub needs_at : History → Site → ℕ
-needs_at h x = (managed h x).needs
+needs_at h x = (managed_view h x).needs
 
 -- ---- the draw of a stream
 
 -- that of its last establish that began, or of the last refresh that ended since
 unfoldable pub stream_draw : History → ℕ → ℕ → ℕ
-stream_draw [] link stream = 0
-stream_draw ((event.Establish l s loss, w) ∷ h) link stream =
-    if (l == link) && (s == stream) && begins_keyed (op_of h l s) (draws h) w then draws h
-    else stream_draw h link stream
-stream_draw ((event.Refresh l s loss, v.Refreshed a b j) ∷ h) link stream =
-    if (l == link) && (s == stream) then j else stream_draw h link stream
-stream_draw (_ ∷ h) link stream = stream_draw h link stream
+stream_draw [] line stream = 0
+stream_draw ((event.Establish l s loss, w) ∷ h) line stream =
+    if (l == line) && (s == stream) && begins_keyed (op_of h l s) (draws h) w then draws h
+    else stream_draw h line stream
+stream_draw ((event.Refresh l s loss, v.Refreshed a b j) ∷ h) line stream =
+    if (l == line) && (s == stream) then j else stream_draw h line stream
+stream_draw (_ ∷ h) line stream = stream_draw h line stream
 
 -- ---- what the manager says of a requester
 
-abbrev pub bound_if : View → ℕ → ℕ → Option (ℕ × ℕ)
-bound_if Running stream floor = Some (stream, floor)
+abbrev pub bound_if : View → ℕ → ℕ → Option Binding
+bound_if Running stream floor = Some (record { stream = stream; floor = floor })
 bound_if _ stream floor = None
 
-abbrev pub granted_to : History → Option Site → Option (ℕ × ℕ)
+abbrev pub granted_to : History → Option Site → Option Binding
 granted_to h None = None
 granted_to h (Some x) = bound_if (view_at h x) x.plan.stream (floor_at h x)
 
 -- the bound stream and the floor of the interface of a link with this requester ID, if its view is Running
-abbrev pub grant_at : Plan → History → ℕ → ℕ → Option (ℕ × ℕ)
+abbrev pub grant_at : Plan → History → ℕ → ℕ → Option Binding
 grant_at plan h link requester = granted_to h (site_with plan link requester)

@@ -4,19 +4,15 @@
 -- exchange ahead of the manager, so a state leaves both open, and the exchange may come again.
 use Rattle.spec_keys.proofs.Terms.{◌≡◌, ℕ, ◌+◌, ◌<◌, ◌≤◌, Bool, true, false, List, [], ◌∷◌, ◌++◌, refl, subst, arith}
 use Rattle.spec_keys.proofs.Terms.{nat_lt, not, if◌then◌else◌, SubKind, Side, Operation, KeyPlace, lane, is_local}
-use Rattle.spec_keys.proofs.Terms.{is_hosted, stop_at}
-use Rattle.spec_keys.proofs.Terms.{Touch, Stop, Clear, Off, key_in}
-use Rattle.spec_keys.proofs.Terms.{refuses, is_open, keys, StreamStage, Idle, Establishing, Up, Refreshing, Stopping}
-use Rattle.spec_keys.proofs.Terms.{Work, Reach}
-use Rattle.spec_keys.proofs.Terms.{work, last_exchange_of, op_after, op_ended, op_standing, is_within, when}
-use Rattle.spec_keys.proofs.Terms.{touches_after, program_at}
-use Rattle.spec_keys.proofs.Terms.{go_at, from_at, below_at, keying_touches}
+use Rattle.spec_keys.proofs.Terms.{is_hosted, stop_exchange, Touch, Stop, Clear, Off, key_in, refuses, is_open, keys}
+use Rattle.spec_keys.proofs.Terms.{StreamStage, Idle, Establishing, Up, Refreshing, Stopping, Work, Reach, work}
+use Rattle.spec_keys.proofs.Terms.{last_exchange_of, op_after, op_ended, op_at_exchange, is_within, touches_if}
+use Rattle.spec_keys.proofs.Terms.{touches_after, program_exchange, go_exchange, from_at, below_at, keying_touches}
 use Rattle.spec_keys.proofs.Terms.{stopping_touches, uses, NeverFalls, not-not, nat_tests}
 use Rattle.link_verdicts.specs.declared.verdict.Operation.TheVariants as op
 use Rattle.spec_keys.proofs.Tests.{true-lt, false-lt}
-use Rattle.spec_keys.proofs.Shapes.{Marks, marks, started, Shape, Bare, Alone, Both, keys_of, used, IsAt, without}
-use Rattle.spec_keys.proofs.Shapes.{stops}
-use Rattle.spec_keys.proofs.Shapes.{clears}
+use Rattle.spec_keys.proofs.Shapes.{Marks, marks, draws_started, Shape, Bare, Alone, Both, keys_of, draws_used, IsAt}
+use Rattle.spec_keys.proofs.Shapes.{without, stops, clears}
 use Rattle.spec_keys.proofs.Touches.{AllCome}
 use Rattle.spec_keys.proofs.Stages.{Rest, unkeyed, old_alone, old_both, Full, alone, both, Rising, before, At, Lands}
 use Rattle.spec_keys.proofs.Stages.{Spans, rises, comes_if}
@@ -33,17 +29,17 @@ last_at p o = last_exchange_of (is_hosted p.line) o
 abbrev pub Fits : StreamStage → ℕ → Marks → KeyPlace → Shape → Type 0
 Fits Idle top u p sh = sh ≡ Bare
 Fits (Establishing j n) top u p sh = (j < top) × (n ≤ last_at p op.Establish)
-    × Rising false false j (program_at op.Establish p)
-    (go_at op.Establish p) n u sh
+    × Rising false false j (program_exchange op.Establish p)
+    (go_exchange op.Establish p) n u sh
 Fits (Up k j) top u p sh = (j < top) × Full k j true sh
 Fits (Refreshing k j n) top u p sh = (j < top) × (1 ≤ n) × (n ≤ last_at p op.Refresh)
-    × Rising true k j (program_at op.Refresh p) (go_at op.Refresh p) n u sh
-Fits (Stopping n) top u p sh = (n ≤ last_at p op.Stop) × StopLeaves (is_local p) (stop_at p) n sh
+    × Rising true k j (program_exchange op.Refresh p) (go_exchange op.Refresh p) n u sh
+Fits (Stopping n) top u p sh = (n ≤ last_at p op.Stop) × StopLeaves (is_local p) (stop_exchange p) n sh
 
 -- used draws are below the number of draws so far, and never fell
 pub record Below (ts : List Touch) (top : ℕ) : Type 0 where
-  pub within : used ts ≤ top
-  pub fresh : started ts ≤ top
+  pub within : draws_used ts ≤ top
+  pub fresh : draws_started ts ≤ top
   pub falls : NeverFalls (uses ts)
 
 pub below_more : (ts : List Touch) (top more : ℕ) → top ≤ more → Below ts top → Below ts more
@@ -66,16 +62,16 @@ pub record Turned (o : StreamStage) (top : ℕ) (p : KeyPlace) (ts more : List T
 pub lane_below : (p : KeyPlace) → lane p ≤ 5
 lane_below p = grind arith
 
-stops_in_reach : (p : KeyPlace) → stop_at p + 6 ≤ last_at p op.Stop
+stops_in_reach : (p : KeyPlace) → stop_exchange p + 6 ≤ last_at p op.Stop
 stops_in_reach p = grind (arith, lane_below)
 
 pub record Exchanges (o : Operation) (p : KeyPlace) : Type 0 where
-  pub in_order : program_at o p < go_at o p
-  pub in_reach : go_at o p ≤ last_at p o
-  pub begins : from_at (work o false 0 1 true) p ≤ program_at o p
+  pub in_order : program_exchange o p < go_exchange o p
+  pub in_reach : go_exchange o p ≤ last_at p o
+  pub begins : from_at (work o false 0 1 true) p ≤ program_exchange o p
 
 abbrev pub place : Side → ℕ → ℕ → Bool → SubKind → KeyPlace
-place side link stream sends u = record { side = side; line = link; stream = stream; sends = sends; sub = u }
+place side line stream sends u = record { side = side; line = line; stream = stream; sends = sends; sub = u }
 
 pub exchanges_establish : (p : KeyPlace) → Exchanges op.Establish p
 exchanges_establish p = grind arith
@@ -98,12 +94,12 @@ comes_to p w r last reached = grind arith
 
 -- no KEY_PROG was acknowledged that the place refuses
 abbrev pub TakesKey : Work → Reach → KeyPlace → List Touch → Type 0
-TakesKey w r p ts = from_at w p ≤ program_at w.operation p → program_at w.operation p < r.acknowledged
+TakesKey w r p ts = from_at w p ≤ program_exchange w.operation p → program_exchange w.operation p < r.acknowledged
     → refuses p.sends (keys p.sends ts) w.set ≡ false
 
 below_keyed : (w : Work) (r : Reach) (p : KeyPlace) (ts : List Touch) (top : ℕ) → w.draw < top → Below ts top
     → Below (touches_after ts (keying_touches w r p)) top
-unfolding used started
+unfolding draws_used draws_started
 below_keyed w r p ts top lt below = grind arith
 
 pub rising_done : (r k : Bool) (j a b n : ℕ) (u : Marks) (sh : Shape) → a < b → b < n → Rising r k j a b n u sh
@@ -119,13 +115,13 @@ turned_by_end : (w : Work) (r : Reach) (top : ℕ) (p : KeyPlace) (ts more : Lis
     → ((sh : Shape) → last_at p w.operation < r.acknowledged → P sh
     → Fits (op_ended w) top (marks (touches_after ts more)) p sh)
     → ((sh : Shape) → r.acknowledged ≤ last_at p w.operation → P sh
-    → Fits (op_standing w r.acknowledged) top (marks (touches_after ts more)) p sh)
+    → Fits (op_at_exchange w r.acknowledged) top (marks (touches_after ts more)) p sh)
     → Turned (op_after (is_hosted p.line) w r) top p ts more
 turned_by_end w r top p ts more P lands below ended standing = record
     { now = by_test (nat_lt (last_at p w.operation) r.acknowledged) refl; come = lands.come }
   where
     by_test : (b : Bool) → nat_lt (last_at p w.operation) r.acknowledged ≡ b
-        → FitsAt (if b then op_ended w else op_standing w r.acknowledged) top p (touches_after ts more)
+        → FitsAt (if b then op_ended w else op_at_exchange w r.acknowledged) top p (touches_after ts more)
     by_test true e = record {
       shape = lands.at.shape;
       is = lands.at.is;
@@ -144,13 +140,13 @@ turned_by_end w r top p ts more P lands below ended standing = record
 -- a place that an establish or a refresh reaches
 abbrev pub RisesFrom : Bool → Work → KeyPlace → List Touch → Type 0
 RisesFrom r w p ts = At p.sends ts
-    (Rising r w.set w.draw (program_at w.operation p) (go_at w.operation p) (from_at w p) (marks ts))
+    (Rising r w.set w.draw (program_exchange w.operation p) (go_exchange w.operation p) (from_at w p) (marks ts))
 
 lands : (r : Bool) (w : Work) (p : KeyPlace) (ts : List Touch) (c : Reach)
-    → program_at w.operation p < go_at w.operation p
+    → program_exchange w.operation p < go_exchange w.operation p
     → Reached w.first (last_at p w.operation) c → TakesKey w c p ts → RisesFrom r w p ts
     → Lands p.sends ts (keying_touches w c p)
-    (Rising r w.set w.draw (program_at w.operation p) (go_at w.operation p) c.acknowledged
+    (Rising r w.set w.draw (program_exchange w.operation p) (go_exchange w.operation p) c.acknowledged
     (marks (touches_after ts (keying_touches w c p))))
 lands r w p ts c lt reached takes at = rises p.sends r w.set w.draw _ _ (from_at w p) c.acknowledged (below_at c p) ts
     lt (comes_to p w c _ reached) takes at
@@ -172,8 +168,7 @@ establish_ends p ts j first begins c past reached takes from =
     risen.at.is
 
 pub establishes : (p : KeyPlace) (ts : List Touch) (j first : ℕ) (begins : Bool) (c : Reach) (top : ℕ) → j < top
-    → Below ts top
-    → Reached first (last_at p op.Establish) c → TakesKey (work op.Establish false j first begins) c p ts
+    → Below ts top → Reached first (last_at p op.Establish) c → TakesKey (work op.Establish false j first begins) c p ts
     → RisesFrom false (work op.Establish false j first begins) p ts
     → Turned (op_after (is_hosted p.line) (work op.Establish false j first begins) c) top p ts
     (keying_touches (work op.Establish false j first begins) c p)
@@ -190,8 +185,7 @@ establishes p ts j first begins c top lt below reached takes from =
     (λ sh le rising. (lt, le, rising))
 
 pub refreshes : (p : KeyPlace) (ts : List Touch) (k : Bool) (j first : ℕ) (begins : Bool) (c : Reach) (top : ℕ)
-    → j < top
-    → Below ts top → 1 ≤ first
+    → j < top → Below ts top → 1 ≤ first
     → Reached first (last_at p op.Refresh) c → TakesKey (work op.Refresh k j first begins) c p ts
     → RisesFrom true (work op.Refresh k j first begins) p ts
     → Turned (op_after (is_hosted p.line) (work op.Refresh k j first begins) c) top p ts
@@ -245,8 +239,7 @@ refresh_begins p ts top k j at =
     }
 
 pub refresh_goes_on : (p : KeyPlace) (ts : List Touch) (top : ℕ) (k : Bool) (j n : ℕ)
-    → FitsAt (Refreshing k j n) top p ts
-    → RisesFrom true (work op.Refresh k j n false) p ts
+    → FitsAt (Refreshing k j n) top p ts → RisesFrom true (work op.Refresh k j n false) p ts
 refresh_goes_on p ts top k j n at = record
     { shape = at.shape; is = at.is; fits = rw (from_again p op.Refresh k j n) at.fits.3 }
 
@@ -264,17 +257,17 @@ stopped_shape true false sh = without false sh
 stopped_shape false true sh = without true sh
 stopped_shape true true sh = without true (without false sh)
 
-halts : (s : Bool) (ts : List Touch) (f g : Bool) (sh : Shape) → IsAt s ts sh
-    → IsAt s (touches_after ts (when f (Stop false) ++ when g (Stop true))) (stopped_shape f g sh)
-unfolding keys used started is_open
-halts s ts f g sh is = grind (arith, stops)
+at_stopping : (s : Bool) (ts : List Touch) (f g : Bool) (sh : Shape) → IsAt s ts sh
+    → IsAt s (touches_after ts (touches_if f (Stop false) ++ touches_if g (Stop true))) (stopped_shape f g sh)
+unfolding keys draws_used draws_started is_open
+at_stopping s ts f g sh is = grind (arith, stops)
 
 stopping_keys : (a n next below : ℕ) (sh : Shape) → Spans n next below → StopLeaves false a n sh
     → StopLeaves false a next (stopped_shape (is_within n a below) (is_within n (a + 6) below) sh)
-stopping_keys a n next below sh spans halted = grind (arith, nat_tests)
+stopping_keys a n next below sh spans stopped_there = grind (arith, nat_tests)
 
 stops_come : (s : Bool) (ts : List Touch) (f g : Bool) (sh : Shape) → IsAt s ts sh
-    → AllCome s ts (when f (Stop false) ++ when g (Stop true))
+    → AllCome s ts (touches_if f (Stop false) ++ touches_if g (Stop true))
 stops_come s ts true g sh is = (
   record { shape = sh; is = is; may = tt },
   comes_if g s (Stop false ∷ ts) (without false sh) (Stop true)
@@ -284,8 +277,9 @@ stops_come s ts false g sh is = comes_if g s ts sh (Stop true) is tt
 
 stops_by : (local sends : Bool) (a : ℕ) (ts : List Touch) (first last : ℕ) (begins : Bool) (r : Reach)
     → Reached first last r → At sends ts (FindsStopped local a first begins)
-    → Lands sends ts (if local then when begins Clear
-    else when (is_within first a r.carried) (Stop false) ++ when (is_within first (a + 6) r.carried) (Stop true))
+    → Lands sends ts (if local then touches_if begins Clear
+    else touches_if (is_within first a r.carried) (Stop false)
+    ++ touches_if (is_within first (a + 6) r.carried) (Stop true))
     (StopLeaves local a r.acknowledged)
 stops_by true sends a ts first last true r reached at = record {
   at = record { shape = Bare; is = clears sends ts; fits = refl };
@@ -300,7 +294,7 @@ stops_by false sends a ts first last begins r reached at =
     record {
       at = record {
         shape = _;
-        is = halts sends ts _ _ at.shape at.is;
+        is = at_stopping sends ts _ _ at.shape at.is;
         fits = stopping_keys a first r.acknowledged r.carried
             at.shape spans at.fits;
       };
@@ -312,25 +306,24 @@ stopped_all local a n sh past stopping_keys = grind arith
 
 below_stop : (w : Work) (r : Reach) (p : KeyPlace) (ts : List Touch) (top : ℕ) → Below ts top
     → Below (touches_after ts (stopping_touches w r p)) top
-unfolding used started
+unfolding draws_used draws_started
 below_stop w r p ts top below = grind arith
 
 pub stops_fit : (p : KeyPlace) (ts : List Touch) (first : ℕ) (begins : Bool) (r : Reach) (top : ℕ) → Below ts top
-    → Reached first (last_at p op.Stop) r
-    → At p.sends ts (FindsStopped (is_local p) (stop_at p) first begins)
+    → Reached first (last_at p op.Stop) r → At p.sends ts (FindsStopped (is_local p) (stop_exchange p) first begins)
     → Turned (op_after (is_hosted p.line) (work op.Stop false 0 first begins) r) top p ts
     (stopping_touches (work op.Stop false 0 first begins) r p)
 stops_fit p ts first begins r top below reached at =
     let w = work op.Stop false 0 first begins in
     turned_by_end w r top p ts (stopping_touches w r p) _
-    (stops_by (is_local p) p.sends (stop_at p) ts first _ begins r reached at) (below_stop w r p ts top below)
-    (λ sh past halted. stopped_all (is_local p) (stop_at p) r.acknowledged sh
-    (omega (arith, past, stops_in_reach p)) halted) (λ sh le halted. (le, halted))
+    (stops_by (is_local p) p.sends (stop_exchange p) ts first _ begins r reached at) (below_stop w r p ts top below)
+    (λ sh past stopped_there. stopped_all (is_local p) (stop_exchange p) r.acknowledged sh
+    (omega (arith, past, stops_in_reach p)) stopped_there) (λ sh le stopped_there. (le, stopped_there))
 
 -- after a reset a stream has no keys
 pub resets_fit : (o : StreamStage) (p : KeyPlace) (ts : List Touch) (top : ℕ) → FitsAt o top p ts
     → Turned Idle top p ts (Clear ∷ [])
-unfolding used started
+unfolding draws_used draws_started
 resets_fit o p ts top at = record {
   now = record { shape = Bare; is = clears p.sends ts; fits = refl; below = grind arith };
   come = (record { shape = at.shape; is = at.is; may = tt }, tt);
@@ -338,13 +331,12 @@ resets_fit o p ts top at = record {
 
 -- or is to be stopped, if its keys are given by messages
 stops_first : (p : KeyPlace) (sh : Shape) → is_local p ≡ false
-    → (1 ≤ last_at p op.Stop) × StopLeaves (is_local p) (stop_at p) 1 sh
+    → (1 ≤ last_at p op.Stop) × StopLeaves (is_local p) (stop_exchange p) 1 sh
 stops_first p sh told = grind arith
 
 pub cuts_fit : (o : StreamStage) (p : KeyPlace) (ts : List Touch) (top : ℕ) (f : Bool) → is_local p ≡ false
-    → FitsAt o top p ts
-    → Turned (Stopping 1) top p ts (when f Clear)
-unfolding used started
+    → FitsAt o top p ts → Turned (Stopping 1) top p ts (touches_if f Clear)
+unfolding draws_used draws_started
 cuts_fit o p ts top true told at = record {
   now = record { shape = Bare; is = clears p.sends ts; fits = stops_first p Bare told; below = grind arith };
   come = (record { shape = at.shape; is = at.is; may = tt }, tt);

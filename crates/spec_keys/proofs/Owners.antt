@@ -1,16 +1,13 @@
 -- A draw belongs to one stream and one key set: those of the operation that began with it.
 use Rattle.spec_keys.proofs.Terms.{◌≡◌, ℕ, ◌<◌, ◌==◌, Bool, true, false, Option, Some, None, List, [], ◌∷◌, length}
-use Rattle.spec_keys.proofs.Terms.{refl}
-use Rattle.spec_keys.proofs.Terms.{subst, arith, ◌&&◌, if◌then◌else◌, Event, Operation, SealedPacket, Verdict, KeyPlace}
-use Rattle.spec_keys.proofs.Terms.{is_on_stream, is_local, Touch, Program, Go, Stop, makes_draw, work, ◌++◌}
-use Rattle.spec_keys.proofs.Terms.{Clear, Keyed, Off, Loaded, On, Keys, key_in, draw_of_keyed, on_in, touched, is_open}
-use Rattle.spec_keys.proofs.Terms.{without_outlived, keys, StreamStage, Idle, Establishing, Up, Refreshing, Stopping}
-use Rattle.spec_keys.proofs.Terms.{Work, Reach}
-use Rattle.spec_keys.proofs.Terms.{Manager}
-use Rattle.spec_keys.proofs.Terms.{Begun, PortName, is_hosted, is_cleared, work_of, reach_of, op_after, op_cut}
-use Rattle.spec_keys.proofs.Terms.{begun_after_work, manager_after_operation, manager_after, History, manager}
-use Rattle.spec_keys.proofs.Terms.{begun_of_draw, when}
-use Rattle.spec_keys.proofs.Terms.{work_touches, on_it, seal_touches, came, touches, touches_after, moments, nat_tests}
+use Rattle.spec_keys.proofs.Terms.{refl, subst, arith, ◌&&◌, if◌then◌else◌, Event, Operation, SealedPacket, Verdict}
+use Rattle.spec_keys.proofs.Terms.{KeyPlace, is_on_stream, is_local, Touch, Program, Go, Stop, makes_draw, work, ◌++◌}
+use Rattle.spec_keys.proofs.Terms.{Clear, Keyed, Off, Loaded, On, Keys, key_in, draw_of_keyed, on_in, keys_after_touch}
+use Rattle.spec_keys.proofs.Terms.{is_open, without_outlived, keys, StreamStage, Idle, Establishing, Up, Refreshing}
+use Rattle.spec_keys.proofs.Terms.{Stopping, Work, Reach, Manager, Begun, PortName, is_hosted, is_cleared, work_of}
+use Rattle.spec_keys.proofs.Terms.{reach_of, op_after, op_cut, begun_after_work, manager_after_operation, manager_after}
+use Rattle.spec_keys.proofs.Terms.{History, manager, begun_of_draw, touches_if, work_touches, on_it, seal_touches, came}
+use Rattle.spec_keys.proofs.Terms.{touches, touches_after, moments, nat_tests}
 use Rattle.link_events.specs.declared.event.Event.TheVariants as event
 use Rattle.link_verdicts.specs.declared.verdict.Operation.TheVariants as op
 use Rattle.link_verdicts.specs.declared.verdict.Verdict.TheVariants as v
@@ -33,8 +30,7 @@ TouchOwned O (Go set j) = O set j
 TouchOwned O _ = Unit {0}
 
 touched_owned : (O : Bool → ℕ → Type 0) (s : Bool) (f : ℕ → Bool) (ks : Keys) (t : Touch) → OwnedKeys O ks
-    → TouchOwned O t
-    → OwnedKeys O (without_outlived s f (touched s ks t))
+    → TouchOwned O t → OwnedKeys O (without_outlived s f (keys_after_touch s ks t))
 touched_owned O s f ks t owned mine = grind arith
 
 -- each touch that programs or starts a key is of a draw of its set
@@ -67,44 +63,43 @@ begun_now : (b : Begun) (bs : List Begun) → begun_of_draw (b ∷ bs) (length b
 begun_now b bs = grind (arith, nat_tests)
 
 abbrev pub owner : ℕ → ℕ → Bool → Begun
-owner link stream set = record { line = link; stream = stream; set = set }
+owner line stream set = record { line = line; stream = stream; set = set }
 
 -- the draw's operation was on the stream, with the set
 abbrev pub Owner : List Begun → ℕ → ℕ → Bool → ℕ → Type 0
-Owner bs link stream set j = begun_of_draw bs j ≡ Some (owner link stream set)
+Owner bs line stream set j = begun_of_draw bs j ≡ Some (owner line stream set)
 
 abbrev pub OpOwned : List Begun → ℕ → ℕ → StreamStage → Type 0
-OpOwned bs link stream Idle = Unit {0}
-OpOwned bs link stream (Establishing j n) = Owner bs link stream false j
-OpOwned bs link stream (Up set j) = Owner bs link stream set j
-OpOwned bs link stream (Refreshing set j n) = Owner bs link stream set j
-OpOwned bs link stream (Stopping n) = Unit {0}
+OpOwned bs line stream Idle = Unit {0}
+OpOwned bs line stream (Establishing j n) = Owner bs line stream false j
+OpOwned bs line stream (Up set j) = Owner bs line stream set j
+OpOwned bs line stream (Refreshing set j n) = Owner bs line stream set j
+OpOwned bs line stream (Stopping n) = Unit {0}
 
 -- what began stays
 abbrev Longer : List Begun → List Begun → Type 0
 Longer bs cs = (j : ℕ) (x : Begun) → begun_of_draw bs j ≡ Some x → begun_of_draw cs j ≡ Some x
 
-op_longer : (bs cs : List Begun) → Longer bs cs → (link stream : ℕ) (o : StreamStage) → OpOwned bs link stream o
-    → OpOwned cs link stream o
-op_longer bs cs longer link stream o owned = grind arith
+op_longer : (bs cs : List Begun) → Longer bs cs → (line stream : ℕ) (o : StreamStage) → OpOwned bs line stream o
+    → OpOwned cs line stream o
+op_longer bs cs longer line stream o owned = grind arith
 
-begun_longer : (bs : List Begun) (link stream : ℕ) (w : Work) → Longer bs (begun_after_work bs link stream w)
-begun_longer bs link stream w j x e = grind (arith, begun_more)
+begun_longer : (bs : List Begun) (line stream : ℕ) (w : Work) → Longer bs (begun_after_work bs line stream w)
+begun_longer bs line stream w j x e = grind (arith, begun_more)
 
 pub work_is : (o : Operation) (q : StreamStage) (next : ℕ) → (work_of o q next).operation ≡ o
 work_is o q next = grind arith
 
-after_owned : (bs : List Begun) (link stream : ℕ) (o : Operation) (q : StreamStage) (r : Reach) (hosted : Bool)
-    → OpOwned bs link stream q
-    → OpOwned (begun_after_work bs link stream (work_of o q (length bs))) link stream
+after_owned : (bs : List Begun) (line stream : ℕ) (o : Operation) (q : StreamStage) (r : Reach) (hosted : Bool)
+    → OpOwned bs line stream q → OpOwned (begun_after_work bs line stream (work_of o q (length bs))) line stream
     (op_after hosted (work_of o q (length bs)) r)
-after_owned bs link stream o q r hosted owned = grind (arith, begun_now)
+after_owned bs line stream o q r hosted owned = grind (arith, begun_now)
 
 abbrev pub OpsOwned : Manager → Type 0
-OpsOwned m = (link stream : ℕ) → OpOwned m.begun link stream (m.ops link stream)
+OpsOwned m = (line stream : ℕ) → OpOwned m.begun line stream (m.ops line stream)
 
-pub same_place : (a b link stream : ℕ) → ((a == link) && (b == stream)) ≡ true → (a ≡ link) × (b ≡ stream)
-same_place a b link stream e = grind (arith, nat_tests)
+pub same_place : (a b line stream : ℕ) → ((a == line) && (b == stream)) ≡ true → (a ≡ line) × (b ≡ stream)
+same_place a b line stream e = grind (arith, nat_tests)
 
 -- by whether an event is on the stream
 pub by_stream : (a b : ℕ) (P : ℕ → ℕ → Bool → Type 0) → P a b true → ((x y : ℕ) → P x y false) → (x y : ℕ)
@@ -116,28 +111,28 @@ by_stream a b P here other x y = by_test ((a == x) && (b == y)) refl
         (subst (λ (z : ℕ). P z b true) same.0 here)
     by_test false e = other x y
 
-operated_owned : (m : Manager) (o : Operation) (link stream : ℕ) (r : Option Reach) → OpsOwned m
-    → OpsOwned (manager_after_operation m o link stream r)
-operated_owned m o link stream None owned a b = owned a b
-operated_owned m o link stream (Some r) owned a b =
+operated_owned : (m : Manager) (o : Operation) (line stream : ℕ) (r : Option Reach) → OpsOwned m
+    → OpsOwned (manager_after_operation m o line stream r)
+operated_owned m o line stream None owned a b = owned a b
+operated_owned m o line stream (Some r) owned a b =
     by_stream a b (λ x y f. OpOwned (begun_after_work m.begun x y (work_of o (m.ops x y) (length m.begun))) a b
     (if f then op_after (is_hosted x) (work_of o (m.ops x y) (length m.begun)) r else m.ops a b))
     (after_owned m.begun a b o (m.ops a b) r (is_hosted a) (owned a b))
     (λ x y. op_longer m.begun _ (begun_longer m.begun x y (work_of o (m.ops x y) (length m.begun))) a b (m.ops a b)
-    (owned a b)) link stream
+    (owned a b)) line stream
 
-cut_owned : (bs : List Begun) (ends : List PortName) (link stream : ℕ) (q : StreamStage) → OpOwned bs link stream q
-    → OpOwned bs link stream (op_cut ends link q)
-cut_owned bs ends link stream q owned = grind arith
+cut_owned : (bs : List Begun) (ends : List PortName) (line stream : ℕ) (q : StreamStage) → OpOwned bs line stream q
+    → OpOwned bs line stream (op_cut ends line q)
+cut_owned bs ends line stream q owned = grind arith
 
 pub manager_owned : (h : History) → OpsOwned (manager h)
 unfolding manager
-manager_owned [] link stream = tt
-manager_owned ((event.Establish link stream loss, verdict) ∷ h) a b = operated_owned (manager h) op.Establish link
+manager_owned [] line stream = tt
+manager_owned ((event.Establish line stream loss, verdict) ∷ h) a b = operated_owned (manager h) op.Establish line
     stream (reach_of op.Establish verdict) (manager_owned h) a b
-manager_owned ((event.Refresh link stream loss, verdict) ∷ h) a b = operated_owned (manager h) op.Refresh link stream
+manager_owned ((event.Refresh line stream loss, verdict) ∷ h) a b = operated_owned (manager h) op.Refresh line stream
     (reach_of op.Refresh verdict) (manager_owned h) a b
-manager_owned ((event.Stop link stream loss, verdict) ∷ h) a b = operated_owned (manager h) op.Stop link stream
+manager_owned ((event.Stop line stream loss, verdict) ∷ h) a b = operated_owned (manager h) op.Stop line stream
     (reach_of op.Stop verdict) (manager_owned h) a b
 manager_owned ((event.Reset link ends, v.Reset l) ∷ h) a b = cut_owned (manager h).begun ends a b
     ((manager h).ops a b) (manager_owned h a b)
@@ -149,7 +144,7 @@ after_longer m e verdict j x is = grind (arith, begun_more)
 
 -- ---- what an event touches
 
-pub cleared_owned : (O : Bool → ℕ → Type 0) (f : Bool) → AllOwned O (when f Clear)
+pub cleared_owned : (O : Bool → ℕ → Type 0) (f : Bool) → AllOwned O (touches_if f Clear)
 cleared_owned O f = grind arith
 
 sealed_owned : (O : Bool → ℕ → Type 0) (p : KeyPlace) (ds : List SealedPacket) → AllOwned O (seal_touches p ds)
@@ -166,11 +161,11 @@ abbrev pub OwnerAt : Manager → KeyPlace → Bool → ℕ → Type 0
 OwnerAt m p set j = Owner m.begun p.line p.stream set j
 
 keyed_owned : (O : Bool → ℕ → Type 0) (f g set : Bool) (j : ℕ) → O set j
-    → AllOwned O (when f (Program set j) ++ when g (Go set j))
+    → AllOwned O (touches_if f (Program set j) ++ touches_if g (Go set j))
 keyed_owned O f g set j mine = grind arith
 
 stopped_owned : (O : Bool → ℕ → Type 0) (a b c d : Bool)
-    → AllOwned O (if a then when b Clear else when c (Stop false) ++ when d (Stop true))
+    → AllOwned O (if a then touches_if b Clear else touches_if c (Stop false) ++ touches_if d (Stop true))
 stopped_owned O a b c d = grind arith
 
 pub worked_owned : (O : Bool → ℕ → Type 0) (o : Operation) (set : Bool) (draw first : ℕ) (begins : Bool)
@@ -182,34 +177,34 @@ worked_owned O op.Establish set draw first begins (Some r) p mine = keyed_owned 
 worked_owned O op.Refresh set draw first begins (Some r) p mine = keyed_owned O _ _ set draw (mine refl)
 
 -- the draw of an operation is its stream's
-draw_owned : (bs : List Begun) (link stream : ℕ) (o : Operation) (q : StreamStage) → OpOwned bs link stream q
+draw_owned : (bs : List Begun) (line stream : ℕ) (o : Operation) (q : StreamStage) → OpOwned bs line stream q
     → makes_draw (work_of o q (length bs)).operation ≡ true
-    → Owner (begun_after_work bs link stream (work_of o q (length bs))) link stream (work_of o q (length bs)).set
+    → Owner (begun_after_work bs line stream (work_of o q (length bs))) line stream (work_of o q (length bs)).set
     (work_of o q (length bs)).draw
-draw_owned bs link stream o q owned draws = grind (arith, begun_now)
+draw_owned bs line stream o q owned draws = grind (arith, begun_now)
 
-operation_owned : (m : Manager) (o : Operation) (link stream : ℕ) (r : Option Reach) (p : KeyPlace)
+operation_owned : (m : Manager) (o : Operation) (line stream : ℕ) (r : Option Reach) (p : KeyPlace)
     → OpOwned m.begun p.line p.stream (m.ops p.line p.stream)
-    → AllOwned (OwnerAt (manager_after_operation m o link stream r) p)
-    (on_it (is_on_stream p link stream) (work_touches (work_of o (m.ops link stream) (length m.begun)) r p))
-operation_owned m o link stream None p owned = by_stream p.line p.stream (λ x y f. AllOwned (OwnerAt m p) (on_it f []))
-    tt (λ x y. tt) link stream
-operation_owned m o link stream (Some r) p owned = by_stream p.line p.stream
+    → AllOwned (OwnerAt (manager_after_operation m o line stream r) p)
+    (on_it (is_on_stream p line stream) (work_touches (work_of o (m.ops line stream) (length m.begun)) r p))
+operation_owned m o line stream None p owned = by_stream p.line p.stream (λ x y f. AllOwned (OwnerAt m p) (on_it f []))
+    tt (λ x y. tt) line stream
+operation_owned m o line stream (Some r) p owned = by_stream p.line p.stream
     (λ x y f. AllOwned (OwnerAt (manager_after_operation m o x y (Some r)) p)
     (on_it f (work_touches (work_of o (m.ops x y) (length m.begun)) (Some r) p)))
     (let w = work_of o (m.ops p.line p.stream) (length m.begun) in
     worked_owned (OwnerAt (manager_after_operation m o p.line p.stream (Some r)) p) w.operation w.set w.draw w.first
     w.begins (Some r)
     p (draw_owned m.begun p.line p.stream o (m.ops p.line p.stream) owned))
-    (λ x y. tt) link stream
+    (λ x y. tt) line stream
 
 touches_owned : (m : Manager) (e : Event) (verdict : Verdict) (p : KeyPlace) → OpsOwned m
     → AllOwned (OwnerAt (manager_after m e verdict) p) (touches m.ops (length m.begun) e verdict p)
-touches_owned m (event.Establish link stream loss) verdict p owned =
-    operation_owned m op.Establish link stream (reach_of op.Establish verdict) p (owned p.line p.stream)
-touches_owned m (event.Refresh link stream loss) verdict p owned =
-    operation_owned m op.Refresh link stream (reach_of op.Refresh verdict) p (owned p.line p.stream)
-touches_owned m (event.Stop link stream loss) verdict p owned = operation_owned m op.Stop link stream
+touches_owned m (event.Establish line stream loss) verdict p owned =
+    operation_owned m op.Establish line stream (reach_of op.Establish verdict) p (owned p.line p.stream)
+touches_owned m (event.Refresh line stream loss) verdict p owned =
+    operation_owned m op.Refresh line stream (reach_of op.Refresh verdict) p (owned p.line p.stream)
+touches_owned m (event.Stop line stream loss) verdict p owned = operation_owned m op.Stop line stream
     (reach_of op.Stop verdict) p (owned p.line p.stream)
 touches_owned m (event.Reset link ends) (v.Reset l) p owned = cleared_owned _ (is_cleared ends p.side p.line)
 touches_owned m (event.Reset link ends) _ p owned = tt

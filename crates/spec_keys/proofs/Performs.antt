@@ -2,11 +2,10 @@
 use Rattle.spec_keys.proofs.Terms.{◌≡◌, ℕ, suc, zero, ◌+◌, ◌-◌, ◌<◌, ◌≤◌, Bool, true, false, Option, Some, None, arith}
 use Rattle.spec_keys.proofs.Terms.{◌⊎◌, inl, inr, SubKind, Pr, Npr, Cpl, Side, Host, Device, Loss, Lost, Operation}
 use Rattle.spec_keys.proofs.Terms.{Verdict, Work, is_host, is_hosted, is_local, places_of, told_places, whole, ◌&&◌}
-use Rattle.spec_keys.proofs.Terms.{◌++◌, nat_tests}
-use Rattle.spec_keys.proofs.Terms.{Reach, reach, last_exchange_of, reach_of, program_at, option_or, unwrap_or, refl}
-use Rattle.spec_keys.proofs.Terms.{List, [], ◌∷◌, ◌==◌, ◌∙◌, KeyPlace, key_place_at, if◌then◌else◌, first_status}
-use Rattle.spec_keys.proofs.Terms.{PortView, cut_at, done, first_from, lost_message, operation_verdict, refusal_at}
-use Rattle.spec_keys.proofs.Terms.{stays}
+use Rattle.spec_keys.proofs.Terms.{◌++◌, nat_tests, Reach, reach, last_exchange_of, reach_of, program_exchange}
+use Rattle.spec_keys.proofs.Terms.{option_or, unwrap_or, refl, List, [], ◌∷◌, ◌==◌, ◌∙◌, KeyPlace, key_place_at}
+use Rattle.spec_keys.proofs.Terms.{if◌then◌else◌, first_status, PortView, cut_at, finished_verdict, first_from}
+use Rattle.spec_keys.proofs.Terms.{lost_message, operation_verdict, refusal_at, stays}
 use Rattle.link_verdicts.specs.declared.verdict.Operation.TheVariants as op
 use Rattle.link_verdicts.specs.declared.verdict.Verdict.TheVariants as v
 use Rattle.spec_keys.proofs.Fits.{Reached, place}
@@ -35,19 +34,19 @@ first_is cut n (suc c) = by_cut (cut n) refl (first_is cut (n + 1) c)
 -- ---- an event of an operation
 
 -- the verdict says how far it came, and no KEY_PROG below was refused
-pub record Performs (ports : PortView) (link stream : ℕ) (w : Work) (verdict : Verdict) : Type 0 where
+pub record Performs (ports : PortView) (line stream : ℕ) (w : Work) (verdict : Verdict) : Type 0 where
   pub reached_to : Reach
   pub says : reach_of w.operation verdict ≡ Some reached_to
-  pub reached : Reached w.first (last_exchange_of (is_hosted link) w.operation) reached_to
-  pub taken : (n : ℕ) → w.first ≤ n → n < reached_to.acknowledged → refusal_at ports w.operation w.set link stream n
+  pub reached : Reached w.first (last_exchange_of (is_hosted line) w.operation) reached_to
+  pub taken : (n : ℕ) → w.first ≤ n → n < reached_to.acknowledged → refusal_at ports w.operation w.set line stream n
       ≡ None
 
 not_refused : (lost : Option Lost) (status : Option ℕ) (n : ℕ) → cut_at lost status n ≡ None → status ≡ None
 not_refused lost status n none = grind arith
 
-done_says : (link stream : ℕ) (w : Work) → reach_of w.operation (done link stream w)
-    ≡ Some (whole link w.operation)
-done_says link stream w = grind arith
+done_says : (line stream : ℕ) (w : Work) → reach_of w.operation (finished_verdict line stream w)
+    ≡ Some (whole line w.operation)
+done_says line stream w = grind arith
 
 -- how far the verdict came
 abbrev came_to : Option Reach → Reach
@@ -60,26 +59,26 @@ cut_says : (o : Operation) (lost : Option Lost) (status : Option ℕ) (n : ℕ) 
     × (n ≤ (came_to (reach_of o verdict)).carried) × ((came_to (reach_of o verdict)).carried ≤ n + 1)
 cut_says o lost status n verdict is = grind arith
 
-pub performs : (ports : PortView) (link stream : ℕ) (loss : Option Loss) (w : Work)
-    → w.first ≤ last_exchange_of (is_hosted link) w.operation + 1
-    → Performs ports link stream w (operation_verdict ports link stream loss w)
-performs ports link stream loss w within = by_stay (stays ports link stream loss w)
-    (first_is cut w.first (last_exchange_of (is_hosted link) w.operation + 1 - w.first))
+pub performs : (ports : PortView) (line stream : ℕ) (loss : Option Loss) (w : Work)
+    → w.first ≤ last_exchange_of (is_hosted line) w.operation + 1
+    → Performs ports line stream w (operation_verdict ports line stream loss w)
+performs ports line stream loss w within = by_stay (stays ports line stream loss w)
+    (first_is cut w.first (last_exchange_of (is_hosted line) w.operation + 1 - w.first))
   where
     cut : ℕ → Option Verdict
-    cut n = cut_at (lost_message loss n) (refusal_at ports w.operation w.set link stream n) n
+    cut n = cut_at (lost_message loss n) (refusal_at ports w.operation w.set line stream n) n
 
-    by_stay : (o : Option Verdict) → First cut w.first (last_exchange_of (is_hosted link) w.operation + 1 - w.first) o
-        → Performs ports link stream w (unwrap_or o (done link stream w))
+    by_stay : (o : Option Verdict) → First cut w.first (last_exchange_of (is_hosted line) w.operation + 1 - w.first) o
+        → Performs ports line stream w (unwrap_or o (finished_verdict line stream w))
     by_stay None none = record {
-      reached_to = whole link w.operation;
-      says = done_says link stream w;
+      reached_to = whole line w.operation;
+      says = done_says line stream w;
       reached = record
           { forward = within; carried = omega arith; within_one = omega arith; at_most = omega arith };
       taken = λ n le lt. not_refused (lost_message loss n) _ n (none n le (omega (arith, within)));
     }
     by_stay (Some verdict) (y, le, lt, is, none) =
-        let says = cut_says w.operation (lost_message loss y) (refusal_at ports w.operation w.set link stream y) y
+        let says = cut_says w.operation (lost_message loss y) (refusal_at ports w.operation w.set line stream y) y
         verdict
         is in
         record {
@@ -97,26 +96,26 @@ performs ports link stream loss w within = by_stay (stays ports link stream loss
 -- ---- the verdict of an event of an operation
 
 -- an exchange at which the operation stays, and what it gives
-pub record StaysAt (ports : PortView) (link stream : ℕ) (loss : Option Loss) (w : Work)
+pub record StaysAt (ports : PortView) (line stream : ℕ) (loss : Option Loss) (w : Work)
     (verdict : Verdict) : Type 0 where
   pub exchange : ℕ
   pub at_least : w.first ≤ exchange
-  pub at_most : exchange ≤ last_exchange_of (is_hosted link) w.operation
-  pub gives : cut_at (lost_message loss exchange) (refusal_at ports w.operation w.set link stream exchange) exchange
+  pub at_most : exchange ≤ last_exchange_of (is_hosted line) w.operation
+  pub gives : cut_at (lost_message loss exchange) (refusal_at ports w.operation w.set line stream exchange) exchange
       ≡ Some verdict
 
 -- it ended, or it stays at an exchange
-pub performed_stays : (ports : PortView) (link stream : ℕ) (loss : Option Loss) (w : Work)
-    → (operation_verdict ports link stream loss w ≡ done link stream w)
-    ⊎ StaysAt ports link stream loss w (operation_verdict ports link stream loss w)
-performed_stays ports link stream loss w = by_stay (stays ports link stream loss w)
-    (first_is _ w.first (last_exchange_of (is_hosted link) w.operation + 1 - w.first))
+pub performed_stays : (ports : PortView) (line stream : ℕ) (loss : Option Loss) (w : Work)
+    → (operation_verdict ports line stream loss w ≡ finished_verdict line stream w)
+    ⊎ StaysAt ports line stream loss w (operation_verdict ports line stream loss w)
+performed_stays ports line stream loss w = by_stay (stays ports line stream loss w)
+    (first_is _ w.first (last_exchange_of (is_hosted line) w.operation + 1 - w.first))
   where
     by_stay : (o : Option Verdict)
-        → First (λ n. cut_at (lost_message loss n) (refusal_at ports w.operation w.set link stream n) n) w.first
-        (last_exchange_of (is_hosted link) w.operation + 1 - w.first) o
-        → (unwrap_or o (done link stream w) ≡ done link stream w)
-        ⊎ StaysAt ports link stream loss w (unwrap_or o (done link stream w))
+        → First (λ n. cut_at (lost_message loss n) (refusal_at ports w.operation w.set line stream n) n) w.first
+        (last_exchange_of (is_hosted line) w.operation + 1 - w.first) o
+        → (unwrap_or o (finished_verdict line stream w) ≡ finished_verdict line stream w)
+        ⊎ StaysAt ports line stream loss w (unwrap_or o (finished_verdict line stream w))
     by_stay None none = inl refl
     by_stay (Some verdict) (y, le, lt, is, none) = inr
         (record { exchange = y; at_least = le; at_most = omega (arith, le, lt); gives = is })
@@ -132,13 +131,13 @@ cut_is : (lost : Option Lost) (status : Option ℕ) (n : ℕ) (verdict : Verdict
     → is_cut verdict ≡ true
 cut_is lost status n verdict is = grind arith
 
-pub performed_is : (ports : PortView) (link stream : ℕ) (loss : Option Loss) (w : Work)
-    → (operation_verdict ports link stream loss w ≡ done link stream w)
-    ⊎ (is_cut (operation_verdict ports link stream loss w) ≡ true)
-performed_is ports link stream loss w = by_end _ (performed_stays ports link stream loss w)
+pub performed_is : (ports : PortView) (line stream : ℕ) (loss : Option Loss) (w : Work)
+    → (operation_verdict ports line stream loss w ≡ finished_verdict line stream w)
+    ⊎ (is_cut (operation_verdict ports line stream loss w) ≡ true)
+performed_is ports line stream loss w = by_end _ (performed_stays ports line stream loss w)
   where
-    by_end : (x : Verdict) → (x ≡ done link stream w) ⊎ StaysAt ports link stream loss w x
-        → (x ≡ done link stream w) ⊎ (is_cut x ≡ true)
+    by_end : (x : Verdict) → (x ≡ finished_verdict line stream w) ⊎ StaysAt ports line stream loss w x
+        → (x ≡ finished_verdict line stream w) ⊎ (is_cut x ≡ true)
     by_end x (inl ended) = inl ended
     by_end x (inr at) = inr (cut_is (lost_message loss at.exchange) _ at.exchange x at.gives)
 
@@ -162,17 +161,17 @@ asked_none : (n : ℕ) (o : Option ℕ) → (if n == n then o else None) ≡ Non
 asked_none n o none = grind (arith, nat_tests)
 
 -- the status with which an exchange is refused is that of a place
-pub refusal_of_place : (ports : PortView) (o : Operation) (set : Bool) (link stream n given : ℕ)
-    → refusal_at ports o set link stream n ≡ Some given → (p : KeyPlace) × (ports.refusal p set ≡ Some given)
-refusal_of_place ports op.Stop set link stream n given is = absurd cc
-refusal_of_place ports op.Establish set link stream n given is =
-    let found = first_of_place (λ p. if program_at op.Establish p == n then ports.refusal p set else None)
-    (told_places (is_hosted link) link stream) given is in
-    (found.0, asked_refusal (program_at op.Establish found.0 == n) _ given found.1)
-refusal_of_place ports op.Refresh set link stream n given is =
-    let found = first_of_place (λ p. if program_at op.Refresh p == n then ports.refusal p set else None)
-    (told_places (is_hosted link) link stream) given is in
-    (found.0, asked_refusal (program_at op.Refresh found.0 == n) _ given found.1)
+pub refusal_of_place : (ports : PortView) (o : Operation) (set : Bool) (line stream n given : ℕ)
+    → refusal_at ports o set line stream n ≡ Some given → (p : KeyPlace) × (ports.refusal p set ≡ Some given)
+refusal_of_place ports op.Stop set line stream n given is = absurd cc
+refusal_of_place ports op.Establish set line stream n given is =
+    let found = first_of_place (λ p. if program_exchange op.Establish p == n then ports.refusal p set else None)
+    (told_places (is_hosted line) line stream) given is in
+    (found.0, asked_refusal (program_exchange op.Establish found.0 == n) _ given found.1)
+refusal_of_place ports op.Refresh set line stream n given is =
+    let found = first_of_place (λ p. if program_exchange op.Refresh p == n then ports.refusal p set else None)
+    (told_places (is_hosted line) line stream) given is in
+    (found.0, asked_refusal (program_exchange op.Refresh found.0 == n) _ given found.1)
 
 -- the first of six and more is none only if each is
 six_none : (status : KeyPlace → Option ℕ) (a b c d e f : KeyPlace) (ps : List KeyPlace)
@@ -182,20 +181,20 @@ six_none : (status : KeyPlace → Option ℕ) (a b c d e f : KeyPlace) (ps : Lis
 six_none status a b c d e f ps none = grind arith
 
 -- the six places of an end, before others
-end_none : (status : KeyPlace → Option ℕ) (side : Side) (link stream : ℕ) (sends : Bool) (u : SubKind)
-    → (ps : List KeyPlace) → first_status status (places_of side link stream ++ ps) ≡ None
-    → (status (place side link stream sends u) ≡ None) × (first_status status ps ≡ None)
-end_none status side link stream sends u ps none =
-    let all = six_none status (key_place_at side link stream false Pr) (key_place_at side link stream false Npr)
-    (key_place_at side link stream false Cpl) (key_place_at side link stream true Pr)
-    (key_place_at side link stream true Npr) (key_place_at side link stream true Cpl) ps none in
+end_none : (status : KeyPlace → Option ℕ) (side : Side) (line stream : ℕ) (sends : Bool) (u : SubKind)
+    → (ps : List KeyPlace) → first_status status (places_of side line stream ++ ps) ≡ None
+    → (status (place side line stream sends u) ≡ None) × (first_status status ps ≡ None)
+end_none status side line stream sends u ps none =
+    let all = six_none status (key_place_at side line stream false Pr) (key_place_at side line stream false Npr)
+    (key_place_at side line stream false Cpl) (key_place_at side line stream true Pr)
+    (key_place_at side line stream true Npr) (key_place_at side line stream true Cpl) ps none in
     (one side sends u all, all.6)
   where
     one : (x : Side) (b : Bool) (v : SubKind)
-        → (status (key_place_at x link stream false Pr) ≡ None) × (status (key_place_at x link stream false Npr) ≡ None)
-        × (status (key_place_at x link stream false Cpl) ≡ None) × (status (key_place_at x link stream true Pr) ≡ None)
-        × (status (key_place_at x link stream true Npr) ≡ None) × (status (key_place_at x link stream true Cpl) ≡ None)
-        × (first_status status ps ≡ None) → status (place x link stream b v) ≡ None
+        → (status (key_place_at x line stream false Pr) ≡ None) × (status (key_place_at x line stream false Npr) ≡ None)
+        × (status (key_place_at x line stream false Cpl) ≡ None) × (status (key_place_at x line stream true Pr) ≡ None)
+        × (status (key_place_at x line stream true Npr) ≡ None) × (status (key_place_at x line stream true Cpl) ≡ None)
+        × (first_status status ps ≡ None) → status (place x line stream b v) ≡ None
     one Host true Pr all = all.0
     one Host true Npr all = all.1
     one Host true Cpl all = all.2
@@ -210,25 +209,26 @@ end_none status side link stream sends u ps none =
     one Device true Cpl all = all.5
 
 -- a place whose keys are given by messages is among them
-told_by : (hosted : Bool) (status : KeyPlace → Option ℕ) (side : Side) (link stream : ℕ) (sends : Bool) (u : SubKind)
-    → (is_host side && hosted) ≡ false → first_status status (told_places hosted link stream) ≡ None
-    → status (place side link stream sends u) ≡ None
-told_by true status Host link stream sends u told none = absurd cc
-told_by true status Device link stream sends u told none = (end_none status Device link stream sends u [] none).0
-told_by false status Host link stream sends u told none =
-    (end_none status Host link stream sends u (places_of Device link stream) none).0
-told_by false status Device link stream sends u told none =
-    (end_none status Device link stream sends u []
-    (end_none status Host link stream false Pr (places_of Device link stream) none).1).0
+told_by : (hosted : Bool) (status : KeyPlace → Option ℕ) (side : Side) (line stream : ℕ) (sends : Bool) (u : SubKind)
+    → (is_host side && hosted) ≡ false → first_status status (told_places hosted line stream) ≡ None
+    → status (place side line stream sends u) ≡ None
+told_by true status Host line stream sends u told none = absurd cc
+told_by true status Device line stream sends u told none = (end_none status Device line stream sends u [] none).0
+told_by false status Host line stream sends u told none =
+    (end_none status Host line stream sends u (places_of Device line stream) none).0
+told_by false status Device line stream sends u told none =
+    (end_none status Device line stream sends u []
+    (end_none status Host line stream false Pr (places_of Device line stream) none).1).0
 
 -- it takes the KEY_PROG whose exchange is not refused
-pub told_takes : (ports : PortView) (set : Bool) (side : Side) (link stream : ℕ) (sends : Bool) (u : SubKind)
-    → is_local (place side link stream sends u) ≡ false
-    → refusal_at ports op.Refresh set link stream (program_at op.Refresh (place side link stream sends u)) ≡ None
-    → ports.refusal (place side link stream sends u) set ≡ None
-told_takes ports set side link stream sends u told free = asked_none (program_at op.Refresh p) _
-    (told_by (is_hosted link) (λ q. if program_at op.Refresh q == program_at op.Refresh p then ports.refusal q set
-    else None) side link stream sends u told free)
+pub told_takes : (ports : PortView) (set : Bool) (side : Side) (line stream : ℕ) (sends : Bool) (u : SubKind)
+    → is_local (place side line stream sends u) ≡ false
+    → refusal_at ports op.Refresh set line stream (program_exchange op.Refresh (place side line stream sends u)) ≡ None
+    → ports.refusal (place side line stream sends u) set ≡ None
+told_takes ports set side line stream sends u told free = asked_none (program_exchange op.Refresh p) _
+    (told_by (is_hosted line) (λ q. if program_exchange op.Refresh q == program_exchange op.Refresh p
+    then ports.refusal q set
+    else None) side line stream sends u told free)
   where
     p : KeyPlace
-    p = place side link stream sends u
+    p = place side line stream sends u

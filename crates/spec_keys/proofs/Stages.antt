@@ -1,13 +1,12 @@
 -- How far a place has come in an establish or a refresh of draw j in set k.
 use Rattle.spec_keys.proofs.Terms.{◌≡◌, ℕ, ◌+◌, ◌<◌, ◌≤◌, ◌⊎◌, inl, inr, Bool, true, false, List, ◌∷◌, ◌++◌, refl}
-use Rattle.spec_keys.proofs.Terms.{arith}
-use Rattle.spec_keys.proofs.Terms.{not, nat_tests, Touch, Program, Go, refuses, is_open, keys, is_within, when}
-use Rattle.spec_keys.proofs.Terms.{touches_after}
+use Rattle.spec_keys.proofs.Terms.{arith, not, nat_tests, Touch, Program, Go, refuses, is_open, keys, is_within}
+use Rattle.spec_keys.proofs.Terms.{touches_if, touches_after}
 use Rattle.spec_keys.proofs.Touches.{Programs, bare_programs, waiting_programs, other_programs, following_programs}
 use Rattle.spec_keys.proofs.Touches.{older_programs, Goes, waiting_goes, alone_goes, following_goes, both_goes}
 use Rattle.spec_keys.proofs.Touches.{TouchFits, AllCome}
-use Rattle.spec_keys.proofs.Shapes.{Marks, marks, started, Shape, Bare, Waiting, Alone, Following, Both, used, after_go}
-use Rattle.spec_keys.proofs.Shapes.{IsAt, goes_waiting, goes_following}
+use Rattle.spec_keys.proofs.Shapes.{Marks, marks, draws_started, Shape, Bare, Waiting, Alone, Following, Both}
+use Rattle.spec_keys.proofs.Shapes.{draws_used, after_go, IsAt, goes_waiting, goes_following}
 
 -- before its KEY_PROG: in an establish there is no key, in a refresh an older draw is On in the other set
 pub data Rest (k : Bool) (j : ℕ) (u : Marks) : Bool → Shape → Type 0 where
@@ -58,14 +57,14 @@ full_after : (s opens k : Bool) (i j : ℕ) → Full k j true (after_go s opens 
 full_after s opens k i j = grind (arith, alone, both)
 
 pub comes_if : (f s : Bool) (ts : List Touch) (sh : Shape) (t : Touch) → IsAt s ts sh → TouchFits s ts sh t
-    → AllCome s ts (when f t)
+    → AllCome s ts (touches_if f t)
 comes_if true s ts sh t is may = (record { shape = sh; is = is; may = may }, tt)
 comes_if false s ts sh t is may = tt
 
-programmed : (s r k : Bool) (j : ℕ) (ts : List Touch) (sh : Shape) → IsAt s ts sh → started ts ≤ j
+programmed : (s r k : Bool) (j : ℕ) (ts : List Touch) (sh : Shape) → IsAt s ts sh → draws_started ts ≤ j
     → Rest k j (marks ts) r sh
     → At s (Program k j ∷ ts) (Half k j r) ⊎ ((refuses s (keys s ts) k ≡ true) × IsAt s (Program k j ∷ ts) sh)
-unfolding keys used started is_open
+unfolding keys draws_used draws_started is_open
 programmed s false k j ts _ is fresh (unkeyed le) = inl
     (record { shape = Waiting k j; is = grind arith; fits = waiting })
 programmed s true k j ts _ is fresh (old_alone i lt) = inl
@@ -75,8 +74,8 @@ programmed false true k j ts _ is fresh (old_both e i lt) = inl
 programmed true true k j ts _ is fresh (old_both e i lt) = inr (grind (arith, nat_tests), grind (arith, nat_tests))
 
 programmed_again : (s r k f : Bool) (j : ℕ) (ts : List Touch) (sh : Shape) → IsAt s ts sh → Half k j r sh
-    → IsAt s (touches_after ts (when f (Program k j))) sh
-unfolding keys used started
+    → IsAt s (touches_after ts (touches_if f (Program k j))) sh
+unfolding keys draws_used draws_started
 programmed_again s r k f j ts sh is h = grind arith
 
 gone : (s r k : Bool) (j : ℕ) (ts : List Touch) (sh : Shape) → IsAt s ts sh → Half k j r sh
@@ -91,8 +90,8 @@ gone s r k j ts _ is (following i) =
     }
 
 gone_again : (s r k f : Bool) (j : ℕ) (ts : List Touch) (sh : Shape) → IsAt s ts sh → Full k j r sh
-    → IsAt s (touches_after ts (when f (Go k j))) sh
-unfolding keys used started is_open
+    → IsAt s (touches_after ts (touches_if f (Go k j))) sh
+unfolding keys draws_used draws_started is_open
 gone_again s r k f j ts sh is h = grind (arith, nat_tests)
 
 -- ---- an event of the operation
@@ -105,7 +104,8 @@ pub record Spans (n next below : ℕ) : Type 0 where
 
 -- what the event touches
 abbrev pub rising_touches : (k : Bool) (j a b n below : ℕ) → List Touch
-rising_touches k j a b n below = when (is_within n a below) (Program k j) ++ when (is_within n b below) (Go k j)
+rising_touches k j a b n below = touches_if (is_within n a below) (Program k j)
+    ++ touches_if (is_within n b below) (Go k j)
 
 abbrev Risen : (s r k : Bool) (j a b next : ℕ) → List Touch → List Touch → Type 0
 Risen s r k j a b next ts more = Lands s ts more (Rising r k j a b next (marks (touches_after ts more)))
@@ -121,12 +121,12 @@ not_refused a next n b le takes refused = grind arith
 pub rises : (s r k : Bool) (j a b n next below : ℕ) (ts : List Touch) → a < b → Spans n next below
     → (n ≤ a → a < next → refuses s (keys s ts) k ≡ false)
     → At s ts (Rising r k j a b n (marks ts)) → Risen s r k j a b next ts (rising_touches k j a b n below)
-unfolding used started
+unfolding draws_used draws_started
 rises s r k j a b n next below ts lt spans takes at = by_stage at.shape at.is at.fits
   where
     -- after the KEY_PROG
     half_way : (us : List Touch) → (sh : Shape) → IsAt s us sh → Half k j r sh → n ≤ b → (f : Bool)
-        → is_within n b below ≡ f → Risen s r k j a b next us (when f (Go k j))
+        → is_within n b below ≡ f → Risen s r k j a b next us (touches_if f (Go k j))
     half_way us sh is h le false eq = record
         { at = record { shape = sh; is = is; fits = half sh (grind (arith, nat_tests)) h }; come = tt }
     half_way us sh is h le true eq =
@@ -138,8 +138,8 @@ rises s r k j a b n next below ts lt spans takes at = by_stage at.shape at.is at
 
     -- the KEY_PROG, and then what comes after it
     programs_first : (f : Bool) (sh : Shape) → IsAt s ts sh → Programs k sh → (more : List Touch)
-        → Risen s r k j a b next (touches_after ts (when f (Program k j))) more
-        → Risen s r k j a b next ts (when f (Program k j) ++ more)
+        → Risen s r k j a b next (touches_after ts (touches_if f (Program k j))) more
+        → Risen s r k j a b next ts (touches_if f (Program k j) ++ more)
     programs_first true sh is may more lands = record
         { at = lands.at; come = (record { shape = sh; is = is; may = may }, lands.come) }
     programs_first false sh is may more lands = lands
@@ -149,21 +149,21 @@ rises s r k j a b n next below ts lt spans takes at = by_stage at.shape at.is at
     by_stage sh is (before _ le low rest) = by_test (is_within n a below) refl
       where
         stays : (us : List Touch) → marks us ≡ marks ts → IsAt s us sh → next ≤ a
-            → Risen s r k j a b next us (when (is_within n b below) (Go k j))
+            → Risen s r k j a b next us (touches_if (is_within n b below) (Go k j))
         stays us same at still =
             rw (no_go n a b next below lt spans still)
             (record { at = record { shape = sh; is = at; fits = rw same (before sh still low rest) }; come = tt })
 
         by_answer : At s (Program k j ∷ ts) (Half k j r) ⊎
             ((refuses s (keys s ts) k ≡ true) × IsAt s (Program k j ∷ ts) sh)
-            → Risen s r k j a b next (Program k j ∷ ts) (when (is_within n b below) (Go k j))
+            → Risen s r k j a b next (Program k j ∷ ts) (touches_if (is_within n b below) (Go k j))
         by_answer (inl on) = half_way (Program k j ∷ ts) on.shape on.is on.fits (omega (arith, lt, le))
             (is_within n b below) refl
         by_answer (inr refused) = stays (Program k j ∷ ts) refl refused.1
             (not_refused a next n (refuses s (keys s ts) k) le takes refused.0)
 
         by_test : (f : Bool) → is_within n a below ≡ f → Risen s r k j a b next ts
-            (when f (Program k j) ++ when (is_within n b below) (Go k j))
+            (touches_if f (Program k j) ++ touches_if (is_within n b below) (Go k j))
         by_test false eq = stays ts refl is (grind (arith, nat_tests))
         by_test true eq = programs_first true sh is (rest_programs k j (marks ts) r sh rest) _
             (by_answer (programmed s r k j ts sh is low rest))

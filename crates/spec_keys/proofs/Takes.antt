@@ -10,7 +10,7 @@ use Rattle.spec_keys.proofs.Shapes.{Marks, marks, Shape, keys_of, Sound}
 use Rattle.spec_keys.proofs.Stages.{Rising}
 use Rattle.spec_keys.proofs.Fits.{place, RisesFrom, TakesKey}
 use Rattle.spec_keys.proofs.Performs.{told_takes}
-use Rattle.spec_keys.proofs.Terms.{KeyPlace, is_local, from_at, program_at, refl}
+use Rattle.spec_keys.proofs.Terms.{KeyPlace, is_local, from_at, program_exchange, refl}
 
 not_refused : (b : Bool) → refusal_if b ≡ None → b ≡ false
 not_refused b none = grind arith
@@ -21,50 +21,49 @@ sender_takes ks set dead = grind (arith, nat_tests)
 
 -- a receiver takes the key of a newer draw
 receiver_takes : (k : Bool) (j a b n : ℕ) (u : Marks) (sh : Shape) (ts : List Touch) → n ≤ a → Sound false ts sh
-    → Rising true k j a b n u sh
-    → refuses false (keys_of sh) k ≡ false
+    → Rising true k j a b n u sh → refuses false (keys_of sh) k ≡ false
 receiver_takes k j a b n u sh ts le sound rising = grind (arith, nat_tests)
 
 -- where it goes on
 local_later : (p : KeyPlace) (n : ℕ) → is_local p ≡ true → 1 ≤ n
-    → from_at (work op.Refresh false 0 n false) p ≤ program_at op.Refresh p → ⊥
+    → from_at (work op.Refresh false 0 n false) p ≤ program_exchange op.Refresh p → ⊥
 local_later p n local least le = grind arith
 
 told_from : (p : KeyPlace) (n : ℕ) → is_local p ≡ false
-    → from_at (work op.Refresh false 0 n false) p ≤ program_at op.Refresh p → n ≤ program_at op.Refresh p
+    → from_at (work op.Refresh false 0 n false) p ≤ program_exchange op.Refresh p → n ≤ program_exchange op.Refresh p
 told_from p n told le = grind arith
 
 -- If a refresh begins: none of the exchanges that were acknowledged was refused, and no Live key of the near senders is
 -- in the set.
-pub refresh_first_takes : (side : Side) (link stream : ℕ) (sends : Bool) (u : SubKind) (ports : PortView)
+pub refresh_first_takes : (side : Side) (line stream : ℕ) (sends : Bool) (u : SubKind) (ports : PortView)
     (ts : List Touch) (k : Bool) (j : ℕ) (r : Reach)
-    → ((x : Bool) → ports.refusal (place side link stream sends u) x
+    → ((x : Bool) → ports.refusal (place side line stream sends u) x
     ≡ refusal_if (refuses sends (keys sends ts) x))
-    → ((x : Bool) → ports.is_live (place side link stream sends u) x ≡ is_live_draw (slot_of sends (keys sends ts) x))
-    → is_live_sender ports link stream k u ≡ false
-    → ((n : ℕ) → 1 ≤ n → n < r.acknowledged → refusal_at ports op.Refresh k link stream n ≡ None)
-    → RisesFrom true (work op.Refresh k j 1 true) (place side link stream sends u) ts
-    → TakesKey (work op.Refresh k j 1 true) r (place side link stream sends u) ts
-refresh_first_takes Host link stream true u ports ts k j r same live dead free at le lt = sender_takes (keys true ts) k
+    → ((x : Bool) → ports.is_live (place side line stream sends u) x ≡ is_live_draw (slot_of sends (keys sends ts) x))
+    → is_live_sender ports line stream k u ≡ false
+    → ((n : ℕ) → 1 ≤ n → n < r.acknowledged → refusal_at ports op.Refresh k line stream n ≡ None)
+    → RisesFrom true (work op.Refresh k j 1 true) (place side line stream sends u) ts
+    → TakesKey (work op.Refresh k j 1 true) r (place side line stream sends u) ts
+refresh_first_takes Host line stream true u ports ts k j r same live dead free at le lt = sender_takes (keys true ts) k
     (sym (live k) ∙ dead)
-refresh_first_takes side link stream false u ports ts k j r same live dead free at le lt =
+refresh_first_takes side line stream false u ports ts k j r same live dead free at le lt =
     rw at.is.are (receiver_takes k j _ _ _ (marks ts) at.shape ts le at.is.sound at.fits)
-refresh_first_takes Device link stream true u ports ts k j r same live dead free at le lt =
-    not_refused _ (sym (same k) ∙ told_takes ports k Device link stream true u refl
+refresh_first_takes Device line stream true u ports ts k j r same live dead free at le lt =
+    not_refused _ (sym (same k) ∙ told_takes ports k Device line stream true u refl
     (free _ le lt))
 
 -- if it goes on, a host's port has its key
-pub refresh_again_takes : (side : Side) (link stream : ℕ) (sends : Bool) (u : SubKind) (ports : PortView)
+pub refresh_again_takes : (side : Side) (line stream : ℕ) (sends : Bool) (u : SubKind) (ports : PortView)
     (ts : List Touch) (k : Bool) (j n : ℕ) (r : Reach) → 1 ≤ n
-    → ((x : Bool) → ports.refusal (place side link stream sends u) x
+    → ((x : Bool) → ports.refusal (place side line stream sends u) x
     ≡ refusal_if (refuses sends (keys sends ts) x))
-    → ((x : ℕ) → n ≤ x → x < r.acknowledged → refusal_at ports op.Refresh k link stream x ≡ None)
-    → TakesKey (work op.Refresh k j n false) r (place side link stream sends u) ts
-refresh_again_takes side link stream sends u ports ts k j n r least same free le lt = by_local
-    (is_local (place side link stream sends u)) refl
+    → ((x : ℕ) → n ≤ x → x < r.acknowledged → refusal_at ports op.Refresh k line stream x ≡ None)
+    → TakesKey (work op.Refresh k j n false) r (place side line stream sends u) ts
+refresh_again_takes side line stream sends u ports ts k j n r least same free le lt = by_local
+    (is_local (place side line stream sends u)) refl
   where
-    by_local : (b : Bool) → is_local (place side link stream sends u) ≡ b → refuses sends (keys sends ts) k ≡ false
-    by_local true e = absurd (local_later (place side link stream sends u) n e least le)
+    by_local : (b : Bool) → is_local (place side line stream sends u) ≡ b → refuses sends (keys sends ts) k ≡ false
+    by_local true e = absurd (local_later (place side line stream sends u) n e least le)
     by_local false e =
-        not_refused _ (sym (same k) ∙ told_takes ports k side link stream sends u e
-        (free _ (told_from (place side link stream sends u) n e le) lt))
+        not_refused _ (sym (same k) ∙ told_takes ports k side line stream sends u e
+        (free _ (told_from (place side line stream sends u) n e le) lt))

@@ -1,11 +1,9 @@
 -- What is sealed and what is accepted leaves a place fit for the state of its stream.
 use Rattle.spec_keys.proofs.Terms.{◌≡◌, ℕ, ◌+◌, ◌<◌, ◌≤◌, Bool, true, false, Option, Some, None, List, ◌∷◌, refl, ◌∙◌}
 use Rattle.spec_keys.proofs.Terms.{arith, max, KeyPlace, Touch, Seal, Accept, Keyed, Keys, key_in, on_in, keys}
-use Rattle.spec_keys.proofs.Terms.{slot_from}
-use Rattle.spec_keys.proofs.Terms.{slot_of, live_draw_in, option_or}
-use Rattle.spec_keys.proofs.Terms.{sender_draw, uses, StreamStage}
-use Rattle.spec_keys.proofs.Shapes.{Marks, marks, started, Shape, Bare, used, IsAt, sealed_shape, is_newer, seals}
-use Rattle.spec_keys.proofs.Shapes.{accepts, used_bound, none_above_used, never_more}
+use Rattle.spec_keys.proofs.Terms.{slot_beside_other, slot_of, live_draw_in, option_or, sender_draw, uses, StreamStage}
+use Rattle.spec_keys.proofs.Shapes.{Marks, marks, draws_started, Shape, Bare, draws_used, IsAt, sealed_shape, is_newer}
+use Rattle.spec_keys.proofs.Shapes.{seals, accepts, used_bound, none_above_used, never_more}
 use Rattle.spec_keys.proofs.Touches.{TouchFits}
 use Rattle.spec_keys.proofs.Stages.{old_alone, old_both, waiting, following, alone, both, before, half, full}
 use Rattle.spec_keys.proofs.Fits.{Fits, FitsAt, Turned, Below, below_more}
@@ -14,8 +12,7 @@ use Rattle.spec_keys.proofs.Fits.{Fits, FitsAt, Turned, Below, below_more}
 
 fits_uses : (m : Bool) (o : StreamStage) (top : ℕ) (u v : Marks) (p : KeyPlace) (sh : Shape) → v.started_below
     ≡ u.started_below
-    → (sh ≡ Bare → ⊥) → Fits o top u p sh
-    → Fits o top v p (sealed_shape m sh)
+    → (sh ≡ Bare → ⊥) → Fits o top u p sh → Fits o top v p (sealed_shape m sh)
 fits_uses m o top u v p sh same not_bare fits = grind
     (arith, before, half, full, old_alone, old_both, waiting, following, alone, both)
 
@@ -24,12 +21,14 @@ fits_uses m o top u v p sh same not_bare fits = grind
 -- a draw that is On is used
 below_use : (s : Bool) (ts us : List Touch) (sh : Shape) (k : Bool) (j top : ℕ) → IsAt s ts sh
     → on_in (key_in (keys s ts) k) ≡ Some j → j < top → Below ts top
-    → used us ≡ max (j + 1) (used ts) → started us ≡ started ts → uses us ≡ (j ∷ uses ts) → Below us top
+    → draws_used us ≡ max (j + 1) (draws_used ts) → draws_started us ≡ draws_started ts → uses us ≡ (j ∷ uses ts)
+    → Below us top
 below_use s ts us sh k j top is on lt below more same here =
     let falls = never_more j (uses ts) (none_above_used ts j (used_bound s ts sh k j is on)) below.falls in
     record { within = grind arith; fresh = grind arith; falls = rw here falls }
 
-slot_on_live : (mine other : Keyed) (j : ℕ) → live_draw_in (slot_from true mine other) ≡ Some j → on_in mine ≡ Some j
+slot_on_live : (mine other : Keyed) (j : ℕ) → live_draw_in (slot_beside_other true mine other) ≡ Some j → on_in mine
+    ≡ Some j
 slot_on_live mine other j e = grind arith
 
 -- a Live draw is On
@@ -54,9 +53,8 @@ not_bare_on : (s : Bool) (ts : List Touch) (sh : Shape) (k : Bool) (j : ℕ) →
 not_bare_on s ts sh k j is on bare = grind arith
 
 pub seals_fit : (o : StreamStage) (top : ℕ) (p : KeyPlace) (ts : List Touch) (j : ℕ) (m : Bool) → p.sends ≡ true
-    → sender_draw (keys p.sends ts) ≡ Some j → j < top
-    → FitsAt o top p ts → FitsAt o top p (Seal j m ∷ ts)
-unfolding used started
+    → sender_draw (keys p.sends ts) ≡ Some j → j < top → FitsAt o top p ts → FitsAt o top p (Seal j m ∷ ts)
+unfolding draws_used draws_started
 seals_fit o top p ts j m sends live lt at =
     let on = live_is_on (keys p.sends ts) j live in
     record {
@@ -68,9 +66,8 @@ seals_fit o top p ts j m sends live lt at =
     }
 
 pub accepts_fit : (o : StreamStage) (top : ℕ) (p : KeyPlace) (ts : List Touch) (set : Bool) (j : ℕ) → p.sends ≡ false
-    → on_in (key_in (keys p.sends ts) set) ≡ Some j → j < top
-    → FitsAt o top p ts → FitsAt o top p (Accept j ∷ ts)
-unfolding used started
+    → on_in (key_in (keys p.sends ts) set) ≡ Some j → j < top → FitsAt o top p ts → FitsAt o top p (Accept j ∷ ts)
+unfolding draws_used draws_started
 accepts_fit o top p ts set j sends on lt at = record {
   shape = sealed_shape (is_newer j at.shape) at.shape;
   is = rw sends (accepts ts at.shape set j (rw sends at at.is) (rw sends at on));

@@ -5,31 +5,26 @@
 use Rattle.spec_keys.specs.Due.{has_refresh}
 use Rattle.spec_keys.proofs.Terms.{and-false, ◌≡◌, ℕ, suc, ◌≤◌, ◌==◌, ◌⊎◌, inl, inr, Bool, true, false, Option, Some}
 use Rattle.spec_keys.proofs.Terms.{None, List, [], ◌∷◌, ◌++◌, length, refl, subst, arith, nat_lt, not, ◌&&◌}
-use Rattle.spec_keys.proofs.Terms.{if◌then◌else◌, SubKind, Pr, Npr, Cpl, Host}
-use Rattle.spec_keys.proofs.Terms.{Event, Loss, Operation, SealedPacket, Verdict, KeyPlan, KeyPlace, is_same_side}
-use Rattle.spec_keys.proofs.Terms.{is_same_sub, is_on_stream, Touch, Seal, Accept, Clear, keys, refuses, is_live_draw}
-use Rattle.spec_keys.proofs.Terms.{refusal_if, slot_of, StreamStage, Idle, Establishing, Up}
-use Rattle.spec_keys.proofs.Terms.{Refreshing, Work, Reach, Manager, Begun, work, work_of, reach_of, op_after}
-use Rattle.spec_keys.proofs.Terms.{begun_after_work, manager_after_operation, History, manager, op_of, draws}
-use Rattle.spec_keys.proofs.Terms.{work_touches, on_it, when, is_sender}
-use Rattle.spec_keys.proofs.Terms.{seal_touches, came, touches, moments}
+use Rattle.spec_keys.proofs.Terms.{if◌then◌else◌, SubKind, Pr, Npr, Cpl, Host, Event, Loss, Operation, SealedPacket}
+use Rattle.spec_keys.proofs.Terms.{Verdict, KeyPlan, KeyPlace, is_same_side, is_same_sub, is_on_stream, Touch, Seal}
+use Rattle.spec_keys.proofs.Terms.{Accept, Clear, keys, refuses, is_live_draw, refusal_if, slot_of, StreamStage, Idle}
+use Rattle.spec_keys.proofs.Terms.{Establishing, Up, Refreshing, Work, Reach, Manager, Begun, work, work_of, reach_of}
+use Rattle.spec_keys.proofs.Terms.{op_after, begun_after_work, manager_after_operation, History, manager, op_of, draws}
+use Rattle.spec_keys.proofs.Terms.{work_touches, on_it, touches_if, is_sender, seal_touches, came, touches, moments}
 use Rattle.spec_keys.proofs.Terms.{history_status, PortView, ports_at, operation_verdict, begun_with_draw}
-use Rattle.spec_keys.proofs.Terms.{is_live_sender}
-use Rattle.spec_keys.proofs.Terms.{unless_open, if_secure, establish_on, refresh_on, stop_on, key_due, UsesFit}
-use Rattle.spec_keys.proofs.Terms.{KeyCauseLaw}
+use Rattle.spec_keys.proofs.Terms.{is_live_sender, unless_open, if_secure, establish_on, refresh_on, stop_on, key_due}
+use Rattle.spec_keys.proofs.Terms.{UsesFit, KeyCauseLaw, Side, Stopping, PortName, is_hosted, is_local}
+use Rattle.spec_keys.proofs.Terms.{is_between_devices, is_cut, is_cleared, op_cut, stop_exchange, list_any, ◌+◌}
+use Rattle.spec_keys.proofs.Terms.{nat_tests}
 use Rattle.link_events.specs.declared.event.Event.TheVariants as event
 use Rattle.link_verdicts.specs.declared.verdict.Operation.TheVariants as op
 use Rattle.ide_types.specs.declared.status.StreamStatus.{StreamStatus}
 use Rattle.link_verdicts.specs.declared.verdict.Verdict.TheVariants as v
-use Rattle.spec_keys.proofs.Shapes.{Marks, marks, Shape, Bare, at_start, used, started}
+use Rattle.spec_keys.proofs.Shapes.{Marks, marks, Shape, Bare, at_start, draws_used, draws_started}
 use Rattle.spec_keys.proofs.Fits.{Fits, FindsStopped, FitsAt, Turned, Reached, below_more, establishes, refreshes}
 use Rattle.spec_keys.proofs.Fits.{last_at, stops_fit, resets_fit, cuts_fit, establish_begins, establish_goes_on}
-use Rattle.spec_keys.proofs.Fits.{establish_takes}
-use Rattle.spec_keys.proofs.Terms.{Side, Stopping, PortName, is_hosted, is_local, is_between_devices, is_cut}
-use Rattle.spec_keys.proofs.Terms.{is_cleared}
-use Rattle.spec_keys.proofs.Terms.{op_cut, stop_at, list_any, ◌+◌, nat_tests}
+use Rattle.spec_keys.proofs.Fits.{establish_takes, refresh_begins, refresh_goes_on}
 use Rattle.spec_keys.proofs.Tests.{neither-true}
-use Rattle.spec_keys.proofs.Fits.{refresh_begins, refresh_goes_on}
 use Rattle.spec_keys.proofs.Uses.{live_is_on, use_first, seals_fit, accepts_fit, raise}
 use Rattle.spec_keys.proofs.Owners.{OwnedKeys, Owner, begun_below, behind_owned, owned_on, keys_owned, same_place}
 use Rattle.spec_keys.proofs.Owners.{by_stream}
@@ -38,10 +33,10 @@ use Rattle.spec_keys.proofs.Takes.{refresh_first_takes, refresh_again_takes}
 
 -- what an operation makes of a place of its stream, by how far it came
 abbrev pub Turns : Operation → StreamStage → List Begun → ℕ → ℕ → KeyPlace → List Touch → Option Reach → Type 0
-Turns o q bs link stream p ts None = FitsAt q (length bs) p ts
-Turns o q bs link stream p ts (Some r) =
-    Turned (op_after (is_hosted link) (work_of o q (length bs)) r)
-    (length (begun_after_work bs link stream (work_of o q (length bs)))) p ts
+Turns o q bs line stream p ts None = FitsAt q (length bs) p ts
+Turns o q bs line stream p ts (Some r) =
+    Turned (op_after (is_hosted line) (work_of o q (length bs)) r)
+    (length (begun_after_work bs line stream (work_of o q (length bs)))) p ts
     (work_touches (work_of o q (length bs)) (Some r) p)
 
 -- ---- an establish
@@ -75,14 +70,14 @@ establish_turns plan q bs ports p ts loss at = at
 -- ---- a refresh
 
 -- a refresh of a stream that is up gets nowhere, or no Live key of the host's sender is in the set
-refresh_or : (plan : KeyPlan) (host : StreamStatus) (ports : PortView) (link stream next : ℕ) (set : Bool) (u : SubKind)
+refresh_or : (plan : KeyPlan) (host : StreamStatus) (ports : PortView) (line stream next : ℕ) (set : Bool) (u : SubKind)
     (x : Verdict)
-    → (reach_of op.Refresh (if_secure host (unless_open ports link stream set (begun_with_draw plan next x))) ≡ None)
-    ⊎ ((if_secure host (unless_open ports link stream set (begun_with_draw plan next x)) ≡ x)
-    × (is_live_sender ports link stream set u ≡ false))
-refresh_or plan host ports link stream next set Pr x = grind arith
-refresh_or plan host ports link stream next set Npr x = grind arith
-refresh_or plan host ports link stream next set Cpl x = grind arith
+    → (reach_of op.Refresh (if_secure host (unless_open ports line stream set (begun_with_draw plan next x))) ≡ None)
+    ⊎ ((if_secure host (unless_open ports line stream set (begun_with_draw plan next x)) ≡ x)
+    × (is_live_sender ports line stream set u ≡ false))
+refresh_or plan host ports line stream next set Pr x = grind arith
+refresh_or plan host ports line stream next set Npr x = grind arith
+refresh_or plan host ports line stream next set Cpl x = grind arith
 
 refresh_turns : (plan : KeyPlan) (q : StreamStage) (bs : List Begun) (ports : PortView) (host : StreamStatus)
     (p : KeyPlace)
@@ -123,7 +118,7 @@ stop_is q next = grind arith
 
 stop_finds : (q : StreamStage) (top : ℕ) (u : Marks) (p : KeyPlace) (sh : Shape) → Fits q top u p sh
     → ((work_of op.Stop q top).first ≤ last_at p op.Stop + 1)
-    × FindsStopped (is_local p) (stop_at p) (work_of op.Stop q top).first
+    × FindsStopped (is_local p) (stop_exchange p) (work_of op.Stop q top).first
     (work_of op.Stop q top).begins sh
 stop_finds q top u p sh fits = grind arith
 
@@ -147,31 +142,31 @@ stop_turns q bs ports p ts loss at =
 
 -- ---- one operation and all places
 
-pub more_begun : (bs : List Begun) (link stream : ℕ) (w : Work) → length bs ≤ length (begun_after_work bs link stream w)
-more_begun bs link stream w = grind arith
+pub more_begun : (bs : List Begun) (line stream : ℕ) (w : Work) → length bs ≤ length (begun_after_work bs line stream w)
+more_begun bs line stream w = grind arith
 
 -- on its stream it does what it does, elsewhere nothing
-operated_fits : (m : Manager) (o : Operation) (link stream : ℕ) (r : Option Reach) (p : KeyPlace) (ts : List Touch)
-    → ((p.line ≡ link) × (p.stream ≡ stream) → Turns o (m.ops link stream) m.begun link stream p ts r)
+operated_fits : (m : Manager) (o : Operation) (line stream : ℕ) (r : Option Reach) (p : KeyPlace) (ts : List Touch)
+    → ((p.line ≡ line) × (p.stream ≡ stream) → Turns o (m.ops line stream) m.begun line stream p ts r)
     → FitsAt (m.ops p.line p.stream) (length m.begun) p ts
-    → Turned ((manager_after_operation m o link stream r).ops p.line p.stream)
-    (length (manager_after_operation m o link stream r).begun) p ts
-    (on_it (is_on_stream p link stream) (work_touches (work_of o (m.ops link stream) (length m.begun)) r p))
-operated_fits m o link stream None p ts turns at =
+    → Turned ((manager_after_operation m o line stream r).ops p.line p.stream)
+    (length (manager_after_operation m o line stream r).begun) p ts
+    (on_it (is_on_stream p line stream) (work_touches (work_of o (m.ops line stream) (length m.begun)) r p))
+operated_fits m o line stream None p ts turns at =
     let none : Turned (m.ops p.line p.stream) (length m.begun) p ts [] = record { now = at; come = tt } in
     by_stream p.line p.stream (λ x y f. Turned (m.ops p.line p.stream) (length m.begun) p ts (on_it f [])) none
-    (λ x y. none) link stream
-operated_fits m o link stream (Some r) p ts turns at = by_test (is_on_stream p link stream) refl
+    (λ x y. none) line stream
+operated_fits m o line stream (Some r) p ts turns at = by_test (is_on_stream p line stream) refl
   where
-    by_test : (b : Bool) → is_on_stream p link stream ≡ b
-        → Turned (if b then op_after (is_hosted link) (work_of o (m.ops link stream) (length m.begun)) r
+    by_test : (b : Bool) → is_on_stream p line stream ≡ b
+        → Turned (if b then op_after (is_hosted line) (work_of o (m.ops line stream) (length m.begun)) r
         else m.ops p.line p.stream)
-        (length (begun_after_work m.begun link stream (work_of o (m.ops link stream) (length m.begun)))) p ts
-        (on_it b (work_touches (work_of o (m.ops link stream) (length m.begun)) (Some r) p))
-    by_test true e = turns (same_place p.line p.stream link stream e)
+        (length (begun_after_work m.begun line stream (work_of o (m.ops line stream) (length m.begun)))) p ts
+        (on_it b (work_touches (work_of o (m.ops line stream) (length m.begun)) (Some r) p))
+    by_test true e = turns (same_place p.line p.stream line stream e)
     by_test false e = record {
       now = raise (m.ops p.line p.stream) (length m.begun) _ p ts
-          (more_begun m.begun link stream (work_of o (m.ops link stream) (length m.begun))) at;
+          (more_begun m.begun line stream (work_of o (m.ops line stream) (length m.begun))) at;
       come = tt;
     }
 
@@ -193,8 +188,8 @@ sealed_fits o bs p ts (d ∷ ds) uses owned at = by_test (sealed_fits o bs p ts 
     (sealed_fits o bs p (Seal d.draw d.m ∷ ts) ds) (is_sender p d) refl uses
   where
     by_test : UsesLeave o bs p ts (seal_touches p ds) → UsesLeave o bs p (Seal d.draw d.m ∷ ts) (seal_touches p ds)
-        → (b : Bool) → is_sender p d ≡ b → UsesFit p.sends ts (when b (Seal d.draw d.m) ++ seal_touches p ds)
-        → Turned o (length bs) p ts (when b (Seal d.draw d.m) ++ seal_touches p ds)
+        → (b : Bool) → is_sender p d ≡ b → UsesFit p.sends ts (touches_if b (Seal d.draw d.m) ++ seal_touches p ds)
+        → Turned o (length bs) p ts (touches_if b (Seal d.draw d.m) ++ seal_touches p ds)
     by_test without with_it false e uses = without uses owned at
     by_test without with_it true e uses =
         let on = live_is_on (keys p.sends ts) d.draw uses.0 in
@@ -208,11 +203,11 @@ receives_there : (sends a b c : Bool) → (not sends && a && b && c) ≡ true �
 receives_there sends a b c e = grind arith
 
 accepted_fits : (o : StreamStage) (bs : List Begun) (p : KeyPlace) (ts : List Touch) (j : ℕ) (a b c : Bool)
-    → UsesLeave o bs p ts (when (not p.sends && a && b && c) (Accept j))
+    → UsesLeave o bs p ts (touches_if (not p.sends && a && b && c) (Accept j))
 accepted_fits o bs p ts j a b c uses owned at = by_test (not p.sends && a && b && c) refl uses
   where
-    by_test : (f : Bool) → (not p.sends && a && b && c) ≡ f → UsesFit p.sends ts (when f (Accept j))
-        → Turned o (length bs) p ts (when f (Accept j))
+    by_test : (f : Bool) → (not p.sends && a && b && c) ≡ f → UsesFit p.sends ts (touches_if f (Accept j))
+        → Turned o (length bs) p ts (touches_if f (Accept j))
     by_test false e uses = record { now = at; come = tt }
     by_test true e uses =
         let receives = receives_there p.sends a b c e in
@@ -247,13 +242,13 @@ not_cut (e ∷ ends) side line none =
     rw (parts.0, and-false (is_same_side e.side side)) (not_cut ends side line parts.1)
 
 reset_fits : (ends : List PortName) (o : StreamStage) (top : ℕ) (p : KeyPlace) (ts : List Touch) → FitsAt o top p ts
-    → Turned (op_cut ends p.line o) top p ts (when (is_cleared ends p.side p.line) Clear)
+    → Turned (op_cut ends p.line o) top p ts (touches_if (is_cleared ends p.side p.line) Clear)
 reset_fits ends o top p ts at = by_tests (is_between_devices p.line) (is_cut ends p.line) _ refl refl refl
   where
     by_tests : (peer cut one : Bool) → is_between_devices p.line ≡ peer → is_cut ends p.line ≡ cut
         → list_any (λ e. is_same_side e.side p.side && (e.line == p.line)) ends ≡ one
         → Turned (if cut then (if peer then Stopping 1 else Idle) else o) top p ts
-        (when (if peer then one else cut) Clear)
+        (touches_if (if peer then one else cut) Clear)
     by_tests true true one of_peer of_cut same = cuts_fit o p ts top one (peer_told p of_peer) at
     by_tests true false true of_peer of_cut same = absurd (let none = not_cut ends p.side p.line of_cut in cc)
     by_tests true false false of_peer of_cut same = record { now = at; come = tt }
@@ -266,23 +261,23 @@ abbrev pub Fit : History → KeyPlace → Type 0
 Fit h p = FitsAt (op_of h p.line p.stream) (draws h) p (moments h p)
 
 -- what is true at a place's own line and stream is true at those that it is on
-pub elsewhere : (p : KeyPlace) (link stream : ℕ) (P : ℕ → ℕ → Type 0) → (p.line ≡ link) × (p.stream ≡ stream)
-    → P p.line p.stream → P link stream
-elsewhere p link stream P same here = subst (λ (y : ℕ). P link y) same.1 (subst (λ (x : ℕ). P x p.stream) same.0 here)
+pub elsewhere : (p : KeyPlace) (line stream : ℕ) (P : ℕ → ℕ → Type 0) → (p.line ≡ line) × (p.stream ≡ stream)
+    → P p.line p.stream → P line stream
+elsewhere p line stream P same here = subst (λ (y : ℕ). P line y) same.1 (subst (λ (x : ℕ). P x p.stream) same.0 here)
 
 -- the operation on a stream that may not exist
-due_fits : (h : History) (o : Operation) (p : KeyPlace) (has : ℕ → ℕ → Bool) (its : ℕ → ℕ → Verdict) (link stream : ℕ)
+due_fits : (h : History) (o : Operation) (p : KeyPlace) (has : ℕ → ℕ → Bool) (its : ℕ → ℕ → Verdict) (line stream : ℕ)
     (x : Verdict)
-    → x ≡ (if has link stream then its link stream else v.Nothing) → Fit h p
+    → x ≡ (if has line stream then its line stream else v.Nothing) → Fit h p
     → Turns o (op_of h p.line p.stream) (manager h).begun p.line p.stream p (moments h p)
     (reach_of o (its p.line p.stream))
-    → Turned ((manager_after_operation (manager h) o link stream (reach_of o x)).ops p.line p.stream)
-    (length (manager_after_operation (manager h) o link stream (reach_of o x)).begun) p
+    → Turned ((manager_after_operation (manager h) o line stream (reach_of o x)).ops p.line p.stream)
+    (length (manager_after_operation (manager h) o line stream (reach_of o x)).begun) p
     (moments h p)
-    (on_it (is_on_stream p link stream) (work_touches (work_of o (op_of h link stream) (draws h)) (reach_of o x) p))
-due_fits h o p has its link stream x is at turns =
-    operated_fits (manager h) o link stream (reach_of o x) p (moments h p)
-    (λ same. rw is (elsewhere p link stream (λ (a b : ℕ). Turns o (op_of h a b) (manager h).begun a b p (moments h p)
+    (on_it (is_on_stream p line stream) (work_touches (work_of o (op_of h line stream) (draws h)) (reach_of o x) p))
+due_fits h o p has its line stream x is at turns =
+    operated_fits (manager h) o line stream (reach_of o x) p (moments h p)
+    (λ same. rw is (elsewhere p line stream (λ (a b : ℕ). Turns o (op_of h a b) (manager h).begun a b p (moments h p)
     (reach_of o (if has a b then its a b else v.Nothing))) same (by_has (has p.line p.stream)))) at
   where
     by_has : (b : Bool) → Turns o (op_of h p.line p.stream) (manager h).begun p.line p.stream p (moments h p)
@@ -292,25 +287,23 @@ due_fits h o p has its link stream x is at turns =
 
 -- each touch of the next pair comes when it may, and leads to the next state
 pub next_fits : (plan : KeyPlan) (h : History) (e : Event) (x : Verdict) → KeyCauseLaw plan ((e, x) ∷ h)
-    → (p : KeyPlace)
-    → Fit h p
-    → Turned (op_of ((e, x) ∷ h) p.line p.stream) (draws ((e, x) ∷ h)) p (moments h p)
+    → (p : KeyPlace) → Fit h p → Turned (op_of ((e, x) ∷ h) p.line p.stream) (draws ((e, x) ∷ h)) p (moments h p)
     (touches (manager h).ops (draws h) e x p)
 unfolding manager key_due
-next_fits plan h (event.Establish link stream loss) x cause p at =
+next_fits plan h (event.Establish line stream loss) x cause p at =
     due_fits h op.Establish p plan.has_stream (λ a b. establish_on plan (op_of h a b) (draws h) (ports_at h) a b loss)
-    link stream x cause.0 at
+    line stream x cause.0 at
     (establish_turns plan (op_of h p.line p.stream) (manager h).begun (ports_at h) p (moments h p) loss at)
-next_fits plan h (event.Refresh link stream loss) x cause p at =
+next_fits plan h (event.Refresh line stream loss) x cause p at =
     due_fits h op.Refresh p (has_refresh plan)
     (λ a b. refresh_on plan (op_of h a b) (draws h) (ports_at h) (history_status h Host a b) a b loss)
-    link stream x cause.0 at
+    line stream x cause.0 at
     (refresh_turns plan (op_of h p.line p.stream) (manager h).begun (ports_at h) (history_status h Host p.line p.stream)
     p
     (moments h p) loss
     (λ x. refl) (λ x. refl) at)
-next_fits plan h (event.Stop link stream loss) x cause p at =
-    due_fits h op.Stop p plan.has_stream (λ a b. stop_on (op_of h a b) (draws h) (ports_at h) a b loss) link stream x
+next_fits plan h (event.Stop line stream loss) x cause p at =
+    due_fits h op.Stop p plan.has_stream (λ a b. stop_on (op_of h a b) (draws h) (ports_at h) a b loss) line stream x
     cause.0 at
     (stop_turns (op_of h p.line p.stream) (manager h).begun (ports_at h) p (moments h p) loss at)
 next_fits plan h (event.Reset link ends) (v.Reset l) cause p at = reset_fits ends (op_of h p.line p.stream)
@@ -320,7 +313,7 @@ next_fits plan h _ x cause p at = came_fits (op_of h p.line p.stream) (manager h
     (keys_owned h p) at
 
 pub fits : (plan : KeyPlan) (h : History) → KeyCauseLaw plan h → (p : KeyPlace) → Fit h p
-unfolding manager moments used started
+unfolding manager moments draws_used draws_started
 fits plan [] cause p = record {
   shape = Bare;
   is = at_start p.sends;

@@ -1,10 +1,8 @@
 -- The one verdict that an operation or a reset gets after a history.
 use Rattle.std.specs.Prelude.{◌+◌, ◌-◌, ◌==◌, ◌∷◌, ◌&&◌, if◌then◌else◌, ℕ, suc, zero, nat_lt, Bool, false, Option}
 use Rattle.std.specs.Prelude.{Some, None, List, []}
-use Rattle.spec_keys.specs.Terms.{option_or, unwrap_or, SubKind, Pr, Npr, Cpl, Host, Event, Loss, Lost, Request}
-use Rattle.spec_keys.specs.Terms.{Reply}
-use Rattle.spec_keys.specs.Terms.{Operation, StreamStatus}
-use Rattle.spec_keys.specs.Terms.{Verdict}
+use Rattle.spec_keys.specs.Terms.{option_or, unwrap_or, SubKind, Pr, Npr, Cpl, Host, Event, Loss, Lost, Request, Reply}
+use Rattle.spec_keys.specs.Terms.{Operation, StreamStatus, Verdict}
 use Rattle.link_events.specs.declared.event.Event.TheVariants as event
 use Rattle.link_verdicts.specs.declared.verdict.Operation.TheVariants as op
 use Rattle.ide_types.specs.declared.status.StreamStatus.TheVariants as status
@@ -14,7 +12,7 @@ use Rattle.spec_keys.specs.Places.{KeyPlan, KeyPlace, key_place_at, told_places}
 use Rattle.spec_keys.specs.Keys.{refuses, refusal_if, is_live_draw}
 use Rattle.spec_keys.specs.Operations.{StreamStage, Idle, Establishing, Up, Refreshing, Stopping, Work, work_of}
 use Rattle.spec_keys.specs.Operations.{last_exchange_of}
-use Rattle.spec_keys.specs.History.{History, op_of, draws, program_at, place_keys, slot_at, history_status}
+use Rattle.spec_keys.specs.History.{History, op_of, draws, program_exchange, place_keys, history_slot, history_status}
 
 -- what an operation reads of the ports: the status with which a place refuses a KEY_PROG of a set, and in which sets it
 -- is Live
@@ -25,7 +23,7 @@ pub record PortView : Type 0 where
 abbrev pub ports_at : History → PortView
 ports_at h = record {
   refusal = λ p set. refusal_if (refuses p.sends (place_keys h p) set);
-  is_live = λ p set. is_live_draw (slot_at h p set);
+  is_live = λ p set. is_live_draw (history_slot h p set);
 }
 
 -- ---- the exchanges
@@ -41,9 +39,10 @@ first_status status (p ∷ ps) = option_or (status p) (first_status status ps)
 
 -- the status with which an end refuses an exchange: that of a KEY_PROG at a place that refuses it
 abbrev pub refusal_at : PortView → Operation → Bool → ℕ → ℕ → ℕ → Option ℕ
-refusal_at ports op.Stop set link stream n = None
-refusal_at ports o set link stream n = first_status (λ p. if program_at o p == n then ports.refusal p set else None)
-    (told_places (is_hosted link) link stream)
+refusal_at ports op.Stop set line stream n = None
+refusal_at ports o set line stream n = first_status
+    (λ p. if program_exchange o p == n then ports.refusal p set else None)
+    (told_places (is_hosted line) line stream)
 
 abbrev pub lost_at : Lost → ℕ → Verdict
 lost_at Request n = v.LostRequest n
@@ -61,22 +60,22 @@ abbrev pub first_from : (ℕ → Option Verdict) → ℕ → ℕ → Option Verd
 first_from cut n zero = None
 first_from cut n (suc more) = option_or (cut n) (first_from cut (n + 1) more)
 
-abbrev pub done : ℕ → ℕ → Work → Verdict
-done link stream w = by_operation w.operation
+abbrev pub finished_verdict : ℕ → ℕ → Work → Verdict
+finished_verdict line stream w = by_operation w.operation
   where
     by_operation : Operation → Verdict
-    by_operation op.Establish = v.Established link stream w.draw
-    by_operation op.Refresh = v.Refreshed link stream w.draw
-    by_operation op.Stop = v.Stopped link stream
+    by_operation op.Establish = v.Established line stream w.draw
+    by_operation op.Refresh = v.Refreshed line stream w.draw
+    by_operation op.Stop = v.Stopped line stream
 
 -- the verdict of an operation that stays at an exchange
 abbrev pub stays : PortView → ℕ → ℕ → Option Loss → Work → Option Verdict
-stays ports link stream loss w =
-    first_from (λ n. cut_at (lost_message loss n) (refusal_at ports w.operation w.set link stream n) n) w.first
-    (last_exchange_of (is_hosted link) w.operation + 1 - w.first)
+stays ports line stream loss w =
+    first_from (λ n. cut_at (lost_message loss n) (refusal_at ports w.operation w.set line stream n) n) w.first
+    (last_exchange_of (is_hosted line) w.operation + 1 - w.first)
 
 abbrev pub operation_verdict : PortView → ℕ → ℕ → Option Loss → Work → Verdict
-operation_verdict ports link stream loss w = unwrap_or (stays ports link stream loss w) (done link stream w)
+operation_verdict ports line stream loss w = unwrap_or (stays ports line stream loss w) (finished_verdict line stream w)
 
 -- ---- refusals at the beginning
 
@@ -85,13 +84,13 @@ begun_with_draw plan next verdict = if nat_lt next plan.pool then verdict else v
 
 -- the sub-stream, PR first, whose Live key at the near sender is in the set that is to be programmed
 abbrev pub is_live_sender : PortView → ℕ → ℕ → Bool → SubKind → Bool
-is_live_sender ports link stream set u = ports.is_live (key_place_at Host link stream false u) set
+is_live_sender ports line stream set u = ports.is_live (key_place_at Host line stream false u) set
 
 abbrev pub unless_open : PortView → ℕ → ℕ → Bool → Verdict → Verdict
-unless_open ports link stream set verdict =
-    if is_live_sender ports link stream set Pr then v.RefusedUnitOpen Pr
-    else if is_live_sender ports link stream set Npr then v.RefusedUnitOpen Npr
-    else if is_live_sender ports link stream set Cpl then v.RefusedUnitOpen Cpl
+unless_open ports line stream set verdict =
+    if is_live_sender ports line stream set Pr then v.RefusedUnitOpen Pr
+    else if is_live_sender ports line stream set Npr then v.RefusedUnitOpen Npr
+    else if is_live_sender ports line stream set Cpl then v.RefusedUnitOpen Cpl
     else verdict
 
 abbrev pub if_secure : StreamStatus → Verdict → Verdict
@@ -116,32 +115,32 @@ may_refresh plan line next (Stopping n) host unless_busy verdict = v.RefusedBusy
 -- ---- the verdict, from what stands: the state of the stream, the number of draws, the ports, the host's status
 
 abbrev pub establish_on : KeyPlan → StreamStage → ℕ → PortView → ℕ → ℕ → Option Loss → Verdict
-establish_on plan o next ports link stream loss = may_establish plan link next o
-    (operation_verdict ports link stream loss
+establish_on plan o next ports line stream loss = may_establish plan line next o
+    (operation_verdict ports line stream loss
     (work_of op.Establish o next))
 
 abbrev pub refresh_on : KeyPlan → StreamStage → ℕ → PortView → StreamStatus → ℕ → ℕ → Option Loss → Verdict
-refresh_on plan o next ports host link stream loss =
+refresh_on plan o next ports host line stream loss =
     let w = work_of op.Refresh o next in
-    may_refresh plan link next o host (unless_open ports link stream w.set) (operation_verdict ports link stream loss w)
+    may_refresh plan line next o host (unless_open ports line stream w.set) (operation_verdict ports line stream loss w)
 
 abbrev pub stop_on : StreamStage → ℕ → PortView → ℕ → ℕ → Option Loss → Verdict
-stop_on o next ports link stream loss = operation_verdict ports link stream loss (work_of op.Stop o next)
+stop_on o next ports line stream loss = operation_verdict ports line stream loss (work_of op.Stop o next)
 
 -- the stream is a link's: no other has a refresh
 abbrev pub has_refresh : KeyPlan → ℕ → ℕ → Bool
-has_refresh plan link stream = is_link_line link && plan.has_stream link stream
+has_refresh plan line stream = is_link_line line && plan.has_stream line stream
 
 -- the verdict that is due; of any other event it is given
 unfoldable pub key_due : KeyPlan → History → Event → Verdict → Verdict
-key_due plan h (event.Establish link stream loss) given =
-    if plan.has_stream link stream then establish_on plan (op_of h link stream) (draws h) (ports_at h) link stream loss
+key_due plan h (event.Establish line stream loss) given =
+    if plan.has_stream line stream then establish_on plan (op_of h line stream) (draws h) (ports_at h) line stream loss
     else v.Nothing
-key_due plan h (event.Refresh link stream loss) given =
-    if has_refresh plan link stream then refresh_on plan (op_of h link stream) (draws h) (ports_at h)
-    (history_status h Host link stream) link stream loss else v.Nothing
-key_due plan h (event.Stop link stream loss) given =
-    if plan.has_stream link stream then stop_on (op_of h link stream) (draws h) (ports_at h) link stream loss
+key_due plan h (event.Refresh line stream loss) given =
+    if has_refresh plan line stream then refresh_on plan (op_of h line stream) (draws h) (ports_at h)
+    (history_status h Host line stream) line stream loss else v.Nothing
+key_due plan h (event.Stop line stream loss) given =
+    if plan.has_stream line stream then stop_on (op_of h line stream) (draws h) (ports_at h) line stream loss
     else v.Nothing
 key_due plan h (event.Reset link ends) given = if plan.has_link link then v.Reset link else v.Nothing
 key_due plan h _ given = given

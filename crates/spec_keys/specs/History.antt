@@ -2,8 +2,7 @@
 use Rattle.std.specs.Prelude.{◌+◌, ◌==◌, ◌&&◌, ◌||◌, if◌then◌else◌, ◌∷◌, ◌++◌, ℕ, nat_lt, nat_le, Bool, true, false}
 use Rattle.std.specs.Prelude.{not, Option, Some, None, List, [], length, is_some}
 use Rattle.ide_types.specs.Ports.{keyed_status}
-use Rattle.spec_keys.specs.Terms.{list_any, list_all, Side, Event, Operation, SealedPacket}
-use Rattle.spec_keys.specs.Terms.{StreamStatus, Verdict}
+use Rattle.spec_keys.specs.Terms.{list_any, list_all, Side, Event, Operation, SealedPacket, StreamStatus, Verdict}
 use Rattle.link_events.specs.declared.event.Event.TheVariants as event
 use Rattle.link_verdicts.specs.declared.verdict.Operation.TheVariants as op
 use Rattle.link_verdicts.specs.declared.verdict.Verdict.TheVariants as v
@@ -11,9 +10,8 @@ use Rattle.ide_types.specs.Lines.{is_hosted}
 use Rattle.spec_keys.specs.Places.{KeyPlace, is_host, is_same_side, is_same_sub, is_on_stream, lane, is_local}
 use Rattle.spec_keys.specs.Places.{places_of, is_cleared}
 use Rattle.spec_keys.specs.Keys.{Touch, Program, Go, Stop, Clear, Seal, Accept, Keys, keys, key_in, draw_of_keyed}
-use Rattle.spec_keys.specs.Keys.{on_in}
-use Rattle.spec_keys.specs.Keys.{is_on, DrawSlot, slot_of}
-use Rattle.spec_keys.specs.Operations.{StreamStage, Idle, Work, Reach, Manager, Begun, work_of, reach_of, manager_after}
+use Rattle.spec_keys.specs.Keys.{on_in, is_on, DrawSlot, slot_of}
+use Rattle.spec_keys.specs.Operations.{StreamStage, Idle, Work, Reach, Begun, work_of, reach_of, manager_after, Manager}
 
 abbrev pub History : Type 0
 History = List (Event × Verdict)
@@ -26,7 +24,7 @@ manager ((e, verdict) ∷ h) = manager_after (manager h) e verdict
 
 -- the manager's state of a stream
 abbrev pub op_of : History → ℕ → ℕ → StreamStage
-op_of h link stream = (manager h).ops link stream
+op_of h line stream = (manager h).ops line stream
 
 -- how many establish and refresh operations began
 abbrev pub draws : History → ℕ
@@ -42,10 +40,10 @@ begins_keyed q next verdict = (work_of op.Establish q next).begins && is_some (r
 
 -- the draw of the last establish of the stream that began
 unfoldable pub base : History → ℕ → ℕ → ℕ
-base [] link stream = 0
-base ((event.Establish l s loss, verdict) ∷ h) link stream =
-    if (l == link) && (s == stream) && begins_keyed (op_of h l s) (draws h) verdict then draws h else base h link stream
-base (_ ∷ h) link stream = base h link stream
+base [] line stream = 0
+base ((event.Establish l s loss, verdict) ∷ h) line stream =
+    if (l == line) && (s == stream) && begins_keyed (op_of h l s) (draws h) verdict then draws h else base h line stream
+base (_ ∷ h) line stream = base h line stream
 
 -- ---- touches
 
@@ -72,14 +70,14 @@ abbrev pub stop_number : (hosted near : Bool) → ℕ → ℕ
 stop_number false false l = 13 + l
 stop_number hosted near l = 1 + l
 
-abbrev pub program_at : Operation → KeyPlace → ℕ
-program_at o p = program_number (is_hosted p.line) (is_host p.side) o (lane p)
+abbrev pub program_exchange : Operation → KeyPlace → ℕ
+program_exchange o p = program_number (is_hosted p.line) (is_host p.side) o (lane p)
 
-abbrev pub go_at : Operation → KeyPlace → ℕ
-go_at o p = go_number (is_hosted p.line) (is_host p.side) o (lane p)
+abbrev pub go_exchange : Operation → KeyPlace → ℕ
+go_exchange o p = go_number (is_hosted p.line) (is_host p.side) o (lane p)
 
-abbrev pub stop_at : KeyPlace → ℕ
-stop_at p = stop_number (is_hosted p.line) (is_host p.side) (lane p)
+abbrev pub stop_exchange : KeyPlace → ℕ
+stop_exchange p = stop_number (is_hosted p.line) (is_host p.side) (lane p)
 
 -- from which exchange on, and below which, an event touches the place
 abbrev pub from_at : Work → KeyPlace → ℕ
@@ -91,22 +89,22 @@ below_at r p = if is_local p then r.acknowledged else r.carried
 abbrev pub is_within : ℕ → ℕ → ℕ → Bool
 is_within from n below = nat_le from n && nat_lt n below
 
-abbrev pub when : Bool → Touch → List Touch
-when true t = t ∷ []
-when false t = []
+abbrev pub touches_if : Bool → Touch → List Touch
+touches_if true t = t ∷ []
+touches_if false t = []
 
 -- of an establish and of a refresh
 abbrev pub keying_touches : Work → Reach → KeyPlace → List Touch
 keying_touches w r p =
-    when (is_within (from_at w p) (program_at w.operation p) (below_at r p)) (Program w.set w.draw)
-    ++ when (is_within (from_at w p) (go_at w.operation p) (below_at r p)) (Go w.set w.draw)
+    touches_if (is_within (from_at w p) (program_exchange w.operation p) (below_at r p)) (Program w.set w.draw)
+    ++ touches_if (is_within (from_at w p) (go_exchange w.operation p) (below_at r p)) (Go w.set w.draw)
 
 -- of a stop: all keys of a host's port go at its beginning, those of any other end set by set
 abbrev pub stopping_touches : Work → Reach → KeyPlace → List Touch
 stopping_touches w r p =
-    if is_local p then when w.begins Clear
-    else when (is_within w.first (stop_at p) r.carried) (Stop false)
-    ++ when (is_within w.first (stop_at p + 6) r.carried) (Stop true)
+    if is_local p then touches_if w.begins Clear
+    else touches_if (is_within w.first (stop_exchange p) r.carried) (Stop false)
+    ++ touches_if (is_within w.first (stop_exchange p + 6) r.carried) (Stop true)
 
 abbrev pub work_touches : Work → Option Reach → KeyPlace → List Touch
 work_touches w None p = []
@@ -127,27 +125,28 @@ is_sender p d = p.sends && is_same_side p.side d.port.side && is_on_stream p d.p
 
 abbrev pub seal_touches : KeyPlace → List SealedPacket → List Touch
 seal_touches p [] = []
-seal_touches p (d ∷ ds) = when (is_sender p d) (Seal d.draw d.m) ++ seal_touches p ds
+seal_touches p (d ∷ ds) = touches_if (is_sender p d) (Seal d.draw d.m) ++ seal_touches p ds
 
 abbrev pub came : KeyPlace → Verdict → List Touch
 came p (v.Sealed packets) = seal_touches p packets
-came p (v.Accepted port unit effects) = when (not p.sends && is_same_side p.side port.side && is_on_stream p port.line
+came p (v.Accepted port unit effects) = touches_if
+    (not p.sends && is_same_side p.side port.side && is_on_stream p port.line
     unit.stream && is_same_sub p.sub unit.sub) (Accept unit.draw)
 came p _ = []
 
 abbrev pub operation_touches : StreamStage → ℕ → Operation → ℕ → ℕ → Verdict → KeyPlace → List Touch
-operation_touches q next o link stream verdict p = on_it (is_on_stream p link stream)
+operation_touches q next o line stream verdict p = on_it (is_on_stream p line stream)
     (work_touches (work_of o q next) (reach_of o verdict) p)
 
 -- what an event does to a place, in order, if the streams' states and the number of draws are these
 abbrev pub touches : (ℕ → ℕ → StreamStage) → ℕ → Event → Verdict → KeyPlace → List Touch
-touches ops next (event.Establish link stream loss) verdict p = operation_touches (ops link stream) next op.Establish
-    link stream verdict p
-touches ops next (event.Refresh link stream loss) verdict p = operation_touches (ops link stream) next op.Refresh link
+touches ops next (event.Establish line stream loss) verdict p = operation_touches (ops line stream) next op.Establish
+    line stream verdict p
+touches ops next (event.Refresh line stream loss) verdict p = operation_touches (ops line stream) next op.Refresh line
     stream verdict p
-touches ops next (event.Stop link stream loss) verdict p = operation_touches (ops link stream) next op.Stop link
+touches ops next (event.Stop line stream loss) verdict p = operation_touches (ops line stream) next op.Stop line
     stream verdict p
-touches ops next (event.Reset link ends) (v.Reset l) p = when (is_cleared ends p.side p.line) Clear
+touches ops next (event.Reset link ends) (v.Reset l) p = touches_if (is_cleared ends p.side p.line) Clear
 touches ops next (event.Reset link ends) _ p = []
 touches ops next _ verdict p = came p verdict
 
@@ -173,8 +172,8 @@ kept_draw h p set = draw_of_keyed (key_in (place_keys h p) set)
 abbrev pub draw_on_at : History → KeyPlace → Bool → Option ℕ
 draw_on_at h p set = on_in (key_in (place_keys h p) set)
 
-abbrev pub slot_at : History → KeyPlace → Bool → DrawSlot
-slot_at h p set = slot_of p.sends (place_keys h p) set
+abbrev pub history_slot : History → KeyPlace → Bool → DrawSlot
+history_slot h p set = slot_of p.sends (place_keys h p) set
 
 -- ---- the stream at a port
 
@@ -183,24 +182,24 @@ abbrev pub keeps_live : Keys → Bool
 keeps_live ks = is_on ks.first || is_on ks.second
 
 abbrev pub has_key : (KeyPlace → Keys) → Side → ℕ → ℕ → Bool
-has_key ks side link stream = list_any (λ p. keeps_live (ks p)) (places_of side link stream)
+has_key ks side line stream = list_any (λ p. keeps_live (ks p)) (places_of side line stream)
 
 abbrev pub has_all : (KeyPlace → Keys) → Side → ℕ → ℕ → Bool
-has_all ks side link stream = list_all (λ p. keeps_live (ks p)) (places_of side link stream)
+has_all ks side line stream = list_all (λ p. keeps_live (ks p)) (places_of side line stream)
 
 abbrev pub fails_there : Side → ℕ → ℕ → Verdict → Bool
-fails_there side link stream (v.Fail port s sub cause) = is_same_side port.side side && (port.line == link)
+fails_there side line stream (v.Fail port s sub cause) = is_same_side port.side side && (port.line == line)
     && (s == stream)
-fails_there side link stream _ = false
+fails_there side line stream _ = false
 
 -- whether an arrival failed at the port, and since then the port always had a Live key on the stream
 unfoldable pub failed_there : History → Side → ℕ → ℕ → Bool
-failed_there [] side link stream = false
-failed_there ((e, verdict) ∷ h) side link stream =
-    (fails_there side link stream verdict || failed_there h side link stream) && has_key (place_keys ((e, verdict) ∷ h))
-    side link stream
+failed_there [] side line stream = false
+failed_there ((e, verdict) ∷ h) side line stream =
+    (fails_there side line stream verdict || failed_there h side line stream) && has_key (place_keys ((e, verdict) ∷ h))
+    side line stream
 
 abbrev pub history_status : History → Side → ℕ → ℕ → StreamStatus
-history_status h side link stream = keyed_status (failed_there h side link stream)
-    (has_key (place_keys h) side link stream)
-    (has_all (place_keys h) side link stream)
+history_status h side line stream = keyed_status (failed_there h side line stream)
+    (has_key (place_keys h) side line stream)
+    (has_all (place_keys h) side line stream)

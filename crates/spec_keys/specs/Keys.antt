@@ -1,6 +1,6 @@
 -- The keys of one place, said by all that ever touched it: which draw is kept in each key set, and which is On.
 use Rattle.std.specs.Prelude.{◌==◌, ◌&&◌, if◌then◌else◌, ◌∷◌, ℕ, nat_lt, nat_le, Bool, true, false, not, Option, Some}
-use Rattle.std.specs.Prelude.{None, List, []}
+use Rattle.std.specs.Prelude.{None, [], List}
 use Rattle.std.specs.Option.{option_or}
 
 -- What touches a place: a KEY_PROG that reached it, a K_SET_GO, a K_SET_STOP (each also as the host's local call), the
@@ -77,13 +77,13 @@ abbrev pub unless_below : ℕ → Keyed → Keyed
 unless_below j (On i) = if nat_lt i j then Off else On i
 unless_below j a = a
 
-abbrev pub touched : Bool → Keys → Touch → Keys
-touched sends ks (Program set j) = if refuses sends ks set then ks else with_key ks set (Loaded j)
-touched sends ks (Go set j) = with_key ks set (On j)
-touched sends ks (Stop set) = with_key ks set Off
-touched sends ks Clear = no_keys
-touched sends ks (Seal j m) = ks
-touched sends ks (Accept j) = record { first = unless_below j ks.first; second = unless_below j ks.second }
+abbrev pub keys_after_touch : Bool → Keys → Touch → Keys
+keys_after_touch sends ks (Program set j) = if refuses sends ks set then ks else with_key ks set (Loaded j)
+keys_after_touch sends ks (Go set j) = with_key ks set (On j)
+keys_after_touch sends ks (Stop set) = with_key ks set Off
+keys_after_touch sends ks Clear = no_keys
+keys_after_touch sends ks (Seal j m) = ks
+keys_after_touch sends ks (Accept j) = record { first = unless_below j ks.first; second = unless_below j ks.second }
 
 -- ---- a sender's older key ends with its last unit
 
@@ -113,7 +113,7 @@ without_outlived true open_is ks = record {
 
 unfoldable pub keys : Bool → List Touch → Keys
 keys sends [] = no_keys
-keys sends (t ∷ ts) = without_outlived sends (is_open (t ∷ ts)) (touched sends (keys sends ts) t)
+keys sends (t ∷ ts) = without_outlived sends (is_open (t ∷ ts)) (keys_after_touch sends (keys sends ts) t)
 
 -- ---- slots
 
@@ -130,17 +130,17 @@ is_below None j = false
 is_below (Some i) j = nat_lt i j
 
 -- of a sender the least draw that is On is Live, of a receiver each
-abbrev pub slot_on : Bool → ℕ → Option ℕ → DrawSlot
-slot_on false j other = Live j
-slot_on true j other = if is_below other j then Armed j else Live j
+abbrev pub slot_if_on : Bool → ℕ → Option ℕ → DrawSlot
+slot_if_on false j other = Live j
+slot_if_on true j other = if is_below other j then Armed j else Live j
 
-abbrev pub slot_from : Bool → Keyed → Keyed → DrawSlot
-slot_from sends Off other = Empty
-slot_from sends (Loaded j) other = Programmed j
-slot_from sends (On j) other = slot_on sends j (on_in other)
+abbrev pub slot_beside_other : Bool → Keyed → Keyed → DrawSlot
+slot_beside_other sends Off other = Empty
+slot_beside_other sends (Loaded j) other = Programmed j
+slot_beside_other sends (On j) other = slot_if_on sends j (on_in other)
 
 abbrev pub slot_of : Bool → Keys → Bool → DrawSlot
-slot_of sends ks set = slot_from sends (key_in ks set) (key_in ks (not set))
+slot_of sends ks set = slot_beside_other sends (key_in ks set) (key_in ks (not set))
 
 abbrev pub live_draw_in : DrawSlot → Option ℕ
 live_draw_in (Live j) = Some j

@@ -9,9 +9,8 @@ use Rattle.link_verdicts.specs.declared.verdict.Verdict.TheVariants as v
 use Rattle.spec_keys.specs.Places.{KeyPlan, KeyPlace}
 use Rattle.spec_keys.specs.Keys.{Touch, Go, Seal, Accept, Keys, keys, key_in, draw_of_keyed, on_in, sender_draw}
 use Rattle.spec_keys.specs.Operations.{Idle, Establishing, Up, Refreshing, work_of}
-use Rattle.spec_keys.specs.History.{History, op_of, draws, moments, came, kept_draw, draw_on_at, history_status, go_at}
-use Rattle.spec_keys.specs.History.{manager}
-use Rattle.spec_keys.specs.History.{touches}
+use Rattle.spec_keys.specs.History.{History, op_of, draws, moments, came, kept_draw, draw_on_at, history_status}
+use Rattle.spec_keys.specs.History.{go_exchange, manager, touches}
 use Rattle.spec_keys.specs.Due.{key_due}
 
 -- ---- the cause of each verdict
@@ -28,9 +27,9 @@ UsesFit sends ts (t ∷ more) = UseFits sends ts t × UsesFit sends (t ∷ ts) m
 
 -- what is supposed of the verdict of a send or an arrival
 abbrev pub GivenFits : History → Event → Verdict → Type 0
-GivenFits h (event.Establish link stream loss) verdict = Unit {0}
-GivenFits h (event.Refresh link stream loss) verdict = Unit {0}
-GivenFits h (event.Stop link stream loss) verdict = Unit {0}
+GivenFits h (event.Establish line stream loss) verdict = Unit {0}
+GivenFits h (event.Refresh line stream loss) verdict = Unit {0}
+GivenFits h (event.Stop line stream loss) verdict = Unit {0}
 GivenFits h (event.Reset link ends) verdict = Unit {0}
 GivenFits h _ verdict = (p : KeyPlace) → UsesFit p.sends (moments h p) (came p verdict)
 
@@ -78,12 +77,12 @@ pub record KeyPlaceFacts (h : History) : Type 0 where
 pub record KeysFollowOperations (h : History) : Type 0 where
   pub idle : (p : KeyPlace) → op_of h p.line p.stream ≡ Idle → (set : Bool) → kept_draw h p set ≡ None
   pub establishing : (p : KeyPlace) (j n : ℕ) → op_of h p.line p.stream ≡ Establishing j n
-      → (go_at op.Establish p < n → draw_on_at h p false ≡ Some j) × ((set : Bool) (i : ℕ)
+      → (go_exchange op.Establish p < n → draw_on_at h p false ≡ Some j) × ((set : Bool) (i : ℕ)
       → kept_draw h p set ≡ Some i → i ≡ j)
   pub up : (p : KeyPlace) (set : Bool) (j : ℕ) → op_of h p.line p.stream ≡ Up set j
       → (draw_on_at h p set ≡ Some j) × ((other : Bool) (i : ℕ) → draw_on_at h p other ≡ Some i → i ≢ j → i < j)
   pub refreshing : (p : KeyPlace) (set : Bool) (j n : ℕ) → op_of h p.line p.stream ≡ Refreshing set j n
-      → go_at op.Refresh p < n → draw_on_at h p set ≡ Some j
+      → go_exchange op.Refresh p < n → draw_on_at h p set ≡ Some j
   -- a draw is kept in one slot of a place at most, and on one stream
   pub one_slot : (p q : KeyPlace) (k l : Bool) (j : ℕ) → kept_draw h p k ≡ Some j → kept_draw h q l ≡ Some j → (k ≡ l)
       × (p.line ≡ q.line) × (p.stream ≡ q.stream)
@@ -148,22 +147,22 @@ pub record NeverAgain (h : History) : Type 0 where
 -- At an established or refreshed verdict the draw of the operation is On in all places of the stream. At an established
 -- verdict no other draw is kept there, at a refreshed one only smaller ones are On. At a stopped verdict none is kept.
 abbrev pub SettledAt : History → Event → Verdict → Type 0
-SettledAt h (event.Establish link stream loss) (v.Established l t j) =
-    (j ≡ (work_of op.Establish (op_of h link stream) (draws h)).draw)
-    × ((p : KeyPlace) → p.line ≡ link → p.stream ≡ stream
-    → (draw_on_at ((event.Establish link stream loss, v.Established l t j) ∷ h) p false ≡ Some j)
-    × ((set : Bool) (i : ℕ) → kept_draw ((event.Establish link stream loss, v.Established l t j) ∷ h) p set ≡ Some i
+SettledAt h (event.Establish line stream loss) (v.Established l t j) =
+    (j ≡ (work_of op.Establish (op_of h line stream) (draws h)).draw)
+    × ((p : KeyPlace) → p.line ≡ line → p.stream ≡ stream
+    → (draw_on_at ((event.Establish line stream loss, v.Established l t j) ∷ h) p false ≡ Some j)
+    × ((set : Bool) (i : ℕ) → kept_draw ((event.Establish line stream loss, v.Established l t j) ∷ h) p set ≡ Some i
     → i ≡ j))
-SettledAt h (event.Refresh link stream loss) (v.Refreshed l t j) =
-    (j ≡ (work_of op.Refresh (op_of h link stream) (draws h)).draw)
-    × ((p : KeyPlace) → p.line ≡ link → p.stream ≡ stream
-    → (draw_on_at ((event.Refresh link stream loss, v.Refreshed l t j) ∷ h) p (work_of op.Refresh (op_of h link stream)
+SettledAt h (event.Refresh line stream loss) (v.Refreshed l t j) =
+    (j ≡ (work_of op.Refresh (op_of h line stream) (draws h)).draw)
+    × ((p : KeyPlace) → p.line ≡ line → p.stream ≡ stream
+    → (draw_on_at ((event.Refresh line stream loss, v.Refreshed l t j) ∷ h) p (work_of op.Refresh (op_of h line stream)
     (draws h)).set ≡ Some j)
-    × ((set : Bool) (i : ℕ) → draw_on_at ((event.Refresh link stream loss, v.Refreshed l t j) ∷ h) p set ≡ Some i
+    × ((set : Bool) (i : ℕ) → draw_on_at ((event.Refresh line stream loss, v.Refreshed l t j) ∷ h) p set ≡ Some i
     → i ≢ j → i < j))
-SettledAt h (event.Stop link stream loss) (v.Stopped l t) =
-    (p : KeyPlace) → p.line ≡ link → p.stream ≡ stream → (set : Bool)
-    → kept_draw ((event.Stop link stream loss, v.Stopped l t) ∷ h) p set ≡ None
+SettledAt h (event.Stop line stream loss) (v.Stopped l t) =
+    (p : KeyPlace) → p.line ≡ line → p.stream ≡ stream → (set : Bool)
+    → kept_draw ((event.Stop line stream loss, v.Stopped l t) ∷ h) p set ≡ None
 SettledAt h e verdict = Unit {0}
 
 abbrev pub OperationsSettle : History → Type 0
@@ -172,10 +171,10 @@ OperationsSettle ((e, verdict) ∷ h) = SettledAt h e verdict × OperationsSettl
 
 -- No move of a refresh takes a port out of Secure.
 abbrev pub StaysSecureAt : History → Event → Verdict → Type 0
-StaysSecureAt h (event.Refresh link stream loss) verdict =
-    (side : Side) → history_status h side link stream ≡ status.Secure
-    → history_status ((event.Refresh link stream loss, verdict)
-    ∷ h) side link stream ≡ status.Secure
+StaysSecureAt h (event.Refresh line stream loss) verdict =
+    (side : Side) → history_status h side line stream ≡ status.Secure
+    → history_status ((event.Refresh line stream loss, verdict)
+    ∷ h) side line stream ≡ status.Secure
 StaysSecureAt h e verdict = Unit {0}
 
 abbrev pub StaysSecure : History → Type 0

@@ -74,8 +74,8 @@ op_ended w = ended w.operation
     ended op.Refresh = Up w.set w.draw
     ended op.Stop = Idle
 
-abbrev pub op_standing : Work → ℕ → StreamStage
-op_standing w n = standing w.operation
+abbrev pub op_at_exchange : Work → ℕ → StreamStage
+op_at_exchange w n = standing w.operation
   where
     standing : Operation → StreamStage
     standing op.Establish = Establishing w.draw n
@@ -84,7 +84,7 @@ op_standing w n = standing w.operation
 
 abbrev pub op_after : (hosted : Bool) → Work → Reach → StreamStage
 op_after hosted w r =
-    if nat_lt (last_exchange_of hosted w.operation) r.acknowledged then op_ended w else op_standing w r.acknowledged
+    if nat_lt (last_exchange_of hosted w.operation) r.acknowledged then op_ended w else op_at_exchange w r.acknowledged
 
 -- an operation that began with a draw
 pub record Begun : Type 0 where
@@ -102,19 +102,19 @@ makes_draw op.Stop = false
 makes_draw _ = true
 
 abbrev pub begun_after_work : List Begun → ℕ → ℕ → Work → List Begun
-begun_after_work bs link stream w = if w.begins && makes_draw w.operation then record {
-  line = link;
+begun_after_work bs line stream w = if w.begins && makes_draw w.operation then record {
+  line = line;
   stream = stream;
   set = w.set;
 } ∷ bs else bs
 
 abbrev pub manager_after_operation : Manager → Operation → ℕ → ℕ → Option Reach → Manager
-manager_after_operation m o link stream None = m
-manager_after_operation m o link stream (Some r) =
-    let w = work_of o (m.ops link stream) (length m.begun) in
+manager_after_operation m o line stream None = m
+manager_after_operation m o line stream (Some r) =
+    let w = work_of o (m.ops line stream) (length m.begun) in
     record {
-      ops = λ a b. if (a == link) && (b == stream) then op_after (is_hosted link) w r else m.ops a b;
-      begun = begun_after_work m.begun link stream w;
+      ops = λ a b. if (a == line) && (b == stream) then op_after (is_hosted line) w r else m.ops a b;
+      begun = begun_after_work m.begun line stream w;
     }
 
 -- after a reset that clears these ends: the two ends of a stream between devices are to be stopped, any other has no
@@ -123,11 +123,11 @@ abbrev pub op_cut : List PortName → ℕ → StreamStage → StreamStage
 op_cut ends line o = if is_cut ends line then (if is_between_devices line then Stopping 1 else Idle) else o
 
 abbrev pub manager_after : Manager → Event → Verdict → Manager
-manager_after m (event.Establish link stream loss) verdict = manager_after_operation m op.Establish link stream
+manager_after m (event.Establish line stream loss) verdict = manager_after_operation m op.Establish line stream
     (reach_of op.Establish verdict)
-manager_after m (event.Refresh link stream loss) verdict = manager_after_operation m op.Refresh link stream
+manager_after m (event.Refresh line stream loss) verdict = manager_after_operation m op.Refresh line stream
     (reach_of op.Refresh verdict)
-manager_after m (event.Stop link stream loss) verdict = manager_after_operation m op.Stop link stream
+manager_after m (event.Stop line stream loss) verdict = manager_after_operation m op.Stop line stream
     (reach_of op.Stop verdict)
 manager_after m (event.Reset link ends) (v.Reset l) = record {
   ops = λ a b. op_cut ends a (m.ops a b);

@@ -27,7 +27,7 @@ abbrev pub is_same_side : Side → Side → Bool
 is_same_side a b = sent_direction a == sent_direction b
 
 abbrev pub is_on_stream : KeyPlace → ℕ → ℕ → Bool
-is_on_stream p link stream = (p.line == link) && (p.stream == stream)
+is_on_stream p line stream = (p.line == line) && (p.stream == stream)
 
 -- its number among the six of its stream at its end: the receivers PR, NPR, CPL, then the senders
 abbrev pub lane : KeyPlace → ℕ
@@ -38,9 +38,9 @@ abbrev pub is_local : KeyPlace → Bool
 is_local p = is_host p.side && is_hosted p.line
 
 abbrev pub key_place_at : Side → ℕ → ℕ → Bool → SubKind → KeyPlace
-key_place_at side link stream upward u = record {
+key_place_at side line stream upward u = record {
   side = side;
-  line = link;
+  line = line;
   stream = stream;
   sends = if is_host side then not upward else upward;
   sub = u;
@@ -48,17 +48,17 @@ key_place_at side link stream upward u = record {
 
 -- the six places of a stream at an end, in order
 abbrev pub places_of : Side → ℕ → ℕ → List KeyPlace
-places_of side link stream =
-    key_place_at side link stream false Pr ∷ key_place_at side link stream false Npr
-    ∷ key_place_at side link stream false Cpl
-    ∷ key_place_at side link stream true Pr ∷ key_place_at side link stream true Npr
-    ∷ key_place_at side link stream true Cpl ∷ []
+places_of side line stream =
+    key_place_at side line stream false Pr ∷ key_place_at side line stream false Npr
+    ∷ key_place_at side line stream false Cpl
+    ∷ key_place_at side line stream true Pr ∷ key_place_at side line stream true Npr
+    ∷ key_place_at side line stream true Cpl ∷ []
 
 -- those of a stream whose keys are given by messages: at the far end, and at the near end too if no host's port is
 -- there
 abbrev pub told_places : (hosted : Bool) → ℕ → ℕ → List KeyPlace
-told_places true link stream = places_of Device link stream
-told_places false link stream = places_of Host link stream ++ places_of Device link stream
+told_places true line stream = places_of Device line stream
+told_places false line stream = places_of Host line stream ++ places_of Device line stream
 
 -- ---- a reset
 

@@ -1,48 +1,43 @@
 -- What an accepted, a held and a sealed verdict tell, if they were due. `tells` goes down the rule for each kind of
 -- event to the send, or to the packet that the event brought; no other way leads to one of the three. From there each
 -- test that gives another verdict must have gone the other way, and these tests are what the records list.
-use Rattle.spec_links.proofs.Terms.{Bool, Err, List, None, Ok, Option, Result, Some, [], ap, arith, false, length}
-use Rattle.spec_links.proofs.Terms.{refl, subst, sym, true, ℕ, ◌+◌, ◌∙◌, ◌∷◌, ◌≡◌, unwrap_or, key_due, Ending}
-use Rattle.spec_links.proofs.Terms.{Sending, arrival_due, before_tag}
-use Rattle.spec_links.proofs.Terms.{before_tag_of, due, dump_due, effects_of, ended, first_that_holds, send_due}
-use Rattle.spec_links.proofs.Terms.{is_mixed, is_overfull, is_verified, lanes_at, receiving_sub_stream, refusals}
-use Rattle.spec_links.proofs.Terms.{sealed_with_syncs}
-use Rattle.spec_links.proofs.Terms.{streams_of, unit_under, Arrival}
-use Rattle.spec_links.proofs.Terms.{arrival_of_event, arrived_packet, cut_packet, failed, meets_counts, on_draw}
-use Rattle.spec_links.proofs.Terms.{packet_at}
-use Rattle.spec_links.proofs.Terms.{packet_in, received_in, sealed_packets, units_got, is_quiet, SubStream, has_link}
-use Rattle.spec_links.proofs.Terms.{has_stream, stream_plan}
+use Rattle.spec_links.proofs.Terms.{Bool, Err, List, None, Ok, Option, Result, Some, [], ap, arith, false, length, refl}
+use Rattle.spec_links.proofs.Terms.{subst, sym, true, ℕ, ◌+◌, ◌∙◌, ◌∷◌, ◌≡◌, unwrap_or, key_due, Ending, Sending}
+use Rattle.spec_links.proofs.Terms.{arrival_due, before_tag, before_tag_of, due, dump_due, effects_of}
+use Rattle.spec_links.proofs.Terms.{unit_packets_ended, first_that_holds, send_due, is_mixed, is_overfull, is_verified}
+use Rattle.spec_links.proofs.Terms.{lanes_at, receiving_sub_stream, refusals, sealed_with_syncs, streams_of}
+use Rattle.spec_links.proofs.Terms.{next_unit_name, Arrival, arrival_of_event, arrived_packet, cut_packet, has_failed}
+use Rattle.spec_links.proofs.Terms.{meets_counts, on_draw, packet_by_number, arrival_packet, received_in}
+use Rattle.spec_links.proofs.Terms.{sealed_packets, units_got, is_quiet, SubStream, has_link, has_stream, stream_plan}
 use Rattle.spec_links.proofs.Terms.{AllByRecursion, Alter, Arrive, Cut, Dump, Effect, Establish, Interface, Event}
-use Rattle.spec_links.proofs.Terms.{sent_bytes, Pass}
-use Rattle.spec_links.specs.Due.{bytes_due, through_due, forward_out, forward_first}
+use Rattle.spec_links.proofs.Terms.{sent_bytes, Pass, History, Packet, Plan, PortName, Refresh, Reset, SealedPacket}
+use Rattle.spec_links.proofs.Terms.{Send, Status, Stop, UnitName, Verdict, if◌then◌else◌, is_some, not, packets_in_hold}
+use Rattle.spec_links.proofs.Terms.{◌++◌, Access, sending_port, answer_due, answer_first, site_answer}
+use Rattle.spec_links.proofs.Terms.{completion_verdict, outgoing_completion, is_before, judged_by, answer_judged}
+use Rattle.spec_links.proofs.Terms.{binding_cause, WaitingRead, waiting_reads, Site, site_with, granted_to, live_key}
+use Rattle.spec_links.proofs.Terms.{lane_out, Cpl}
+use Rattle.spec_links.specs.Due.{bytes_due, through_due, forward_out, forward_first, ending_due}
 use Rattle.spec_links.specs.Hops.{HopTlp, has_hop}
-use Rattle.spec_links.specs.Memory.{hop_waiting}
+use Rattle.spec_links.specs.Memory.{hop_waiting, unit_ended}
 use Rattle.ide_types.specs.declared.direction.Direction.{Direction}
 use Rattle.link_events.specs.declared.event.Event.TheVariants.{Forward, Absent}
 unfoldable use Rattle.spec_links.specs.Due.{t_sealed}
 use Rattle.spec_links.specs.Ports.{may_send, outgoing_at}
 unfoldable use Rattle.spec_links.specs.Ports.{goes_through, sealing_end}
-use Rattle.spec_links.proofs.Terms.{History, Packet, Plan, PortName, Refresh, Reset, SealedPacket, Send, Status, Stop}
-use Rattle.spec_links.proofs.Terms.{UnitName, Verdict, if◌then◌else◌, is_some, not}
-use Rattle.spec_links.specs.Due.{ending_due}
 use Rattle.spec_links.specs.History.{pending_packets}
-use Rattle.spec_links.specs.Memory.{unit_ended}
-use Rattle.spec_links.proofs.Terms.{packets_in_hold, ◌++◌}
 use Rattle.spec_links.proofs.Senders.{AreFalse}
 use Rattle.spec_links.proofs.KeyVerdicts.{establish_due_quiet, refresh_due_quiet, stop_due_quiet, interface_due_quiet}
 use Rattle.spec_links.proofs.KeyVerdicts.{if_quiet, mmio_quiet}
-use Rattle.spec_links.proofs.Terms.{Access, sending_port, answer_due, answer_first, site_answer, completion_verdict}
-use Rattle.spec_links.proofs.Terms.{outgoing_completion}
-use Rattle.spec_links.proofs.Terms.{is_stream, is_before, WaitingRead, waiting, Site, site_with, granted_to}
-use Rattle.spec_links.proofs.Terms.{live_key, lane_out, Cpl, nat_lt}
 unfoldable use Rattle.spec_links.proofs.Terms.{bytes_by}
+use Rattle.ide_types.specs.declared.binding.Binding.{Binding}
+use Rattle.link_verdicts.specs.declared.verdict.BlockCause.{BlockCause}
 use Rattle.link_events.specs.declared.event.AccessEvent.TheVariants as ae
 use Rattle.tlp_layout.specs.declared.tlp.Tlp.{Tlp}
 use Rattle.tlp_layout.specs.Class.{class_of}
 use Rattle.tlp_layout.specs.Tlp.{header}
 use Rattle.tlp_layout.specs.Reading.{read_of}
-use Rattle.association.specs.Outgoing.{Outgoing, NoTlp, OnNone, OnStream, outgoing_of, stream_taken}
-use Rattle.association.proofs.Outgoing.{on_stream_reads}
+use Rattle.tlp_layout.specs.Outgoing.{Outgoing, NoTlp, OnNone, OnStream, outgoing_of, stream_taken}
+use Rattle.tlp_layout.proofs.Outgoing.{on_stream_reads}
 use Rattle.ide_prefix.specs.declared.fault.PacketFault.{PacketFault}
 use Rattle.ide_prefix.specs.Reading.{CutValue, PlainTlp, IdePacket, cut_of}
 use Rattle.link_verdicts.specs.declared.verdict.Verdict.TheVariants as v
@@ -58,12 +53,12 @@ pub record Came (plan : Plan) (h : History) (e : Event) (port : PortName) (p : P
 -- the packet passed the checks before the tag, as one of this unit
 pub record Passed (plan : Plan) (h : History) (port : PortName) (p : Packet) (unit : UnitName) : Type 0 where
   pub known : has_stream plan port p.prefix.stream ≡ true
-  pub secure : failed h port p.prefix.stream ≡ false
+  pub secure : has_failed h port p.prefix.stream ≡ false
   pub live : on_draw h port (receiving_sub_stream port p) p.prefix.k ≡ Some unit.draw
   pub alone : is_mixed plan h (receiving_sub_stream port p)
       (on_draw h port (receiving_sub_stream port p) (not p.prefix.k)) ≡ false
   pub room : is_overfull plan h (receiving_sub_stream port p) unit.draw p.prefix.m ≡ false
-  pub named : unit ≡ unit_under h (receiving_sub_stream port p) unit.draw
+  pub named : unit ≡ next_unit_name h (receiving_sub_stream port p) unit.draw
 
 pub record HeldBy (plan : Plan) (h : History) (e : Event) (port : PortName) (unit : UnitName) : Type 0 where
   pub packet : Packet
@@ -71,19 +66,20 @@ pub record HeldBy (plan : Plan) (h : History) (e : Event) (port : PortName) (uni
   pub passed : Passed plan h port packet unit
   pub goes_on : packet.prefix.m ≡ false
 
-abbrev pub ending : Packet → UnitName → Ending
-ending p unit = record { packet = p; unit = unit }
+abbrev pub unit_ending : Packet → UnitName → Ending
+unit_ending p unit = record { packet = p; unit = unit }
 
 pub record AcceptedBy (plan : Plan) (h : History) (e : Event) (port : PortName) (unit : UnitName)
     (effects : List Effect) : Type 0 where
   pub packet : Packet
   pub came : Came plan h e port packet
-  pub before : before_tag plan h (record { port = port; bytes = came.bytes }) ≡ Ok (ending packet unit)
+  pub before : before_tag plan h (record { port = port; bytes = came.bytes }) ≡ Ok (unit_ending packet unit)
   pub passed : Passed plan h port packet unit
   pub ends : packet.prefix.m ≡ true
-  pub verified : is_verified plan h port (ending packet unit) ≡ true
-  pub counts : meets_counts plan h (received_in port unit) (ended plan h port (ending packet unit)) ≡ true
-  pub effects_are : effects ≡ effects_of plan h port unit (ended plan h port (ending packet unit))
+  pub verified : is_verified plan h port (unit_ending packet unit) ≡ true
+  pub counts : meets_counts plan h (received_in port unit) (unit_packets_ended plan h port (unit_ending packet unit))
+      ≡ true
+  pub effects_are : effects ≡ effects_of plan h port unit (unit_packets_ended plan h port (unit_ending packet unit))
 
 -- what a sealed verdict tells of the port that sealed and the bytes
 pub record IsSealing (plan : Plan) (h : History) (port : PortName) (bytes : List ℕ) (ds : List SealedPacket) : Type 0
@@ -183,25 +179,31 @@ send_tells plan h port bytes more trusted here =
 
 -- ---- answers
 
-answer_by_tells : (plan : Plan) (h : History) (link interface draw : ℕ) (o : Option (ℕ × ℕ))
+judged_tells : (plan : Plan) (h : History) (link interface : ℕ) (bound : Binding) (o : Option BlockCause)
+    → let e = Access (ae.Answer link) in
+    Tells plan h e (answer_judged plan h (sending_port plan e) (outgoing_completion plan h link)
+    (judged_by interface bound o))
+judged_tells plan h link interface bound (Some c) = tt
+judged_tells plan h link interface bound None =
+    let e = Access (ae.Answer link) in
+    let out = outgoing_completion plan h link in
+    let key = live_key h (sending_port plan e) (lane_out (sending_port plan e) bound.stream Cpl) in
+    if_tells plan h e (is_before key bound.floor) _ _ tt (outgoing_tells plan h e refl false true out refl)
+
+answer_by_tells : (plan : Plan) (h : History) (link interface draw : ℕ) (o : Option Binding)
     → let e = Access (ae.Answer link) in
     Tells plan h e (completion_verdict plan h (sending_port plan e) interface draw o (outgoing_completion plan h link))
 answer_by_tells plan h link interface draw None = tt
 answer_by_tells plan h link interface draw (Some bound) =
-    let e = Access (ae.Answer link) in
-    let out = outgoing_completion plan h link in
-    let key = live_key h (sending_port plan e) (lane_out (sending_port plan e) bound.0 Cpl) in
-    if_tells plan h e (not (is_stream bound.0 (stream_taken out))) _ _ tt
-    (if_tells plan h e (nat_lt draw bound.1) _ _ tt
-    (if_tells plan h e (is_before key bound.1) _ _ tt (outgoing_tells plan h e refl false true out refl)))
+    judged_tells plan h link interface bound
+    (binding_cause bound (stream_taken (outgoing_completion plan h link)) draw)
 
 answer_of_tells : (plan : Plan) (h : History) (link draw : ℕ) (o : Option Site) → let e = Access (ae.Answer link) in
     Tells plan h e (site_answer plan h (sending_port plan e) draw o (outgoing_completion plan h link))
 answer_of_tells plan h link draw None = tt
 answer_of_tells plan h link draw (Some x) = answer_by_tells plan h link x.number draw (granted_to h (Some x))
 
-answer_first_tells : (plan : Plan) (h : History) (link : ℕ) (rs : List WaitingRead)
-    → let e = Access (ae.Answer link) in
+answer_first_tells : (plan : Plan) (h : History) (link : ℕ) (rs : List WaitingRead) → let e = Access (ae.Answer link) in
     Tells plan h e (answer_first plan h (sending_port plan e) rs (outgoing_completion plan h link))
 answer_first_tells plan h link [] = tt
 answer_first_tells plan h link (r ∷ rs) =
@@ -210,7 +212,7 @@ answer_first_tells plan h link (r ∷ rs) =
 answer_tells : (plan : Plan) (h : History) (link : ℕ) → Tells plan h (Access (ae.Answer link)) (answer_due plan h link)
 answer_tells plan h link =
     if_tells plan h (Access (ae.Answer link)) (has_link plan link) _ v.Nothing
-    (answer_first_tells plan h link (waiting plan h link)) tt
+    (answer_first_tells plan h link (waiting_reads plan h link)) tt
 
 -- ---- what waits at switches
 
@@ -271,17 +273,17 @@ tells plan h (Send port bytes more trusted) = send_tells plan h port bytes more 
 tells plan h (Access (ae.Answer link)) = answer_tells plan h link
 tells plan h (Access (ae.Mmio interface bar offset len)) =
     quiet_tells plan h (Access (ae.Mmio interface bar offset len)) _ (mmio_quiet plan h interface bar offset len)
-tells plan h (Dump n) = quiet_tells plan h (Dump n) _ (dump_quiet n (packet_at (sealed_packets plan h) n))
-tells plan h (Establish link stream lose) = quiet_tells plan h (Establish link stream lose) _
-    (establish_due_quiet plan h link stream lose)
-tells plan h (Refresh link stream lose) = quiet_tells plan h (Refresh link stream lose) _
-    (refresh_due_quiet plan h link stream lose)
-tells plan h (Stop link stream lose) = quiet_tells plan h (Stop link stream lose) _
-    (stop_due_quiet plan h link stream lose)
+tells plan h (Dump n) = quiet_tells plan h (Dump n) _ (dump_quiet n (packet_by_number (sealed_packets plan h) n))
+tells plan h (Establish line stream lose) = quiet_tells plan h (Establish line stream lose) _
+    (establish_due_quiet plan h line stream lose)
+tells plan h (Refresh line stream lose) = quiet_tells plan h (Refresh line stream lose) _
+    (refresh_due_quiet plan h line stream lose)
+tells plan h (Stop line stream lose) = quiet_tells plan h (Stop line stream lose) _
+    (stop_due_quiet plan h line stream lose)
 tells plan h (Reset link ends) = quiet_tells plan h (Reset link ends) _
     (if_quiet (has_link plan link) (v.Reset link) v.Nothing refl refl)
-tells plan h (Status link stream) = quiet_tells plan h (Status link stream) _
-    (if_quiet (is_some (stream_plan plan link stream)) _ v.Nothing refl refl)
+tells plan h (Status line stream) = quiet_tells plan h (Status line stream) _
+    (if_quiet (is_some (stream_plan plan line stream)) _ v.Nothing refl refl)
 tells plan h (Interface e) = quiet_tells plan h (Interface e) _ (interface_due_quiet plan h e)
 tells plan h (Pass n) = arrival_tells plan h (Pass n) (arrival_of_event plan h (Pass n)) refl
 tells plan h (Alter n at mask) = arrival_tells plan h (Alter n at mask) (arrival_of_event plan h (Alter n at mask)) refl
@@ -333,8 +335,7 @@ held_by plan h e port unit is =
     }
 
 ending_is : (plan : Plan) (h : History) (port : PortName) (p : Packet) (unit : UnitName) → Passed plan h port p unit
-    → p.prefix.m ≡ true
-    → before_tag_of plan h port (Ok (IdePacket p)) ≡ Ok (ending p unit)
+    → p.prefix.m ≡ true → before_tag_of plan h port (Ok (IdePacket p)) ≡ Ok (unit_ending p unit)
 ending_is plan h port p unit passed m = grind arith
 
 accepted_of : (plan : Plan) (h : History) (e : Event) (q port : PortName) (p : Packet) (unit : UnitName)
@@ -390,7 +391,7 @@ sealing_is plan h e ds is = (subst (Tells plan h e) (sym is) (tells plan h e)).1
 
 pub packet_that_came : (plan : Plan) (h : History) (e : Event) (port : PortName) (p : Packet) → Came plan h e port p
     → arrived_packet plan h e ≡ p
-packet_that_came plan h e port p came = ap packet_in came.arrival ∙ ap cut_packet came.cut
+packet_that_came plan h e port p came = ap arrival_packet came.arrival ∙ ap cut_packet came.cut
 
 pub received_there : (plan : Plan) (h : History) (port : PortName) (p : Packet) (unit : UnitName)
     → Passed plan h port p unit → received_in port unit ≡ receiving_sub_stream port p
@@ -405,7 +406,7 @@ numbered plan h port p unit passed =
 -- the unit that an accepted verdict ends
 pub unit_that_ends : (plan : Plan) (h : History) (e : Event) (port : PortName) (unit : UnitName) (p : Packet)
     → Came plan h e port p → Passed plan h port p unit → unit_ended plan h e port unit
-    ≡ ended plan h port (ending p unit)
+    ≡ unit_packets_ended plan h port (unit_ending p unit)
 unit_that_ends plan h e port unit p came passed =
     ap (λ (n : ℕ). packets_in_hold plan h (received_in port unit) unit.draw n ++ arrived_packet plan h e ∷ [])
     (numbered plan h port p unit passed)

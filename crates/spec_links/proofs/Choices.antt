@@ -1,17 +1,16 @@
 -- The stream that a TLP takes is one of its link's.
-use Rattle.spec_links.proofs.Terms.{Bool, List, Option, Some, [], arith, inl, inr, true, ℕ, ◌==◌, ◌∷◌, ◌≡◌, ◌⊎◌}
+use Rattle.spec_links.proofs.Terms.{Bool, List, Option, Some, None, [], arith, inl, inr, true, ℕ, ◌==◌, ◌∷◌, ◌≡◌, ◌⊎◌}
 use Rattle.spec_links.proofs.Terms.{nat_tests, has_stream, stream_plan, streams_of, with_id, Plan, PortName}
 use Rattle.spec_links.proofs.Terms.{if◌then◌else◌, is_some}
 use Rattle.tlp_layout.specs.declared.tlp.Tlp.{Tlp}
 use Rattle.tlp_layout.specs.Tlp.{header}
 use Rattle.ide_types.specs.declared.stream.StreamPlan.{StreamPlan}
 use Rattle.ide_types.specs.declared.stream.Selector.{Selector}
-use Rattle.association.specs.Choice.{choice_of, chosen_stream, least_of, lesser_id, if_none, takes_by_range}
-use Rattle.association.specs.Choice.{takes_the_rest}
-use Rattle.association.specs.Choice.{takes_class}
-use Rattle.association.specs.Outgoing.{OnStream, outgoing_of}
-use Rattle.association.proofs.Outgoing.{on_stream_reads}
-use Rattle.association.specs.declared.choice.Choice.TheVariants as choices
+use Rattle.tlp_layout.specs.Choice.{choice_of, chosen_stream, least_of, lesser_id, by_way, takes_by_range}
+use Rattle.tlp_layout.specs.Choice.{takes_the_rest, takes_class}
+use Rattle.tlp_layout.specs.Outgoing.{OnStream, outgoing_of}
+use Rattle.tlp_layout.proofs.Outgoing.{on_stream_reads}
+use Rattle.tlp_layout.specs.declared.choice.Way.TheVariants.{ByRange, ByDefault, ByClass}
 
 -- the least ID of a list that begins with this stream is its own, or that of the rest
 one_more : (s : StreamPlan) (b : Bool) (o : Option ℕ) (rest : Option StreamPlan) (id : ℕ)
@@ -26,8 +25,7 @@ least_known test (s ∷ ss) id is = one_more s (test s.selector) (least_of test 
     (least_known test ss id)
 
 one_of_three : (a b c : Option ℕ) (id : ℕ)
-    → chosen_stream (if_none a choices.Selective (if_none b choices.Default (if_none c choices.Link choices.Plain)))
-    ≡ Some id
+    → chosen_stream (by_way ByRange a (by_way ByDefault b (by_way ByClass c None))) ≡ Some id
     → (a ≡ Some id) ⊎ ((b ≡ Some id) ⊎ (c ≡ Some id))
 one_of_three a b c id is = grind arith
 

@@ -4,14 +4,12 @@ use Rattle.std.specs.Prelude.{drop, Option, None}
 use Rattle.std.proofs.Common.{refl, ap, ◌∙◌, arith}
 use Rattle.std.proofs.lemmas.Bool.{true≢false}
 use Rattle.spec_links.specs.Terms.{PortName, Plan, Event, Effect, UnitName, Verdict, Accepted, read_head_of, Packet}
-use Rattle.spec_links.specs.Terms.{is_sync_packet, History, Device, Write, newest_first}
+use Rattle.spec_links.specs.Terms.{is_sync_packet, History, Device, Write, newest_first, MemoryContents, IsLeftBy}
+use Rattle.spec_links.specs.Terms.{Leads, grant_at}
 use Rattle.spec_links.specs.Ports.{is_host_port}
 unfoldable use Rattle.spec_links.specs.Ports.{port_of}
-use Rattle.spec_links.specs.Terms.{MemoryContents}
-use Rattle.spec_links.specs.Terms.{IsLeftBy, Leads, grant_at}
-use Rattle.spec_links.specs.Memory.{Grants, payload_write, admitted, admitted_each, unit_ended, plain_of}
-use Rattle.spec_links.specs.Memory.{accepted_unit_writes}
-use Rattle.spec_links.specs.Memory.{accepts_unit, ContentsFollow}
+use Rattle.spec_links.specs.Memory.{Grants, payload_write, write_if_admitted, admitted_each, unit_ended, plain_of}
+use Rattle.spec_links.specs.Memory.{accepted_unit_writes, accepts_unit, ContentsFollow}
 unfoldable use Rattle.spec_links.specs.Memory.{writes}
 
 accepted_follows : (plan : Plan) (h : History) (e : Event) (port : PortName) (unit : UnitName) (effects : List Effect)
@@ -29,7 +27,7 @@ others_stay plan h e w none = refl
 
 -- a port of a device, or at a switch, is no host's
 none_elsewhere : (plan : Plan) (grants : Grants) (port : PortName) (unit : UnitName) (p : Packet) (payload : List ℕ)
-    → is_host_port plan port ≡ false → admitted plan grants port unit p payload ≡ None
+    → is_host_port plan port ≡ false → write_if_admitted plan grants port unit p payload ≡ None
 none_elsewhere plan grants port unit p payload is = by (is_sync_packet p)
   where
     by : (s : Bool) → (if not s && is_host_port plan port then payload_write plan grants port unit p.prefix.t payload

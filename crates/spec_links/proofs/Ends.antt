@@ -1,14 +1,12 @@
 -- Whose a stream ID is: the end of a line that has the stream is met by its ID at its own port, and so a packet that
 -- was not altered arrives at the other end of the line on which it was sealed.
-use Rattle.spec_links.specs.Plan.{has_link}
+use Rattle.spec_links.specs.Plan.{has_link, streams_by_link, hop_streams, hop_by_link, peer_streams, lone_stream}
+use Rattle.spec_links.specs.Plan.{in_eight, behind_near, behind_links}
 use Rattle.spec_links.proofs.Terms.{Bool, List, None, Option, Some, [], ap, arith, false, length, map, refl, subst, sym}
 use Rattle.spec_links.proofs.Terms.{true, ℕ, ◌++◌, ◌+◌, ◌-◌, ◌==◌, ◌∙◌, ◌∷◌, ◌≡◌, nat_tests, slice_get, suc, zero}
 use Rattle.spec_links.proofs.Terms.{PortName, Plan, Packet, has_stream, is_some, streams_of, with_id}
 use Rattle.spec_links.proofs.Terms.{if◌then◌else◌, ◌&&◌}
 unfoldable use Rattle.spec_links.specs.Plan.{stream_plan, streams_by_line}
-use Rattle.spec_links.specs.Plan.{streams_by_link, hop_streams, hop_by_link, peer_streams, lone_stream}
-use Rattle.spec_links.specs.Plan.{in_eight}
-use Rattle.spec_links.specs.Plan.{behind_near, behind_links}
 unfoldable use Rattle.spec_links.specs.Ports.{goes_through, id_in, port_of}
 use Rattle.spec_links.specs.Ports.{at_switch}
 use Rattle.std.specs.Prelude.{◌<◌, ◌≤◌, ◌≢◌, ◌||◌, All, AllPairs, nat_lt, replicate}
@@ -29,7 +27,7 @@ use Rattle.ide_types.specs.declared.stream.StreamPlan.{StreamPlan}
 use Rattle.ide_types.specs.Plans.{has_stream_id, hop_has_id, link_has_id, links_have_id}
 use Rattle.ide_types.specs.Fits.{FitsPlan, FitsLink, FitsHopIf, FitsPeer}
 use Rattle.ide_types.specs.Ends.{end_at, end_on, far_hop_port, hop_end, line_has, link_hop, near_hop_port, own_has_id}
-use Rattle.ide_types.specs.Ends.{peer_has_id, peer_link, port_at}
+use Rattle.ide_types.specs.Ends.{peer_has_id, peer_link, port_beside_end}
 unfoldable use Rattle.ide_types.specs.Ends.{peer_end}
 use Rattle.ide_prefix.specs.Packet.{packet_bytes}
 
@@ -198,8 +196,7 @@ same-true n = grind (arith, nat_tests)
 
 -- a stream between devices is found by its ID at the device of its first link, and at that of its second
 peer_met : (ps : List PeerPlan) → AllPairs (λ a b. a.id ≢ b.id) ps → (n i : ℕ) (p : PeerPlan) → slice_get ps i ≡ Some p
-    → p.near ≢ p.far
-    → (peer_end ps n p.near p.id ≡ Some (host_port (peer_line (n + i))))
+    → p.near ≢ p.far → (peer_end ps n p.near p.id ≡ Some (host_port (peer_line (n + i))))
     × (peer_end ps n p.far p.id ≡ Some (device_port (peer_line (n + i))))
 unfolding peer_end
 peer_met [] apart n i p is two = absurd cc
@@ -254,20 +251,20 @@ on_switch : (plan : Plan) (side : Side) (line id : ℕ) → nat_lt line 8 ≡ fa
 on_switch plan side line id late = rw late refl
 
 -- the port of an end
-of_link : (peers : List PeerPlan) (e : PortName) → nat_lt e.line 8 ≡ true → port_at peers e ≡ e
+of_link : (peers : List PeerPlan) (e : PortName) → nat_lt e.line 8 ≡ true → port_beside_end peers e ≡ e
 of_link peers e a = rw a refl
 
 of_near : (peers : List PeerPlan) (e : PortName) → nat_lt e.line 8 ≡ false → nat_lt e.line 16 ≡ true
-    → port_at peers e ≡ near_hop_port e.side (e.line - 8)
+    → port_beside_end peers e ≡ near_hop_port e.side (e.line - 8)
 of_near peers e a b = rw (a, b) refl
 
 of_far : (peers : List PeerPlan) (e : PortName) → nat_lt e.line 8 ≡ false → nat_lt e.line 16 ≡ false
-    → nat_lt e.line 24 ≡ true → port_at peers e ≡ far_hop_port e.side (e.line - 16)
+    → nat_lt e.line 24 ≡ true → port_beside_end peers e ≡ far_hop_port e.side (e.line - 16)
 of_far peers e a b c = rw (a, b, c) refl
 
 of_late : (peers : List PeerPlan) (e : PortName) (p : PeerPlan) → nat_lt e.line 8 ≡ false → nat_lt e.line 16 ≡ false
     → nat_lt e.line 24 ≡ false → slice_get peers (e.line - 24) ≡ Some p
-    → port_at peers e ≡ on_side Device (peer_link e.side p)
+    → port_beside_end peers e ≡ on_side Device (peer_link e.side p)
 of_late peers e p a b c at = rw (a, b, c, at) refl
 
 -- by the line's number
@@ -370,11 +367,11 @@ unfolding port_of
 own_port plan fits e id known own = by (has_link plan e.line) refl own
   where
     by : (b : Bool) → has_link plan e.line ≡ b
-        → own_has_id (slice_get plan.links (if b then e else port_at plan.peers e).line) id ≡ true
-        → (if b then e else port_at plan.peers e) ≡ e
+        → own_has_id (slice_get plan.links (if b then e else port_beside_end plan.peers e).line) id ≡ true
+        → (if b then e else port_beside_end plan.peers e) ≡ e
     by true link own = refl
     by false link own =
-        let q = port_at plan.peers e in
+        let q = port_beside_end plan.peers e in
         let less = known_below plan.links q.line id own in
         let most = fits.links_most in
         sym (on_link plan q.side q.line id (grind (arith, nat_tests)) own)

@@ -1,6 +1,5 @@
 -- The first TLP that waits at a switch is what a forward seals.
-use Rattle.spec_links.proofs.Terms.{◌≡◌, ℕ, zero, suc, List, [], ◌∷◌, Option, Some, slice_get, drop, ap, Plan}
-use Rattle.spec_links.proofs.Terms.{History}
+use Rattle.spec_links.proofs.Terms.{◌≡◌, ℕ, zero, suc, List, [], ◌∷◌, Option, Some, slice_get, drop, ap, Plan, History}
 use Rattle.spec_links.proofs.Terms.{sent_bytes}
 unfoldable use Rattle.spec_links.proofs.Terms.{bytes_by}
 use Rattle.std.specs.Option.{option_map_or}

@@ -1,5 +1,5 @@
 -- The streams of the two segments of a link's hop: its stream alone.
-use Rattle.spec_links.proofs.Terms.{◌≡◌, ℕ, zero, suc, ◌+◌, ◌-◌, ◌<◌, List, [], ◌∷◌, Some, arith, ap, ◌∙◌, refl, Plan}
+use Rattle.spec_links.proofs.Terms.{◌≡◌, ℕ, zero, suc, ◌+◌, ◌-◌, ◌<◌, List, [], ◌∷◌, Some, arith, ap, ◌∙◌, Plan}
 use Rattle.spec_links.proofs.Terms.{streams_of, slice_get}
 use Rattle.std.specs.Prelude.{map}
 use Rattle.std.specs.List.{slice_index_or}

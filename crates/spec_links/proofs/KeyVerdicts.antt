@@ -1,30 +1,27 @@
 -- The verdicts of operations tell of no packet.
 use Rattle.spec_links.proofs.Terms.{Bool, Option, arith, false, refl, true, ℕ, ◌≡◌, StreamStatus, Loss, PortView}
-use Rattle.spec_links.proofs.Terms.{done, key_due, may_establish, may_refresh, operation_verdict, ports_at, inl, inr}
-use Rattle.spec_links.proofs.Terms.{ap}
-use Rattle.spec_links.proofs.Terms.{◌∙◌}
+use Rattle.spec_links.proofs.Terms.{finished_verdict, key_due, may_establish, may_refresh, operation_verdict, ports_at}
+use Rattle.spec_links.proofs.Terms.{inl, inr, ap, ◌∙◌, unless_open, draws, op_of, StreamStage, Work, work_of, due}
+use Rattle.spec_links.proofs.Terms.{is_quiet, key_plan, stream_plan, Establish, History, Host, KeyPlan, Plan, Refresh}
+use Rattle.spec_links.proofs.Terms.{Stop, Verdict, if◌then◌else◌, is_some, history_status, List, Some, None, Result}
+use Rattle.spec_links.proofs.Terms.{length, Interface, InterfaceEvent, memory_due}
 use Rattle.spec_keys.proofs.Performs.{is_cut, performed_is}
-use Rattle.spec_links.proofs.Terms.{unless_open, draws, op_of, StreamStage, Work}
-use Rattle.spec_links.proofs.Terms.{work_of, due, is_quiet, key_plan, stream_plan, Establish, History, Host, KeyPlan}
-use Rattle.spec_links.proofs.Terms.{Plan, Refresh, Stop, Verdict, if◌then◌else◌, is_some, history_status}
-use Rattle.spec_links.proofs.Terms.{List, Some, None, Result, length, Interface, InterfaceEvent, memory_due}
 use Rattle.std.specs.Option.{option_map}
 use Rattle.std.specs.Prelude.{nat_le, ◌&&◌}
 use Rattle.link_events.specs.declared.event.Lost.{Lost}
-use Rattle.spec_keys.specs.Due.{lost_at}
+use Rattle.spec_keys.specs.Due.{lost_at, has_refresh, if_secure}
 use Rattle.spec_links.specs.Memory.{shown_if}
-use Rattle.spec_links.specs.Guarded.{mmio_if, mmio_shown, mmio_due, happened}
+use Rattle.spec_links.specs.Guarded.{mmio_if, mmio_shown, mmio_due, link_happenings}
 use Rattle.spec_interfaces.specs.{Happened}
 use Rattle.trusted_memory.specs.Regions.{in_one_region}
-use Rattle.spec_keys.specs.Due.{has_refresh, if_secure}
 use Rattle.spec_interfaces.specs.Terms.{View, has_register, kept_report, lock_of, start_answer}
 use Rattle.spec_interfaces.specs.Terms.{bind_answer, unbind_answer}
 use Rattle.spec_interfaces.specs.Sites.{Site, site_at}
-use Rattle.spec_interfaces.specs.Views.{managed, stream_draw, number_in}
+use Rattle.spec_interfaces.specs.Views.{managed_view, stream_draw, number_in}
 use Rattle.spec_interfaces.specs.Devices.{around_at, interface_at}
 use Rattle.spec_interfaces.specs.Peers.{has_peer}
 use Rattle.spec_interfaces.specs.Due.{unless_lost, host_status, if_unlocked, verdict_of_lock, lock_answer_at, lock_due}
-use Rattle.spec_interfaces.specs.Due.{standing_at, if_locked_or_running, portions, reported_as, if_locked, if_reported}
+use Rattle.spec_interfaces.specs.Due.{asked_state, if_locked_or_running, portions, reported_as, if_locked, if_reported}
 use Rattle.spec_interfaces.specs.Due.{if_fresh, started_as, interface_due, on_site, with_number}
 use Rattle.spec_interfaces.specs.Due.{verdict_of_bind, unbound_as, op_status}
 unfoldable use Rattle.spec_interfaces.specs.Due.{interface_verdict_due as due_of}
@@ -40,49 +37,49 @@ if_quiet false x y one two = two
 cut_quiet : (x : Verdict) → is_cut x ≡ true → is_quiet x ≡ true
 cut_quiet x cut = grind arith
 
-done_quiet : (link stream : ℕ) (w : Work) → is_quiet (done link stream w) ≡ true
-done_quiet link stream w = grind arith
+done_quiet : (line stream : ℕ) (w : Work) → is_quiet (finished_verdict line stream w) ≡ true
+done_quiet line stream w = grind arith
 
-performed_quiet : (ports : PortView) (link stream : ℕ) (loss : Option Loss) (w : Work)
-    → is_quiet (operation_verdict ports link stream loss w) ≡ true
-performed_quiet ports link stream loss w = elim (performed_is ports link stream loss w) [
-  | inl ended ↦ ap is_quiet ended ∙ done_quiet link stream w
-  | inr cut ↦ cut_quiet (operation_verdict ports link stream loss w) cut
+performed_quiet : (ports : PortView) (line stream : ℕ) (loss : Option Loss) (w : Work)
+    → is_quiet (operation_verdict ports line stream loss w) ≡ true
+performed_quiet ports line stream loss w = elim (performed_is ports line stream loss w) [
+  | inl ended ↦ ap is_quiet ended ∙ done_quiet line stream w
+  | inr cut ↦ cut_quiet (operation_verdict ports line stream loss w) cut
 ]
 
 establish_quiet : (kp : KeyPlan) (q : StreamStage) (line next : ℕ) (x : Verdict) → is_quiet x ≡ true
     → is_quiet (may_establish kp line next q x) ≡ true
 establish_quiet kp q line next x is = grind arith
 
-refresh_quiet : (kp : KeyPlan) (q : StreamStage) (next : ℕ) (host : StreamStatus) (ports : PortView) (link stream : ℕ)
+refresh_quiet : (kp : KeyPlan) (q : StreamStage) (next : ℕ) (host : StreamStatus) (ports : PortView) (line stream : ℕ)
     (set : Bool) (x : Verdict) → is_quiet x ≡ true
-    → is_quiet (may_refresh kp link next q host (unless_open ports link stream set) x) ≡ true
-refresh_quiet kp q next host ports link stream set x is = grind arith
+    → is_quiet (may_refresh kp line next q host (unless_open ports line stream set) x) ≡ true
+refresh_quiet kp q next host ports line stream set x is = grind arith
 
-pub establish_due_quiet : (plan : Plan) (h : History) (link stream : ℕ) (lose : Option Loss)
-    → is_quiet (due plan h (Establish link stream lose)) ≡ true
+pub establish_due_quiet : (plan : Plan) (h : History) (line stream : ℕ) (lose : Option Loss)
+    → is_quiet (due plan h (Establish line stream lose)) ≡ true
 unfolding due key_due
-establish_due_quiet plan h link stream lose =
-    if_quiet (is_some (stream_plan plan link stream)) _ v.Nothing
-    (establish_quiet (key_plan plan) (op_of h link stream) link (draws h) _
-    (performed_quiet (ports_at h) link stream lose (work_of op.Establish (op_of h link stream) (draws h))))
+establish_due_quiet plan h line stream lose =
+    if_quiet (is_some (stream_plan plan line stream)) _ v.Nothing
+    (establish_quiet (key_plan plan) (op_of h line stream) line (draws h) _
+    (performed_quiet (ports_at h) line stream lose (work_of op.Establish (op_of h line stream) (draws h))))
     refl
 
-pub refresh_due_quiet : (plan : Plan) (h : History) (link stream : ℕ) (lose : Option Loss)
-    → is_quiet (due plan h (Refresh link stream lose)) ≡ true
+pub refresh_due_quiet : (plan : Plan) (h : History) (line stream : ℕ) (lose : Option Loss)
+    → is_quiet (due plan h (Refresh line stream lose)) ≡ true
 unfolding due key_due
-refresh_due_quiet plan h link stream lose =
-    if_quiet (has_refresh (key_plan plan) link stream) _ v.Nothing
-    (refresh_quiet (key_plan plan) (op_of h link stream) (draws h) (history_status h Host link stream) (ports_at h) link
-    stream (work_of op.Refresh (op_of h link stream) (draws h)).set _ (performed_quiet (ports_at h) link stream lose
-    (work_of op.Refresh (op_of h link stream) (draws h)))) refl
+refresh_due_quiet plan h line stream lose =
+    if_quiet (has_refresh (key_plan plan) line stream) _ v.Nothing
+    (refresh_quiet (key_plan plan) (op_of h line stream) (draws h) (history_status h Host line stream) (ports_at h) line
+    stream (work_of op.Refresh (op_of h line stream) (draws h)).set _ (performed_quiet (ports_at h) line stream lose
+    (work_of op.Refresh (op_of h line stream) (draws h)))) refl
 
-pub stop_due_quiet : (plan : Plan) (h : History) (link stream : ℕ) (lose : Option Loss)
-    → is_quiet (due plan h (Stop link stream lose)) ≡ true
+pub stop_due_quiet : (plan : Plan) (h : History) (line stream : ℕ) (lose : Option Loss)
+    → is_quiet (due plan h (Stop line stream lose)) ≡ true
 unfolding due key_due
-stop_due_quiet plan h link stream lose =
-    if_quiet (is_some (stream_plan plan link stream)) _ v.Nothing
-    (performed_quiet (ports_at h) link stream lose (work_of op.Stop (op_of h link stream) (draws h))) refl
+stop_due_quiet plan h line stream lose =
+    if_quiet (is_some (stream_plan plan line stream)) _ v.Nothing
+    (performed_quiet (ports_at h) line stream lose (work_of op.Stop (op_of h line stream) (draws h))) refl
 
 -- ---- interfaces
 
@@ -96,8 +93,8 @@ unless_lost_quiet (Some loss) n x is = if_quiet (nat_le 1 loss.exchange && nat_l
     (lost_at loss.lost loss.exchange) x (lost_quiet loss.lost loss.exchange) is
 
 lock_quiet : (plan : Plan) (h : History) (x : Site) (loss : Option Loss)
-    → is_quiet (lock_due x (standing_at plan h x) loss) ≡ true
-lock_quiet plan h x loss = by (managed h x).view (history_status h Host x.link x.plan.stream)
+    → is_quiet (lock_due x (asked_state plan h x) loss) ≡ true
+lock_quiet plan h x loss = by (managed_view h x).view (history_status h Host x.link x.plan.stream)
     (lock_answer_at (around_at plan h x) x (interface_at plan h x))
   where
     as_quiet : (answer : Result (List ℕ) ℕ) → is_quiet (verdict_of_lock x answer) ≡ true
@@ -145,10 +142,10 @@ unbind_quiet x view line loss answer = let q = unless_lost_quiet loss 1 (unbound
 
 own_quiet : (plan : Plan) (h : History) (x : Site) (e : InterfaceEvent) → is_quiet (interface_due plan h x e) ≡ true
 own_quiet plan h x (ie.Lock i loss) = lock_quiet plan h x loss
-own_quiet plan h x (ie.Report i loss) = report_quiet plan x (managed h x).view loss
+own_quiet plan h x (ie.Report i loss) = report_quiet plan x (managed_view h x).view loss
     (option_map (kept_report x.plan) (lock_of (interface_at plan h x).state))
 own_quiet plan h x (ie.Start i loss) =
-    let m = managed h x in
+    let m = managed_view h x in
     let draw = stream_draw h x.link x.plan.stream in
     start_quiet x m.view m.reported (host_status h x) draw m.needs loss
     (start_answer (interface_at plan h x).state m.nonce)
@@ -156,11 +153,12 @@ own_quiet plan h x (ie.Halt i loss) = unless_lost_quiet loss 1 _ refl
 own_quiet plan h x (ie.State i loss) = unless_lost_quiet loss 1 _ refl
 own_quiet plan h x (ie.Bind i line stream loss) =
     if_quiet (has_peer plan.peers x.link line stream) _ v.Nothing
-    (bind_quiet x (managed h x).view (op_status (op_of h line stream)) (stream_draw h line stream) (managed h x).needs
+    (bind_quiet x (managed_view h x).view (op_status (op_of h line stream)) (stream_draw h line stream)
+    (managed_view h x).needs
     line loss (bind_answer (interface_at plan h x) stream ((around_at plan h x).live stream))) refl
 own_quiet plan h x (ie.Unbind i line stream loss) =
     if_quiet (has_peer plan.peers x.link line stream) _ v.Nothing
-    (unbind_quiet x (managed h x).view line loss (unbind_answer (interface_at plan h x) stream)) refl
+    (unbind_quiet x (managed_view h x).view line loss (unbind_answer (interface_at plan h x) stream)) refl
 own_quiet plan h x (ie.View i) = refl
 own_quiet plan h x (ie.Write i register value) = if_quiet (has_register x.plan register) _ v.Nothing refl refl
 own_quiet plan h x (ie.Flr i) = refl
@@ -199,4 +197,4 @@ mmio_shown_quiet plan happened_at None bar offset len = refl
 mmio_shown_quiet plan happened_at (Some x) bar offset len = mmio_if_quiet _ _
 
 pub mmio_quiet : (plan : Plan) (h : History) (i bar offset len : ℕ) → is_quiet (mmio_due plan h i bar offset len) ≡ true
-mmio_quiet plan h i bar offset len = mmio_shown_quiet plan (happened plan h) (site_at plan i) bar offset len
+mmio_quiet plan h i bar offset len = mmio_shown_quiet plan (link_happenings plan h) (site_at plan i) bar offset len

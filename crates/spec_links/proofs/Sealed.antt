@@ -1,13 +1,11 @@
 -- What one more sealed packet does to what was sent and to the posted counts.
 use Rattle.spec_links.proofs.Terms.{Bool, List, [], ap, arith, drop, false, filter, length, length-append, refl, true}
 use Rattle.spec_links.proofs.Terms.{ℕ, ◌++◌, ◌+◌, ◌-◌, ◌==◌, ◌∙◌, ◌∷◌, ◌≡◌, nat_tests, append-nil, drop-append-le}
-use Rattle.spec_links.proofs.Terms.{drop_all, map-append, reverse-append}
-use Rattle.spec_links.proofs.Terms.{filter-append, suffix_len, Pr, SealedList, ends_unit_in, is_in, is_under, posted_in}
-use Rattle.spec_links.proofs.Terms.{posted_of, sub_stream_packets, sub_stream_of, total_in, with_sealed, SubStream}
-use Rattle.spec_links.proofs.Terms.{is_same}
-use Rattle.spec_links.proofs.Terms.{is_same_port, lane_out, AllByRecursion}
-use Rattle.spec_links.proofs.Terms.{Packet, Plan, PortName, SealedPacket, SubKind, after_last, if◌then◌else◌, not}
-use Rattle.spec_links.proofs.Terms.{◌&&◌, ◌||◌}
+use Rattle.spec_links.proofs.Terms.{drop_all, map-append, reverse-append, filter-append, suffix_len, Pr, SealedList}
+use Rattle.spec_links.proofs.Terms.{ends_unit_since, is_sealed_since, is_sealed_under, posted_since_last, posted_lane}
+use Rattle.spec_links.proofs.Terms.{sub_stream_packets, sub_stream_of, total_in, with_sealed, SubStream, is_same}
+use Rattle.spec_links.proofs.Terms.{is_same_port, lane_out, AllByRecursion, Packet, Plan, PortName, SealedPacket}
+use Rattle.spec_links.proofs.Terms.{SubKind, after_last, if◌then◌else◌, not, ◌&&◌, ◌||◌}
 use Rattle.spec_keys.proofs.Tests.{neither-true}
 
 -- ---- the last place that passes a test
@@ -35,26 +33,30 @@ count_after p q xs x other = rw (after_last-miss p xs x other, filter-append, le
 -- ---- posted counts
 
 -- a packet of the sub-stream begins its count again
-pub posted-own : (xs : SealedList) (x : SealedPacket × Packet) (s : SubStream) (from : ℕ) → is_in s from x ≡ true
-    → posted_in (xs ++ x ∷ []) s from ≡ 0
-unfolding posted_in
-posted-own xs x s from here = rw (after_last-hit (is_in s from) xs x here) refl
+pub posted-own : (xs : SealedList) (x : SealedPacket × Packet) (s : SubStream) (from : ℕ) → is_sealed_since s from x
+    ≡ true
+    → posted_since_last (xs ++ x ∷ []) s from ≡ 0
+unfolding posted_since_last
+posted-own xs x s from here = rw (after_last-hit (is_sealed_since s from) xs x here) refl
 
 -- one of another counts if it is a posted one
-pub posted-more : (xs : SealedList) (x : SealedPacket × Packet) (s : SubStream) (from : ℕ) → is_in s from x ≡ false
-    → posted_in (xs ++ x ∷ []) s from ≡ posted_in xs s from + (if is_in (posted_of s) from x then 1 else 0)
-unfolding posted_in
-posted-more xs x s from other = count_after (is_in s from) (is_in (posted_of s) from) xs x other
+pub posted-more : (xs : SealedList) (x : SealedPacket × Packet) (s : SubStream) (from : ℕ) → is_sealed_since s from x
+    ≡ false
+    → posted_since_last (xs ++ x ∷ []) s from ≡ posted_since_last xs s from
+    + (if is_sealed_since (posted_lane s) from x then 1 else 0)
+unfolding posted_since_last
+posted-more xs x s from other = count_after (is_sealed_since s from) (is_sealed_since (posted_lane s) from) xs x other
 
-pub posted-same : (xs : SealedList) (x : SealedPacket × Packet) (s : SubStream) (from : ℕ) → is_in s from x ≡ false
-    → is_in (posted_of s) from x ≡ false
-    → posted_in (xs ++ x ∷ []) s from ≡ posted_in xs s from
+pub posted-same : (xs : SealedList) (x : SealedPacket × Packet) (s : SubStream) (from : ℕ) → is_sealed_since s from x
+    ≡ false
+    → is_sealed_since (posted_lane s) from x ≡ false
+    → posted_since_last (xs ++ x ∷ []) s from ≡ posted_since_last xs s from
 posted-same xs x s from other none = posted-more xs x s from other ∙ rw none (omega arith)
 
 -- ---- totals
 
 pub total-snoc : (xs : SealedList) (x : SealedPacket × Packet) (s : SubStream) (from : ℕ)
-    → total_in (xs ++ x ∷ []) s from ≡ (if ends_unit_in s from x then total_in xs s from + 1 else total_in xs s from)
+    → total_in (xs ++ x ∷ []) s from ≡ (if ends_unit_since s from x then total_in xs s from + 1 else total_in xs s from)
 unfolding total_in
 total-snoc xs x s from = rw (filter-append, length-append) (grind arith)
 
@@ -67,7 +69,7 @@ total-same xs x s from other = total-snoc xs x s from ∙ rw other refl
 
 pub sub_stream_packets-snoc : (xs : SealedList) (x : SealedPacket × Packet) (s : SubStream) (j : ℕ)
     → sub_stream_packets (xs ++ x ∷ []) s j
-    ≡ (if is_under s j x then sub_stream_packets xs s j ++ x.1 ∷ [] else sub_stream_packets xs s j)
+    ≡ (if is_sealed_under s j x then sub_stream_packets xs s j ++ x.1 ∷ [] else sub_stream_packets xs s j)
 unfolding sub_stream_packets
 sub_stream_packets-snoc xs x s j = rw (filter-append, map-append) (grind (arith, append-nil))
 
@@ -90,15 +92,14 @@ pub not_here : (port : PortName) (stream : ℕ) (u : SubKind) (d : SealedPacket)
 not_here port stream u d out = grind (arith, nat_tests)
 
 not_in : (port : PortName) (stream : ℕ) (u : SubKind) (from : ℕ) (d : SealedPacket) (p : Packet) → is_out port stream d
-    ≡ false → is_in (lane_out port stream u) from (d, p) ≡ false
+    ≡ false → is_sealed_since (lane_out port stream u) from (d, p) ≡ false
 not_in port stream u from d p out = rw (not_here port stream u d out) refl
 
 -- what none of its packets changes, a send leaves
 pub left_alone : {A : Type 0} (f : SealedList → A) (Q : SealedPacket → Type 0)
     → ((xs : SealedList) (d : SealedPacket) (p : Packet) → Q d → f (xs ++ (d, p) ∷ []) ≡ f xs)
     → (plan : Plan) (ahead : SealedPacket → List ℕ) (bytes : List ℕ) (ds : List SealedPacket) (xs : SealedList)
-    → AllByRecursion Q ds
-    → f (with_sealed plan ahead bytes ds xs) ≡ f xs
+    → AllByRecursion Q ds → f (with_sealed plan ahead bytes ds xs) ≡ f xs
 left_alone f Q same plan ahead bytes [] xs all = refl
 left_alone f Q same plan ahead bytes (d ∷ ds) xs all = left_alone f Q same plan ahead bytes ds _ all.1 ∙ same xs d _
     all.0
@@ -120,10 +121,10 @@ sent_elsewhere plan ahead bytes ds xs port stream u j none =
 
 pub posted_elsewhere : (plan : Plan) (ahead : SealedPacket → List ℕ) (bytes : List ℕ) (ds : List SealedPacket)
     (xs : SealedList) (port : PortName) (stream : ℕ) (u : SubKind) (from : ℕ) → any_out port stream ds ≡ false
-    → posted_in (with_sealed plan ahead bytes ds xs) (lane_out port stream u) from
-    ≡ posted_in xs (lane_out port stream u) from
+    → posted_since_last (with_sealed plan ahead bytes ds xs) (lane_out port stream u) from
+    ≡ posted_since_last xs (lane_out port stream u) from
 posted_elsewhere plan ahead bytes ds xs port stream u from none =
-    left_alone (λ xs. posted_in xs (lane_out port stream u) from) (λ d. is_out port stream d ≡ false)
+    left_alone (λ xs. posted_since_last xs (lane_out port stream u) from) (λ d. is_out port stream d ≡ false)
     (λ xs d p out. posted-same xs (d, p) (lane_out port stream u) from (not_in port stream u from d p out)
     (not_in port stream Pr from d p out))
     plan ahead bytes ds xs (none_out port stream ds none)

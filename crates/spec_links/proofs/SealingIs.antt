@@ -1,16 +1,14 @@
 -- What a sealed verdict tells, if it was due.
-use Rattle.spec_links.proofs.Terms.{Bool, List, Option, Some, [], ap, arith, false, refl, subst, sym, true, ℕ, ◌∙◌}
-use Rattle.spec_links.proofs.Terms.{◌∷◌, ◌≡◌, unwrap_or, Cpl, Npr, Pr, is_same_sub, Lanes, Sending, described_seal}
-use Rattle.spec_links.proofs.Terms.{is_keyless, lanes_at, needs_sync, no_key}
-use Rattle.spec_links.proofs.Terms.{KeyName, live_key, sealed_packets, is_quiet, lane_out, Event, History, Plan}
-use Rattle.spec_links.proofs.Terms.{PortName, Sealed, SealedPacket, Send, SubKind, Verdict}
-use Rattle.spec_links.proofs.Senders.{has_key, listed, sealed_by_is, and_false, AreOther, needs_posted}
+use Rattle.spec_links.proofs.Terms.{Bool, List, Option, Some, [], ap, arith, false, refl, subst, sym, true, ℕ, ◌∙◌, ◌∷◌}
+use Rattle.spec_links.proofs.Terms.{◌≡◌, unwrap_or, Cpl, Npr, Pr, is_same_sub, Lanes, Sending, described_seal}
+use Rattle.spec_links.proofs.Terms.{is_keyless, lanes_at, needs_sync, no_key, KeyName, live_key, sealed_packets}
+use Rattle.spec_links.proofs.Terms.{is_quiet, lane_out, Event, History, Plan, PortName, Sealed, SealedPacket, Send}
+use Rattle.spec_links.proofs.Terms.{SubKind, Verdict, Access, KeyPlace, StreamStage, touches, seal_touches}
+use Rattle.spec_links.proofs.Senders.{has_key, listed_seals, sealed_by_is, and_false, AreOther, needs_posted}
 pub use Rattle.spec_links.proofs.Causes.{IsSealing, is_sealing, sealed_by_sealing, sealing_is}
 pub use Rattle.spec_links.specs.History.{sending_port}
-use Rattle.spec_links.proofs.Terms.{Access}
 use Rattle.link_events.specs.declared.event.Event.TheVariants.{Forward}
 use Rattle.link_events.specs.declared.event.AccessEvent.TheVariants as ae
-use Rattle.spec_links.proofs.Terms.{KeyPlace, StreamStage, touches, seal_touches}
 unfoldable use Rattle.spec_links.proofs.Terms.{base, manager}
 
 -- ---- each packet under the live key of its sub-stream
@@ -46,8 +44,8 @@ is_live plan h s u number m t sync keyed =
 listed_live : (plan : Plan) (h : History) (s : Sending) (number : ℕ) (n c : Bool)
     → let x = lanes_at plan h s.port s.stream in
     is_keyless x s.class ≡ false → (n ≡ true → is_keyless x Npr ≡ false) → (c ≡ true → is_keyless x Cpl ≡ false)
-    → AllLive plan h s.port s.stream (listed x s number n c)
-unfolding listed
+    → AllLive plan h s.port s.stream (listed_seals x s number n c)
+unfolding listed_seals
 listed_live plan h s number false false keyed r c = (is_live plan h s s.class _ _ _ _ keyed, tt)
 listed_live plan h s number true false keyed r c =
     (is_live plan h s Npr _ _ _ _ (r refl), (is_live plan h s s.class _ _ _ _ keyed, tt))
@@ -74,8 +72,8 @@ AllApart [] = Unit {0}
 AllApart (d ∷ ds) = AreOther d.sub ds × AllApart ds
 
 listed_apart : (x : Lanes) (s : Sending) (number : ℕ) (n c : Bool) → (n ≡ true → s.class ≡ Pr)
-    → (c ≡ true → s.class ≡ Pr) → AllApart (listed x s number n c)
-unfolding listed
+    → (c ≡ true → s.class ≡ Pr) → AllApart (listed_seals x s number n c)
+unfolding listed_seals
 listed_apart x s number false false r k = (tt, tt)
 listed_apart x s number true false r k = ((ap (is_same_sub Npr) (r refl), tt), (tt, tt))
 listed_apart x s number false true r k = ((ap (is_same_sub Cpl) (k refl), tt), (tt, tt))
@@ -121,10 +119,10 @@ sealing_manager h (Access (ae.Answer link)) w seals = refl
 sealing_manager h (Forward link d) w seals = refl
 sealing_manager h e w seals = absurd cc
 
-pub sealing_base : (h : History) (e : Event) (w : Verdict) (link stream : ℕ) → is_sealing e ≡ true
-    → base ((e, w) ∷ h) link stream ≡ base h link stream
+pub sealing_base : (h : History) (e : Event) (w : Verdict) (line stream : ℕ) → is_sealing e ≡ true
+    → base ((e, w) ∷ h) line stream ≡ base h line stream
 unfolding base
-sealing_base h (Send q bytes more trusted) w link stream seals = refl
-sealing_base h (Access (ae.Answer l)) w link stream seals = refl
-sealing_base h (Forward l d) w link stream seals = refl
-sealing_base h e w link stream seals = absurd cc
+sealing_base h (Send q bytes more trusted) w line stream seals = refl
+sealing_base h (Access (ae.Answer l)) w line stream seals = refl
+sealing_base h (Forward l d) w line stream seals = refl
+sealing_base h e w line stream seals = absurd cc

@@ -1,11 +1,9 @@
 -- What the rules of sealing tell of one send.
-use Rattle.spec_links.proofs.Terms.{Bool, List, None, Option, Some, [], arith, false, length, refl, true, ℕ, ◌++◌}
-use Rattle.spec_links.proofs.Terms.{◌+◌, ◌∷◌, ◌≡◌, nat_tests, is_none, Cpl, Npr, Pr, is_same_sub, Lanes, Sending}
-use Rattle.spec_links.proofs.Terms.{described_seal, ends_unit, first_that_holds}
-use Rattle.spec_links.proofs.Terms.{is_keyless, needs_sync, sealed_with_syncs, sets_trusted, KeyName, lesser}
-use Rattle.spec_links.proofs.Terms.{sub_stream_of}
-use Rattle.spec_links.proofs.Terms.{is_same, lane_out, Keyed, On, PortName, SealedPacket, SubKind, Verdict}
-use Rattle.spec_links.proofs.Terms.{if◌then◌else◌, key_in, ◌&&◌}
+use Rattle.spec_links.proofs.Terms.{Bool, List, None, Option, Some, [], arith, false, length, refl, true, ℕ, ◌++◌, ◌+◌}
+use Rattle.spec_links.proofs.Terms.{◌∷◌, ◌≡◌, nat_tests, is_none, Cpl, Npr, Pr, is_same_sub, Lanes, Sending}
+use Rattle.spec_links.proofs.Terms.{described_seal, ends_unit, first_that_holds, is_keyless, needs_sync}
+use Rattle.spec_links.proofs.Terms.{sealed_with_syncs, sets_trusted, KeyName, lesser, sub_stream_of, is_same, lane_out}
+use Rattle.spec_links.proofs.Terms.{Keyed, On, PortName, SealedPacket, SubKind, Verdict, if◌then◌else◌, key_in, ◌&&◌}
 use Rattle.spec_links.proofs.Tests.{same_sub}
 
 -- ---- no refusal holds
@@ -42,16 +40,16 @@ pub on_live : (a b : Keyed) (key : KeyName) → lesser a b ≡ Some key → key_
 on_live a b key is = grind (arith, nat_tests)
 
 -- the list by what needs a sync packet
-unfoldable pub listed : Lanes → Sending → ℕ → Bool → Bool → List SealedPacket
-listed x s number n c =
+unfoldable pub listed_seals : Lanes → Sending → ℕ → Bool → Bool → List SealedPacket
+listed_seals x s number n c =
     let first = if n then described_seal x s Npr number true false true ∷ [] else [] in
     let second = if c then described_seal x s Cpl (number + length first) true false true ∷ [] else [] in
     first ++ second ++ described_seal x s s.class (number + length first + length second) (ends_unit x s)
     (sets_trusted s.port s.trusted) false ∷ []
 
 pub sealed_by_is : (x : Lanes) (s : Sending) (number : ℕ) → sealed_with_syncs x s number
-    ≡ listed x s number (needs_sync x s.class Npr) (needs_sync x s.class Cpl)
-unfolding listed
+    ≡ listed_seals x s number (needs_sync x s.class Npr) (needs_sync x s.class Cpl)
+unfolding listed_seals
 sealed_by_is x s number = refl
 
 pub needs_posted : (x : Lanes) (class u : SubKind) → needs_sync x class u ≡ true → class ≡ Pr

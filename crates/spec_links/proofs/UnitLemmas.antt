@@ -1,16 +1,15 @@
 -- Units of a list that gains packets, and prefixes of a list of units.
-use Rattle.spec_links.proofs.Terms.{Bool, List, Some, [], ap, append_assoc, arith, drop, false, length, refl}
-use Rattle.spec_links.proofs.Terms.{slice_get, subst, suc, sym, take, true, zero, ℕ, ◌++◌, ◌∙◌, ◌∷◌, ◌≡◌, ◌≤◌}
-use Rattle.spec_links.proofs.Terms.{append-nil, take-append-drop}
-use Rattle.spec_links.proofs.Terms.{get_or_from_slice_get, slice_get_within, flat_map, AllByRecursion, Packet}
-use Rattle.spec_links.proofs.Terms.{if◌then◌else◌, open_unit, rest_after, units, units_after}
+use Rattle.spec_links.proofs.Terms.{Bool, List, Some, [], ap, append_assoc, arith, drop, false, length, refl, slice_get}
+use Rattle.spec_links.proofs.Terms.{subst, suc, sym, take, true, zero, ℕ, ◌++◌, ◌∙◌, ◌∷◌, ◌≡◌, ◌≤◌, append-nil}
+use Rattle.spec_links.proofs.Terms.{take-append-drop, get_or_from_slice_get, slice_get_within, flat_map, AllByRecursion}
+use Rattle.spec_links.proofs.Terms.{Packet, if◌then◌else◌, open_unit, rest_after, units, units_after}
 use Rattle.std.proofs.Math.Seq.{take-suc}
 use Rattle.std.proofs.lemmas.Grind.{flat_map-append}
 use Rattle.spec_links.proofs.LastPlaces.{all_of}
 
 -- the packets of units, in order
-abbrev pub joined : List (List Packet) → List Packet
-joined us = flat_map (λ (u : List Packet). u) us
+abbrev pub packets_of_units : List (List Packet) → List Packet
+packets_of_units us = flat_map (λ (u : List Packet). u) us
 
 -- ---- more packets
 
@@ -26,7 +25,7 @@ rest_after-append unfinished [] qs = refl
 rest_after-append unfinished (p ∷ ps) qs = grind
     (arith, rest_after-append [] ps qs, rest_after-append (unfinished ++ p ∷ []) ps qs)
 
-joined_after : (unfinished ps : List Packet) → joined (units_after unfinished ps) ++ rest_after unfinished ps
+joined_after : (unfinished ps : List Packet) → packets_of_units (units_after unfinished ps) ++ rest_after unfinished ps
     ≡ unfinished ++ ps
 joined_after unfinished [] = sym (append-nil unfinished)
 joined_after unfinished (q ∷ ps) = grind
@@ -66,7 +65,7 @@ pub open_unit-more : (ps : List Packet) (p : Packet) → p.prefix.m ≡ false �
 open_unit-more ps p m = open_unit-snoc ps p ∙ ap (λ (b : Bool). if b then [] else open_unit ps ++ p ∷ []) m
 
 -- the units and what is open are all the packets
-pub joined_units : (ps : List Packet) → joined (units ps) ++ open_unit ps ≡ ps
+pub joined_units : (ps : List Packet) → packets_of_units (units ps) ++ open_unit ps ≡ ps
 unfolding units open_unit
 joined_units ps = joined_after [] ps
 
@@ -148,9 +147,11 @@ take_next us k x is = rw (take-suc us k x (slice_get_within us k x is), get_or_f
 pub below : (us : List (List Packet)) (k : ℕ) (x : List Packet) → slice_get us k ≡ Some x → suc k ≤ length us
 below us k x is = slice_get_within us k x is
 
-pub joined-snoc : (us : List (List Packet)) (x : List Packet) → joined (us ++ x ∷ []) ≡ joined us ++ x
-joined-snoc us x = flat_map-append (λ u. u) us (x ∷ []) ∙ ap (λ z. joined us ++ z) (append-nil x)
+pub joined-snoc : (us : List (List Packet)) (x : List Packet) → packets_of_units (us ++ x ∷ []) ≡ packets_of_units us
+    ++ x
+joined-snoc us x = flat_map-append (λ u. u) us (x ∷ []) ∙ ap (λ z. packets_of_units us ++ z) (append-nil x)
 
 -- the first units and the others, joined, are all
-pub joined_take : (us : List (List Packet)) (k : ℕ) → joined (take k us) ++ joined (drop k us) ≡ joined us
-joined_take us k = sym (flat_map-append (λ u. u) (take k us) (drop k us)) ∙ ap joined (take-append-drop k us)
+pub joined_take : (us : List (List Packet)) (k : ℕ) → packets_of_units (take k us) ++ packets_of_units (drop k us)
+    ≡ packets_of_units us
+joined_take us k = sym (flat_map-append (λ u. u) (take k us) (drop k us)) ∙ ap packets_of_units (take-append-drop k us)

@@ -3,8 +3,9 @@ use Rattle.std.specs.Prelude.{if◌then◌else◌, ◌&&◌, ◌+◌, ◌==◌, 
 use Rattle.std.specs.Prelude.{drop, length, not, take, ℕ}
 use Rattle.spec_links.specs.Terms.{option_and_then, PortName, Plan, Effect, UnitName, read_head_of, TlpFault, iv_of}
 use Rattle.spec_links.specs.Terms.{Packet, is_sync_packet, encrypted_bytes, open_of, sent_direction}
-use Rattle.spec_links.specs.Terms.{Write, Grant, write_span, memory_write, is_on_bound, if_placed, owner_of}
+use Rattle.spec_links.specs.Terms.{Write, Grant, write_span, memory_write, is_on_bound, if_placed, owner_id}
 use Rattle.spec_links.specs.Terms.{request_effect, mmio_effect, InterfaceStatus}
+use Rattle.ide_types.specs.declared.binding.Binding.{Binding}
 use Rattle.tlp_layout.specs.declared.head.HeadView.{HeadView}
 use Rattle.spec_links.specs.Plan.{key_of}
 use Rattle.spec_links.specs.Ports.{port_of, at_switch, is_host_port}
@@ -13,9 +14,9 @@ use Rattle.link_verdicts.specs.declared.verdict.Effect.TheVariants as effect
 
 -- ---- what effects depend on
 
--- what the manager says of requesters, by link and requester ID: the bound stream and the floor, if its view is Running
+-- what the manager says of requesters, by link and requester ID: their binding, if its view is Running
 abbrev pub Grants : Type 0
-Grants = ℕ → ℕ → Option (ℕ × ℕ)
+Grants = ℕ → ℕ → Option Binding
 
 pub record Policy : Type 0 where
   pub grants : Grants
@@ -25,8 +26,8 @@ pub record Policy : Type 0 where
   pub standings : ℕ → List InterfaceStatus
 
 -- of the TLP's requester
-abbrev pub requester_bound : Grants → PortName → HeadView → Option (ℕ × ℕ)
-requester_bound grants port head = option_and_then (grants port.line) (owner_of head)
+abbrev pub requester_bound : Grants → PortName → HeadView → Option Binding
+requester_bound grants port head = option_and_then (grants port.line) (owner_id head)
 
 abbrev pub unit_grant : Grants → PortName → UnitName → HeadView → Grant
 unit_grant grants port unit head =
@@ -70,8 +71,8 @@ effects_each plan policy waiting port unit (p ∷ ps) =
     ∷ effects_each plan policy (waiting_then (effect_by plan policy waiting port unit p) waiting) port unit ps
 
 -- of the packets of a unit that was accepted at a port, in order
-abbrev pub effects_by : Plan → Policy → PortName → UnitName → List Packet → List Effect
-effects_by plan policy port unit ps = effects_each plan policy (policy.waiting port.line) port unit ps
+abbrev pub effects_under_policy : Plan → Policy → PortName → UnitName → List Packet → List Effect
+effects_under_policy plan policy port unit ps = effects_each plan policy (policy.waiting port.line) port unit ps
 
 -- ---- the writes that are admitted
 
@@ -83,8 +84,8 @@ payload_write plan grants port unit t payload (Ok head) =
     if_placed plan.memory (t && is_on_bound unit.stream unit.draw (requester_bound grants port head))
     (memory_write head payload)
 
-abbrev pub admitted : Plan → Grants → PortName → UnitName → Packet → List ℕ → Option Write
-admitted plan grants port unit p payload =
+abbrev pub write_if_admitted : Plan → Grants → PortName → UnitName → Packet → List ℕ → Option Write
+write_if_admitted plan grants port unit p payload =
     if not (is_sync_packet p) && is_host_port plan port
     then payload_write plan grants port unit p.prefix.t payload (read_head_of p.head) else None
 
@@ -92,7 +93,7 @@ admitted plan grants port unit p payload =
 abbrev pub admitted_each : Plan → Grants → PortName → UnitName → List ℕ → List Packet → List (Option Write)
 admitted_each plan grants port unit plain [] = []
 admitted_each plan grants port unit plain (p ∷ ps) =
-    admitted plan grants port unit p (take (length p.body) plain)
+    write_if_admitted plan grants port unit p (take (length p.body) plain)
     ∷ admitted_each plan grants port unit (drop (length p.body) plain) ps
 
 abbrev pub plain_of : Plan → PortName → UnitName → List Packet → List ℕ

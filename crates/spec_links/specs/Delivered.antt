@@ -6,19 +6,19 @@ use Rattle.spec_links.specs.Terms.{Plan, SealedPacket, Accepted, Sealed, iv_of, 
 use Rattle.spec_links.specs.Terms.{encrypted_bytes, open_of, History}
 use Rattle.spec_links.specs.Plan.{SubStream, is_same, key_of}
 use Rattle.spec_links.specs.Laws.{IsPrefixOf}
-use Rattle.spec_links.specs.History.{sub_stream_of, sent_bytes, arrived_packet, is_of, packets_in_hold}
+use Rattle.spec_links.specs.History.{sub_stream_of, sent_bytes, arrived_packet, is_received_under, packets_in_hold}
 
 -- ---- sent
 
 -- the sealed packet carries a TLP of this sub-stream under this draw
-abbrev pub carries_tlp_of : SubStream → ℕ → SealedPacket → Bool
-carries_tlp_of s j d = not d.sync && is_same (sub_stream_of d) s && (d.draw == j)
+abbrev pub is_tlp_under_draw : SubStream → ℕ → SealedPacket → Bool
+is_tlp_under_draw s j d = not d.sync && is_same (sub_stream_of d) s && (d.draw == j)
 
 -- the bytes that were sent and sealed in a sub-stream under a draw, in order
 unfoldable pub tlps_sent : Plan → History → SubStream → ℕ → List (List ℕ)
 tlps_sent plan [] s j = []
 tlps_sent plan ((e, Sealed ds) ∷ h) s j =
-    tlps_sent plan h s j ++ map (λ d. sent_bytes plan h e) (filter (carries_tlp_of s j) ds)
+    tlps_sent plan h s j ++ map (λ d. sent_bytes plan h e) (filter (is_tlp_under_draw s j) ds)
 tlps_sent plan (_ ∷ h) s j = tlps_sent plan h s j
 
 -- ---- delivered
@@ -38,7 +38,7 @@ opened_tlps plan s j n unit = with_payloads (open_of (key_of plan j s) (iv_of s.
 unfoldable pub tlps_got : Plan → History → SubStream → ℕ → List (List ℕ)
 tlps_got plan [] s j = []
 tlps_got plan ((e, Accepted port unit effects) ∷ h) s j =
-    if is_of s j port unit then tlps_got plan h s j ++ opened_tlps plan s j unit.unit
+    if is_received_under s j port unit then tlps_got plan h s j ++ opened_tlps plan s j unit.unit
     (packets_in_hold plan h s j unit.unit
     ++ arrived_packet plan h e ∷ [])
     else tlps_got plan h s j

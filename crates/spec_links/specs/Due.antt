@@ -1,58 +1,56 @@
 -- The one verdict that an event gets after a history.
-use Rattle.std.specs.Prelude.{if◌then◌else◌, ◌&&◌, ◌++◌, ◌+◌, ◌==◌, ◌||◌, ◌∷◌, Bool, Err, List, None, Ok, Option}
+use Rattle.std.specs.Prelude.{if◌then◌else◌, ◌&&◌, ◌++◌, ◌+◌, ◌||◌, ◌∷◌, Bool, Err, List, None, Ok, Option}
 use Rattle.std.specs.Prelude.{Result, Some, [], false, true, is_some, length, nat_le, nat_lt, not, ℕ}
-use Rattle.spec_links.specs.Terms.{option_map_or, PortName, Device, Host}
-use Rattle.spec_links.specs.Terms.{Plan, Event, Access, Alter, Arrive, Cut, Dump, Establish, Interface, Pass, Refresh}
-use Rattle.spec_links.specs.Terms.{Reset, Send, Status, Stop, t_at, owners_link, granted_to, Site, site_with}
-use Rattle.spec_links.specs.Terms.{WaitingRead}
-use Rattle.spec_links.specs.Terms.{owner_at, SealedPacket, UnitName, Verdict, header, iv_of}
-use Rattle.spec_links.specs.Terms.{Packet, packet_bytes}
-use Rattle.spec_links.specs.Terms.{CutValue, IdePacket, PlainTlp, cut_of, authenticated_bytes, encrypted_bytes}
-use Rattle.spec_links.specs.Terms.{PacketFault}
-use Rattle.spec_links.specs.Terms.{verifies, History, history_status, received_direction}
+use Rattle.spec_links.specs.Terms.{option_map_or, PortName, Device, Host, Plan, Access, Alter, Arrive, Cut, Dump, Event}
+use Rattle.spec_links.specs.Terms.{Establish, Interface, Pass, Refresh, Reset, Send, Status, Stop, t_at, owners_link}
+use Rattle.spec_links.specs.Terms.{granted_to, Site, site_with, WaitingRead, owner_site, SealedPacket, UnitName}
+use Rattle.spec_links.specs.Terms.{Verdict, header, iv_of, Packet, packet_bytes, CutValue, IdePacket, PlainTlp, cut_of}
+use Rattle.spec_links.specs.Terms.{authenticated_bytes, encrypted_bytes, PacketFault, verifies, History, history_status}
+use Rattle.spec_links.specs.Terms.{received_direction}
 use Rattle.spec_keys.specs.Due.{key_due}
 use Rattle.spec_interfaces.specs.Due.{interface_verdict_due as interface_due}
-use Rattle.association.specs.Outgoing.{Outgoing, NoTlp, OnNone, OnStream, outgoing_of, stream_taken}
+use Rattle.tlp_layout.specs.Outgoing.{Outgoing, NoTlp, OnNone, OnStream, outgoing_of, stream_taken}
 use Rattle.tlp_layout.specs.Class.{class_of}
 use Rattle.tlp_layout.specs.Faults.{place_in}
 use Rattle.ide_prefix.specs.Faults.{packet_place}
 use Rattle.ide_prefix.specs.FaultWords.{tlp_word, packet_word}
+use Rattle.ide_types.specs.declared.binding.Binding.{Binding}
 use Rattle.ide_types.specs.declared.sub.FailCause.TheVariants as fail
-use Rattle.tlp_layout.specs.declared.head.HeadView.{HeadView}
 use Rattle.spec_links.specs.Plan.{SubStream, key_plan, streams_of, stream_plan, lane_out, has_link, has_stream}
 use Rattle.spec_links.specs.Ports.{port_of, at_switch, may_send, outgoing_at, sealing_end, goes_through}
 use Rattle.spec_links.specs.Plan.{aggregation_of, key_of}
 use Rattle.spec_links.specs.Units.{units, open_unit}
-use Rattle.spec_links.specs.History.{Arrival, KeyName, sealed_packets, sent, arrival_of_event, packet_at}
-use Rattle.spec_links.specs.History.{pending_packets, units_got}
-use Rattle.spec_links.specs.History.{on_draw, live_key, failed, posted_count, meets_counts, received_in, ahead_due}
-use Rattle.spec_links.specs.History.{sent_bytes, sending_port}
+use Rattle.spec_links.specs.History.{Arrival, KeyName, sealed_packets, sent_packets, arrival_of_event, packet_by_number}
+use Rattle.spec_links.specs.History.{pending_packets, units_got, on_draw, live_key, has_failed, posted_count}
+use Rattle.spec_links.specs.History.{meets_counts, received_in, ahead_due, sent_bytes, sending_port}
 use Rattle.ide_types.specs.declared.sub.SubKind.TheVariants.{Cpl}
 use Rattle.ide_types.specs.declared.verdict.InterfaceVerdict.TheVariants as iv
 use Rattle.link_events.specs.declared.event.AccessEvent.TheVariants as ae
 use Rattle.link_verdicts.specs.declared.access.AccessVerdict.TheVariants as av
+use Rattle.link_verdicts.specs.declared.verdict.BlockCause.{BlockCause}
 use Rattle.link_verdicts.specs.declared.verdict.BlockCause.TheVariants as cause
 use Rattle.link_verdicts.specs.declared.verdict.Verdict.TheVariants as v
+use Rattle.link_verdicts.specs.Causes.{binding_cause}
 pub use Rattle.spec_links.specs.Memory.{effects_of, memory_due}
 use Rattle.spec_links.specs.Hops.{HopTlp, has_hop, leaving_end}
-use Rattle.spec_links.specs.Memory.{waiting, hop_waiting}
+use Rattle.spec_links.specs.Memory.{waiting_reads, hop_waiting}
 use Rattle.ide_types.specs.declared.direction.Direction.{Direction}
 use Rattle.link_events.specs.declared.event.Event.TheVariants.{Forward, Absent}
 use Rattle.spec_links.specs.Guarded.{mmio_due}
+use Rattle.tlp_layout.specs.declared.head.HeadView.{HeadView}
 pub use Rattle.spec_stream.specs.Sending.{first_that_holds, Sending, Lane, Lanes, is_posted, begins_unit, needs_sync}
 pub use Rattle.spec_stream.specs.Sending.{is_worn, is_keyless, refusals, no_key, described_seal, ends_unit}
-pub use Rattle.spec_stream.specs.Sending.{sets_trusted}
-pub use Rattle.spec_stream.specs.Sending.{sync_before, sealed_with_syncs, verdict_of_send}
+pub use Rattle.spec_stream.specs.Sending.{sets_trusted, sync_before, sealed_with_syncs, verdict_of_send}
 
 -- ---- sends
 
 -- what a history says of a sub-stream that a port seals
 abbrev pub packets_under_key : Plan → History → SubStream → Option KeyName → List Packet
 packets_under_key plan h s None = []
-packets_under_key plan h s (Some key) = sent plan h s key.draw
+packets_under_key plan h s (Some key) = sent_packets plan h s key.draw
 
-abbrev pub lane_at : Plan → History → PortName → SubStream → Lane
-lane_at plan h port s =
+abbrev pub lane_contents : Plan → History → PortName → SubStream → Lane
+lane_contents plan h port s =
     let under = packets_under_key plan h s (live_key h port s) in
     record {
       key = live_key h port s;
@@ -65,14 +63,14 @@ abbrev pub lanes_at : Plan → History → PortName → ℕ → Lanes
 lanes_at plan h port stream = record {
   aggregation = aggregation_of plan port.line stream;
   limit = plan.units_per_key;
-  failed = failed h port stream;
-  lane = λ u. lane_at plan h port (lane_out port stream u);
+  failed = has_failed h port stream;
+  lane = λ u. lane_contents plan h port (lane_out port stream u);
 }
 
 -- T of a TLP that an end seals on a stream: at a switch as it came
 unfoldable pub t_sealed : Plan → History → PortName → HeadView → ℕ → Bool → Bool
 t_sealed plan h end head stream trusted =
-    if at_switch plan end then trusted else t_at plan h end (owner_at plan (owners_link plan end) head) stream trusted
+    if at_switch plan end then trusted else t_at plan h end (owner_site plan (owners_link plan end) head) stream trusted
 
 -- of a TLP on the line of an end
 abbrev pub send_due : Plan → History → PortName → Outgoing → Bool → Bool → Verdict
@@ -95,10 +93,6 @@ bytes_due plan h end bytes more trusted = send_due plan h end (outgoing_at plan 
 
 -- ---- answers
 
-abbrev pub is_stream : ℕ → Option ℕ → Bool
-is_stream stream None = false
-is_stream stream (Some s) = s == stream
-
 -- the draw that completions are sealed under is less than the floor
 abbrev pub is_before : Option KeyName → ℕ → Bool
 is_before None floor = false
@@ -113,14 +107,27 @@ answer_with_key plan h port floor key out =
     if is_before key floor then v.Interface (iv.RefusedRefreshFirst (draw_of key) floor)
     else send_due plan h port out false true
 
--- a read of an interface that came under this draw: what the manager says of the interface, by its bound stream and
--- floor, and the completion
-abbrev pub completion_verdict : Plan → History → PortName → ℕ → ℕ → Option (ℕ × ℕ) → Outgoing → Verdict
-completion_verdict plan h port interface draw None out = v.Access (av.Dropped interface cause.NotRunning)
-completion_verdict plan h port interface draw (Some bound) out =
-    if not (is_stream bound.0 (stream_taken out)) then v.Access (av.Dropped interface cause.WrongStream)
-    else if nat_lt draw bound.1 then v.Access (av.Dropped interface cause.Stale)
-    else answer_with_key plan h port bound.1 (live_key h port (lane_out port bound.0 Cpl)) out
+-- a read of an interface is dropped by a cause, if there is one
+abbrev pub judged_by : ℕ → Binding → Option BlockCause → Result Binding Verdict
+judged_by interface bound None = Ok bound
+judged_by interface bound (Some c) = Err (v.Access (av.Dropped interface c))
+
+-- of a read of an interface that came under this draw: by what the manager says of the interface, its binding, and by
+-- the stream that the completion takes
+abbrev pub judged_bound : Option ℕ → ℕ → ℕ → Option Binding → Result Binding Verdict
+judged_bound taken interface draw None = Err (v.Access (av.Dropped interface cause.NotRunning))
+judged_bound taken interface draw (Some bound) = judged_by interface bound (binding_cause bound taken draw)
+
+-- as it was judged
+abbrev pub answer_judged : Plan → History → PortName → Outgoing → Result Binding Verdict → Verdict
+answer_judged plan h port out (Err verdict) = verdict
+answer_judged plan h port out (Ok bound) =
+    answer_with_key plan h port bound.floor (live_key h port (lane_out port bound.stream Cpl)) out
+
+-- of an interface with this binding, if its view is Running, to a read that came under a draw
+abbrev pub completion_verdict : Plan → History → PortName → ℕ → ℕ → Option Binding → Outgoing → Verdict
+completion_verdict plan h port interface draw bound out =
+    answer_judged plan h port out (judged_bound (stream_taken out) interface draw bound)
 
 abbrev pub site_answer : Plan → History → PortName → ℕ → Option Site → Outgoing → Verdict
 site_answer plan h port draw None out = v.Nothing
@@ -139,7 +146,7 @@ outgoing_completion plan h link = outgoing_of (streams_of plan link) Host (sent_
 abbrev pub answer_due : Plan → History → ℕ → Verdict
 answer_due plan h link =
     if has_link plan link
-    then answer_first plan h (sending_port plan (Access (ae.Answer link))) (waiting plan h link)
+    then answer_first plan h (sending_port plan (Access (ae.Answer link))) (waiting_reads plan h link)
     (outgoing_completion plan h link)
     else v.Nothing
 
@@ -179,8 +186,8 @@ abbrev pub is_overfull : Plan → History → SubStream → ℕ → Bool → Boo
 is_overfull plan h s j m = not m && nat_le (aggregation_of plan s.line s.stream)
     (length (pending_packets plan h s j) + 1)
 
-abbrev pub unit_under : History → SubStream → ℕ → UnitName
-unit_under h s j = record { stream = s.stream; sub = s.sub; draw = j; unit = units_got h s j + 1 }
+abbrev pub next_unit_name : History → SubStream → ℕ → UnitName
+next_unit_name h s j = record { stream = s.stream; sub = s.sub; draw = j; unit = units_got h s j + 1 }
 
 -- what is left once the keys are known: that of the set that K names, and that of the other
 abbrev pub under_keys : Plan → History → PortName → Packet → Option ℕ → Option ℕ → Result Ending Verdict
@@ -190,15 +197,15 @@ under_keys plan h port p (Some j) other =
     let s = receiving_sub_stream port p in
     if is_mixed plan h s other || is_overfull plan h s j p.prefix.m
     then Err (v.Fail port p.prefix.stream p.prefix.sub fail.Unit)
-    else if p.prefix.m then Ok (record { packet = p; unit = unit_under h s j })
-    else Err (v.Held port (unit_under h s j))
+    else if p.prefix.m then Ok (record { packet = p; unit = next_unit_name h s j })
+    else Err (v.Held port (next_unit_name h s j))
 
 abbrev pub before_tag_of : Plan → History → PortName → Result CutValue PacketFault → Result Ending Verdict
 before_tag_of plan h port (Err f) = Err (v.Malformed (port_of plan port) (packet_word f) (packet_place f))
 before_tag_of plan h port (Ok PlainTlp) = Err (v.Plain (port_of plan port))
 before_tag_of plan h port (Ok (IdePacket p)) =
     if not (has_stream plan port p.prefix.stream) then Err (v.Unknown (port_of plan port) p.prefix.stream)
-    else if failed h port p.prefix.stream then Err (v.Insecure port p.prefix.stream)
+    else if has_failed h port p.prefix.stream then Err (v.Insecure port p.prefix.stream)
     else under_keys plan h port p (on_draw h port (receiving_sub_stream port p) p.prefix.k)
     (on_draw h port (receiving_sub_stream port p)
     (not p.prefix.k))
@@ -214,23 +221,24 @@ before_tag plan h a =
     else before_tag_of plan h a.port (cut_of a.bytes)
 
 -- the unit that a packet ends
-abbrev pub ended : Plan → History → PortName → Ending → List Packet
-ended plan h port x = pending_packets plan h (received_in port x.unit) x.unit.draw ++ x.packet ∷ []
+abbrev pub unit_packets_ended : Plan → History → PortName → Ending → List Packet
+unit_packets_ended plan h port x = pending_packets plan h (received_in port x.unit) x.unit.draw ++ x.packet ∷ []
 
 -- whether the tag is that of the unit
 unfoldable pub is_verified : Plan → History → PortName → Ending → Bool
 is_verified plan h port x =
     verifies (key_of plan x.unit.draw (received_in port x.unit)) (iv_of x.unit.sub x.unit.unit)
-    (ahead_due plan h (received_in port x.unit) x.unit.unit ++ authenticated_bytes (ended plan h port x))
-    (encrypted_bytes (ended plan h port x)) x.packet.tag
+    (ahead_due plan h (received_in port x.unit) x.unit.unit ++ authenticated_bytes (unit_packets_ended plan h port x))
+    (encrypted_bytes (unit_packets_ended plan h port x)) x.packet.tag
 
 abbrev pub ending_due : Plan → History → PortName → Result Ending Verdict → Verdict
 ending_due plan h port (Err verdict) = verdict
 ending_due plan h port (Ok x) =
     if not (is_verified plan h port x) then v.Fail port x.unit.stream x.unit.sub fail.Tag
-    else if not (meets_counts plan h (received_in port x.unit) (ended plan h port x)) then v.Fail port x.unit.stream
+    else if not (meets_counts plan h (received_in port x.unit) (unit_packets_ended plan h port x))
+    then v.Fail port x.unit.stream
     x.unit.sub fail.Order
-    else v.Accepted port x.unit (effects_of plan h port x.unit (ended plan h port x))
+    else v.Accepted port x.unit (effects_of plan h port x.unit (unit_packets_ended plan h port x))
 
 abbrev pub arrival_due : Plan → History → Option Arrival → Verdict
 arrival_due plan h None = v.Nothing
@@ -250,15 +258,15 @@ due plan h (Send port bytes more trusted) =
     if may_send plan port then bytes_due plan h (sealing_end plan port bytes) bytes more trusted else v.Nothing
 due plan h (Access (ae.Answer link)) = answer_due plan h link
 due plan h (Access (ae.Mmio interface bar offset len)) = mmio_due plan h interface bar offset len
-due plan h (Dump n) = dump_due n (packet_at (sealed_packets plan h) n)
-due plan h (Establish link stream lose) = key_due (key_plan plan) h (Establish link stream lose) v.Nothing
-due plan h (Refresh link stream lose) = key_due (key_plan plan) h (Refresh link stream lose) v.Nothing
-due plan h (Stop link stream lose) = key_due (key_plan plan) h (Stop link stream lose) v.Nothing
+due plan h (Dump n) = dump_due n (packet_by_number (sealed_packets plan h) n)
+due plan h (Establish line stream lose) = key_due (key_plan plan) h (Establish line stream lose) v.Nothing
+due plan h (Refresh line stream lose) = key_due (key_plan plan) h (Refresh line stream lose) v.Nothing
+due plan h (Stop line stream lose) = key_due (key_plan plan) h (Stop line stream lose) v.Nothing
 due plan h (Reset link ends) = key_due (key_plan plan) h (Reset link ends) v.Nothing
 due plan h (Interface e) = interface_due plan h e (memory_due plan h e)
-due plan h (Status link stream) =
-    if is_some (stream_plan plan link stream) then v.Status link stream (history_status h Host link stream)
-    (history_status h Device link stream) else v.Nothing
+due plan h (Status line stream) =
+    if is_some (stream_plan plan line stream) then v.Status line stream (history_status h Host line stream)
+    (history_status h Device line stream) else v.Nothing
 due plan h (Pass n) = arrival_due plan h (arrival_of_event plan h (Pass n))
 due plan h (Alter n at mask) = arrival_due plan h (arrival_of_event plan h (Alter n at mask))
 due plan h (Cut n len) = arrival_due plan h (arrival_of_event plan h (Cut n len))

@@ -1,14 +1,13 @@
 -- What happened to the memory of the interfaces of each link's device, and what is shown of it.
 use Rattle.std.specs.Prelude.{◌*◌, ◌==◌, ◌&&◌, ◌∷◌, Bool, true, false, Err, List, None, Ok, Option, Result, Some}
 use Rattle.std.specs.Prelude.{[], drop, length, slice_index, take, if◌then◌else◌, ℕ}
-use Rattle.spec_links.specs.Terms.{PortName, Plan, Event, UnitName, Verdict, Accepted, read_head_of, TlpFault}
-use Rattle.spec_links.specs.Terms.{Packet, is_sync_packet, History}
+use Rattle.spec_links.specs.Terms.{PortName, Plan, Event, UnitName, Verdict, Accepted, read_head_of, TlpFault, Packet}
+use Rattle.spec_links.specs.Terms.{is_sync_packet, History, memory_write, bytes_from}
 use Rattle.spec_links.specs.Ports.{port_of, is_device_port}
-use Rattle.spec_links.specs.Terms.{memory_write, bytes_from}
 use Rattle.tlp_layout.specs.declared.head.HeadView.{HeadView}
 use Rattle.spec_interfaces.specs.Sites.{Site, site_at}
 use Rattle.spec_interfaces.specs.Exchanges.{carries, changes_device}
-use Rattle.spec_interfaces.specs.Floors.{place_of, history_standings}
+use Rattle.spec_interfaces.specs.Floors.{place_of, history_statuses}
 use Rattle.spec_interfaces.specs.{InterfaceStatus, Happened, InterfaceReset, AllReset, InterfaceStopped, byte_shown}
 use Rattle.spec_interfaces.specs.{newest_happened, write_happened, page_counts, fits_range}
 use Rattle.spec_links.specs.Memory.{unit_ended, plain_of}
@@ -69,17 +68,17 @@ happens_by plan standings ps (event.Reset l ends) (v.Reset k) link = happens_if 
 happens_by plan standings ps e w link = asked_happens plan e w link
 
 -- the packets of the unit that a verdict ends
-abbrev pub unit_of : Plan → History → Event → Verdict → List Packet
-unit_of plan h e (v.Accepted port unit effects) = unit_ended plan h e port unit
-unit_of plan h e w = []
+abbrev pub verdict_unit : Plan → History → Event → Verdict → List Packet
+verdict_unit plan h e (v.Accepted port unit effects) = unit_ended plan h e port unit
+verdict_unit plan h e w = []
 
 abbrev pub happens : Plan → History → Event → Verdict → ℕ → List (Option Happened)
-happens plan h e w link = happens_by plan (history_standings plan h) (unit_of plan h e w) e w link
+happens plan h e w link = happens_by plan (history_statuses plan h) (verdict_unit plan h e w) e w link
 
 -- the newest first
-unfoldable pub happened : Plan → History → ℕ → List Happened
-happened plan [] link = []
-happened plan ((e, w) ∷ h) link = newest_happened (happens plan h e w link) (happened plan h link)
+unfoldable pub link_happenings : Plan → History → ℕ → List Happened
+link_happenings plan [] link = []
+link_happenings plan ((e, w) ∷ h) link = newest_happened (happens plan h e w link) (link_happenings plan h link)
 
 -- ---- what is shown
 
@@ -99,4 +98,4 @@ abbrev pub mmio_by : Plan → (ℕ → List Happened) → ℕ → ℕ → ℕ �
 mmio_by plan happened_at i bar offset len = mmio_shown plan happened_at (site_at plan i) bar offset len
 
 abbrev pub mmio_due : Plan → History → ℕ → ℕ → ℕ → ℕ → Verdict
-mmio_due plan h i bar offset len = mmio_by plan (happened plan h) i bar offset len
+mmio_due plan h i bar offset len = mmio_by plan (link_happenings plan h) i bar offset len

@@ -1,23 +1,19 @@
 -- What happened: filters of a history, which is a list of events with their verdicts, the newest first.
 use Rattle.std.specs.Prelude.{if◌then◌else◌, ◌&&◌, ◌++◌, ◌+◌, ◌==◌, ◌||◌, ◌∷◌, Bool, Err, List, None, Ok, Option}
 use Rattle.std.specs.Prelude.{Result, Some, [], false, filter, length, map, nat_le, not, sum_by, true, ℕ}
-use Rattle.spec_links.specs.Terms.{after_last, list_any}
-use Rattle.spec_links.specs.Terms.{sub_bits, PortName, Plan, Event, SealedPacket}
-use Rattle.spec_links.specs.Terms.{Verdict, Accepted, Held, Sealed}
-use Rattle.spec_links.specs.Terms.{read_of, body, header, TlpFault, Tlp, iv_of, Packet, sync_head}
-use Rattle.spec_links.specs.Terms.{authenticated_bytes, encrypted_bytes, masked_bytes, tag_of}
-use Rattle.spec_links.specs.Terms.{History, base, failed_there}
-use Rattle.spec_links.specs.Terms.{fails_there, keeps_live, place_keys, Keyed, Keys, Off, On, key_in, no_keys, on_in}
-use Rattle.spec_links.specs.Terms.{unless_below, KeyPlace, received_direction, sent_direction}
+use Rattle.spec_links.specs.Terms.{after_last, list_any, sub_bits, PortName, Plan, Event, SealedPacket, Verdict}
+use Rattle.spec_links.specs.Terms.{Accepted, Held, Sealed, read_of, body, header, TlpFault, Tlp, iv_of, Packet}
+use Rattle.spec_links.specs.Terms.{sync_head, authenticated_bytes, encrypted_bytes, masked_bytes, tag_of, History, base}
+use Rattle.spec_links.specs.Terms.{failed_there, fails_there, keeps_live, place_keys, Keyed, Keys, Off, On, key_in}
+use Rattle.spec_links.specs.Terms.{no_keys, on_in, unless_below, KeyPlace, received_direction, sent_direction}
 use Rattle.ide_types.specs.declared.sub.SubKind.TheVariants.{Pr, Npr, Cpl}
 use Rattle.tlp_layout.specs.Head.{head_bytes}
-use Rattle.spec_links.specs.Plan.{SubStream, is_same, is_same_port, lane_out, lane_in, key_of}
-use Rattle.spec_links.specs.Plan.{is_closed}
+use Rattle.spec_links.specs.Plan.{SubStream, is_same, is_same_port, lane_out, lane_in, key_of, is_closed}
 use Rattle.spec_links.specs.Units.{open_unit}
 pub use Rattle.spec_stream.specs.Sending.{KeyName, prefix_of, total_ahead}
-pub use Rattle.spec_links.specs.Packets.{sub_stream_of, SealedList, Arrival, packet_at, arrival_at_partner}
-pub use Rattle.spec_links.specs.Packets.{altered_arrival, shortened_arrival}
-pub use Rattle.spec_links.specs.Packets.{arrived_in, no_packet, cut_packet, packet_in, received_in, is_of}
+pub use Rattle.spec_links.specs.Packets.{sub_stream_of, SealedList, Arrival, packet_by_number, arrival_at_partner}
+pub use Rattle.spec_links.specs.Packets.{altered_arrival, shortened_arrival, arrived_in, no_packet, cut_packet}
+pub use Rattle.spec_links.specs.Packets.{arrival_packet, received_in, is_received_under}
 pub use Rattle.spec_links.specs.Sent.{sending_port}
 unfoldable pub use Rattle.spec_links.specs.Sent.{bytes_by}
 
@@ -59,12 +55,12 @@ packet_of plan ahead bytes d unfinished =
     record p { tag = if d.m then unit_tag plan ahead d (unfinished ++ p ∷ []) else [] }
 
 -- whether a sealed packet is of this sub-stream and draw
-abbrev pub is_under : SubStream → ℕ → SealedPacket × Packet → Bool
-is_under s j x = is_same (sub_stream_of x.0) s && (x.0.draw == j)
+abbrev pub is_sealed_under : SubStream → ℕ → SealedPacket × Packet → Bool
+is_sealed_under s j x = is_same (sub_stream_of x.0) s && (x.0.draw == j)
 
 -- the packets of a sub-stream under a draw, in order
 unfoldable pub sub_stream_packets : SealedList → SubStream → ℕ → List Packet
-sub_stream_packets xs s j = map (λ (x : SealedPacket × Packet). x.1) (filter (is_under s j) xs)
+sub_stream_packets xs s j = map (λ (x : SealedPacket × Packet). x.1) (filter (is_sealed_under s j) xs)
 
 -- the packets of one event after those before
 abbrev pub with_sealed : Plan → (SealedPacket → List ℕ) → List ℕ → List SealedPacket → SealedList → SealedList
@@ -75,16 +71,16 @@ with_sealed plan ahead bytes (d ∷ ds) before =
     ∷ [])
 
 -- whether a sealed packet is of the sub-stream, and of a draw from this one on
-abbrev pub is_in : SubStream → ℕ → SealedPacket × Packet → Bool
-is_in s from x = is_same (sub_stream_of x.0) s && nat_le from x.0.draw
+abbrev pub is_sealed_since : SubStream → ℕ → SealedPacket × Packet → Bool
+is_sealed_since s from x = is_same (sub_stream_of x.0) s && nat_le from x.0.draw
 
 -- ends a unit there
-abbrev pub ends_unit_in : SubStream → ℕ → SealedPacket × Packet → Bool
-ends_unit_in s from x = is_in s from x && x.1.prefix.m
+abbrev pub ends_unit_since : SubStream → ℕ → SealedPacket × Packet → Bool
+ends_unit_since s from x = is_sealed_since s from x && x.1.prefix.m
 
 -- the total of a sender: the units of a sub-stream that were finished under all draws from this one on
 unfoldable pub total_in : SealedList → SubStream → ℕ → ℕ
-total_in xs s from = length (filter (ends_unit_in s from) xs)
+total_in xs s from = length (filter (ends_unit_since s from) xs)
 
 abbrev pub ahead_of_packet : Plan → SealedList → (ℕ → ℕ → ℕ) → SealedPacket → List ℕ
 ahead_of_packet plan xs from d = let s = sub_stream_of d in ahead_of_unit plan s d.unit
@@ -104,8 +100,8 @@ abbrev pub sent_bytes : Plan → History → Event → List ℕ
 sent_bytes plan h e = bytes_by plan (sealed_packets plan h) h e
 
 -- the packets that were sealed in a sub-stream under a draw, in order
-abbrev pub sent : Plan → History → SubStream → ℕ → List Packet
-sent plan h s j = sub_stream_packets (sealed_packets plan h) s j
+abbrev pub sent_packets : Plan → History → SubStream → ℕ → List Packet
+sent_packets plan h s j = sub_stream_packets (sealed_packets plan h) s j
 
 abbrev pub is_of_unit : SubStream → ℕ → ℕ → SealedPacket → Bool
 is_of_unit s j n d = is_same (sub_stream_of d) s && (d.draw == j) && (d.unit == n)
@@ -126,13 +122,14 @@ arrival_of_event plan h e = arrived_in plan (sealed_packets plan h) e
 
 -- the packet that an event brings
 abbrev pub arrived_packet : Plan → History → Event → Packet
-arrived_packet plan h e = packet_in (arrival_of_event plan h e)
+arrived_packet plan h e = arrival_packet (arrival_of_event plan h e)
 
 -- the packets that were held for unit n, in order
 unfoldable pub packets_in_hold : Plan → History → SubStream → ℕ → ℕ → List Packet
 packets_in_hold plan [] s j n = []
 packets_in_hold plan ((e, Held port unit) ∷ h) s j n =
-    if is_of s j port unit && (unit.unit == n) then packets_in_hold plan h s j n ++ arrived_packet plan h e ∷ []
+    if is_received_under s j port unit && (unit.unit == n) then packets_in_hold plan h s j n ++ arrived_packet plan h e
+    ∷ []
     else packets_in_hold plan h s j n
 packets_in_hold plan (_ ∷ h) s j n = packets_in_hold plan h s j n
 
@@ -140,7 +137,7 @@ packets_in_hold plan (_ ∷ h) s j n = packets_in_hold plan h s j n
 unfoldable pub accepted_packets : Plan → History → SubStream → ℕ → List Packet
 accepted_packets plan [] s j = []
 accepted_packets plan ((e, Accepted port unit effects) ∷ h) s j =
-    if is_of s j port unit then accepted_packets plan h s j ++
+    if is_received_under s j port unit then accepted_packets plan h s j ++
     (packets_in_hold plan h s j unit.unit ++ arrived_packet plan h e ∷ [])
     else accepted_packets plan h s j
 accepted_packets plan (_ ∷ h) s j = accepted_packets plan h s j
@@ -149,7 +146,7 @@ accepted_packets plan (_ ∷ h) s j = accepted_packets plan h s j
 unfoldable pub units_got : History → SubStream → ℕ → ℕ
 units_got [] s j = 0
 units_got ((e, Accepted port unit effects) ∷ h) s j =
-    if is_of s j port unit then units_got h s j + 1 else units_got h s j
+    if is_received_under s j port unit then units_got h s j + 1 else units_got h s j
 units_got (_ ∷ h) s j = units_got h s j
 
 -- the draws of the accepted units of a sub-stream, the newest first
@@ -178,13 +175,13 @@ ended_keys (On i) (On j) =
 ended_keys a b = record { first = a; second = b }
 
 -- a sealed packet ends a unit of the sub-stream at the port
-abbrev pub ends_unit_at : PortName → SubStream → SealedPacket → Bool
-ends_unit_at port s d = is_same_port d.port port && is_same (sub_stream_of d) s && d.m
+abbrev pub ends_port_unit : PortName → SubStream → SealedPacket → Bool
+ends_port_unit port s d = is_same_port d.port port && is_same (sub_stream_of d) s && d.m
 
 abbrev pub after_ends : PortName → SubStream → List SealedPacket → Keys → Keys
 after_ends port s [] keys = keys
 after_ends port s (d ∷ ds) keys =
-    after_ends port s ds (if ends_unit_at port s d then ended_keys keys.first keys.second else keys)
+    after_ends port s ds (if ends_port_unit port s d then ended_keys keys.first keys.second else keys)
 
 -- a unit of draw j was accepted: a smaller draw is On no more
 abbrev pub accepted_keys : ℕ → Keys → Keys
@@ -246,21 +243,22 @@ abbrev pub fails_at : PortName → ℕ → Verdict → Bool
 fails_at port stream v = fails_there port.side port.line stream v
 
 -- whether an arrival failed at the port, and since then the port always had a Live key on the stream
-abbrev pub failed : History → PortName → ℕ → Bool
-failed h port stream = failed_there h port.side port.line stream
+abbrev pub has_failed : History → PortName → ℕ → Bool
+has_failed h port stream = failed_there h port.side port.line stream
 
 -- ---- counts
 
-abbrev pub posted_of : SubStream → SubStream
-posted_of s = record s { sub = Pr }
+abbrev pub posted_lane : SubStream → SubStream
+posted_lane s = record s { sub = Pr }
 
 -- how many posted packets were sealed in its direction since the last packet of the sub-stream, of draws from this one
 -- on
-unfoldable pub posted_in : SealedList → SubStream → ℕ → ℕ
-posted_in xs s from = length (filter (is_in (posted_of s) from) (after_last (is_in s from) xs))
+unfoldable pub posted_since_last : SealedList → SubStream → ℕ → ℕ
+posted_since_last xs s from = length (filter (is_sealed_since (posted_lane s) from)
+    (after_last (is_sealed_since s from) xs))
 
 abbrev pub posted_count : Plan → History → SubStream → ℕ
-posted_count plan h s = posted_in (sealed_packets plan h) s (base h s.line s.stream)
+posted_count plan h s = posted_since_last (sealed_packets plan h) s (base h s.line s.stream)
 
 -- the packets of accepted units of draws from this one on
 unfoldable pub got_since : Plan → History → SubStream → ℕ → List Packet
@@ -277,7 +275,7 @@ unfoldable pub meets_counts : Plan → History → SubStream → List Packet →
 meets_counts plan h s unit =
     (sub_bits s.sub == 0)
     || nat_le (sum_by (λ (p : Packet). p.prefix.posted) (got_since plan h s (base h s.line s.stream) ++ unit))
-    (length (got_since plan h (posted_of s) (base h s.line s.stream)))
+    (length (got_since plan h (posted_lane s) (base h s.line s.stream)))
 
 -- the total of a receiver: the units that were accepted of all draws from this one on
 unfoldable pub units_since : History → SubStream → ℕ → ℕ

@@ -9,13 +9,12 @@ use Rattle.ide_types.specs.Sub.{is_same_sub}
 use Rattle.ide_types.specs.declared.direction.Direction.{Direction}
 use Rattle.spec_keys.specs.History.{begins_keyed, draws, manager, op_of}
 use Rattle.spec_links.specs.Plan.{SubStream, is_same_port}
-use Rattle.spec_links.specs.History.{sent_bytes}
+use Rattle.spec_links.specs.History.{sent_bytes, sealed_packets, accepted_packets, packets_in_hold}
 use Rattle.spec_links.specs.Hops.{HopTlp, has_hop, first_end, entering_end, leaving_end, last_end, clears_hop}
-use Rattle.spec_links.specs.Memory.{accepted_tlps, hop_waiting, waiting, writes}
-use Rattle.spec_links.specs.Guarded.{happened}
-use Rattle.spec_links.specs.History.{sealed_packets, accepted_packets, packets_in_hold}
+use Rattle.spec_links.specs.Memory.{accepted_tlps, hop_waiting, waiting_reads, writes}
+use Rattle.spec_links.specs.Guarded.{link_happenings}
 use Rattle.ide_types.specs.declared.port.Side.{Side}
-use Rattle.spec_interfaces.specs.Views.{managed}
+use Rattle.spec_interfaces.specs.Views.{managed_view}
 use Rattle.spec_interfaces.specs.Devices.{interface_at}
 use Rattle.spec_links.specs.Laws.{IsPrefixOf, NoForgery}
 use Rattle.link_verdicts.specs.declared.verdict.Verdict.TheVariants as v
@@ -23,8 +22,8 @@ use Rattle.link_verdicts.specs.declared.verdict.Verdict.TheVariants as v
 -- ---- what was sealed
 
 -- a sealed packet carries a TLP that this end sealed
-abbrev pub carries_tlp_at : PortName → SealedPacket → Bool
-carries_tlp_at end d = not d.sync && is_same_port d.port end
+abbrev pub is_tlp_of_sender : PortName → SealedPacket → Bool
+is_tlp_of_sender end d = not d.sync && is_same_port d.port end
 
 abbrev pub sealed_tlp : List ℕ → SealedPacket → HopTlp
 sealed_tlp bytes d = record { sub = d.sub; bytes = bytes; t = d.t }
@@ -33,7 +32,7 @@ sealed_tlp bytes d = record { sub = d.sub; bytes = bytes; t = d.t }
 unfoldable pub tlps_since_reset : Plan → History → ℕ → PortName → List HopTlp
 tlps_since_reset plan [] link end = []
 tlps_since_reset plan ((e, Sealed ds) ∷ h) link end =
-    tlps_since_reset plan h link end ++ map (sealed_tlp (sent_bytes plan h e)) (filter (carries_tlp_at end) ds)
+    tlps_since_reset plan h link end ++ map (sealed_tlp (sent_bytes plan h e)) (filter (is_tlp_of_sender end) ds)
 tlps_since_reset plan ((Reset k ends, v.Reset l) ∷ h) link end =
     if clears_hop ends link then [] else tlps_since_reset plan h link end
 tlps_since_reset plan (_ ∷ h) link end = tlps_since_reset plan h link end
@@ -110,10 +109,10 @@ pub record Unchanged (plan : Plan) (h : History) (e : Event) (w : Verdict) : Typ
   pub pending_packets : (s : SubStream) (j n : ℕ) → packets_in_hold plan ((e, w) ∷ h) s j n
       ≡ packets_in_hold plan h s j n
   pub switches : (link : ℕ) (d : Direction) → hop_waiting plan ((e, w) ∷ h) link d ≡ hop_waiting plan h link d
-  pub reads : (link : ℕ) → waiting plan ((e, w) ∷ h) link ≡ waiting plan h link
+  pub reads : (link : ℕ) → waiting_reads plan ((e, w) ∷ h) link ≡ waiting_reads plan h link
   pub memory : writes plan ((e, w) ∷ h) ≡ writes plan h
-  pub devices : (link : ℕ) → happened plan ((e, w) ∷ h) link ≡ happened plan h link
-  pub views : (x : Site) → managed ((e, w) ∷ h) x ≡ managed h x
+  pub devices : (link : ℕ) → link_happenings plan ((e, w) ∷ h) link ≡ link_happenings plan h link
+  pub views : (x : Site) → managed_view ((e, w) ∷ h) x ≡ managed_view h x
   pub interfaces : (x : Site) → interface_at plan ((e, w) ∷ h) x ≡ interface_at plan h x
 
 -- An answer `through` leaves them so.

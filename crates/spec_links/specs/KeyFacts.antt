@@ -6,8 +6,8 @@ use Rattle.spec_links.specs.Terms.{UnitName, Verdict, Accepted, Fail, Held, Seal
 use Rattle.spec_keys.specs.Places.{is_cut}
 use Rattle.link_events.specs.declared.event.Event.TheVariants as event
 use Rattle.spec_links.specs.Plan.{SubStream, is_same, is_same_port, lane_out, lane_in, stream_plan}
-use Rattle.spec_links.specs.History.{is_under, KeyName, live_key, sealed_packets, sub_stream_of, draws_got, port_keys}
-use Rattle.spec_links.specs.History.{sent, received_in, is_keyed, after_ends, accepted_keys, waits}
+use Rattle.spec_links.specs.History.{is_sealed_under, KeyName, live_key, sealed_packets, sub_stream_of, draws_got}
+use Rattle.spec_links.specs.History.{port_keys, sent_packets, received_in, is_keyed, after_ends, accepted_keys, waits}
 use Rattle.spec_links.specs.Units.{open_unit}
 use Rattle.spec_links.specs.Cause.{CauseLaw}
 
@@ -27,15 +27,15 @@ is_quiet _ = true
 
 -- the event is an operation on a stream of a line: establish, refresh, stop, or a reset that clears an end of the line
 unfoldable pub operates : Event → ℕ → ℕ → Bool
-operates (event.Establish l s lose) link stream = (l == link) && (s == stream)
-operates (event.Refresh l s lose) link stream = (l == link) && (s == stream)
-operates (event.Stop l s lose) link stream = (l == link) && (s == stream)
-operates (event.Reset l ends) link stream = is_cut ends link
-operates _ link stream = false
+operates (event.Establish l s lose) line stream = (l == line) && (s == stream)
+operates (event.Refresh l s lose) line stream = (l == line) && (s == stream)
+operates (event.Stop l s lose) line stream = (l == line) && (s == stream)
+operates (event.Reset l ends) line stream = is_cut ends line
+operates _ line stream = false
 
 -- it is on no stream at all
 abbrev pub IsNoOperation : Event → Type 0
-IsNoOperation e = (link stream : ℕ) → operates e link stream ≡ false
+IsNoOperation e = (line stream : ℕ) → operates e line stream ≡ false
 
 -- what the machine uses
 pub record KeyFacts (plan : Plan) : Type 0 where
@@ -54,9 +54,9 @@ pub record KeyFacts (plan : Plan) : Type 0 where
   pub keyed : (h : History) (e : Event) (v : Verdict) → CauseLaw plan ((e, v) ∷ h) → (port : PortName) (s : SubStream)
       → operates e s.line s.stream ≡ false
       → is_keyed ((e, v) ∷ h) port s ≡ is_keyed h port s
-  pub base_same : (h : History) (e : Event) (v : Verdict) → CauseLaw plan ((e, v) ∷ h) → (link stream : ℕ)
-      → operates e link stream ≡ false
-      → base ((e, v) ∷ h) link stream ≡ base h link stream
+  pub base_same : (h : History) (e : Event) (v : Verdict) → CauseLaw plan ((e, v) ∷ h) → (line stream : ℕ)
+      → operates e line stream ≡ false
+      → base ((e, v) ∷ h) line stream ≡ base h line stream
   -- draws that are On are from Base on, and those of the two sets differ
   pub from_base : (h : History) → CauseLaw plan h → (port : PortName) (s : SubStream) (k : Bool) (j : ℕ)
       → key_in (port_keys h port s) k ≡ On j
@@ -67,7 +67,8 @@ pub record KeyFacts (plan : Plan) : Type 0 where
   -- a draw that waits has sealed nothing
   pub unused : (h : History) → CauseLaw plan h → (port : PortName) (stream : ℕ) (u : SubKind) (k : Bool) (j : ℕ)
       → let s = lane_out port stream u in
-      key_in (port_keys h port s) k ≡ On j → waits k j (key_in (port_keys h port s) (not k)) ≡ true → sent plan h s j
+      key_in (port_keys h port s) k ≡ On j → waits k j (key_in (port_keys h port s) (not k)) ≡ true
+      → sent_packets plan h s j
       ≡ []
 
 -- a packet of the sub-stream of a draw from this one on was sealed when this was Base
@@ -80,9 +81,9 @@ BaseStays plan s from (_ ∷ h) = BaseStays plan s from h
 
 -- each packet of the stream that was sealed is of a draw below this one
 abbrev pub NoneFrom : Plan → History → ℕ → ℕ → ℕ → Type 0
-NoneFrom plan h link stream from =
+NoneFrom plan h line stream from =
     (i : ℕ) (x : SealedPacket × Packet) → slice_get (sealed_packets plan h) i ≡ Some x
-    → (sub_stream_of x.0).line ≡ link → x.0.stream ≡ stream → x.0.draw < from
+    → (sub_stream_of x.0).line ≡ line → x.0.stream ≡ stream → x.0.draw < from
 
 -- what the laws use
 pub record DrawFacts (plan : Plan) : Type 0 where
@@ -97,11 +98,11 @@ pub record DrawFacts (plan : Plan) : Type 0 where
   pub fresh : (h : History) (e : Event) (v : Verdict) → CauseLaw plan ((e, v) ∷ h)
       → (port : PortName) (stream : ℕ) (u : SubKind) (key : KeyName) → let s = lane_out port stream u in
       live_key ((e, v) ∷ h) port s ≡ Some key
-      → (live_key h port s ≡ Some key) ⊎ (sent plan ((e, v) ∷ h) s key.draw ≡ [])
+      → (live_key h port s ≡ Some key) ⊎ (sent_packets plan ((e, v) ∷ h) s key.draw ≡ [])
   -- Base stays, or nothing from it on has been sealed
-  pub base_fresh : (h : History) (e : Event) (v : Verdict) → CauseLaw plan ((e, v) ∷ h) → (link stream : ℕ)
-      → (base ((e, v) ∷ h) link stream ≡ base h link stream) ⊎ NoneFrom plan ((e, v) ∷ h) link stream
-      (base ((e, v) ∷ h) link stream)
+  pub base_fresh : (h : History) (e : Event) (v : Verdict) → CauseLaw plan ((e, v) ∷ h) → (line stream : ℕ)
+      → (base ((e, v) ∷ h) line stream ≡ base h line stream) ⊎ NoneFrom plan ((e, v) ∷ h) line stream
+      (base ((e, v) ∷ h) line stream)
   -- a draw is On only if the plan has the stream
   pub known : (h : History) → CauseLaw plan h → (port : PortName) (s : SubStream) (k : Bool) (j : ℕ)
       → key_in (port_keys h port s) k ≡ On j
@@ -126,5 +127,6 @@ pub record DrawFacts (plan : Plan) : Type 0 where
   pub ended : (h : History) → CauseLaw plan h
       → (port : PortName) (stream : ℕ) (u : SubKind) (k : Bool) (j i place : ℕ) (x : SealedPacket × Packet)
       → let s = lane_in port stream u in
-      key_in (port_keys h port s) k ≡ On j → slice_get (sealed_packets plan h) place ≡ Some x → is_under s j x ≡ true
-      → base h s.line s.stream ≤ i → i < j → open_unit (sent plan h s i) ≡ []
+      key_in (port_keys h port s) k ≡ On j → slice_get (sealed_packets plan h) place ≡ Some x → is_sealed_under s j x
+      ≡ true
+      → base h s.line s.stream ≤ i → i < j → open_unit (sent_packets plan h s i) ≡ []

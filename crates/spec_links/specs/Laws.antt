@@ -3,15 +3,13 @@ use Rattle.std.specs.Prelude.{◌++◌, ◌+◌, ◌<◌, ◌∷◌, ◌≡◌, 
 use Rattle.std.specs.Prelude.{true, ℕ}
 pub use Rattle.spec_keys.specs.Laws.{NeverFalls}
 use Rattle.spec_links.specs.Terms.{PortName, Plan, Event, Verdict, Accepted, Held, Packet, packet_bytes}
-use Rattle.spec_links.specs.Terms.{authenticated_bytes, encrypted_bytes}
-use Rattle.spec_links.specs.Terms.{History, base, received_direction}
+use Rattle.spec_links.specs.Terms.{authenticated_bytes, encrypted_bytes, History, base, received_direction}
 use Rattle.spec_links.specs.Plan.{SubStream, is_closed}
 use Rattle.spec_links.specs.Units.{units}
 use Rattle.spec_links.specs.History.{units_got, sealed_packets, total_in, ahead_sent, ahead_due, Arrival}
-use Rattle.spec_links.specs.History.{arrival_of_event}
-use Rattle.spec_links.specs.History.{sent, accepted_packets, pending_packets, draws_got, on_draw, failed, meets_counts}
-use Rattle.spec_links.specs.History.{received_in}
-use Rattle.spec_links.specs.Due.{Ending, before_tag, is_verified, ended, effects_of, unit_under}
+use Rattle.spec_links.specs.History.{arrival_of_event, sent_packets, accepted_packets, pending_packets, draws_got}
+use Rattle.spec_links.specs.History.{on_draw, has_failed, meets_counts, received_in}
+use Rattle.spec_links.specs.Due.{Ending, before_tag, is_verified, unit_packets_ended, effects_of, next_unit_name}
 
 -- the tag of the last packet
 abbrev pub last_tag : List Packet → List ℕ
@@ -25,9 +23,9 @@ pub record WasSealed (plan : Plan) (h : History) (port : PortName) (x : Ending) 
   pub unit : List Packet
   pub place : ℕ
   pub numbered : place + 1 ≡ x.unit.unit
-  pub finished : slice_get (units (sent plan h (received_in port x.unit) x.unit.draw)) place ≡ Some unit
-  pub same_authenticated : authenticated_bytes unit ≡ authenticated_bytes (ended plan h port x)
-  pub same_encrypted : encrypted_bytes unit ≡ encrypted_bytes (ended plan h port x)
+  pub finished : slice_get (units (sent_packets plan h (received_in port x.unit) x.unit.draw)) place ≡ Some unit
+  pub same_authenticated : authenticated_bytes unit ≡ authenticated_bytes (unit_packets_ended plan h port x)
+  pub same_encrypted : encrypted_bytes unit ≡ encrypted_bytes (unit_packets_ended plan h port x)
   pub same_ahead : ahead_sent plan h (received_in port x.unit) x.unit.draw x.unit.unit
       ≡ ahead_due plan h (received_in port x.unit) x.unit.unit
   pub same_tag : last_tag unit ≡ x.packet.tag
@@ -54,7 +52,7 @@ DrawsNeverFall h = (s : SubStream) → NeverFalls (draws_got h s)
 abbrev pub OlderFirst : Plan → History → Verdict → Type 0
 OlderFirst plan h (Accepted port unit effects) =
     is_closed plan port.line unit.stream ≡ true → (i : ℕ) → base h port.line unit.stream ≤ i → i < unit.draw
-    → accepted_packets plan h (received_in port unit) i ≡ sent plan h (received_in port unit) i
+    → accepted_packets plan h (received_in port unit) i ≡ sent_packets plan h (received_in port unit) i
 OlderFirst plan h _ = Unit {0}
 
 abbrev pub ClosedLaw : Plan → History → Type 0
@@ -63,7 +61,7 @@ ClosedLaw plan ((event, verdict) ∷ h) = OlderFirst plan h verdict × ClosedLaw
 
 -- Key by key, each sub-stream got a prefix of what was sealed, and the draws of its accepted units never fall.
 pub record PrefixLaw (plan : Plan) (h : History) : Type 0 where
-  pub prefix : (s : SubStream) (j : ℕ) → IsPrefixOf (accepted_packets plan h s j) (sent plan h s j)
+  pub prefix : (s : SubStream) (j : ℕ) → IsPrefixOf (accepted_packets plan h s j) (sent_packets plan h s j)
   pub draws : DrawsNeverFall h
   pub older : ClosedLaw plan h
 
@@ -82,16 +80,16 @@ IsOn plan h port s j = (k : Bool) × (on_draw h port s k ≡ Some j)
 pub record ArrivesInOrder (plan : Plan) (h : History) (e : Event) (s : SubStream) (j m : ℕ) (port : PortName)
     (p : Packet) : Type 0 where
   pub receiver : (port.line ≡ s.line) × (received_direction port.side ≡ s.direction)
-  pub sealed : slice_get (sent plan h s j) m ≡ Some p
+  pub sealed : slice_get (sent_packets plan h s j) m ≡ Some p
   pub unchanged : arrival_of_event plan h e ≡ Some (record { port = port; bytes = packet_bytes p })
-  pub in_order : accepted_packets plan h s j ++ pending_packets plan h s j ≡ take m (sent plan h s j)
+  pub in_order : accepted_packets plan h s j ++ pending_packets plan h s j ≡ take m (sent_packets plan h s j)
   pub live : IsOn plan h port s j
   pub alone : (i : ℕ) → IsOn plan h port s i → i ≢ j → pending_packets plan h s i ≡ []
-  pub secure : failed h port s.stream ≡ false
+  pub secure : has_failed h port s.stream ≡ false
   pub counts : p.prefix.m ≡ true → meets_counts plan h s (pending_packets plan h s j ++ p ∷ []) ≡ true
   -- on a closed stream, if it ends unit 1, all was got of the smaller draws from Base on
   pub older : p.prefix.m ≡ true → units_got h s j ≡ 0 → is_closed plan s.line s.stream ≡ true → (i : ℕ)
-      → base h s.line s.stream ≤ i → i < j → accepted_packets plan h s i ≡ sent plan h s i
+      → base h s.line s.stream ≤ i → i < j → accepted_packets plan h s i ≡ sent_packets plan h s i
 
 -- What arrives so is no forgery.
 abbrev pub OrderIsNoForgery : Plan → History → Type 0
@@ -104,9 +102,9 @@ OrderIsNoForgery plan ((event, verdict) ∷ h) =
 -- it is held, or ends its unit and is accepted
 abbrev pub IsTaken : Plan → History → SubStream → ℕ → PortName → Packet → Verdict → Type 0
 IsTaken plan h s j port p verdict =
-    (p.prefix.m ≡ false → verdict ≡ Held port (unit_under h s j))
-    × (p.prefix.m ≡ true → verdict ≡ Accepted port (unit_under h s j)
-    (effects_of plan h port (unit_under h s j) (pending_packets plan h s j ++ p ∷ [])))
+    (p.prefix.m ≡ false → verdict ≡ Held port (next_unit_name h s j))
+    × (p.prefix.m ≡ true → verdict ≡ Accepted port (next_unit_name h s j)
+    (effects_of plan h port (next_unit_name h s j) (pending_packets plan h s j ++ p ∷ [])))
 
 abbrev pub TakesWhole : Plan → History → Event → Verdict → Type 0
 TakesWhole plan h e verdict =

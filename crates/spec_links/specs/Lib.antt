@@ -22,13 +22,13 @@ pub use Rattle.spec_keys.specs.History.{base, history_status}
 pub use Rattle.spec_links.specs.Plan.{SubStream, is_same, lane_out, lane_in, streams_of, has_link, has_port}
 pub use Rattle.spec_links.specs.Plan.{has_stream, aggregation_of, is_closed, key_of}
 pub use Rattle.spec_links.specs.Units.{units, open_unit}
-pub use Rattle.spec_links.specs.History.{sealed_packets, sent_bytes, sent, arrival_of_event, accepted_packets}
-pub use Rattle.spec_links.specs.History.{packets_in_hold, pending_packets, units_got}
-pub use Rattle.spec_links.specs.History.{draws_got}
-pub use Rattle.spec_links.specs.History.{port_keys, on_draw, live_key, failed, posted_count, meets_counts, total_in}
-pub use Rattle.spec_links.specs.History.{units_since, total_ahead, ahead_sent, ahead_due}
+pub use Rattle.spec_links.specs.History.{sealed_packets, sent_bytes, sent_packets, arrival_of_event, accepted_packets}
+pub use Rattle.spec_links.specs.History.{packets_in_hold, pending_packets, units_got, draws_got, port_keys, on_draw}
+pub use Rattle.spec_links.specs.History.{live_key, has_failed, posted_count, meets_counts, total_in, units_since}
+pub use Rattle.spec_links.specs.History.{total_ahead, ahead_sent, ahead_due}
 pub use Rattle.spec_links.specs.Due.{due}
-pub use Rattle.spec_links.specs.Memory.{Policy, policy_at, writes, queued, waiting, effects_of, ContentsFollow}
+pub use Rattle.spec_links.specs.Memory.{Policy, policy_at, writes, queued_reads, waiting_reads, effects_of}
+pub use Rattle.spec_links.specs.Memory.{ContentsFollow, accepted_tlps, hop_waiting}
 pub use Rattle.spec_links.specs.Sent.{sending_port}
 unfoldable pub use Rattle.spec_links.specs.Sent.{reads_taken, bytes_by}
 pub use Rattle.spec_links.specs.Cause.{CauseLaw, OneHistory}
@@ -38,10 +38,9 @@ pub use Rattle.spec_links.specs.Ordered.{OrderLaw}
 pub use Rattle.spec_links.specs.Numbers.{NumbersFresh}
 pub use Rattle.spec_links.specs.Hops.{HopTlp, has_hop, first_end, entering_end, leaving_end, last_end}
 unfoldable pub use Rattle.spec_links.specs.Hops.{accepted_tlps_in, forwarded_count}
-pub use Rattle.spec_links.specs.Memory.{accepted_tlps, hop_waiting}
 unfoldable pub use Rattle.spec_links.specs.HopLaws.{tlps_since_reset, draws_since}
 pub use Rattle.spec_links.specs.HopLaws.{OneDraw, HopLaw, ThroughLaw}
-pub use Rattle.spec_interfaces.specs.Cause.{owner_of}
+pub use Rattle.spec_interfaces.specs.Cause.{owner_id}
 pub use Rattle.spec_interfaces.specs.Devices.{devices}
 pub use Rattle.spec_interfaces.specs.Sites.{Site, site_with}
 pub use Rattle.spec_interfaces.specs.Views.{grant_at, granted_to}

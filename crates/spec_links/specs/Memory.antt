@@ -1,17 +1,15 @@
 -- What accepted units do to trusted memory, which reads wait, and what stands in memory.
-use Rattle.std.specs.Prelude.{◌++◌, ◌∷◌, ◌≡◌, Bool, List, None, Ok, Option, [], drop, false}
-use Rattle.std.specs.Prelude.{length, true, ℕ}
+use Rattle.std.specs.Prelude.{◌++◌, ◌∷◌, ◌≡◌, Bool, List, None, Ok, Option, [], drop, false, length, true, ℕ}
 use Rattle.spec_links.specs.Terms.{PortName, Plan, Event, InterfaceEvent, Effect, UnitName, Verdict, Accepted, Packet}
-use Rattle.spec_links.specs.Terms.{History, Device, is_sync_packet, read_head_of}
+use Rattle.spec_links.specs.Terms.{History, Device, is_sync_packet, read_head_of, Write, newest_first, byte_after}
+use Rattle.spec_links.specs.Terms.{bytes_from, in_one_region, grant_at, MemoryContents, IsLeftBy, Leads, admitted_write}
+use Rattle.spec_links.specs.Terms.{memory_write, WaitingRead, history_statuses}
 use Rattle.spec_links.specs.Ports.{port_of, is_host_port}
-use Rattle.spec_links.specs.Terms.{Write, newest_first, byte_after, bytes_from, in_one_region, grant_at}
-use Rattle.spec_links.specs.Terms.{MemoryContents, IsLeftBy, Leads, admitted_write, memory_write, WaitingRead}
-use Rattle.spec_links.specs.Terms.{history_standings}
 use Rattle.tlp_layout.specs.declared.head.HeadView.{HeadView}
 use Rattle.spec_links.specs.History.{arrived_packet, received_in, packets_in_hold, sealed_packets}
 pub use Rattle.spec_links.specs.Admission.{Grants, Policy, requester_bound, unit_grant, host_effect, device_effect}
-pub use Rattle.spec_links.specs.Admission.{effect_by, waiting_then, effects_each, effects_by, payload_write, admitted}
-pub use Rattle.spec_links.specs.Admission.{admitted_each, plain_of, admitted_writes}
+pub use Rattle.spec_links.specs.Admission.{effect_by, waiting_then, effects_each, effects_under_policy, payload_write}
+pub use Rattle.spec_links.specs.Admission.{write_if_admitted, admitted_each, plain_of, admitted_writes}
 use Rattle.spec_links.specs.Sent.{queued_in, reads_taken}
 use Rattle.spec_links.specs.Hops.{HopTlp, entering_end, accepted_tlps_in, forwarded_count}
 use Rattle.ide_types.specs.declared.direction.Direction.{Direction}
@@ -22,12 +20,12 @@ use Rattle.ide_types.specs.declared.verdict.InterfaceVerdict.TheVariants as iv
 -- ---- reads
 
 -- the reads of a link that were queued since its last reset, in order
-abbrev pub queued : Plan → History → ℕ → List WaitingRead
-queued plan h link = queued_in plan (sealed_packets plan h) h link
+abbrev pub queued_reads : Plan → History → ℕ → List WaitingRead
+queued_reads plan h link = queued_in plan (sealed_packets plan h) h link
 
 -- those that wait for their answer
-abbrev pub waiting : Plan → History → ℕ → List WaitingRead
-waiting plan h link = drop (reads_taken h link) (queued plan h link)
+abbrev pub waiting_reads : Plan → History → ℕ → List WaitingRead
+waiting_reads plan h link = drop (reads_taken h link) (queued_reads plan h link)
 
 -- ---- TLPs at switches
 
@@ -45,12 +43,12 @@ hop_waiting plan h link d = drop (forwarded_count h link d) (accepted_tlps plan 
 abbrev pub policy_at : Plan → History → Policy
 policy_at plan h = record {
   grants = grant_at plan h;
-  waiting = λ link. length (waiting plan h link);
-  standings = history_standings plan h;
+  waiting = λ link. length (waiting_reads plan h link);
+  standings = history_statuses plan h;
 }
 
 abbrev pub effects_of : Plan → History → PortName → UnitName → List Packet → List Effect
-effects_of plan h port unit ps = effects_by plan (policy_at plan h) (port_of plan port) unit ps
+effects_of plan h port unit ps = effects_under_policy plan (policy_at plan h) (port_of plan port) unit ps
 
 -- ---- the writes that are admitted
 
@@ -102,8 +100,8 @@ pub record ContentsFollow : Type 0 where
   pub at_device : (plan : Plan) (h : History) (e : Event) (port : PortName) (unit : UnitName) (m : MemoryContents)
       → port.side ≡ Device → Leads m (accepted_unit_writes plan h e port unit) m
   pub sync : (plan : Plan) (grants : Grants) (port : PortName) (unit : UnitName) (p : Packet) (payload : List ℕ)
-      → is_sync_packet p ≡ true → admitted plan grants port unit p payload ≡ None
+      → is_sync_packet p ≡ true → write_if_admitted plan grants port unit p payload ≡ None
   pub packet : (plan : Plan) (grants : Grants) (port : PortName) (unit : UnitName) (p : Packet) (payload : List ℕ)
       (head : HeadView) → is_sync_packet p ≡ false → is_host_port plan port ≡ true → read_head_of p.head ≡ Ok head
-      → admitted plan grants port unit p payload
+      → write_if_admitted plan grants port unit p payload
       ≡ admitted_write plan.memory p.prefix.t (unit_grant grants port unit head) (memory_write head payload)

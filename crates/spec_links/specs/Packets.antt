@@ -1,14 +1,12 @@
 -- Sealed packets with what their verdicts say of them, and what events bring of them.
-use Rattle.std.specs.Prelude.{if◌then◌else◌, ◌&&◌, ◌-◌, ◌==◌, Bool, List, None, Ok, Option, Result, Some, []}
-use Rattle.std.specs.Prelude.{bit_xor, false, length, nat_le, nat_lt, option_map, slice_get, slice_index, slice_set}
-use Rattle.std.specs.Prelude.{take, ℕ}
-use Rattle.spec_links.specs.Terms.{option_and_then}
-use Rattle.spec_links.specs.Terms.{PortName, Plan, Event, Alter, Arrive, Cut, Pass, SealedPacket, UnitName}
-use Rattle.spec_links.specs.Terms.{Packet, packet_bytes, CutValue, IdePacket, cut_of, PacketFault}
+use Rattle.std.specs.Prelude.{if◌then◌else◌, ◌&&◌, ◌-◌, ◌==◌, Bool, List, None, Ok, Option, Result, Some, [], bit_xor}
+use Rattle.std.specs.Prelude.{false, length, nat_le, nat_lt, option_map, slice_get, slice_index, slice_set, take, ℕ}
+use Rattle.spec_links.specs.Terms.{option_and_then, PortName, Plan, Event, Alter, Arrive, Cut, Pass, SealedPacket}
+use Rattle.spec_links.specs.Terms.{UnitName, Packet, packet_bytes, CutValue, IdePacket, cut_of, PacketFault}
 use Rattle.spec_links.specs.Terms.{received_direction, sent_direction}
 use Rattle.ide_types.specs.declared.sub.SubKind.TheVariants.{Pr}
 use Rattle.spec_links.specs.Plan.{SubStream, is_same, partner, has_port}
-use Rattle.spec_links.specs.Ports.{reached}
+use Rattle.spec_links.specs.Ports.{end_reached}
 
 -- the sub-stream of a sealed packet
 abbrev pub sub_stream_of : SealedPacket → SubStream
@@ -24,12 +22,12 @@ pub record Arrival : Type 0 where
   pub port : PortName
   pub bytes : List ℕ
 
-abbrev pub packet_at : SealedList → ℕ → Option (SealedPacket × Packet)
-packet_at xs n = if n == 0 then None else slice_get xs (n - 1)
+abbrev pub packet_by_number : SealedList → ℕ → Option (SealedPacket × Packet)
+packet_by_number xs n = if n == 0 then None else slice_get xs (n - 1)
 
 -- what bytes that arrive at the port of an end meet there
 abbrev pub arrival_at : Plan → PortName → List ℕ → Arrival
-arrival_at plan end bytes = record { port = reached plan end bytes; bytes = bytes }
+arrival_at plan end bytes = record { port = end_reached plan end bytes; bytes = bytes }
 
 -- bytes of packet N arrive at the port of the other end of the line on which it was sealed
 abbrev pub arrival_at_partner : Plan → SealedPacket × Packet → List ℕ → Arrival
@@ -51,9 +49,9 @@ shortened_arrival plan len x =
 -- exist
 abbrev pub arrived_in : Plan → SealedList → Event → Option Arrival
 arrived_in plan xs (Pass n) =
-    option_map (λ (x : SealedPacket × Packet). arrival_at_partner plan x (packet_bytes x.1)) (packet_at xs n)
-arrived_in plan xs (Alter n at mask) = option_and_then (altered_arrival plan at mask) (packet_at xs n)
-arrived_in plan xs (Cut n len) = option_and_then (shortened_arrival plan len) (packet_at xs n)
+    option_map (λ (x : SealedPacket × Packet). arrival_at_partner plan x (packet_bytes x.1)) (packet_by_number xs n)
+arrived_in plan xs (Alter n at mask) = option_and_then (altered_arrival plan at mask) (packet_by_number xs n)
+arrived_in plan xs (Cut n len) = option_and_then (shortened_arrival plan len) (packet_by_number xs n)
 arrived_in plan xs (Arrive port bytes) =
     if has_port plan port then Some (arrival_at plan port bytes) else None
 arrived_in plan xs _ = None
@@ -71,14 +69,14 @@ abbrev pub cut_packet : Result CutValue PacketFault → Packet
 cut_packet (Ok (IdePacket p)) = p
 cut_packet _ = no_packet
 
-abbrev pub packet_in : Option Arrival → Packet
-packet_in None = no_packet
-packet_in (Some a) = cut_packet (cut_of a.bytes)
+abbrev pub arrival_packet : Option Arrival → Packet
+arrival_packet None = no_packet
+arrival_packet (Some a) = cut_packet (cut_of a.bytes)
 
 -- the sub-stream that a unit was received in
 abbrev pub received_in : PortName → UnitName → SubStream
 received_in port unit =
     record { line = port.line; stream = unit.stream; direction = received_direction port.side; sub = unit.sub }
 
-abbrev pub is_of : SubStream → ℕ → PortName → UnitName → Bool
-is_of s j port unit = is_same (received_in port unit) s && (unit.draw == j)
+abbrev pub is_received_under : SubStream → ℕ → PortName → UnitName → Bool
+is_received_under s j port unit = is_same (received_in port unit) s && (unit.draw == j)

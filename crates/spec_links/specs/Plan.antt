@@ -85,7 +85,7 @@ with_id [] id = None
 with_id (s ∷ ss) id = if s.id == id then Some s else with_id ss id
 
 unfoldable pub stream_plan : Plan → ℕ → ℕ → Option StreamPlan
-stream_plan plan link stream = with_id (streams_of plan link) stream
+stream_plan plan line stream = with_id (streams_of plan line) stream
 
 -- the link exists
 abbrev pub has_link : Plan → ℕ → Bool
@@ -105,11 +105,11 @@ has_stream plan port stream = is_some (stream_plan plan port.line stream)
 
 -- how many packets a unit may have
 abbrev pub aggregation_of : Plan → ℕ → ℕ → ℕ
-aggregation_of plan link stream = option_map_or (λ (s : StreamPlan). s.aggregation) (stream_plan plan link stream) 1
+aggregation_of plan line stream = option_map_or (λ (s : StreamPlan). s.aggregation) (stream_plan plan line stream) 1
 
 -- nothing of a newer key is accepted before all of the older ones
 abbrev pub is_closed : Plan → ℕ → ℕ → Bool
-is_closed plan link stream = option_map_or (λ (s : StreamPlan). s.closed) (stream_plan plan link stream) false
+is_closed plan line stream = option_map_or (λ (s : StreamPlan). s.closed) (stream_plan plan line stream) false
 
 -- the place in the pool of the key of a draw: key 6j + 3d + u
 abbrev pub place_in_pool : ℕ → SubStream → ℕ
@@ -123,5 +123,5 @@ abbrev pub key_plan : Plan → KeyPlan
 key_plan plan = record {
   pool = length plan.pool / 6;
   has_link = has_link plan;
-  has_stream = λ link stream. is_some (stream_plan plan link stream);
+  has_stream = λ line stream. is_some (stream_plan plan line stream);
 }

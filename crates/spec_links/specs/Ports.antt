@@ -4,17 +4,17 @@ use Rattle.std.specs.Prelude.{nat_le, nat_lt, not, slice_get, true, ℕ}
 use Rattle.spec_links.specs.Terms.{PortName, Host, Device, Plan, TlpFault, Tlp, header, read_of, sent_direction}
 use Rattle.ide_types.specs.declared.port.Side.{Side}
 use Rattle.ide_types.specs.Plans.{is_among}
-use Rattle.ide_types.specs.Ends.{port_at, end_at, hop_end, link_hop}
+use Rattle.ide_types.specs.Ends.{port_beside_end, end_at, hop_end, link_hop}
 use Rattle.ide_types.specs.declared.plan.HopPlan.{HopPlan}
 use Rattle.ide_prefix.specs.Packet.{packet_first}
-use Rattle.association.specs.Outgoing.{Outgoing, OnNone, outgoing_of}
+use Rattle.tlp_layout.specs.Outgoing.{Outgoing, OnNone, outgoing_of}
 use Rattle.spec_links.specs.Plan.{streams_of, has_link, has_port, has_stream}
 
 -- ---- ports
 
 -- the port of an end: of a host or a device it is the end of their link, of a switch the end itself
 unfoldable pub port_of : Plan → PortName → PortName
-port_of plan end = if has_link plan end.line then end else port_at plan.peers end
+port_of plan end = if has_link plan end.line then end else port_beside_end plan.peers end
 
 -- an end is at a switch: the far end of the segment towards the host, the near end of the one towards the device
 abbrev pub at_switch : Plan → PortName → Bool
@@ -70,8 +70,8 @@ end_if plan end None = port_of plan end
 end_if plan end (Some id) = end_at plan end id
 
 -- the end, at the port of this one, of the line that has their stream; the port if there is none
-unfoldable pub reached : Plan → PortName → List ℕ → PortName
-reached plan end bytes = end_if plan end (id_in bytes)
+unfoldable pub end_reached : Plan → PortName → List ℕ → PortName
+end_reached plan end bytes = end_if plan end (id_in bytes)
 
 abbrev pub lacks_stream : Plan → PortName → Option ℕ → Bool
 lacks_stream plan end None = false

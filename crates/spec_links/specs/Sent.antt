@@ -2,12 +2,10 @@
 -- TLP that waits at a switch.
 use Rattle.std.specs.Prelude.{if◌then◌else◌, ◌&&◌, ◌++◌, ◌+◌, ◌==◌, ◌∷◌, Bool, Err, List, None, Ok, Option, Result}
 use Rattle.std.specs.Prelude.{Some, [], false, slice_get, ℕ}
-use Rattle.spec_links.specs.Terms.{option_map_or, PortName, Host, Plan, Event, Access, Reset, Send, Effect}
-use Rattle.spec_links.specs.Terms.{UnitName, Accepted, Held, Sealed, read_head_of, TlpFault, Packet, History}
-use Rattle.spec_links.specs.Terms.{Write, newest_first, byte_after, completion_bytes, grant_at}
-use Rattle.spec_links.specs.Terms.{MemReadView, WaitingRead, memory_read}
+use Rattle.spec_links.specs.Terms.{option_map_or, PortName, Host, Plan, Event, Access, Reset, Send, Effect, UnitName}
+use Rattle.spec_links.specs.Terms.{Accepted, Sealed, read_head_of, TlpFault, Packet, History, newest_first, Held, Write}
+use Rattle.spec_links.specs.Terms.{byte_after, completion_bytes, grant_at, MemReadView, WaitingRead, memory_read}
 use Rattle.tlp_layout.specs.declared.head.HeadView.{HeadView}
-use Rattle.spec_links.specs.Plan.{SubStream}
 use Rattle.spec_links.specs.Ports.{port_of, sealing_end}
 use Rattle.spec_links.specs.Packets.{SealedList}
 pub use Rattle.spec_links.specs.Ended.{unit_accepted}
@@ -19,6 +17,7 @@ use Rattle.link_events.specs.declared.event.AccessEvent.TheVariants as ae
 use Rattle.link_verdicts.specs.declared.access.AccessVerdict.TheVariants as av
 use Rattle.link_verdicts.specs.declared.verdict.Effect.TheVariants as effect
 use Rattle.link_verdicts.specs.declared.verdict.Verdict.TheVariants as v
+use Rattle.spec_links.specs.Plan.{SubStream}
 
 -- ---- writes
 

@@ -8,8 +8,7 @@ pub use Rattle.ide_types.specs.declared.sub.SubKind.{SubKind}
 pub use Rattle.ide_types.specs.declared.plan.Plan.{Plan}
 pub use Rattle.link_events.specs.declared.event.Event.{Event}
 pub use Rattle.link_events.specs.declared.event.Event.TheVariants.{Access, Alter, Arrive, Cut, Dump, Establish}
-pub use Rattle.link_events.specs.declared.event.Event.TheVariants.{Interface, Pass, Refresh, Reset, Send, Status}
-pub use Rattle.link_events.specs.declared.event.Event.TheVariants.{Stop}
+pub use Rattle.link_events.specs.declared.event.Event.TheVariants.{Interface, Pass, Refresh, Reset, Send, Status, Stop}
 pub use Rattle.link_events.specs.declared.event.AccessEvent.{AccessEvent}
 pub use Rattle.link_events.specs.declared.event.InterfaceEvent.{InterfaceEvent}
 pub use Rattle.link_verdicts.specs.declared.verdict.Effect.{Effect}
@@ -32,9 +31,9 @@ pub use Rattle.spec_keys.specs.History.{keeps_live, place_keys, history_status}
 pub use Rattle.spec_keys.specs.Keys.{Keyed, Keys, Off, On, key_in, no_keys, on_in, unless_below}
 pub use Rattle.spec_keys.specs.Places.{KeyPlan, KeyPlace, received_direction, sent_direction}
 pub use Rattle.spec_interfaces.specs.Views.{grant_at, granted_to}
-pub use Rattle.spec_interfaces.specs.Floors.{history_standings}
+pub use Rattle.spec_interfaces.specs.Floors.{history_statuses}
 pub use Rattle.spec_interfaces.specs.Sites.{Site, site_with}
-pub use Rattle.spec_interfaces.specs.Cause.{owner_of, owner_at, owners_link, t_at}
+pub use Rattle.spec_interfaces.specs.Cause.{owner_id, owner_site, owners_link, t_at}
 pub use Rattle.trusted_memory.specs.declared.grant.Grant.{Grant}
 pub use Rattle.trusted_memory.specs.Spans.{write_span}
 pub use Rattle.trusted_memory.specs.Writes.{Write, memory_write, newest_first}

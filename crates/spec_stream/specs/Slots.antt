@@ -6,15 +6,14 @@ use Rattle.ide_types.specs.declared.sub.SubKind.{SubKind}
 use Rattle.ide_types.specs.declared.status.StreamStatus.{StreamStatus}
 use Rattle.ide_types.specs.declared.status.StreamStatus.TheVariants as status
 use Rattle.spec_stream.specs.Stream.{LaneSlot, Empty, Programmed, Armed, Live, LiveKey, LaneSlots, TxSub, RxSub, Three}
-use Rattle.spec_stream.specs.Stream.{StreamState}
-use Rattle.spec_stream.specs.Stream.{at_sub, each_sub, live_in, live_sender}
+use Rattle.spec_stream.specs.Stream.{StreamState, at_sub, each_sub, live_in, live_sender}
 
 abbrev pub both_slots : Bool → LaneSlot → LaneSlot → LaneSlots
 both_slots k a b = if k then record { first = b; second = a } else record { first = a; second = b }
 
-abbrev pub begun : LaneSlot → LaneSlot
-begun (Programmed j key) = Live (record { draw = j; key = key; units = 0; packets = [] })
-begun s = s
+abbrev pub begun_slot : LaneSlot → LaneSlot
+begun_slot (Programmed j key) = Live (record { draw = j; key = key; units = 0; packets = [] })
+begun_slot s = s
 
 abbrev pub is_busy : LaneSlot → Bool
 is_busy (Live x) = nat_lt 0 (length x.packets)

@@ -12,27 +12,23 @@ use Rattle.ide_types.specs.declared.sub.SubKind.TheVariants.{Pr, Npr, Cpl}
 use Rattle.ide_types.specs.declared.sub.FailCause.TheVariants as fail
 use Rattle.ide_prefix.specs.Packet.{Packet}
 use Rattle.spec_stream.specs.Stream.{LaneSlot, Empty, Programmed, Armed, Live, LiveKey, RxSub, Three, StreamState}
-use Rattle.spec_stream.specs.Stream.{at_sub}
-use Rattle.spec_stream.specs.Stream.{slot_in_set, live_in, Taken, Insecure, NotKeyed, Failed, Held, Accepted}
-use Rattle.spec_stream.specs.Stream.{holds_any}
-use Rattle.spec_stream.specs.Stream.{posted_sum, is_tagged, outcome_of_checks, slot_without_packets, dropped_held}
-use Rattle.spec_stream.specs.Stream.{stream_outcome_by_keys, state_after}
+use Rattle.spec_stream.specs.Stream.{at_sub, slot_in_set, live_in, Taken, Insecure, NotKeyed, Failed, Held, Accepted}
+use Rattle.spec_stream.specs.Stream.{holds_any, posted_sum, is_tagged, outcome_of_checks, slot_without_packets}
+use Rattle.spec_stream.specs.Stream.{dropped_held, stream_outcome_by_keys, state_after}
 use Rattle.sub_stream.specs.{answer_taken, opened_unit}
 use Rattle.sub_stream.specs.declared.answer.Taken.{Taken as Answer}
 use Rattle.sub_stream.specs.declared.answer.Taken.TheVariants as answers
 use Rattle.stream_lanes.specs.Arrivals.{opened_if_accepted, ReceiveEnd, ReceiveEnds, allows, lane_outcome_by_keys}
-use Rattle.stream_lanes.specs.Arrivals.{lane_outcome, kept_sub_after}
-use Rattle.stream_lanes.specs.Arrivals.{end_after, is_fail, lent_lane, value_of_kind, lent_lane_packets, IsReceiveLanes}
-use Rattle.stream_lanes.specs.Arrivals.{receiving_state}
-use Rattle.stream_lanes.specs.Arrivals.{lanes_outcome, receive_ends_after}
+use Rattle.stream_lanes.specs.Arrivals.{lane_outcome, kept_sub_after, end_after, is_fail, lent_lane, value_of_kind}
+use Rattle.stream_lanes.specs.Arrivals.{lent_lane_packets, IsReceiveLanes, receiving_state, lanes_outcome}
+use Rattle.stream_lanes.specs.Arrivals.{receive_ends_after}
 
-abbrev pub view : ReceiveEnd → ReceiveEnd → ReceiveEnd → Option SubKind → ℕ → ReceiveEnds
-view pr npr cpl lent takes = record {
+abbrev pub view : ReceiveEnd → ReceiveEnd → ReceiveEnd → Option SubKind → ReceiveEnds
+view pr npr cpl lent = record {
   aggregation = pr.aggregation;
   closed = pr.closed;
   rx = record { pr = pr.kept; npr = npr.kept; cpl = cpl.kept };
   delivered = lent_lane_packets lent pr npr cpl;
-  takes = takes;
 }
 
 -- ---- the answer
@@ -43,14 +39,14 @@ pub record IsPicked (aggregation : ℕ) (closed : Bool) (rx : Three RxSub) (u : 
   pub sub_is : e.sub ≡ u
   pub kept_is : e.kept ≡ at_sub rx u
 
-pub value_of_kind-right : (pr npr cpl : ReceiveEnd) (takes : ℕ) (u : SubKind) → IsReceiveLanes pr npr cpl takes
+pub value_of_kind-right : (pr npr cpl : ReceiveEnd) (u : SubKind) → IsReceiveLanes pr npr cpl
     → IsPicked pr.aggregation pr.closed (record { pr = pr.kept; npr = npr.kept; cpl = cpl.kept }) u
     (value_of_kind u pr npr cpl)
-value_of_kind-right pr npr cpl takes Pr inv = record
+value_of_kind-right pr npr cpl Pr inv = record
     { aggregation_is = refl; closed_is = refl; sub_is = inv.is_pr; kept_is = refl }
-value_of_kind-right pr npr cpl takes Npr inv = record
+value_of_kind-right pr npr cpl Npr inv = record
     { aggregation_is = inv.npr_aggregation; closed_is = inv.npr_closed; sub_is = inv.is_npr; kept_is = refl }
-value_of_kind-right pr npr cpl takes Cpl inv = record
+value_of_kind-right pr npr cpl Cpl inv = record
     { aggregation_is = inv.cpl_aggregation; closed_is = inv.cpl_closed; sub_is = inv.is_cpl; kept_is = refl }
 
 -- the one of a sub-stream answers as the stream does
@@ -65,12 +61,11 @@ under_here e aggregation closed rx p (Some x) y is =
     ((sub_bits (is.sub_is i) == 0) || nat_le ((is.kept_is i).sum + posted_sum (x.packets ++ p ∷ [])) rx.pr.got) x p
     else Held x.draw (x.units + 1)
 
-pub among-here : (pr npr cpl : ReceiveEnd) (lent : Option SubKind) (takes : ℕ) (p : Packet)
-    → IsReceiveLanes pr npr cpl takes
-    → lane_outcome (value_of_kind p.prefix.sub pr npr cpl) pr.kept.got p ≡ lanes_outcome (view pr npr cpl lent takes) p
-among-here pr npr cpl lent takes p inv =
+pub among-here : (pr npr cpl : ReceiveEnd) (lent : Option SubKind) (p : Packet) → IsReceiveLanes pr npr cpl
+    → lane_outcome (value_of_kind p.prefix.sub pr npr cpl) pr.kept.got p ≡ lanes_outcome (view pr npr cpl lent) p
+among-here pr npr cpl lent p inv =
     let rx : Three RxSub = record { pr = pr.kept; npr = npr.kept; cpl = cpl.kept } in
-    let is = value_of_kind-right pr npr cpl takes p.prefix.sub inv in
+    let is = value_of_kind-right pr npr cpl p.prefix.sub inv in
     (λ i. lane_outcome_by_keys (value_of_kind p.prefix.sub pr npr cpl) pr.kept.got p
     (live_in (slot_in_set (is.kept_is i).slots p.prefix.k))
     (live_in (slot_in_set (is.kept_is i).slots (not p.prefix.k))))
@@ -142,12 +137,6 @@ pub record IsAfter (u w : SubKind) (p : Packet) (t : Taken) (a : Answer) (old ne
   pub closed_is : new.closed ≡ old.closed
   pub kept_is : new.kept ≡ kept_last a (kept_in u w old.kept p t)
   pub delivered_is : is_fail a ≡ false → new.delivered ≡ (if is_same_sub u w then end_after old p t else old).delivered
-  pub takes_is : new.takes ≤ old.takes + 1
-
-few_after : (b : Bool) (old : ReceiveEnd) (p : Packet) (t : Taken)
-    → (if b then end_after old p t else old).takes ≤ old.takes + 1
-few_after true old p t = omega arith
-few_after false old p t = omega arith
 
 kept_of : (b : Bool) (old : ReceiveEnd) (p : Packet) (t : Taken) → (if b then end_after old p t else old).kept
     ≡ (if b then kept_sub_after old.kept p t else old.kept)
@@ -173,8 +162,7 @@ pub is-after : (u w : SubKind) (p : Packet) (t : Taken) (a : Answer) (old mid ne
     → mid ≡ (if is_same_sub u w then end_after old p t else old)
     → new.kept ≡ (if is_fail a then dropped_held mid.kept else mid.kept)
     → (is_fail a ≡ false → new.delivered ≡ mid.delivered)
-    → new ≡ record mid { kept = new.kept; delivered = new.delivered }
-    → IsAfter u w p t a old new
+    → new ≡ record mid { kept = new.kept; delivered = new.delivered } → IsAfter u w p t a old new
 is-after u w p t a old mid new mid_is kept delivered rest =
     let b = is_same_sub u w in
     record {
@@ -186,8 +174,6 @@ is-after u w p t a old mid new mid_is kept delivered rest =
           t;
       kept_is = kept ∙ ap (kept_last a) (ap (λ (e : ReceiveEnd). e.kept) mid_is ∙ kept_of b old p t);
       delivered_is = λ no_fail. delivered no_fail ∙ ap (λ (e : ReceiveEnd). e.delivered) mid_is;
-      takes_is = subst (λ (n : ℕ). n ≤ old.takes + 1)
-          (sym (ap (λ (e : ReceiveEnd). e.takes) rest ∙ ap (λ (e : ReceiveEnd). e.takes) mid_is)) (few_after b old p t);
     }
 
 lent_right : (u : SubKind) (p : Packet) (t : Taken) (a : Answer) (pr npr cpl pr' npr' cpl' : ReceiveEnd)
@@ -253,11 +239,10 @@ pub record AreAfter (p : Packet) (t : Taken) (a : Answer) (pr npr cpl pr' npr' c
   pub cpl_is : IsAfter p.prefix.sub Cpl p t a cpl cpl'
 
 pub ends-after : (p : Packet) (t : Taken) (a : Answer) (pr npr cpl pr' npr' cpl' : ReceiveEnd) (lent : Option SubKind)
-    (takes : ℕ) → Some a ≡ answer_taken t
-    → AreAfter p t a pr npr cpl pr' npr' cpl'
-    → view pr' npr' cpl' (lent_lane p.prefix.sub a) (takes + 1) ≡ receive_ends_after (view pr npr cpl lent takes) p t
-ends-after p t a pr npr cpl pr' npr' cpl' lent takes e after =
-    let old : ReceiveEnds = view pr npr cpl lent takes in
+    → Some a ≡ answer_taken t → AreAfter p t a pr npr cpl pr' npr' cpl'
+    → view pr' npr' cpl' (lent_lane p.prefix.sub a) ≡ receive_ends_after (view pr npr cpl lent) p t
+ends-after p t a pr npr cpl pr' npr' cpl' lent e after =
+    let old : ReceiveEnds = view pr npr cpl lent in
     let delivered : lent_lane_packets (lent_lane p.prefix.sub a) pr' npr' cpl'
     ≡ opened_if_accepted (receiving_state old) p t =
     lent_right p.prefix.sub p t a pr npr cpl pr' npr' cpl' (receiving_state old) e refl after.pr_is.delivered_is
@@ -267,14 +252,12 @@ ends-after p t a pr npr cpl pr' npr' cpl' lent takes e after =
       closed = after.pr_is.closed_is i;
       rx = record { pr = after.pr_is.kept_is i; npr = after.npr_is.kept_is i; cpl = after.cpl_is.kept_is i };
       delivered = delivered i;
-      takes = takes + 1;
     })
     ∙ ap (λ (rx : Three RxSub). record {
       aggregation = pr.aggregation;
       closed = pr.closed;
       rx = rx;
       delivered = opened_if_accepted (receiving_state old) p t;
-      takes = takes + 1;
     }) (three-right (receiving_state old) p t a e)
 
 -- ---- what always holds
@@ -320,8 +303,7 @@ got_more rx p (Held j n) = omega arith
 got_more rx p (Accepted j n unit) = omega arith
 
 sum_within : (e : ReceiveEnd) (got : ℕ) (p : Packet) (t : Taken) → (sub_bits e.sub == 0) ≡ false → e.kept.sum ≤ got
-    → Orderly e got t
-    → (kept_sub_after e.kept p t).sum ≤ got
+    → Orderly e got t → (kept_sub_after e.kept p t).sum ≤ got
 sum_within e got p Insecure other le o = le
 sum_within e got p NotKeyed other le o = le
 sum_within e got p (Failed cause) other le o = le
@@ -349,11 +331,11 @@ order_kept Cpl Npr p t pr e o is other le = le
 order_last : (a : Answer) (x y : RxSub) → x.sum ≤ y.got → (kept_last a x).sum ≤ (kept_last a y).got
 order_last a x y le = omega (arith, le, sum_last (is_fail a) x, got_last (is_fail a) y)
 
-pub lanes-kept : (p : Packet) (t : Taken) (a : Answer) (pr npr cpl pr' npr' cpl' : ReceiveEnd) (takes : ℕ)
-    → takes < 2 ^ 40 → IsReceiveLanes pr npr cpl takes
+pub lanes-kept : (p : Packet) (t : Taken) (a : Answer) (pr npr cpl pr' npr' cpl' : ReceiveEnd)
+    → IsReceiveLanes pr npr cpl
     → lane_outcome (value_of_kind p.prefix.sub pr npr cpl) pr.kept.got p ≡ t → AreAfter p t a pr npr cpl pr' npr' cpl'
-    → IsReceiveLanes pr' npr' cpl' (takes + 1)
-lanes-kept p t a pr npr cpl pr' npr' cpl' takes few inv is after =
+    → IsReceiveLanes pr' npr' cpl'
+lanes-kept p t a pr npr cpl pr' npr' cpl' inv is after =
     let npr_order : (kept_in p.prefix.sub Npr npr.kept p t).sum ≤ (kept_in p.prefix.sub Pr pr.kept p t).got =
     order_kept p.prefix.sub Npr p t pr npr (λ e. picked_order Npr e) inv.is_npr refl inv.npr_order in
     let cpl_order : (kept_in p.prefix.sub Cpl cpl.kept p t).sum ≤ (kept_in p.prefix.sub Pr pr.kept p t).got =
@@ -374,10 +356,6 @@ lanes-kept p t a pr npr cpl pr' npr' cpl' takes few inv is after =
           subst (λ (y : RxSub × RxSub). y.0.sum ≤ y.1.got)
           (λ i. (sym after.cpl_is.kept_is i, sym after.pr_is.kept_is i))
           (order_last a (kept_in p.prefix.sub Cpl cpl.kept p t) (kept_in p.prefix.sub Pr pr.kept p t) cpl_order);
-      few_pr = omega (arith, after.pr_is.takes_is, inv.few_pr);
-      few_npr = omega (arith, after.npr_is.takes_is, inv.few_npr);
-      few_cpl = omega (arith, after.cpl_is.takes_is, inv.few_cpl);
-      few = omega (arith, few);
     }
   where
     picked_order : (w : SubKind) → p.prefix.sub ≡ w → Orderly (value_of_kind w pr npr cpl) pr.kept.got t

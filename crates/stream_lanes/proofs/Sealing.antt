@@ -21,15 +21,10 @@ use Rattle.spec_stream.specs.Stream.{live_sender}
 use Rattle.spec_stream.specs.Stream.{lane_of, packet_under, tagged_under, untagged_under, sealed_slots, ended_slots}
 use Rattle.spec_stream.specs.Slots.{is_live_slot, any_live, is_busy, both_slots, slot_gone}
 use Rattle.key_slots.specs.{is_only_live}
-use Rattle.sub_stream.specs.{Sender, Content, packets_under, open_packets, ready_of, ready_under, sealing_of}
-use Rattle.sub_stream.specs.{sealing_under, sealing_as, described_content, ends, sender_ahead, unit_ahead}
-use Rattle.sub_stream.specs.{tagged_packet, Sealing}
-use Rattle.sub_stream.specs.{slot_pair}
-use Rattle.sub_stream.specs.{gone_slots, gone_sender, programmed_sender}
+use Rattle.sub_stream.specs.{Sender, Content, packets_under, ready_of, ready_under, sealing_of, sealing_under}
+use Rattle.sub_stream.specs.{sender_ahead, unit_ahead, Sealing, slot_pair, gone_slots, gone_sender, programmed_sender}
 use Rattle.stream_lanes.specs.Lanes.{SendEnd, IsSendLane, open_unit_number, open_in, sealing_lane, described_packet}
-use Rattle.stream_lanes.specs.Lanes.{is_spent}
-use Rattle.stream_lanes.specs.Lanes.{packet_said}
-use Rattle.stream_lanes.specs.Lanes.{measured_packet, sync_said}
+use Rattle.stream_lanes.specs.Lanes.{is_spent, packet_said, measured_packet, sync_said}
 
 abbrev pub one_live : LaneSlots → Bool
 one_live s = is_live_slot s.first && is_live_slot s.second
@@ -96,8 +91,7 @@ moved-kept tx limit closed posted total slots inv moved =
       }
     ]
 
-go_busy : (k b : Bool) (j : ℕ) (key : List ℕ) (x : LiveKey)
-    → Moved (both_slots k (Programmed j key) (Live x))
+go_busy : (k b : Bool) (j : ℕ) (key : List ℕ) (x : LiveKey) → Moved (both_slots k (Programmed j key) (Live x))
     (if b then both_slots k (Armed j key) (Live x) else both_slots k
     (Live (record { draw = j; key = key; units = 0; packets = [] })) Empty)
 go_busy true true j key x = (inl refl, refl)
@@ -119,8 +113,7 @@ go-moved k (Armed j key) other e = (inl refl, e)
 go-moved k (Live x) other e = (inl refl, e)
 
 pub gone-kept : (k : Bool) (tx : Sender) (limit : ℕ) (closed : Bool) (posted total : ℕ)
-    → IsSendLane tx limit closed posted total
-    → IsSendLane (gone_sender tx k) limit closed posted total
+    → IsSendLane tx limit closed posted total → IsSendLane (gone_sender tx k) limit closed posted total
 gone-kept true tx limit closed posted total inv =
     moved-kept tx limit closed posted total (gone_slots tx.slots true) inv
     (go-moved true tx.slots.second tx.slots.first inv.one_live)
@@ -152,8 +145,7 @@ put_first (Live x) (Armed i l) j key one e = absurd (cc)
 put_first (Live x) (Live y) j key one e = absurd (cc)
 
 pub programmed-kept : (k : Bool) (tx : Sender) (key : List ℕ) (draw limit : ℕ) (closed : Bool) (posted total : ℕ)
-    → IsSendLane tx limit closed posted total
-    → IsSendLane (programmed_sender tx k key draw) limit closed posted total
+    → IsSendLane tx limit closed posted total → IsSendLane (programmed_sender tx k key draw) limit closed posted total
 programmed-kept k tx key draw limit closed posted total inv = by_answer (is_only_live (slot_pair true tx.slots) k) refl
   where
     moved : (k : Bool) → is_only_live (slot_pair true tx.slots) k ≡ false
@@ -321,8 +313,7 @@ same_parts false head payload head' payload' e = absurd (cc)
 
 -- a sync packet carries neither header nor payload of a TLP
 pub sync-same : (ahead : List ℕ) (o : Option (Bool × LiveKey)) (d : Described) (head payload head' payload' : List ℕ)
-    → d.sync ≡ true
-    → packet_under ahead o d head payload ≡ packet_under ahead o d head' payload'
+    → d.sync ≡ true → packet_under ahead o d head payload ≡ packet_under ahead o d head' payload'
 sync-same ahead None d head payload head' payload' e =
     ap (λ (y : List ℕ × List ℕ). record {
       prefix = prefix_of d;

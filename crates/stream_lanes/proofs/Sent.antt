@@ -14,15 +14,13 @@ use Rattle.ide_prefix.specs.Packet.{Packet, packet_bytes}
 use Rattle.spec_stream.specs.Sending.{Sending, Lanes, total_ahead, is_keyless, is_worn, needs_sync, refusals}
 use Rattle.spec_stream.specs.Sending.{first_that_holds, described_seal, ends_unit, sets_trusted, sealed_with_syncs}
 use Rattle.spec_stream.specs.Stream.{LaneSlot, Empty, Programmed, Armed, Live, LaneSlots, LiveKey, TxSub, lane_of}
-use Rattle.spec_stream.specs.Stream.{at_sub, each_sub, live_sender, packet_under, sealed_sub}
-use Rattle.spec_stream.specs.Stream.{sealed_one, sealed_all}
+use Rattle.spec_stream.specs.Stream.{at_sub, each_sub, live_sender, packet_under, sealed_sub, sealed_one, sealed_all}
 use Rattle.spec_stream.specs.Slots.{is_live_slot, any_live}
 use Rattle.sub_stream.specs.declared.answer.MeasuredPacket.{MeasuredPacket}
 use Rattle.stream_lanes.specs.Sends.{numbered_from, joined_packets, packet_lengths, IsSealed}
 use Rattle.stream_lanes.specs.declared.fixed.Fixed.{Fixed}
 use Rattle.stream_lanes.specs.Lanes.{SendEnd, SendEnds, send_end_at, sealing_lanes, tlp_said, sync_said, packet_said_at}
-use Rattle.stream_lanes.specs.Lanes.{sealed_ends}
-use Rattle.stream_lanes.specs.Lanes.{measured_packet, ends_after_sync, sync_packets, sync_bytes}
+use Rattle.stream_lanes.specs.Lanes.{sealed_ends, measured_packet, ends_after_sync, sync_packets, sync_bytes}
 use Rattle.stream_lanes.proofs.Sealing.{sync-same}
 
 -- ---- what is not refused
@@ -159,8 +157,8 @@ all_ends x sub b c head payload more t =
     sealed_ends (last_ends x b c) head payload (tlp_said (send_end_at (last_ends x b c) sub) more t)
 
 -- the rules' descriptions, when it is known which sync packets go first
-abbrev flagged : Bool → Bool → Lanes → Sending → ℕ → List Described
-flagged b c x s number =
+abbrev flagged_seals : Bool → Bool → Lanes → Sending → ℕ → List Described
+flagged_seals b c x s number =
     let first = if b then described_seal x s Npr number true false true ∷ [] else [] in
     let second = if c then described_seal x s Cpl (number + length first) true false true ∷ [] else [] in
     first ++ second ++ described_seal x s s.class (number + length first + length second) (ends_unit x s)
@@ -200,7 +198,7 @@ as_sent x port class more trusted =
 runs_alone : (x : SendEnds) (head payload : List ℕ) (port : PortName) (class : SubKind) (more trusted : Bool)
     (number : ℕ) (before : List ℕ)
     → Runs x head payload (as_sent x port class more trusted) number false false before
-    (flagged false false (sealing_lanes x) (as_sent x port class more trusted) number)
+    (flagged_seals false false (sealing_lanes x) (as_sent x port class more trusted) number)
 runs_alone x head payload port class more trusted number before =
     let d = tlp_said (send_end_at x class) more (sets_trusted port trusted) in
     let e = tlp_packet x d (number + 0 + 0) port head payload in
@@ -217,7 +215,7 @@ runs_alone x head payload port class more trusted number before =
 runs_posted : (b c : Bool) (x : SendEnds) (head payload : List ℕ) (port : PortName) (more trusted : Bool) (number : ℕ)
     (before : List ℕ)
     → Runs x head payload (as_sent x port Pr more trusted) number b c before
-    (flagged b c (sealing_lanes x) (as_sent x port Pr more trusted) number)
+    (flagged_seals b c (sealing_lanes x) (as_sent x port Pr more trusted) number)
 runs_posted false false x head payload port more trusted number before = runs_alone x head payload port Pr more trusted
     number before
 runs_posted true false x head payload port more trusted number before =
@@ -277,15 +275,15 @@ runs : (class : SubKind) (b c : Bool) (x : SendEnds) (head payload : List ℕ) (
     (sealed_with_syncs (sealing_lanes x) (as_sent x port class more trusted) number)
 runs Pr b c x head payload port more trusted number before e f =
     subst (λ (y : Bool × Bool). Runs x head payload (as_sent x port Pr more trusted) number b c before
-    (flagged y.0 y.1 (sealing_lanes x) (as_sent x port Pr more trusted) number)) (λ i. (e i, f i))
+    (flagged_seals y.0 y.1 (sealing_lanes x) (as_sent x port Pr more trusted) number)) (λ i. (e i, f i))
     (runs_posted b c x head payload port more trusted number before)
 runs Npr b c x head payload port more trusted number before e f =
     subst (λ (y : Bool × Bool). Runs x head payload (as_sent x port Npr more trusted) number y.0 y.1 before
-    (flagged false false (sealing_lanes x) (as_sent x port Npr more trusted) number)) (λ i. (sym e i, sym f i))
+    (flagged_seals false false (sealing_lanes x) (as_sent x port Npr more trusted) number)) (λ i. (sym e i, sym f i))
     (runs_alone x head payload port Npr more trusted number before)
 runs Cpl b c x head payload port more trusted number before e f =
     subst (λ (y : Bool × Bool). Runs x head payload (as_sent x port Cpl more trusted) number y.0 y.1 before
-    (flagged false false (sealing_lanes x) (as_sent x port Cpl more trusted) number)) (λ i. (sym e i, sym f i))
+    (flagged_seals false false (sealing_lanes x) (as_sent x port Cpl more trusted) number)) (λ i. (sym e i, sym f i))
     (runs_alone x head payload port Cpl more trusted number before)
 
 abbrev SealedSo : SendEnds → List ℕ → List ℕ → Sending → ℕ → SubKind → Bool → Bool → Bool → Bool → List ℕ → Type 0
@@ -314,51 +312,6 @@ sent-right x head payload s number sub b c more t before e f stream class goes t
     (λ i. record s { stream = sym stream i }) so in
     subst (λ (y : SubKind × Bool × Bool). SealedSo x head payload s number y.0 b c y.1 y.2 before)
     (λ i. (class i, goes i, trusted i)) here
-
--- ---- totals
-
-total_more : (b : Bool) (n : ℕ) → (if b then n + 1 else n) ≤ n + 1
-total_more true n = omega arith
-total_more false n = omega arith
-
-same_total : (n : ℕ) → n ≤ n + 1
-same_total n = omega arith
-
-pub totals-after : (x : SendEnds) (head payload : List ℕ) (sub : SubKind) (b c more t : Bool) (u : SubKind) → b
-    ≡ needs_sync (sealing_lanes x) sub Npr → c ≡ needs_sync (sealing_lanes x) sub Cpl
-    → (at_sub (all_ends x sub b c head payload more t).tx u).total ≤ (at_sub x.tx u).total + 1
-totals-after x head payload sub b c more t u e f = by_subs sub u e f
-  where
-    posted : (b c : Bool) (u : SubKind) → (at_sub (all_ends x Pr b c head payload more t).tx u).total ≤
-        (at_sub x.tx u).total + 1
-    posted true true Pr = total_more _ x.tx.pr.total
-    posted true false Pr = total_more _ x.tx.pr.total
-    posted false true Pr = total_more _ x.tx.pr.total
-    posted false false Pr = total_more _ x.tx.pr.total
-    posted true true Npr = omega arith
-    posted true false Npr = omega arith
-    posted false true Npr = same_total x.tx.npr.total
-    posted false false Npr = same_total x.tx.npr.total
-    posted true true Cpl = omega arith
-    posted true false Cpl = same_total x.tx.cpl.total
-    posted false true Cpl = omega arith
-    posted false false Cpl = same_total x.tx.cpl.total
-
-    alone : (sub u : SubKind) → (at_sub (all_ends x sub false false head payload more t).tx u).total ≤
-        (at_sub x.tx u).total + 1
-    alone Pr u = posted false false u
-    alone Npr Pr = same_total x.tx.pr.total
-    alone Npr Npr = total_more _ x.tx.npr.total
-    alone Npr Cpl = same_total x.tx.cpl.total
-    alone Cpl Pr = same_total x.tx.pr.total
-    alone Cpl Npr = same_total x.tx.npr.total
-    alone Cpl Cpl = total_more _ x.tx.cpl.total
-
-    by_subs : (sub u : SubKind) → b ≡ needs_sync (sealing_lanes x) sub Npr → c ≡ needs_sync (sealing_lanes x) sub Cpl
-        → (at_sub (all_ends x sub b c head payload more t).tx u).total ≤ (at_sub x.tx u).total + 1
-    by_subs Pr u e f = posted b c u
-    by_subs Npr u e f = rw (e, f) (alone Npr u)
-    by_subs Cpl u e f = rw (e, f) (alone Cpl u)
 
 -- ---- what always holds
 

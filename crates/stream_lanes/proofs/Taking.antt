@@ -2,7 +2,8 @@
 -- answer goes by the state of the slot; the sum that the code allows tests what the rules test, as the sum so far is
 -- within the posted packets that were accepted and that of a unit is small. The hard case is an accepted unit, which
 -- moves the total that comes before later units: the other slot holds no packets then, and so is right under any total.
-use Rattle.std.proofs.Common.{◌≡◌, ℕ, ◌+◌, ◌-◌, ◌^◌, ◌<◌, ◌≤◌, Bool, true, false, not, ◌&&◌, ◌||◌, ◌==◌, nat_lt, nat_le}
+use Rattle.std.proofs.Common.{◌≡◌, ℕ, ◌+◌, ◌-◌, ◌*◌, ◌^◌, ◌<◌, ◌≤◌, Bool, true, false, not, ◌&&◌, ◌||◌, ◌==◌, nat_lt}
+use Rattle.std.proofs.Common.{nat_le}
 use Rattle.std.proofs.Common.{if◌then◌else◌, List, [], ◌∷◌, ◌++◌, length, Option, Some, None, refl, sym, ap, ◌∙◌, subst}
 use Rattle.std.proofs.Common.{arith, length-append}
 use Rattle.std.specs.Int.{w64, to_be_bytes}
@@ -17,23 +18,18 @@ use Rattle.ide_prefix.specs.Iv.{iv_of}
 use Rattle.ide_prefix.specs.Packet.{Packet}
 use Rattle.spec_stream.specs.Sending.{is_posted, total_ahead}
 use Rattle.spec_stream.specs.Stream.{LaneSlot, Empty, Programmed, Armed, Live, LiveKey, LaneSlots, slot_in_set}
-use Rattle.spec_stream.specs.Stream.{with_slot}
-use Rattle.spec_stream.specs.Stream.{live_in}
-use Rattle.spec_stream.specs.Stream.{Taken, Insecure, NotKeyed, Failed, Held, Accepted, holds_any, posted_sum}
-use Rattle.spec_stream.specs.Stream.{is_tagged, outcome_of_checks, slot_without_packets, gone_on, counted_unit}
-use Rattle.spec_stream.specs.Stream.{slot_unless_older, accepted_slots}
+use Rattle.spec_stream.specs.Stream.{with_slot, live_in, Taken, Insecure, NotKeyed, Failed, Held, Accepted, holds_any}
+use Rattle.spec_stream.specs.Stream.{posted_sum, is_tagged, outcome_of_checks, slot_without_packets, gone_on}
+use Rattle.spec_stream.specs.Stream.{counted_unit, slot_unless_older, accepted_slots}
 use Rattle.key_slots.specs.{is_only_live}
 use Rattle.sub_stream.specs.{Receiver, answer_taken, opened_from_byte, opened_unit, key_for, receiver_ahead, unit_ahead}
 use Rattle.sub_stream.specs.{is_tagged_behind, judged_packet, receiver_outcome_by_keys, receiver_outcome, dropped_slots}
-use Rattle.sub_stream.specs.{ahead_held}
-use Rattle.sub_stream.specs.{after_answer}
-use Rattle.sub_stream.specs.{slots_ahead, with_slots, programmed_receiver, slot_pair}
-use Rattle.sub_stream.specs.Receivers.{is_accepted}
+use Rattle.sub_stream.specs.{ahead_held, after_answer, slots_ahead, with_slots, programmed_receiver, slot_pair}
+use Rattle.sub_stream.specs.Receivers.{is_accepted, KeyUnitsAtMost, LaneUnitsAtMost}
 use Rattle.sub_stream.specs.declared.answer.Taken.{Taken as Answer}
 use Rattle.sub_stream.specs.declared.answer.Taken.TheVariants as answers
 use Rattle.stream_lanes.specs.Arrivals.{ReceiveEnd, allows, lane_outcome_by_keys, lane_outcome, end_after, HoldsPackets}
-use Rattle.stream_lanes.specs.Arrivals.{HoldsRight}
-use Rattle.stream_lanes.specs.Arrivals.{IsReceiveLane, count_in}
+use Rattle.stream_lanes.specs.Arrivals.{HoldsRight, IsReceiveLane, count_in}
 use Rattle.stream_lanes.proofs.Sealing.{ahead-right}
 
 abbrev pub view : Receiver → SubKind → Bool → ℕ → ℕ → ℕ → ReceiveEnd
@@ -43,7 +39,6 @@ view rx sub closed sum got total = record {
   closed = closed;
   kept = record { slots = rx.slots; sum = sum; got = got; total = total };
   delivered = rx.delivered;
-  takes = rx.takes;
 }
 
 -- ---- sums
@@ -98,8 +93,7 @@ next_ahead ahead aggregation closed total lent x e held = ahead-right (length x.
     lent e held.ahead_right
 
 few_posted : (ahead : List ℕ) (aggregation : ℕ) (closed : Bool) (total : ℕ) (x : LiveKey) (p : Packet) → aggregation ≤ 8
-    → p.prefix.posted < 256 → HoldsPackets ahead aggregation closed total x
-    → posted_sum (x.packets ++ p ∷ []) ≤ 2295
+    → p.prefix.posted < 256 → HoldsPackets ahead aggregation closed total x → posted_sum (x.packets ++ p ∷ []) ≤ 2295
 few_posted ahead aggregation closed total x p small byte held = omega
     (arith, posted_sum-joined x.packets p, held.posted, held.fits)
 
@@ -174,7 +168,7 @@ accepted-keyed e got p j n unit (Some x) y is = posted_sum-opened x p.prefix.sub
 pub end-after : (rx : Receiver) (sub : SubKind) (closed : Bool) (sum own total got : ℕ) (lent : List ℕ) (p : Packet)
     (t : Taken) (a : Answer)
     → lane_outcome (view rx sub closed sum own total) got p ≡ t → Some a ≡ answer_taken t
-    → (let new : Receiver = record (after_answer rx lent p t) { takes = rx.takes + 1 } in
+    → (let new : Receiver = after_answer rx lent p t in
     view new sub closed (if is_accepted a then sum + posted_sum new.delivered else sum)
     (if is_accepted a then own + count_in a else own) (if is_accepted a then total + 1 else total))
     ≡ end_after (view rx sub closed sum own total) p t
@@ -209,44 +203,48 @@ some_in x e = grind (arith, common_steps)
 clash : (b : Bool) → b ≡ true → b ≡ false → ⊥
 clash b e f = let g : true ≡ false = sym e ∙ f in cc
 
--- a slot that holds no packets is right under any total
+-- a slot that holds no packets is right under any total that is no smaller
 nothing_held : (slot : LaneSlot) (ahead ahead' : List ℕ) (aggregation : ℕ) (closed : Bool) (total total' : ℕ)
-    → HoldsRight ahead aggregation closed total slot
+    → total ≤ total' → HoldsRight ahead aggregation closed total slot
     → holds_any (live_in slot) ≡ false → HoldsRight ahead' aggregation closed total' slot
-nothing_held Empty ahead ahead' aggregation closed total total' held e = tt
-nothing_held (Programmed j key) ahead ahead' aggregation closed total total' held e = tt
-nothing_held (Armed j key) ahead ahead' aggregation closed total total' held e = tt
-nothing_held (Live x) ahead ahead' aggregation closed total total' held e = record {
+nothing_held Empty ahead ahead' aggregation closed total total' le held e = tt
+nothing_held (Programmed j key) ahead ahead' aggregation closed total total' le held e = tt
+nothing_held (Armed j key) ahead ahead' aggregation closed total total' le held e = tt
+nothing_held (Live x) ahead ahead' aggregation closed total total' le held e = record {
   ahead_right = λ some. absurd (clash _ (none_in x e) some);
   posted = held.posted;
   fits = held.fits;
+  few = omega (arith, le, held.few);
 }
 
 -- a Live slot without packets
 begun_right : (ahead : List ℕ) (aggregation : ℕ) (closed : Bool) (total draw units : ℕ) (key : List ℕ) → 0 < aggregation
-    → HoldsPackets ahead aggregation closed total (record { draw = draw; key = key; units = units; packets = [] })
-begun_right ahead aggregation closed total draw units key some = record {
+    → units ≤ total → HoldsPackets ahead aggregation closed total
+    (record { draw = draw; key = key; units = units; packets = [] })
+begun_right ahead aggregation closed total draw units key some few = record {
   ahead_right = λ e. absurd (cc);
   posted = omega arith;
   fits = some;
+  few = few;
 }
 
-dropped_right : (slot : LaneSlot) (ahead : List ℕ) (aggregation : ℕ) (closed : Bool) (total : ℕ) → 0 < aggregation
-    → HoldsRight ahead aggregation closed total (slot_without_packets slot)
-dropped_right Empty ahead aggregation closed total some = tt
-dropped_right (Programmed j key) ahead aggregation closed total some = tt
-dropped_right (Armed j key) ahead aggregation closed total some = tt
-dropped_right (Live x) ahead aggregation closed total some = begun_right ahead aggregation closed total x.draw x.units
-    x.key some
+dropped_right : (slot : LaneSlot) (ahead ahead' : List ℕ) (aggregation : ℕ) (closed : Bool) (total : ℕ)
+    → 0 < aggregation → HoldsRight ahead aggregation closed total slot
+    → HoldsRight ahead' aggregation closed total (slot_without_packets slot)
+dropped_right Empty ahead ahead' aggregation closed total some held = tt
+dropped_right (Programmed j key) ahead ahead' aggregation closed total some held = tt
+dropped_right (Armed j key) ahead ahead' aggregation closed total some held = tt
+dropped_right (Live x) ahead ahead' aggregation closed total some held = begun_right ahead' aggregation closed total
+    x.draw x.units x.key some held.few
 
-counted_right : (slot : LaneSlot) (ahead : List ℕ) (aggregation : ℕ) (closed : Bool) (total : ℕ) → 0 < aggregation
-    → HoldsRight ahead aggregation closed total (counted_unit slot)
-counted_right Empty ahead aggregation closed total some = tt
-counted_right (Programmed j key) ahead aggregation closed total some = tt
-counted_right (Armed j key) ahead aggregation closed total some = tt
-counted_right (Live x) ahead aggregation closed total some = begun_right ahead aggregation closed total x.draw
-    (x.units + 1) x.key
-    some
+counted_right : (slot : LaneSlot) (ahead ahead' : List ℕ) (aggregation : ℕ) (closed : Bool) (total : ℕ)
+    → 0 < aggregation → HoldsRight ahead aggregation closed total slot
+    → HoldsRight ahead' aggregation closed (total + 1) (counted_unit slot)
+counted_right Empty ahead ahead' aggregation closed total some held = tt
+counted_right (Programmed j key) ahead ahead' aggregation closed total some held = tt
+counted_right (Armed j key) ahead ahead' aggregation closed total some held = tt
+counted_right (Live x) ahead ahead' aggregation closed total some held = begun_right ahead' aggregation closed
+    (total + 1) x.draw (x.units + 1) x.key some (omega (arith, held.few))
 
 retired_right : (j : ℕ) (slot : LaneSlot) (ahead : List ℕ) (aggregation : ℕ) (closed : Bool) (total : ℕ)
     → HoldsRight ahead aggregation closed total slot
@@ -276,6 +274,7 @@ joined_right ahead ahead' aggregation closed total x p held byte room is =
       ahead_right = λ e. is;
       posted = omega (arith, posted_sum-joined x.packets p, held.posted, size);
       fits = omega (arith, less, size);
+      few = held.few;
     }
 
 -- what an answer tells of the slots
@@ -332,8 +331,8 @@ held_both true rx closed sum own total got lent p j n inv byte is_lent fits = by
     by_slot (Programmed i key) held fits = absurd fits
     by_slot (Armed i key) held fits = absurd fits
     by_slot (Live x) held fits = (
-      nothing_held rx.slots.first rx.ahead (receiver_ahead rx x lent) rx.aggregation closed total total inv.first
-          fits.0,
+      nothing_held rx.slots.first rx.ahead (receiver_ahead rx x lent) rx.aggregation closed total total (omega arith)
+          inv.first fits.0,
       joined_right rx.ahead (receiver_ahead rx x lent) rx.aggregation closed total x p held byte fits.1
           (next_ahead rx.ahead rx.aggregation closed total lent x is_lent held),
     )
@@ -349,52 +348,55 @@ held_both false rx closed sum own total got lent p j n inv byte is_lent fits = b
     by_slot (Live x) held fits = (
       joined_right rx.ahead (receiver_ahead rx x lent) rx.aggregation closed total x p held byte fits.1
           (next_ahead rx.ahead rx.aggregation closed total lent x is_lent held),
-      nothing_held rx.slots.second rx.ahead (receiver_ahead rx x lent) rx.aggregation closed total total inv.second
-          fits.0,
+      nothing_held rx.slots.second rx.ahead (receiver_ahead rx x lent) rx.aggregation closed total total (omega arith)
+          inv.second fits.0,
     )
 
 accepted_both : (k : Bool) (rx : Receiver) (closed : Bool) (sum own total : ℕ) (j : ℕ)
-    → IsReceiveLane rx closed sum own total
-    → holds_any (live_in (slot_in_set rx.slots (not k))) ≡ false
+    → IsReceiveLane rx closed sum own total → holds_any (live_in (slot_in_set rx.slots (not k))) ≡ false
     → BothRight k [] rx.aggregation closed (total + 1) (accepted_slots j k rx.slots)
 accepted_both true rx closed sum own total j inv none = (
   retired_right j rx.slots.first [] rx.aggregation closed (total + 1)
-      (nothing_held rx.slots.first rx.ahead [] rx.aggregation closed total (total + 1) inv.first none),
-  counted_right rx.slots.second [] rx.aggregation closed (total + 1) inv.some_aggregation,
+      (nothing_held rx.slots.first rx.ahead [] rx.aggregation closed total (total + 1) (omega arith)
+      inv.first none),
+  counted_right rx.slots.second rx.ahead [] rx.aggregation closed total inv.some_aggregation inv.second,
 )
 accepted_both false rx closed sum own total j inv none = (
-  counted_right rx.slots.first [] rx.aggregation closed (total + 1) inv.some_aggregation,
+  counted_right rx.slots.first rx.ahead [] rx.aggregation closed total inv.some_aggregation inv.first,
   retired_right j rx.slots.second [] rx.aggregation closed (total + 1)
-      (nothing_held rx.slots.second rx.ahead [] rx.aggregation closed total (total + 1) inv.second none),
+      (nothing_held rx.slots.second rx.ahead [] rx.aggregation closed total (total + 1) (omega arith)
+      inv.second none),
 )
 
 pub taken-kept : (rx : Receiver) (sub : SubKind) (closed : Bool) (sum own total got : ℕ) (lent : List ℕ) (p : Packet)
     (t : Taken) (a : Answer) (sum' own' total' : ℕ)
-    → IsReceiveLane rx closed sum own total → p.prefix.posted < 256 → rx.takes < 2 ^ 40
+    → IsReceiveLane rx closed sum own total → p.prefix.posted < 256
     → lent ≡ (if closed then to_be_bytes w64 total else [])
     → lane_outcome (view rx sub closed sum own total) got p ≡ t → Some a ≡ answer_taken t
-    → sum' ≤ sum + 2040 → own' ≤ own + 255 → total' ≡ (if is_accepted a then total + 1 else total)
-    → IsReceiveLane (record (after_answer rx lent p t) { takes = rx.takes + 1 }) closed sum' own' total'
-taken-kept rx sub closed sum own total got lent p t a sum' own' total' inv byte few is_lent is e le_sum le_own
-    is_total =
+    → sum' ≤ (if is_accepted a then sum + 2040 else sum) → own' ≤ (if is_accepted a then own + 255 else own)
+    → total' ≡ (if is_accepted a then total + 1 else total)
+    → IsReceiveLane (after_answer rx lent p t) closed sum' own' total'
+taken-kept rx sub closed sum own total got lent p t a sum' own' total' inv byte is_lent is e le_sum le_own is_total =
     by_taken t is e (subst
     (λ (t : Taken). FitsHere rx.aggregation p t (key_for rx p.prefix.k) (key_for rx (not p.prefix.k)))
     is (fits_here (view rx sub closed sum own total) got p (key_for rx p.prefix.k) (key_for rx (not p.prefix.k))))
   where
-    with_both : (ahead : List ℕ) (slots : LaneSlots) (delivered : List Packet) → total' ≤ total + 1
+    counts : (b : Bool) → sum' ≤ (if b then sum + 2040 else sum) → own' ≤ (if b then own + 255 else own)
+        → total' ≡ (if b then total + 1 else total) → (sum' ≤ 2040 * total') × (own' ≤ 255 * total')
+    counts true le_sum le_own is = (omega (arith, le_sum, is, inv.few_sum), omega (arith, le_own, is, inv.few_got))
+    counts false le_sum le_own is = (omega (arith, le_sum, is, inv.few_sum), omega (arith, le_own, is, inv.few_got))
+
+    with_both : (ahead : List ℕ) (slots : LaneSlots) (delivered : List Packet)
         → HoldsRight ahead rx.aggregation closed total' slots.first
         → HoldsRight ahead rx.aggregation closed total' slots.second
-        → IsReceiveLane (record rx { ahead = ahead; slots = slots; delivered = delivered; takes = rx.takes + 1 }) closed
-        sum' own' total'
-    with_both ahead slots delivered le first second = record {
+        → IsReceiveLane (record rx { ahead = ahead; slots = slots; delivered = delivered }) closed sum' own' total'
+    with_both ahead slots delivered first second = record {
       some_aggregation = inv.some_aggregation;
       small_aggregation = inv.small_aggregation;
       first = first;
       second = second;
-      few = omega (arith, few);
-      few_sum = omega (arith, le_sum, inv.few_sum);
-      few_got = omega (arith, le_own, inv.few_got);
-      few_total = omega (arith, le, inv.few_total);
+      few_sum = (counts (is_accepted a) le_sum le_own is_total).0;
+      few_got = (counts (is_accepted a) le_sum le_own is_total).1;
     }
 
     same_total : (b : Answer) → a ≡ b → is_accepted b ≡ false → total' ≡ total
@@ -403,32 +405,49 @@ taken-kept rx sub closed sum own total got lent p t a sum' own' total' inv byte 
 
     by_taken : (t : Taken) → lane_outcome (view rx sub closed sum own total) got p ≡ t → Some a ≡ answer_taken t
         → FitsHere rx.aggregation p t (key_for rx p.prefix.k) (key_for rx (not p.prefix.k))
-        → IsReceiveLane (record (after_answer rx lent p t) { takes = rx.takes + 1 }) closed sum' own' total'
+        → IsReceiveLane (after_answer rx lent p t) closed sum' own' total'
     by_taken NotKeyed is e fits =
         let same : a ≡ answers.NotKeyed = cc in
         let keeps = same_total answers.NotKeyed same refl in
-        with_both rx.ahead rx.slots rx.delivered (omega (arith, keeps)) (rw keeps inv.first) (rw keeps inv.second)
+        with_both rx.ahead rx.slots rx.delivered (rw keeps inv.first) (rw keeps inv.second)
     by_taken Insecure is e fits = absurd (cc)
     by_taken (Failed cause) is e fits =
         let same : a ≡ answers.Fail cause = cc in
         let keeps = same_total (answers.Fail cause) same refl in
-        with_both [] (dropped_slots rx.slots) [] (omega (arith, keeps))
-        (dropped_right rx.slots.first [] rx.aggregation closed total' inv.some_aggregation)
-        (dropped_right rx.slots.second [] rx.aggregation closed total' inv.some_aggregation)
+        with_both [] (dropped_slots rx.slots) []
+        (rw keeps (dropped_right rx.slots.first rx.ahead [] rx.aggregation closed total inv.some_aggregation inv.first))
+        (rw keeps (dropped_right rx.slots.second rx.ahead [] rx.aggregation closed total inv.some_aggregation
+        inv.second))
     by_taken (Held j n) is e fits =
         let same : a ≡ answers.Held j n = cc in
         let keeps = same_total (answers.Held j n) same refl in
         let both = held_both p.prefix.k rx closed sum own total got lent p j n inv byte is_lent fits in
         with_both (ahead_held rx (key_for rx p.prefix.k) lent)
-        (with_slot rx.slots p.prefix.k (gone_on p (slot_in_set rx.slots p.prefix.k))) [] (omega (arith, keeps))
-        (rw keeps both.0) (rw keeps both.1)
+        (with_slot rx.slots p.prefix.k (gone_on p (slot_in_set rx.slots p.prefix.k))) [] (rw keeps both.0)
+        (rw keeps both.1)
     by_taken (Accepted j n unit) is e fits =
         let same : a ≡ answers.Accepted j n (length unit) = cc in
         let next : total' ≡ total + 1 = is_total ∙ ap (λ (x : Answer). if is_accepted x then total + 1 else total) same
         in
         let both = accepted_both p.prefix.k rx closed sum own total j inv fits in
         with_both [] (accepted_slots j p.prefix.k rx.slots) (opened_unit (key_for rx p.prefix.k) p.prefix.sub unit)
-        (omega (arith, next)) (rw next both.0) (rw next both.1)
+        (rw next both.0) (rw next both.1)
+
+-- ---- how many units
+
+slot_few : (slot : LaneSlot) (ahead : List ℕ) (aggregation : ℕ) (closed : Bool) (total n : ℕ) → total ≤ n
+    → HoldsRight ahead aggregation closed total slot → KeyUnitsAtMost n slot
+slot_few Empty ahead aggregation closed total n le held = tt
+slot_few (Programmed j key) ahead aggregation closed total n le held = tt
+slot_few (Armed j key) ahead aggregation closed total n le held = tt
+slot_few (Live x) ahead aggregation closed total n le held = omega (arith, le, held.few)
+
+pub units-few : (rx : Receiver) (closed : Bool) (sum own total n : ℕ) → IsReceiveLane rx closed sum own total
+    → total ≤ n → LaneUnitsAtMost n rx.slots
+units-few rx closed sum own total n inv le = (
+  slot_few rx.slots.first rx.ahead rx.aggregation closed total n le inv.first,
+  slot_few rx.slots.second rx.ahead rx.aggregation closed total n le inv.second,
+)
 
 -- ---- KEY_PROG
 
@@ -443,6 +462,7 @@ kept_ahead (Live x) b ahead aggregation closed total h held = record {
   ahead_right = λ some. ap (λ (c : Bool). if c then ahead else []) (h (some_in x some)) ∙ held.ahead_right some;
   posted = held.posted;
   fits = held.fits;
+  few = held.few;
 }
 
 or_true : (a b : Bool) → a ≡ true → (a || b) ≡ true
@@ -459,8 +479,7 @@ programmed_both false rx closed sum own total key draw inv =
     (tt, kept_ahead rx.slots.second _ rx.ahead rx.aggregation closed total (λ e. e) inv.second)
 
 pub programmed-right : (k : Bool) (rx : Receiver) (closed : Bool) (sum own total : ℕ) (key : List ℕ) (draw : ℕ)
-    → IsReceiveLane rx closed sum own total
-    → IsReceiveLane (programmed_receiver rx k key draw) closed sum own total
+    → IsReceiveLane rx closed sum own total → IsReceiveLane (programmed_receiver rx k key draw) closed sum own total
 programmed-right k rx closed sum own total key draw inv = by_answer (is_only_live (slot_pair false rx.slots) k)
   where
     by_answer : (b : Bool) → IsReceiveLane
@@ -473,8 +492,6 @@ programmed-right k rx closed sum own total key draw inv = by_answer (is_only_liv
           small_aggregation = inv.small_aggregation;
           first = both.0;
           second = both.1;
-          few = inv.few;
           few_sum = inv.few_sum;
           few_got = inv.few_got;
-          few_total = inv.few_total;
         }

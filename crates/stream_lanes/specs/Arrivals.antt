@@ -9,9 +9,8 @@ use Rattle.ide_prefix.specs.Packet.{Packet}
 use Rattle.spec_stream.specs.Sending.{total_ahead}
 use Rattle.spec_stream.specs.Stream.{LaneSlot, Live, LiveKey, RxSub, Three, StreamState, at_sub, set_sub, each_sub}
 use Rattle.spec_stream.specs.Stream.{slot_in_set, live_in, Taken, NotKeyed, Failed, Held, Accepted, holds_any}
-use Rattle.spec_stream.specs.Stream.{posted_sum}
-use Rattle.spec_stream.specs.Stream.{is_tagged, outcome_of_checks, dropped_held, accepted_sub, held_sub, stream_outcome}
-use Rattle.spec_stream.specs.Stream.{state_after}
+use Rattle.spec_stream.specs.Stream.{posted_sum, is_tagged, outcome_of_checks, dropped_held, accepted_sub, held_sub}
+use Rattle.spec_stream.specs.Stream.{stream_outcome, state_after}
 use Rattle.spec_stream.specs.Slots.{any_live}
 use Rattle.key_slots.specs.{KeyCall}
 use Rattle.sub_stream.specs.{Receiver, no_slots, opened_unit}
@@ -21,22 +20,20 @@ use Rattle.sub_stream.specs.Calls.{slots_called_into, no_stream}
 
 -- ---- one sub-stream
 
--- a receiver with its counts; `delivered` are the packets of the unit that it accepted last, decrypted, and `takes` is
--- how many packets it was given
+-- a receiver with its counts; `delivered` are the packets of the unit that it accepted last, decrypted
 pub record ReceiveEnd : Type 0 where
   pub sub : SubKind
   pub aggregation : ℕ
   pub closed : Bool
   pub kept : RxSub
   pub delivered : List Packet
-  pub takes : ℕ
 
 abbrev pub no_rx : RxSub
 no_rx = record { slots = no_slots; sum = 0; got = 0; total = 0 }
 
 abbrev pub new_receive_end : SubKind → ℕ → Bool → ReceiveEnd
 new_receive_end sub aggregation closed =
-    record { sub = sub; aggregation = aggregation; closed = closed; kept = no_rx; delivered = []; takes = 0 }
+    record { sub = sub; aggregation = aggregation; closed = closed; kept = no_rx; delivered = [] }
 
 -- the posted counts, with those of a unit, sum to at most the number of posted packets
 abbrev pub allows : ReceiveEnd → ℕ → List Packet → Bool
@@ -69,17 +66,18 @@ delivered_after e p (Held j n) = []
 delivered_after e p taken = e.delivered
 
 abbrev pub end_after : ReceiveEnd → Packet → Taken → ReceiveEnd
-end_after e p taken =
-    record e { kept = kept_sub_after e.kept p taken; delivered = delivered_after e p taken; takes = e.takes + 1 }
+end_after e p taken = record e { kept = kept_sub_after e.kept p taken; delivered = delivered_after e p taken }
 
 abbrev pub called_into : ReceiveEnd → KeyCall → RxSub
 called_into e call = record e.kept { slots = slots_called_into call e.kept.slots }
 
--- what comes before held packets is what the rules say; they are few, and their posted counts are bytes
+-- what comes before held packets is what the rules say; they are few, and their posted counts are bytes; each unit
+-- under the key is one of the total
 pub record HoldsPackets (ahead : List ℕ) (aggregation : ℕ) (closed : Bool) (total : ℕ) (x : LiveKey) : Type 0 where
   pub ahead_right : (length x.packets == 0) ≡ false → ahead ≡ total_ahead closed (x.units + 1) total
   pub posted : posted_sum x.packets ≤ 255 * length x.packets
   pub fits : length x.packets < aggregation
+  pub few : x.units ≤ total
 
 abbrev pub HoldsRight : List ℕ → ℕ → Bool → ℕ → LaneSlot → Type 0
 HoldsRight ahead aggregation closed total (Live x) = HoldsPackets ahead aggregation closed total x
@@ -90,10 +88,8 @@ pub record IsReceiveLane (rx : Receiver) (closed : Bool) (sum got total : ℕ) :
   pub small_aggregation : rx.aggregation ≤ 8
   pub first : HoldsRight rx.ahead rx.aggregation closed total rx.slots.first
   pub second : HoldsRight rx.ahead rx.aggregation closed total rx.slots.second
-  pub few : rx.takes ≤ 2 ^ 40
-  pub few_sum : sum ≤ 2040 * rx.takes
-  pub few_got : got ≤ 255 * rx.takes
-  pub few_total : total ≤ rx.takes
+  pub few_sum : sum ≤ 2040 * total
+  pub few_got : got ≤ 255 * total
 
 -- ---- what the code counts of an answer
 
@@ -117,14 +113,13 @@ pub record ReceiveEnds : Type 0 where
   pub closed : Bool
   pub rx : Three RxSub
   pub delivered : List Packet
-  pub takes : ℕ
 
 abbrev pub no_receivers : Three RxSub
 no_receivers = record { pr = no_rx; npr = no_rx; cpl = no_rx }
 
 abbrev pub new_receive_ends : ℕ → Bool → ReceiveEnds
 new_receive_ends aggregation closed = record
-    { aggregation = aggregation; closed = closed; rx = no_receivers; delivered = []; takes = 0 }
+    { aggregation = aggregation; closed = closed; rx = no_receivers; delivered = [] }
 
 -- the one of a sub-stream
 abbrev pub value_of_kind : {A : Type 0} → SubKind → A → A → A → A
@@ -136,7 +131,7 @@ abbrev pub lent_lane_packets : Option SubKind → ReceiveEnd → ReceiveEnd → 
 lent_lane_packets None pr npr cpl = []
 lent_lane_packets (Some u) pr npr cpl = (value_of_kind u pr npr cpl).delivered
 
-pub record IsReceiveLanes (pr npr cpl : ReceiveEnd) (takes : ℕ) : Type 0 where
+pub record IsReceiveLanes (pr npr cpl : ReceiveEnd) : Type 0 where
   pub is_pr : pr.sub ≡ Pr
   pub is_npr : npr.sub ≡ Npr
   pub is_cpl : cpl.sub ≡ Cpl
@@ -146,10 +141,6 @@ pub record IsReceiveLanes (pr npr cpl : ReceiveEnd) (takes : ℕ) : Type 0 where
   pub cpl_closed : cpl.closed ≡ pr.closed
   pub npr_order : npr.kept.sum ≤ pr.kept.got
   pub cpl_order : cpl.kept.sum ≤ pr.kept.got
-  pub few_pr : pr.takes ≤ takes
-  pub few_npr : npr.takes ≤ takes
-  pub few_cpl : cpl.takes ≤ takes
-  pub few : takes ≤ 2 ^ 40
 
 -- an accepted unit, decrypted
 abbrev pub opened_if_accepted : StreamState → Packet → Taken → List Packet
@@ -168,8 +159,11 @@ abbrev pub receive_ends_after : ReceiveEnds → Packet → Taken → ReceiveEnds
 receive_ends_after x p taken = record x {
   rx = (state_after (receiving_state x) p taken).rx;
   delivered = opened_if_accepted (receiving_state x) p taken;
-  takes = x.takes + 1;
 }
+
+-- each sub-stream accepted so many units at the most
+abbrev pub AcceptedAtMost : ℕ → Three RxSub → Type 0
+AcceptedAtMost n rx = (u : SubKind) → (at_sub rx u).total ≤ n
 
 abbrev pub any_into : Three RxSub → Bool
 any_into rx = any_live rx.pr.slots || any_live rx.npr.slots || any_live rx.cpl.slots

@@ -158,6 +158,10 @@ pub record IsSendLanes (fixed : Fixed) (pr npr cpl : SendEnd) : Type 0 where
   pub npr_room : HasPostedRoom fixed.aggregation pr.kept npr.kept
   pub cpl_room : HasPostedRoom fixed.aggregation pr.kept cpl.kept
 
+-- each sub-stream finished so many units at the most
+abbrev pub SealedAtMost : ℕ → Three TxSub → Type 0
+SealedAtMost n tx = (u : SubKind) → (at_sub tx u).total ≤ n
+
 abbrev pub any_out : Three TxSub → Bool
 any_out tx = any_live tx.pr.slots || any_live tx.npr.slots || any_live tx.cpl.slots
 

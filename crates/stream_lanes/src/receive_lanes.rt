@@ -12,19 +12,18 @@ ghost use Rattle.sub_stream.specs.{answer_taken, slot_pair};
 ghost use Rattle.stream_lanes.specs.Arrivals.{new_receive_ends, value_of_kind, lane_outcome, end_after, lanes_outcome};
 ghost use Rattle.stream_lanes.specs.Arrivals.{receive_ends_after, is_fail, lent_lane, any_into, all_into, rested_into};
 ghost use Rattle.stream_lanes.specs.Arrivals.{called_receivers, no_receivers, new_receive_end, no_rx, called_into};
-ghost use Rattle.stream_lanes.specs.Arrivals.{count_in};
+ghost use Rattle.stream_lanes.specs.Arrivals.{count_in, AcceptedAtMost};
 ghost use Rattle.spec_stream.specs.Sending.{is_posted};
 ghost use Rattle.sub_stream.specs.Facts.{held_packets, receiver_facts};
 ghost use Rattle.sub_stream.specs.Receivers.{is_accepted};
 
 use crate::fixed::{Fixed, lent_total};
-use ide_prefix::PacketView;
+use ide_prefix::{PacketView, UnitBuf};
 use ide_types::{KeySet, OutOfMemory, SubKind};
 use key_slots::{Key, OnlyLive, SlotEmpty};
 use std::alloc::Global;
 use std::marker::Model;
 use sub_stream::{Delivered, ReceiverFacts, Rx, Taken};
-use unit_aggregation::UnitBuf;
 
 /// A receiver of one sub-stream with its counts.
 #[derive(Drop)]
@@ -55,7 +54,6 @@ impl Model for ReceiveLane {
         total = r.total;
       };
       delivered = r.rx.delivered;
-      takes = r.rx.takes;
     } };
 
     ghost invariant = { λ r. IsReceiveLane r.rx r.closed r.sum r.got r.total };
@@ -83,7 +81,7 @@ fn count(taken: &Taken, posted: u64, sum: &mut u64, got: &mut u64, total: &mut u
     ensures sum { sum.new ≡ (if is_accepted taken.now then sum.old + posted else sum.old) }
     ensures got { got.new ≡ (if is_accepted taken.now then got.old + count_in taken.now else got.old) }
     ensures total { total.new ≡ (if is_accepted taken.now then total.old + 1 else total.old) }
-    ensures few { got.new ≤ got.old + 255 }
+    ensures few { got.new ≤ (if is_accepted taken.now then got.old + 255 else got.old) }
 {
     if let Taken::Accepted { count, .. } = taken {
         *sum += posted;
@@ -140,7 +138,7 @@ impl ReceiveLane {
     pub fn take(&mut self, packet: &PacketView, got: u64) -> Taken
         requires view { IsView packet.now }
         requires sub { packet.now.prefix.sub ≡ self.old.sub }
-        requires few { self.old.takes < 2 ^ 40 }
+        requires few { self.old.kept.total ≤ 2 ^ 40 }
         requires order { is_posted self.old.sub ≡ false → self.old.kept.sum ≤ got }
         ensures answer { Some result ≡ answer_taken (lane_outcome self.old got (packet_of_view packet.now)) }
         ensures lane { self.new ≡ end_after self.old (packet_of_view packet.now)
@@ -241,7 +239,6 @@ pub struct ReceiveLanes {
     cpl: ReceiveLane,
     // the sub-stream whose last unit is lent
     lent: Option<SubKind>,
-    takes: u64,
 }
 
 impl Model for ReceiveLanes {
@@ -258,10 +255,9 @@ impl Model for ReceiveLanes {
         cpl = r.cpl.kept;
       };
       delivered = lent_lane_packets r.lent r.pr r.npr r.cpl;
-      takes = r.takes;
     } };
 
-    ghost invariant = { λ r. IsReceiveLanes r.pr r.npr r.cpl r.takes };
+    ghost invariant = { λ r. IsReceiveLanes r.pr r.npr r.cpl };
 }
 
 // The one of a sub-stream.
@@ -291,9 +287,9 @@ fn take_in(
     requires pr { pr.old.sub ≡ Pr }
     requires npr { npr.old.sub ≡ Npr }
     requires cpl { cpl.old.sub ≡ Cpl }
-    requires few_pr { pr.old.takes < 2 ^ 40 }
-    requires few_npr { npr.old.takes < 2 ^ 40 }
-    requires few_cpl { cpl.old.takes < 2 ^ 40 }
+    requires few_pr { pr.old.kept.total ≤ 2 ^ 40 }
+    requires few_npr { npr.old.kept.total ≤ 2 ^ 40 }
+    requires few_cpl { cpl.old.kept.total ≤ 2 ^ 40 }
     requires npr_order { npr.old.kept.sum ≤ pr.old.kept.got }
     requires cpl_order { cpl.old.kept.sum ≤ pr.old.kept.got }
     ensures answer { let p = packet_of_view packet.now in
@@ -357,7 +353,6 @@ impl ReceiveLanes {
             npr: ReceiveLane::make(alloc, fixed, SubKind::Npr, npr)?,
             cpl: ReceiveLane::make(alloc, fixed, SubKind::Cpl, cpl)?,
             lent: None,
-            takes: 0,
         })
     }
 
@@ -385,13 +380,12 @@ impl ReceiveLanes {
     /// Takes a packet, while the stream has not failed, and answers what became of it.
     pub fn take(&mut self, packet: &PacketView) -> Taken
         requires view { IsView packet.now }
-        requires few { self.old.takes < 2 ^ 40 }
+        requires few { AcceptedAtMost (2 ^ 40) self.old.rx }
         ensures answer { Some result ≡ answer_taken (lanes_outcome self.old (packet_of_view packet.now)) }
         ensures lanes { self.new ≡ receive_ends_after self.old (packet_of_view packet.now)
             (lanes_outcome self.old (packet_of_view packet.now)) }
     {
         let sub = packet.prefix.sub;
-        self.takes += 1;
         let taken = take_in(packet, &mut self.pr, &mut self.npr, &mut self.cpl);
         drop_failed(&taken, &mut self.pr);
         drop_failed(&taken, &mut self.npr);

@@ -20,17 +20,17 @@ ghost use Rattle.stream_lanes.specs.Lanes.{packet_said_at, sealed_ends, measured
 ghost use Rattle.stream_lanes.specs.Lanes.{settled_senders, called_ends, ends_after_sync, sync_packets, sync_bytes};
 ghost use Rattle.stream_lanes.specs.Lanes.{new_send_end};
 ghost use Rattle.stream_lanes.specs.Lanes.{sync_said, packet_said, sealed_end, posted_end, forgotten_end};
-ghost use Rattle.stream_lanes.specs.Lanes.{called_send_end, KeepsUnit};
+ghost use Rattle.stream_lanes.specs.Lanes.{called_send_end, KeepsUnit, SealedAtMost};
 
 use crate::fixed::{Fixed, lent_total};
 use crate::list::MeasuredPackets;
 use crate::refusal::SendRefusal;
+use ide_prefix::UnitBuf;
 use ide_types::{KeySet, OutOfMemory, SubKind};
 use key_slots::{Key, OnlyLive, SlotEmpty};
 use std::alloc::Global;
 use std::marker::Model;
 use sub_stream::{MeasuredPacket, PACKET_ROOM, SYNC_ROOM, SenderFacts, Tx, TxRefusal};
-use unit_aggregation::UnitBuf;
 
 /// A sender of one sub-stream with its posted count and its total.
 #[derive(Drop)]
@@ -70,7 +70,7 @@ impl Model for SendLane {
 
 // A packet was sealed: the posted count begins again, and a finished unit counts.
 fn count(m: bool, posted: &mut u8, total: &mut u64)
-    requires { total.old < 2 ^ 40 }
+    requires { total.old ≤ 2 ^ 40 }
     ensures posted { posted.new ≡ 0 }
     ensures total { total.new ≡ (if m then total.old + 1 else total.old) }
 {
@@ -167,7 +167,7 @@ impl SendLane {
     ) -> MeasuredPacket
         requires live { any_live self.old.kept.slots ≡ true }
         requires unworn { is_spent self.old ≡ false }
-        requires few { self.old.kept.total < 2 ^ 40 }
+        requires few { self.old.kept.total ≤ 2 ^ 40 }
         requires head_short { length head.now ≤ 16 }
         requires payload_short { length payload.now ≤ 4096 }
         requires room { vec_len out.old + PACKET_ROOM ≤ vec_capacity out.old }
@@ -192,7 +192,7 @@ impl SendLane {
     pub fn sync(&mut self, out: &mut Vec<u8>) -> MeasuredPacket
         requires live { any_live self.old.kept.slots ≡ true }
         requires unworn { is_spent self.old ≡ false }
-        requires few { self.old.kept.total < 2 ^ 40 }
+        requires few { self.old.kept.total ≤ 2 ^ 40 }
         requires room { vec_len out.old + SYNC_ROOM ≤ vec_capacity out.old }
         ensures answer { result ≡ measured_packet (sync_said self.old) (packet_said self.old [] [] (sync_said self.old)) }
         ensures lane { self.new ≡ sealed_end self.old [] [] (sync_said self.old) }
@@ -430,7 +430,7 @@ impl SendLanes {
     fn sync_npr(&mut self, needed: bool, sealed: &mut MeasuredPackets, out: &mut Vec<u8>)
         requires live { needed ≡ true → any_live self.old.tx.npr.slots ≡ true }
         requires unworn { needed ≡ true → is_spent (send_end_at self.old Npr) ≡ false }
-        requires few { self.old.tx.npr.total < 2 ^ 40 }
+        requires few { self.old.tx.npr.total ≤ 2 ^ 40 }
         requires count { length sealed.old < 3 }
         requires room { vec_len out.old + SYNC_ROOM ≤ vec_capacity out.old }
         ensures lanes { self.new ≡ ends_after_sync needed Npr self.old }
@@ -450,7 +450,7 @@ impl SendLanes {
     fn sync_cpl(&mut self, needed: bool, sealed: &mut MeasuredPackets, out: &mut Vec<u8>)
         requires live { needed ≡ true → any_live self.old.tx.cpl.slots ≡ true }
         requires unworn { needed ≡ true → is_spent (send_end_at self.old Cpl) ≡ false }
-        requires few { self.old.tx.cpl.total < 2 ^ 40 }
+        requires few { self.old.tx.cpl.total ≤ 2 ^ 40 }
         requires count { length sealed.old < 3 }
         requires room { vec_len out.old + SYNC_ROOM ≤ vec_capacity out.old }
         ensures lanes { self.new ≡ ends_after_sync needed Cpl self.old }
@@ -477,7 +477,7 @@ impl SendLanes {
     ) -> MeasuredPacket
         requires live { any_live self.old.tx.pr.slots ≡ true }
         requires unworn { is_spent (send_end_at self.old Pr) ≡ false }
-        requires few { self.old.tx.pr.total < 2 ^ 40 }
+        requires few { self.old.tx.pr.total ≤ 2 ^ 40 }
         requires npr_room { self.old.tx.npr.posted + self.old.fixed.aggregation ≤ 255 + length
             (open_in self.old.tx.pr.slots) }
         requires cpl_room { self.old.tx.cpl.posted + self.old.fixed.aggregation ≤ 255 + length
@@ -510,7 +510,7 @@ impl SendLanes {
     ) -> MeasuredPacket
         requires live { any_live (at_sub self.old.tx sub).slots ≡ true }
         requires unworn { is_spent (send_end_at self.old sub) ≡ false }
-        requires few { (at_sub self.old.tx sub).total < 2 ^ 40 }
+        requires few { (at_sub self.old.tx sub).total ≤ 2 ^ 40 }
         requires npr_room { is_posted sub ≡ true → self.old.tx.npr.posted + self.old.fixed.aggregation ≤ 255 + length
             (open_in self.old.tx.pr.slots) }
         requires cpl_room { is_posted sub ≡ true → self.old.tx.cpl.posted + self.old.fixed.aggregation ≤ 255 + length
@@ -552,14 +552,13 @@ impl SendLanes {
         requires cpl_room { is_posted sub ≡ true → (if cpl then 0 else (at_sub self.old.tx Cpl).posted)
             + self.old.fixed.aggregation ≤ 255 + length (open_in self.old.tx.pr.slots) }
         requires clear { first_that_holds (refusals (sealing_lanes self.old) sub) ≡ None }
-        requires few { (u : SubKind) → (at_sub self.old.tx u).total < 2 ^ 40 }
+        requires few { SealedAtMost (2 ^ 40) self.old.tx }
         requires head_short { length head.now ≤ 16 }
         requires payload_short { length payload.now ≤ 4096 }
         requires room { vec_len out.old + PACKET_ROOM + 2 * SYNC_ROOM ≤ vec_capacity out.old }
         ensures sent { (s : Sending) (number : ℕ) → s.stream ≡ self.old.fixed.stream → s.class ≡ sub → s.more ≡ more
             → sets_trusted s.port s.trusted ≡ t
             → IsSealed self.old head.now payload.now s number result out.old.items out.new.items self.new }
-        ensures totals { (u : SubKind) → (at_sub self.new.tx u).total ≤ (at_sub self.old.tx u).total + 1 }
         ensures capacity { vec_capacity out.old ≤ vec_capacity out.new }
     {
         let mut sealed = MeasuredPackets::new();
@@ -583,14 +582,13 @@ impl SendLanes {
         t: bool,
         out: &mut Vec<u8>,
     ) -> Result<MeasuredPackets, SendRefusal>
-        requires few { (u : SubKind) → (at_sub self.old.tx u).total < 2 ^ 40 }
+        requires few { SealedAtMost (2 ^ 40) self.old.tx }
         requires head_short { length head.now ≤ 16 }
         requires payload_short { length payload.now ≤ 4096 }
         requires room { vec_len out.old + PACKET_ROOM + 2 * SYNC_ROOM ≤ vec_capacity out.old }
         ensures sent { (s : Sending) (number : ℕ) → s.stream ≡ self.old.fixed.stream → s.class ≡ sub → s.more ≡ more
             → sets_trusted s.port s.trusted ≡ t
             → IsSealedOrRefused self.old head.now payload.now s number result out.old.items out.new.items self.new }
-        ensures totals { (u : SubKind) → (at_sub self.new.tx u).total ≤ (at_sub self.old.tx u).total + 1 }
         ensures capacity { vec_capacity out.old ≤ vec_capacity out.new }
     {
         let npr = self.needs_sync(sub, SubKind::Npr);

@@ -13,12 +13,10 @@ use Rattle.ide_types.specs.declared.sub.SubKind.{SubKind}
 use Rattle.ide_prefix.specs.Packet.{Packet}
 use Rattle.ide_prefix.specs.Units.{packet_without_tag}
 use Rattle.spec_stream.specs.Stream.{LiveKey, Taken, NotKeyed, Insecure, Failed, Held, Accepted}
-use Rattle.spec_stream.specs.Stream.{slot_in_set as seen_slot}
-use Rattle.spec_stream.specs.Stream.{with_slot, live_in, gone_on, counted_unit, slot_unless_older, slot_without_packets}
-use Rattle.spec_stream.specs.Stream.{accepted_slots}
-use Rattle.spec_stream.specs.Stream.{posted_sum, outcome_of_checks}
-use Rattle.spec_stream.specs.Stream.{Empty as EmptySlot, holds_any}
-use Rattle.spec_stream.specs.Slots.{begun}
+use Rattle.spec_stream.specs.Stream.{slot_in_set as seen_slot, with_slot, live_in, gone_on, counted_unit}
+use Rattle.spec_stream.specs.Stream.{slot_unless_older, slot_without_packets, accepted_slots, posted_sum}
+use Rattle.spec_stream.specs.Stream.{outcome_of_checks, Empty as EmptySlot, holds_any}
+use Rattle.spec_stream.specs.Slots.{begun_slot}
 use Rattle.key_slots.specs.declared.slot.Slot.{Slot as KeySlot}
 use Rattle.key_slots.specs.declared.slot.Slot.TheVariants.{Empty, Programmed, Armed, Live}
 use Rattle.key_slots.specs.{DrawnKey, SlotPair, slot_in, is_live, is_armed, live_held, live_draw, after_go, armed_pair}
@@ -31,14 +29,12 @@ use Rattle.sub_stream.specs.Gathered.{Gathered, no_packets}
 use Rattle.sub_stream.specs.Seen.{slot_as_seen, live_key_seen, has_armed, is_programmed}
 use Rattle.sub_stream.specs.Senders.{begun_where_empty, unit_ahead}
 use Rattle.sub_stream.specs.Receivers.{Receiver, held_zero, held_one, receiver_slots_seen, packets_if_delivered}
-use Rattle.sub_stream.specs.Receivers.{ahead_if_held, HoldsFew, IsReceiver}
-use Rattle.sub_stream.specs.Receivers.{holds_some, holds_apart, held_set, holds_after, held_alone, held_unless_failed}
-use Rattle.sub_stream.specs.Receivers.{is_accepted, is_draw_below, without_older, slots_after, fits_held, fits_unit}
-use Rattle.sub_stream.specs.Receivers.{key_for, receiver_ahead, is_tagged_behind, judged_packet, early_answer, early_of}
-use Rattle.sub_stream.specs.Receivers.{BufferAfter}
+use Rattle.sub_stream.specs.Receivers.{ahead_if_held, HoldsFew, IsReceiver, holds_some, holds_apart, held_set}
+use Rattle.sub_stream.specs.Receivers.{holds_after, held_alone, held_unless_failed, is_accepted, is_draw_below}
+use Rattle.sub_stream.specs.Receivers.{without_older, slots_after, fits_held, fits_unit, key_for, receiver_ahead}
+use Rattle.sub_stream.specs.Receivers.{is_tagged_behind, judged_packet, early_answer, early_of, BufferAfter}
 use Rattle.sub_stream.specs.Receivers.{receiver_outcome_by_keys, receiver_outcome, dropped_slots, dropped_receiver}
-use Rattle.sub_stream.specs.Receivers.{ahead_held, opened_unit}
-use Rattle.sub_stream.specs.Receivers.{after_answer, slots_ahead, gone_receiver}
+use Rattle.sub_stream.specs.Receivers.{ahead_held, opened_unit, after_answer, slots_ahead, gone_receiver}
 use Rattle.sub_stream.proofs.Receiving.{units_of, held_of, key_seen, fits_seen, early_seen, early_by, other_holds}
 
 -- ---- answers that come early
@@ -99,56 +95,41 @@ slots-slot_without_packets pair u0 u1 h ps qs = λ i. record
     { first = dropped_seen pair.zero u0 (held_zero h ps) i; second = dropped_seen pair.one u1 (held_one h ps) i }
 
 -- the receiver that is seen of these fields
-abbrev pub view : ℕ → SubKind → ℕ → ℕ → ℕ → SlotPair → Holds → Gathered → ℕ → Receiver
-view stream sub aggregation u0 u1 pair h unit takes = record {
+abbrev pub view : ℕ → SubKind → ℕ → ℕ → ℕ → SlotPair → Holds → Gathered → Receiver
+view stream sub aggregation u0 u1 pair h unit = record {
   stream = stream;
   sub = sub;
   aggregation = aggregation;
   ahead = ahead_if_held h unit.ahead;
   slots = receiver_slots_seen pair u0 u1 h unit.packets;
   delivered = packets_if_delivered h unit.packets;
-  takes = takes;
 }
 
 pub view-slot_without_packets : (stream : ℕ) (sub : SubKind) (aggregation u0 u1 : ℕ) (pair : SlotPair) (h : Holds)
-    (unit new : Gathered)
-    (takes n : ℕ)
-    → view stream sub aggregation u0 u1 pair Nothing new n ≡ record
-    (dropped_receiver (view stream sub aggregation u0 u1 pair h unit takes)) { takes = n }
-view-slot_without_packets stream sub aggregation u0 u1 pair h unit new takes n =
-    ap (λ s. record {
-      stream = stream;
-      sub = sub;
-      aggregation = aggregation;
-      ahead = [];
-      slots = s;
-      delivered = [];
-      takes = n;
-    })
+    (unit new : Gathered) → view stream sub aggregation u0 u1 pair Nothing new
+    ≡ dropped_receiver (view stream sub aggregation u0 u1 pair h unit)
+view-slot_without_packets stream sub aggregation u0 u1 pair h unit new =
+    ap (λ s. record { stream = stream; sub = sub; aggregation = aggregation; ahead = []; slots = s; delivered = [] })
     (slots-slot_without_packets pair u0 u1 h unit.packets new.packets)
 
 pub view-early : (stream : ℕ) (sub : SubKind) (aggregation u0 u1 : ℕ) (pair : SlotPair) (h : Holds) (unit : Gathered)
-    (takes n : ℕ) (a : Answer)
-    → view stream sub aggregation u0 u1 pair (held_unless_failed h a) unit n
-    ≡ record (after_early (view stream sub aggregation u0 u1 pair h unit takes) a) { takes = n }
-view-early stream sub aggregation u0 u1 pair h unit takes n answers.NotKeyed = refl
-view-early stream sub aggregation u0 u1 pair h unit takes n (answers.Fail cause) = view-slot_without_packets stream sub
-    aggregation u0 u1 pair h
-    unit unit takes n
-view-early stream sub aggregation u0 u1 pair h unit takes n (answers.Held draw m) = view-slot_without_packets stream sub
-    aggregation u0 u1 pair h
-    unit unit takes n
-view-early stream sub aggregation u0 u1 pair h unit takes n (answers.Accepted draw m count) = view-slot_without_packets
-    stream sub aggregation u0
-    u1 pair h unit unit takes n
+    (a : Answer) → view stream sub aggregation u0 u1 pair (held_unless_failed h a) unit
+    ≡ after_early (view stream sub aggregation u0 u1 pair h unit) a
+view-early stream sub aggregation u0 u1 pair h unit answers.NotKeyed = refl
+view-early stream sub aggregation u0 u1 pair h unit (answers.Fail cause) = view-slot_without_packets stream sub
+    aggregation u0 u1 pair h unit unit
+view-early stream sub aggregation u0 u1 pair h unit (answers.Held draw m) = view-slot_without_packets stream sub
+    aggregation u0 u1 pair h unit unit
+view-early stream sub aggregation u0 u1 pair h unit (answers.Accepted draw m count) = view-slot_without_packets stream
+    sub aggregation u0 u1 pair h unit unit
 
 -- ---- what is held under a key
 
-abbrev pub kept : Holds → Gathered → Gathered
-kept h unit = if holds_some h then unit else no_packets unit.aggregation
+abbrev pub unit_kept : Holds → Gathered → Gathered
+unit_kept h unit = if holds_some h then unit else no_packets unit.aggregation
 
 pub held-kept : (k : Bool) (h : Holds) (unit : Gathered) → holds_apart k h ≡ false → held_of k h unit.packets
-    ≡ (kept h unit).packets
+    ≡ (unit_kept h unit).packets
 held-kept true HeldZero unit e = absurd (cc)
 held-kept true HeldOne unit e = refl
 held-kept true Nothing unit e = refl
@@ -170,8 +151,8 @@ held-other false Delivered ps e = refl
 
 -- what comes before is the same
 pub ahead-kept : (h : Holds) (unit : Gathered) (total : List ℕ) (n : ℕ)
-    → (if length (kept h unit).packets == 0 then unit_ahead total n else ahead_if_held h unit.ahead)
-    ≡ (begun_where_empty (kept h unit) total n).ahead
+    → (if length (unit_kept h unit).packets == 0 then unit_ahead total n else ahead_if_held h unit.ahead)
+    ≡ (begun_where_empty (unit_kept h unit) total n).ahead
 ahead-kept HeldZero unit total n = refl
 ahead-kept HeldOne unit total n = refl
 ahead-kept Nothing unit total n = refl
@@ -190,7 +171,7 @@ not_apart h n aggregation k m e = fits_apart (holds_apart k h) _ e
 pub key-kept : (k : Bool) (pair : SlotPair) (u0 u1 : ℕ) (h : Holds) (unit : Gathered) (held : DrawnKey)
     → live_held (slot_in pair k) ≡ Some held → holds_apart k h ≡ false
     → live_in (seen_slot (receiver_slots_seen pair u0 u1 h unit.packets) k)
-    ≡ Some (live_key_seen (units_of k u0 u1) (kept h unit).packets held)
+    ≡ Some (live_key_seen (units_of k u0 u1) (unit_kept h unit).packets held)
 key-kept k pair u0 u1 h unit held is apart =
     key_seen k pair u0 u1 h unit.packets
     ∙ ap (option_map (live_key_seen (units_of k u0 u1) (held_of k h unit.packets))) is
@@ -215,17 +196,17 @@ fits-early k pair u0 u1 h aggregation unit p held few is_k is none =
     by_fits false e = absurd (cc)
 
 pub taken-keyed : (stream : ℕ) (sub : SubKind) (aggregation u0 u1 : ℕ) (pair : SlotPair) (h : Holds) (unit : Gathered)
-    (takes allowed : ℕ) (total : List ℕ) (p : Packet) (held : DrawnKey)
+    (allowed : ℕ) (total : List ℕ) (p : Packet) (held : DrawnKey)
     → HoldsFew pair aggregation h unit.packets → live_held (slot_in pair p.prefix.k) ≡ Some held
     → fits_held h (length unit.packets) aggregation p.prefix.k p.prefix.m ≡ true
-    → receiver_outcome (view stream sub aggregation u0 u1 pair h unit takes) allowed total p
-    ≡ judged_packet (begun_where_empty (kept h unit) total (units_of p.prefix.k u0 u1 + 1)).ahead allowed
-    (live_key_seen (units_of p.prefix.k u0 u1) (kept h unit).packets held) p
-taken-keyed stream sub aggregation u0 u1 pair h unit takes allowed total p held few is fits =
+    → receiver_outcome (view stream sub aggregation u0 u1 pair h unit) allowed total p
+    ≡ judged_packet (begun_where_empty (unit_kept h unit) total (units_of p.prefix.k u0 u1 + 1)).ahead allowed
+    (live_key_seen (units_of p.prefix.k u0 u1) (unit_kept h unit).packets held) p
+taken-keyed stream sub aggregation u0 u1 pair h unit allowed total p held few is fits =
     let k = p.prefix.k in
-    let rx = view stream sub aggregation u0 u1 pair h unit takes in
+    let rx = view stream sub aggregation u0 u1 pair h unit in
     let apart = not_apart h (length unit.packets) aggregation k p.prefix.m fits in
-    let x : LiveKey = live_key_seen (units_of k u0 u1) (kept h unit).packets held in
+    let x : LiveKey = live_key_seen (units_of k u0 u1) (unit_kept h unit).packets held in
     let key = key-kept k pair u0 u1 h unit held is apart in
     let room : fits_unit aggregation x (key_for rx (not k)) p ≡ true =
     fits_seen k pair u0 u1 h aggregation unit.packets p x few (sym (held-kept k h unit apart)) ∙ fits in
@@ -265,7 +246,7 @@ gone_seen (Live held) units ps q = refl
 
 slots-held : (k : Bool) (pair : SlotPair) (u0 u1 : ℕ) (h : Holds) (unit : Gathered) (q : Packet) → holds_apart k h
     ≡ false
-    → receiver_slots_seen pair u0 u1 (held_set k) ((kept h unit).packets ++ q ∷ [])
+    → receiver_slots_seen pair u0 u1 (held_set k) ((unit_kept h unit).packets ++ q ∷ [])
     ≡ with_slot (receiver_slots_seen pair u0 u1 h unit.packets) k
     (gone_on q (seen_slot (receiver_slots_seen pair u0 u1 h unit.packets) k))
 slots-held true pair u0 u1 h unit q apart =
@@ -360,38 +341,37 @@ counted_one k u1 a = if is_accepted a && k then u1 + 1 else u1
 
 pub view-answered : (stream : ℕ) (sub : SubKind) (aggregation u0 u1 : ℕ) (pair : SlotPair) (h : Holds)
     (unit new : Gathered)
-    (takes : ℕ) (total : List ℕ) (p : Packet) (held : DrawnKey) (a : Answer) (t : Taken)
+    (total : List ℕ) (p : Packet) (held : DrawnKey) (a : Answer) (t : Taken)
     → live_held (slot_in pair p.prefix.k) ≡ Some held → holds_apart p.prefix.k h ≡ false
-    → (p.prefix.m ≡ false → p.tag ≡ [])
-    → IsJudged p t → Some a ≡ answer_taken t
-    → BufferAfter (begun_where_empty (kept h unit) total (units_of p.prefix.k u0 u1 + 1))
-    (live_key_seen (units_of p.prefix.k u0 u1) (kept h unit).packets held) p t new
+    → (p.prefix.m ≡ false → p.tag ≡ []) → IsJudged p t → Some a ≡ answer_taken t
+    → BufferAfter (begun_where_empty (unit_kept h unit) total (units_of p.prefix.k u0 u1 + 1))
+    (live_key_seen (units_of p.prefix.k u0 u1) (unit_kept h unit).packets held) p t new
     → view stream sub aggregation (counted_zero p.prefix.k u0 a) (counted_one p.prefix.k u1 a)
     (slots_after a p.prefix.k pair)
-    (holds_after p.prefix.k a) new (takes + 1)
-    ≡ record (after_answer (view stream sub aggregation u0 u1 pair h unit takes) total p t) { takes = takes + 1 }
-view-answered stream sub aggregation u0 u1 pair h unit new takes total p held a t is apart tagless judged answered
+    (holds_after p.prefix.k a) new
+    ≡ after_answer (view stream sub aggregation u0 u1 pair h unit) total p t
+view-answered stream sub aggregation u0 u1 pair h unit new total p held a t is apart tagless judged answered
     buffer =
     by_taken t judged answered buffer
   where
     by_taken : (t : Taken) → IsJudged p t → Some a ≡ answer_taken t
-        → BufferAfter (begun_where_empty (kept h unit) total (units_of p.prefix.k u0 u1 + 1))
-        (live_key_seen (units_of p.prefix.k u0 u1) (kept h unit).packets held) p t new
+        → BufferAfter (begun_where_empty (unit_kept h unit) total (units_of p.prefix.k u0 u1 + 1))
+        (live_key_seen (units_of p.prefix.k u0 u1) (unit_kept h unit).packets held) p t new
         → view stream sub aggregation (counted_zero p.prefix.k u0 a) (counted_one p.prefix.k u1 a)
-        (slots_after a p.prefix.k pair) (holds_after p.prefix.k a) new (takes + 1)
-        ≡ record (after_answer (view stream sub aggregation u0 u1 pair h unit takes) total p t) { takes = takes + 1 }
+        (slots_after a p.prefix.k pair) (holds_after p.prefix.k a) new
+        ≡ after_answer (view stream sub aggregation u0 u1 pair h unit) total p t
     by_taken NotKeyed j e b = absurd j
     by_taken Insecure j e b = absurd j
     by_taken (Failed cause) j e b =
         let same : a ≡ answers.Fail cause = cc in
-        rw same (view-slot_without_packets stream sub aggregation u0 u1 pair h unit new takes (takes + 1))
+        rw same (view-slot_without_packets stream sub aggregation u0 u1 pair h unit new)
     by_taken (Held draw n) m e b =
         let same : a ≡ answers.Held draw n = cc in
         let k = p.prefix.k in
-        let rx = view stream sub aggregation u0 u1 pair h unit takes in
+        let rx = view stream sub aggregation u0 u1 pair h unit in
         let key = key-kept k pair u0 u1 h unit held is apart in
-        let packets : new.packets ≡ (kept h unit).packets ++ p ∷ [] =
-        ap (λ (u : Gathered). u.packets) b ∙ ap (λ q. (kept h unit).packets ++ q ∷ [])
+        let packets : new.packets ≡ (unit_kept h unit).packets ++ p ∷ [] =
+        ap (λ (u : Gathered). u.packets) b ∙ ap (λ q. (unit_kept h unit).packets ++ q ∷ [])
         (packet_without_tag-same p (tagless m)) in
         let ahead : ahead_if_held (held_set k) new.ahead ≡ ahead_held rx (key_for rx k) total =
         held-ahead k new.ahead ∙ ap (λ (u : Gathered). u.ahead) b ∙ sym (ahead-kept h unit total (units_of k u0 u1 + 1))
@@ -407,12 +387,11 @@ view-answered stream sub aggregation u0 u1 pair h unit new takes total p held a 
           slots = slots i;
           delivered =
               held-lent k new.packets i;
-          takes = takes + 1;
         })
     by_taken (Accepted draw n packets) j e b =
         let same : a ≡ answers.Accepted draw n (length packets) = cc in
         let k = p.prefix.k in
-        let rx = view stream sub aggregation u0 u1 pair h unit takes in
+        let rx = view stream sub aggregation u0 u1 pair h unit in
         let key = key-kept k pair u0 u1 h unit held is apart in
         let delivered : new.packets ≡ opened_unit (key_for rx k) p.prefix.sub packets =
         ap (λ (u : Gathered). u.packets) b ∙ sym (ap (λ o. opened_unit o p.prefix.sub packets) key) in
@@ -424,7 +403,6 @@ view-answered stream sub aggregation u0 u1 pair h unit new takes total p held a 
           slots = slots-accepted k pair u0 u1
               draw h unit.packets new.packets apart i;
           delivered = delivered i;
-          takes = takes + 1;
         })
 
 -- ---- what always holds
@@ -436,12 +414,11 @@ live_of_held (Armed x) held e = absurd (cc)
 live_of_held (Live x) held e = refl
 
 few_in : (k : Bool) (pair : SlotPair) (aggregation : ℕ) (ps : List Packet) → is_live (slot_in pair k) ≡ true
-    → 0 < length ps
-    → length ps < aggregation → HoldsFew pair aggregation (held_set k) ps
+    → 0 < length ps → length ps < aggregation → HoldsFew pair aggregation (held_set k) ps
 few_in true pair aggregation ps live some few = (live, some, few)
 few_in false pair aggregation ps live some few = (live, some, few)
 
-count-kept : (h : Holds) (unit : Gathered) → length (kept h unit).packets
+count-kept : (h : Holds) (unit : Gathered) → length (unit_kept h unit).packets
     ≡ (if holds_some h then length unit.packets else 0)
 count-kept HeldZero unit = refl
 count-kept HeldOne unit = refl
@@ -450,7 +427,7 @@ count-kept Delivered unit = refl
 
 pub room_kept : (h : Holds) (unit : Gathered) (aggregation : ℕ) (k m : Bool)
     → fits_held h (length unit.packets) aggregation k m
-    ≡ true → m ≡ false → length (kept h unit).packets + 1 < aggregation
+    ≡ true → m ≡ false → length (unit_kept h unit).packets + 1 < aggregation
 room_kept h unit aggregation k m fits low =
     let n : ℕ = if holds_some h then length unit.packets else 0 in
     let full : nat_le aggregation (n + 1) ≡ false = by_tests (holds_apart k h) m (nat_le aggregation (n + 1)) low fits
@@ -497,24 +474,19 @@ armed_after_older false pair draw e =
     ∙ both_false _ _ (or_left (is_armed pair.zero) (is_armed pair.one) e)
     (armed_kept pair.one draw (or_right (is_armed pair.zero) (is_armed pair.one) e))
 
-counted_few : (b : Bool) (u n : ℕ) → u ≤ n → (if b then u + 1 else u) ≤ n + 1
-counted_few true u n h = omega arith
-counted_few false u n h = omega arith
-
-pub receiver-answered : (aggregation u0 u1 takes : ℕ) (pair : SlotPair) (h : Holds) (unit new : Gathered)
+pub receiver-answered : (aggregation u0 u1 : ℕ) (pair : SlotPair) (h : Holds) (unit new : Gathered)
     (total : List ℕ)
     (p : Packet) (held : DrawnKey) (a : Answer) (t : Taken)
-    → IsReceiver aggregation u0 u1 takes pair h unit
+    → IsReceiver aggregation pair h unit
     → live_held (slot_in pair p.prefix.k) ≡ Some held → fits_held h (length unit.packets) aggregation p.prefix.k
     p.prefix.m
     ≡ true
     → IsJudged p t → Some a ≡ answer_taken t
-    → BufferAfter (begun_where_empty (kept h unit) total (units_of p.prefix.k u0 u1 + 1))
-    (live_key_seen (units_of p.prefix.k u0 u1) (kept h unit).packets held) p t new
+    → BufferAfter (begun_where_empty (unit_kept h unit) total (units_of p.prefix.k u0 u1 + 1))
+    (live_key_seen (units_of p.prefix.k u0 u1) (unit_kept h unit).packets held) p t new
     → new.aggregation ≡ aggregation
-    → IsReceiver aggregation (counted_zero p.prefix.k u0 a) (counted_one p.prefix.k u1 a) (takes + 1)
-    (slots_after a p.prefix.k pair) (holds_after p.prefix.k a) new
-receiver-answered aggregation u0 u1 takes pair h unit new total p held a t inv is fits judged answered buffer
+    → IsReceiver aggregation (slots_after a p.prefix.k pair) (holds_after p.prefix.k a) new
+receiver-answered aggregation u0 u1 pair h unit new total p held a t inv is fits judged answered buffer
     same_aggregation
     =
     by_taken t judged answered buffer
@@ -522,24 +494,20 @@ receiver-answered aggregation u0 u1 takes pair h unit new total p held a t inv i
     with_few : (b : Answer) → has_armed (slots_after b p.prefix.k pair) ≡ false → (slots_after b p.prefix.k pair).sender
         ≡ false
         → HoldsFew (slots_after b p.prefix.k pair) aggregation (holds_after p.prefix.k b) new.packets
-        → IsReceiver aggregation (counted_zero p.prefix.k u0 b) (counted_one p.prefix.k u1 b) (takes + 1)
-        (slots_after b p.prefix.k pair) (holds_after p.prefix.k b) new
+        → IsReceiver aggregation (slots_after b p.prefix.k pair) (holds_after p.prefix.k b) new
     with_few b armed_pair sender few = record {
       sender = sender;
       never_armed = armed_pair;
       some_aggregation = inv.some_aggregation;
       small_aggregation = inv.small_aggregation;
       same_aggregation = same_aggregation;
-      few_zero = counted_few (is_accepted b && not p.prefix.k) u0 takes inv.few_zero;
-      few_one = counted_few (is_accepted b && p.prefix.k) u1 takes inv.few_one;
       few = few;
     }
 
     by_taken : (t : Taken) → IsJudged p t → Some a ≡ answer_taken t
-        → BufferAfter (begun_where_empty (kept h unit) total (units_of p.prefix.k u0 u1 + 1))
-        (live_key_seen (units_of p.prefix.k u0 u1) (kept h unit).packets held) p t new
-        → IsReceiver aggregation (counted_zero p.prefix.k u0 a) (counted_one p.prefix.k u1 a) (takes + 1)
-        (slots_after a p.prefix.k pair) (holds_after p.prefix.k a) new
+        → BufferAfter (begun_where_empty (unit_kept h unit) total (units_of p.prefix.k u0 u1 + 1))
+        (live_key_seen (units_of p.prefix.k u0 u1) (unit_kept h unit).packets held) p t new
+        → IsReceiver aggregation (slots_after a p.prefix.k pair) (holds_after p.prefix.k a) new
     by_taken NotKeyed j e b = absurd j
     by_taken Insecure j e b = absurd j
     by_taken (Failed cause) j e b =
@@ -547,8 +515,9 @@ receiver-answered aggregation u0 u1 takes pair h unit new total p held a t inv i
         rw same (with_few (answers.Fail cause) inv.never_armed inv.sender tt)
     by_taken (Held draw n) m e b =
         let same : a ≡ answers.Held draw n = cc in
-        let count : length new.packets ≡ length (kept h unit).packets + 1 =
-        ap (λ (u : Gathered). length u.packets) b ∙ length-append (kept h unit).packets (packet_without_tag p ∷ []) in
+        let count : length new.packets ≡ length (unit_kept h unit).packets + 1 =
+        ap (λ (u : Gathered). length u.packets) b ∙ length-append (unit_kept h unit).packets (packet_without_tag p ∷ [])
+        in
         let room = room_kept h unit aggregation p.prefix.k p.prefix.m fits m in
         rw same (with_few (answers.Held draw n) inv.never_armed inv.sender
         (few_in p.prefix.k pair aggregation new.packets (live_of_held (slot_in pair p.prefix.k) held is)
@@ -576,7 +545,7 @@ one_alone Delivered ps = refl
 
 begun_seen : (mine other : KeySlot) (units : ℕ) (ps : List Packet) → (is_programmed mine ≡ true → ps ≡ [])
     → slot_as_seen (if is_programmed mine then 0 else units) ps (after_go false false mine other).0
-    ≡ begun (slot_as_seen units ps mine)
+    ≡ begun_slot (slot_as_seen units ps mine)
 begun_seen Empty other units ps e = refl
 begun_seen (Programmed held) other units ps e = rw (e refl) refl
 begun_seen (Armed held) other units ps e = refl
@@ -620,7 +589,7 @@ gone_in : (k : Bool) (pair : SlotPair) (u0 u1 aggregation : ℕ) (h : Holds) (ps
     → HoldsFew pair aggregation h ps
     → receiver_slots_seen (armed_pair pair k false) (if is_programmed (slot_in pair k) && not k then 0 else u0)
     (if is_programmed (slot_in pair k) && k then 0 else u1) (held_alone h) ps
-    ≡ with_slot (receiver_slots_seen pair u0 u1 h ps) k (begun (seen_slot (receiver_slots_seen pair u0 u1 h ps) k))
+    ≡ with_slot (receiver_slots_seen pair u0 u1 h ps) k (begun_slot (seen_slot (receiver_slots_seen pair u0 u1 h ps) k))
 gone_in true pair u0 u1 aggregation h ps s few =
     (λ i. record {
       first = slot_as_seen (if and_false (is_programmed pair.one) i then 0 else u0) (zero_alone h ps i)
@@ -644,7 +613,8 @@ gone_in false pair u0 u1 aggregation h ps s few =
       second = slot_as_seen u1 (held_one h ps) (other_after_go pair.zero pair.one i);
     })
 
-holds_begun : (slot : KeySlot) (units : ℕ) (ps : List Packet) → holds_any (live_in (begun (slot_as_seen units ps slot)))
+holds_begun : (slot : KeySlot) (units : ℕ) (ps : List Packet)
+    → holds_any (live_in (begun_slot (slot_as_seen units ps slot)))
     ≡ holds_any (live_in (slot_as_seen units ps slot))
 holds_begun Empty units ps = refl
 holds_begun (Programmed held) units ps = refl
@@ -652,9 +622,8 @@ holds_begun (Armed held) units ps = refl
 holds_begun (Live held) units ps = refl
 
 ahead_alone : (k : Bool) (pair : SlotPair) (u0 u1 aggregation : ℕ) (h : Holds) (ps : List Packet) (total : List ℕ)
-    → HoldsFew pair aggregation h ps
-    → ahead_if_held (held_alone h) total ≡ slots_ahead
-    (with_slot (receiver_slots_seen pair u0 u1 h ps) k (begun (seen_slot (receiver_slots_seen pair u0 u1 h ps) k)))
+    → HoldsFew pair aggregation h ps → ahead_if_held (held_alone h) total ≡ slots_ahead
+    (with_slot (receiver_slots_seen pair u0 u1 h ps) k (begun_slot (seen_slot (receiver_slots_seen pair u0 u1 h ps) k)))
     (ahead_if_held h total)
 ahead_alone k pair u0 u1 aggregation h ps total few =
     by_holds h ∙ ap (λ b. if b then ahead_if_held h total else []) (sym (by_set k))
@@ -674,7 +643,7 @@ ahead_alone k pair u0 u1 aggregation h ps total few =
 
     by_set : (k : Bool) →
         (let s = with_slot (receiver_slots_seen pair u0 u1 h ps) k
-        (begun (seen_slot (receiver_slots_seen pair u0 u1 h ps) k)) in holds_any
+        (begun_slot (seen_slot (receiver_slots_seen pair u0 u1 h ps) k)) in holds_any
         (live_in s.first) || holds_any (live_in s.second)) ≡ (holds_apart true h || holds_apart false h)
     by_set true = λ i. first i || (holds_begun pair.one u1 (held_one h ps) ∙ second) i
     by_set false = λ i. (holds_begun pair.zero u0 (held_zero h ps) ∙ first) i || second i
@@ -687,21 +656,20 @@ alone_lent Delivered ps = refl
 
 pub view-gone : (k : Bool) (stream : ℕ) (sub : SubKind) (aggregation u0 u1 : ℕ) (pair : SlotPair) (h : Holds)
     (unit : Gathered)
-    (takes : ℕ) → pair.sender ≡ false → HoldsFew pair aggregation h unit.packets
+    → pair.sender ≡ false → HoldsFew pair aggregation h unit.packets
     → view stream sub aggregation (if is_programmed (slot_in pair k) && not k then 0 else u0)
-    (if is_programmed (slot_in pair k) && k then 0 else u1) (armed_pair pair k false) (held_alone h) unit takes
-    ≡ gone_receiver (view stream sub aggregation u0 u1 pair h unit takes) k
-view-gone k stream sub aggregation u0 u1 pair h unit takes s few = λ i. record {
+    (if is_programmed (slot_in pair k) && k then 0 else u1) (armed_pair pair k false) (held_alone h) unit
+    ≡ gone_receiver (view stream sub aggregation u0 u1 pair h unit) k
+view-gone k stream sub aggregation u0 u1 pair h unit s few = λ i. record {
   stream = stream;
   sub = sub;
   aggregation = aggregation;
   ahead = ahead_alone k pair u0 u1 aggregation h unit.packets unit.ahead few i;
   slots = gone_in k pair u0 u1 aggregation h unit.packets s few i;
   delivered = alone_lent h unit.packets i;
-  takes = takes;
 }
 
-pub aggregation_kept : (h : Holds) (unit : Gathered) → (kept h unit).aggregation ≡ unit.aggregation
+pub aggregation_kept : (h : Holds) (unit : Gathered) → (unit_kept h unit).aggregation ≡ unit.aggregation
 aggregation_kept HeldZero unit = refl
 aggregation_kept HeldOne unit = refl
 aggregation_kept Nothing unit = refl

@@ -56,16 +56,14 @@ pub tag-seen : (ahead : List ℕ) (x : LiveKey) (p : Packet) (iv clear bodies : 
     → iv ≡ iv_of p.prefix.sub (x.units + 1)
     → clear ≡ ahead ++ authenticated_bytes (x.packets ++ packet_without_tag p ∷ []) → bodies
     ≡ encrypted_bytes (x.packets ++ packet_without_tag p ∷ [])
-    → b ≡ verifies x.key iv clear bodies p.tag
-    → is_tagged_behind ahead x p ≡ b
+    → b ≡ verifies x.key iv clear bodies p.tag → is_tagged_behind ahead x p ≡ b
 tag-seen ahead x p iv clear bodies b is_iv is_clear is_bodies is =
     sym (is ∙ (λ i. verifies x.key (is_iv i)
     ((is_clear ∙ ap (λ y. ahead ++ y) (clear-packet_without_tag x.packets p)) i)
     ((is_bodies ∙ bodies-packet_without_tag x.packets p) i) p.tag))
 
 pub judged-tag : (ahead : List ℕ) (allowed : ℕ) (x : LiveKey) (p : Packet) → p.prefix.m ≡ true
-    → is_tagged_behind ahead x p ≡ false
-    → judged_packet ahead allowed x p ≡ Failed fail.Tag
+    → is_tagged_behind ahead x p ≡ false → judged_packet ahead allowed x p ≡ Failed fail.Tag
 judged-tag ahead allowed x p m tag =
     λ i. if m i then outcome_of_checks (tag i) (nat_le (posted_sum (x.packets ++ p ∷ [])) allowed) x p else Held x.draw
     (x.units + 1)
@@ -88,8 +86,7 @@ judged-accepted ahead allowed x p m tag order = λ i. if m i then outcome_of_che
 pub tagged-in : (begun unit : Gathered) (x : LiveKey) (p : Packet) (iv : List ℕ) (b : Bool)
     → begun.packets ≡ x.packets → iv ≡ iv_of p.prefix.sub (x.units + 1) → unit
     ≡ with_packet begun (packet_without_tag p)
-    → b ≡ verifies x.key iv (clear_of unit) (encrypted_bytes unit.packets) p.tag
-    → is_tagged_behind begun.ahead x p ≡ b
+    → b ≡ verifies x.key iv (clear_of unit) (encrypted_bytes unit.packets) p.tag → is_tagged_behind begun.ahead x p ≡ b
 tagged-in begun unit x p iv b same is_iv is_unit is =
     tag-seen begun.ahead x p iv (clear_of unit) (encrypted_bytes unit.packets) b is_iv
     (ap clear_of is_unit ∙ ap (λ ps. begun.ahead ++ authenticated_bytes (ps ++ packet_without_tag p ∷ [])) same)

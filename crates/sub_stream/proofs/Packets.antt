@@ -15,7 +15,7 @@ use Rattle.ide_prefix.specs.declared.packet.Prefix.{Prefix}
 use Rattle.ide_prefix.specs.Packet.{Packet, prefix_bytes, begins_sync}
 use Rattle.ide_prefix.specs.Units.{clear_bytes, authenticated_bytes, encrypted_bytes}
 use Rattle.spec_stream.specs.Stream.{posted_sum}
-use Rattle.unit_aggregation.specs.{heads_of, bodies_of, overwritten_bytes, packets_with_bodies}
+use Rattle.ide_prefix.specs.{heads_of, bodies_of, overwritten_bytes, packets_with_bodies}
 use Rattle.sub_stream.specs.Gathered.{packets_in, parts_of, opened_from_byte, lent_parts, mark_of}
 
 abbrev pub Parts : Type 0
@@ -45,8 +45,7 @@ length-packets_in xs ps e = sym (length-map (packets_in xs ps) parts_of) ∙ ap 
 
 -- ---- one more
 
-pub packets-added : (xs : List Parts) (ps : List Prefix) (p : Prefix) (h b : List ℕ)
-    → length xs < length ps
+pub packets-added : (xs : List Parts) (ps : List Prefix) (p : Prefix) (h b : List ℕ) → length xs < length ps
     → packets_in (xs ++ (prefix_bytes p ++ h, b) ∷ []) (set ps (length xs) p) ≡ packets_in xs ps
     ++ record { prefix = p; head = h; body = b; tag = [] } ∷ []
 packets-added [] [] p h b lt = absurd (omega arith)
@@ -142,8 +141,7 @@ clear_long (x ∷ xs) (p ∷ ps) (suc i) clear body e at =
     clear_long xs ps i clear body rest at
 
 pub mark_at : (xs : List Parts) (ps : List Prefix) (i : ℕ) (clear body : List ℕ) (d : Prefix) → i < length xs
-    → map parts_of (packets_in xs ps) ≡ xs
-    → slice_get xs i ≡ Some (clear, body)
+    → map parts_of (packets_in xs ps) ≡ xs → slice_get xs i ≡ Some (clear, body)
     → slice_get (map mark_of (packets_in xs ps)) i ≡ Some
     (record { t = (get_or ps i d).t; sync = begins_sync (get_or ps i d).sub (slice_index clear 4) })
 mark_at [] ps i clear body d lt e at = absurd (omega arith)

@@ -16,8 +16,7 @@ use Rattle.sub_stream.specs.declared.receiver.Holds.{Holds}
 use Rattle.sub_stream.specs.declared.receiver.Holds.TheVariants.{Nothing, HeldZero, HeldOne, Delivered}
 use Rattle.sub_stream.specs.Seen.{slot_as_seen, live_key_seen}
 use Rattle.sub_stream.specs.Receivers.{held_zero, held_one, receiver_slots_seen, HoldsFew, holds_some, holds_apart}
-use Rattle.sub_stream.specs.Receivers.{fits_held}
-use Rattle.sub_stream.specs.Receivers.{fits_unit, early_answer}
+use Rattle.sub_stream.specs.Receivers.{fits_held, fits_unit, early_answer}
 
 -- the units and the packets of a key set
 abbrev pub units_of : Bool → ℕ → ℕ → ℕ

@@ -77,8 +77,7 @@ parts-appended key iv out0 out1 bytes head payload bodies first second prefix ps
 -- before a packet that is alone in its unit nothing is authenticated
 pub bytes-alone : (key iv out0 out1 out2 clear body head payload tag : List ℕ) (prefix : Prefix) (unit : Gathered)
     (m : Bool)
-    → (length (clear_of unit) == 0) ≡ true → m ≡ true
-    → out1 ≡ out0 ++ (prefix_bytes prefix ++
+    → (length (clear_of unit) == 0) ≡ true → m ≡ true → out1 ≡ out0 ++ (prefix_bytes prefix ++
     (head ++ masked_bytes key iv (length (encrypted_bytes unit.packets)) payload))
     → clear ≡ prefix_bytes prefix ++ head → body ≡ masked_bytes key iv (length (encrypted_bytes unit.packets)) payload
     → tag ≡ tag_of key iv clear body → out2 ≡ out1 ++ tag
@@ -254,8 +253,7 @@ pub sender-sealed : (aggregation limit units units' : ℕ) (pair pair' : SlotPai
     → (m ≡ false → length unit2.packets ≡ length unit.packets + 1) → unit2.aggregation ≡ unit.aggregation
     → unit' ≡ (if m then no_packets unit2.aggregation else unit2)
     → pair'.sender ≡ pair.sender → has_live pair' ≡ true → (both_live pair ≡ false → both_live pair' ≡ false)
-    → units' ≤ (if m then units + 1 else units)
-    → IsSender aggregation limit units' pair' unit'
+    → units' ≤ (if m then units + 1 else units) → IsSender aggregation limit units' pair' unit'
 sender-sealed aggregation limit units units' pair pair' unit unit2 unit' true more x inv e is_m more_packets same is
     sender
     live' one few =

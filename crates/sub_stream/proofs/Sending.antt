@@ -16,8 +16,7 @@ some_or_none (p ∷ ps) = grind (arith, common_steps)
 
 -- a slot is busy if it is Live, and it is Live if packets are open
 busy-seen : (units : ℕ) (ps : List Packet) (slot : KeySlot) (b : Bool) → (length ps == 0) ≡ b
-    → (is_live slot ≡ false → b ≡ true)
-    → is_busy (slot_as_seen units ps slot) ≡ not b
+    → (is_live slot ≡ false → b ≡ true) → is_busy (slot_as_seen units ps slot) ≡ not b
 busy-seen units ps Empty b e h = rw (h refl) refl
 busy-seen units ps (Programmed held) b e h = rw (h refl) refl
 busy-seen units ps (Armed held) b e h = rw (h refl) refl
@@ -33,8 +32,7 @@ none_open : (ps : List Packet) → ps ≡ [] → (length ps == 0) ≡ true
 none_open ps e = rw e refl
 
 goes_programmed : (k : Bool) (held : DrawnKey) (other : KeySlot) (units : ℕ) (ps : List Packet)
-    → (is_live other ≡ false → (length ps == 0) ≡ true)
-    → Goes k (with_both true k (Programmed held, other)) units ps
+    → (is_live other ≡ false → (length ps == 0) ≡ true) → Goes k (with_both true k (Programmed held, other)) units ps
 goes_programmed true held other units [] h = rw (busy-seen units [] other true refl (λ _. refl)) refl
 goes_programmed false held other units [] h = rw (busy-seen units [] other true refl (λ _. refl)) refl
 goes_programmed true held other units (q ∷ qs) h =
@@ -75,8 +73,7 @@ pub as_sender : (pair : SlotPair) → pair.sender ≡ true
 as_sender pair s = λ i. record { sender = s i; zero = pair.zero; one = pair.one }
 
 pub goes : (k : Bool) (pair : SlotPair) (units : ℕ) (ps : List Packet) → pair.sender ≡ true
-    → (has_live pair ≡ false → ps ≡ [])
-    → Goes k pair units ps
+    → (has_live pair ≡ false → ps ≡ []) → Goes k pair units ps
 goes true pair units ps s h =
     subst (λ (p : SlotPair). Goes true p units ps) (sym (as_sender pair s))
     (goes_both true pair.one pair.zero units ps

@@ -10,13 +10,12 @@ use Rattle.gcm_seal.proofs.Sealing.{length-masked_bytes}
 use Rattle.ide_prefix.specs.declared.packet.Prefix.{Prefix}
 use Rattle.ide_prefix.specs.Packet.{Packet, prefix_bytes}
 use Rattle.spec_stream.specs.Stream.{posted_sum}
-use Rattle.unit_aggregation.specs.{Collected, unit_with_packet as with_parts, has_room, packets_with_bodies}
-use Rattle.unit_aggregation.specs.{with_bodies, body_of}
+use Rattle.ide_prefix.specs.{Collected, unit_with_packet as with_parts, has_room, packets_with_bodies}
+use Rattle.ide_prefix.specs.{with_bodies, body_of}
 use Rattle.sub_stream.specs.Gathered.{Gathered, packets_in, parts_of, opened_packets, with_packet, IsGathered}
 use Rattle.sub_stream.proofs.Packets.{length-packets_in, packets-added, length-packets_with_bodies}
-use Rattle.sub_stream.proofs.Packets.{posted-packets_with_bodies}
-use Rattle.sub_stream.proofs.Packets.{parts-packets_with_bodies, opened_packets-packets_with_bodies}
-use Rattle.sub_stream.proofs.Packets.{overwritten_bytes-all}
+use Rattle.sub_stream.proofs.Packets.{posted-packets_with_bodies, parts-packets_with_bodies}
+use Rattle.sub_stream.proofs.Packets.{opened_packets-packets_with_bodies, overwritten_bytes-all}
 
 -- the packets that are seen of these fields
 abbrev pub view : List Prefix → Collected → Gathered
@@ -63,8 +62,7 @@ view-masked_bytes key iv ps buf new old was is =
 -- ---- one more
 
 pub has_place : (ps : List Prefix) (n : ℕ) (buf : Collected) (old : Gathered) → IsGathered ps n buf → view ps buf ≡ old
-    → length old.packets < old.aggregation
-    → length buf.packets < buf.aggregation
+    → length old.packets < old.aggregation → length buf.packets < buf.aggregation
 has_place ps n buf old g was lt =
     let count : length (packets_in buf.packets ps) ≡ length old.packets = ap (λ (u : Gathered). length u.packets) was in
     let aggregation : buf.aggregation ≡ old.aggregation = ap (λ (u : Gathered). u.aggregation) was in

@@ -7,7 +7,7 @@ use Rattle.ide_types.specs.declared.port.Side.{Side}
 use Rattle.key_slots.specs.{SlotPair, is_only_live, KeyCall, Program, Go, Stop}
 use Rattle.sub_stream.specs.Seen.{slot_pair}
 use Rattle.spec_stream.specs.Stream.{Programmed, Empty, LaneSlots, slot_in_set, with_slot, at_sub, set_sub, StreamState}
-use Rattle.spec_stream.specs.Slots.{both_slots, begun, slot_gone, woken_slot, rested_stream}
+use Rattle.spec_stream.specs.Slots.{both_slots, begun_slot, slot_gone, woken_slot, rested_stream}
 pub use Rattle.spec_stream.specs.Slots.{slots_at, no_stream, has_all_live, has_some_live, stream_status}
 pub use Rattle.ide_types.specs.Ports.{keyed_status}
 
@@ -31,7 +31,7 @@ slots_called_out (Stop k) s = both_slots k Empty (woken_slot (slot_in_set s (not
 abbrev pub slots_called_into : KeyCall → LaneSlots → LaneSlots
 slots_called_into (Program k key draw) s =
     if is_only_live (slot_pair false s) k then s else with_slot s k (Programmed draw key)
-slots_called_into (Go k) s = with_slot s k (begun (slot_in_set s k))
+slots_called_into (Go k) s = with_slot s k (begun_slot (slot_in_set s k))
 slots_called_into (Stop k) s = with_slot s k Empty
 
 -- ---- a stream

@@ -7,7 +7,7 @@ use Rattle.ide_prefix.specs.declared.packet.Prefix.{Prefix}
 use Rattle.ide_prefix.specs.Packet.{Packet, is_sync_packet}
 use Rattle.ide_prefix.specs.Units.{clear_bytes, authenticated_bytes}
 use Rattle.spec_stream.specs.Stream.{posted_sum}
-use Rattle.unit_aggregation.specs.{Collected}
+use Rattle.ide_prefix.specs.{Collected}
 use Rattle.sub_stream.specs.declared.answer.PacketMark.{PacketMark}
 
 -- at most how many packets, the bytes before what they have in clear, and the packets, without a tag

@@ -17,14 +17,12 @@ pub use Rattle.sub_stream.specs.Seen.{key_slot, slot_pair}
 pub use Rattle.spec_stream.specs.Slots.{no_slots}
 pub use Rattle.sub_stream.specs.Senders.{Sender, new_sender, ready_under, ready_of, packets_under, open_packets}
 pub use Rattle.sub_stream.specs.Senders.{is_unfinished, Content, tlp_content, sync_content, described_content}
-pub use Rattle.sub_stream.specs.Senders.{with_length}
-pub use Rattle.sub_stream.specs.Senders.{unit_ahead, sender_ahead, tagged_packet, ends, Sealing, sealing_as}
-pub use Rattle.sub_stream.specs.Senders.{sealing_under}
-pub use Rattle.sub_stream.specs.Senders.{sealing_of, sealing_answer, sealing_bytes, sender_after, programmed_sender}
-pub use Rattle.sub_stream.specs.Senders.{gone_slots, gone_sender, stopped_slots, stopped_sender}
+pub use Rattle.sub_stream.specs.Senders.{with_length, unit_ahead, sender_ahead, tagged_packet, ends, Sealing}
+pub use Rattle.sub_stream.specs.Senders.{sealing_as, sealing_under, sealing_of, sealing_answer, sealing_bytes}
+pub use Rattle.sub_stream.specs.Senders.{sender_after, programmed_sender, gone_slots, gone_sender, stopped_slots}
+pub use Rattle.sub_stream.specs.Senders.{stopped_sender}
 pub use Rattle.sub_stream.specs.Receivers.{Receiver, new_receiver, key_for, receiver_ahead, is_tagged_behind, fits_unit}
 pub use Rattle.sub_stream.specs.Receivers.{judged_packet, receiver_outcome_by_keys, receiver_outcome, dropped_slots}
-pub use Rattle.sub_stream.specs.Receivers.{dropped_receiver}
-pub use Rattle.sub_stream.specs.Receivers.{ahead_held}
-pub use Rattle.sub_stream.specs.Receivers.{opened_unit, after_answer, receiver_after, slots_ahead, with_slots}
-pub use Rattle.sub_stream.specs.Receivers.{programmed_receiver, gone_receiver, stopped_receiver}
+pub use Rattle.sub_stream.specs.Receivers.{dropped_receiver, ahead_held, opened_unit, after_answer, receiver_after}
+pub use Rattle.sub_stream.specs.Receivers.{slots_ahead, with_slots, programmed_receiver, gone_receiver}
+pub use Rattle.sub_stream.specs.Receivers.{stopped_receiver}

@@ -8,11 +8,10 @@ use Rattle.gcm_seal.specs.Gcm.{verifies}
 use Rattle.ide_prefix.specs.Packet.{Packet}
 use Rattle.ide_prefix.specs.Iv.{iv_of}
 use Rattle.ide_prefix.specs.Units.{authenticated_bytes, encrypted_bytes, packet_without_tag}
-use Rattle.spec_stream.specs.Stream.{Empty, Programmed, LaneSlots, LiveKey, Taken, NotKeyed, Failed, Held, Accepted}
-use Rattle.spec_stream.specs.Stream.{slot_in_set, with_slot, live_in, holds_any, posted_sum, outcome_of_checks}
-use Rattle.spec_stream.specs.Stream.{slot_without_packets, gone_on}
-use Rattle.spec_stream.specs.Stream.{accepted_slots}
-use Rattle.spec_stream.specs.Slots.{begun}
+use Rattle.spec_stream.specs.Stream.{LaneSlot, Empty, Programmed, Live, LaneSlots, LiveKey, Taken, NotKeyed, Failed}
+use Rattle.spec_stream.specs.Stream.{Held, Accepted, slot_in_set, with_slot, live_in, holds_any, posted_sum}
+use Rattle.spec_stream.specs.Stream.{outcome_of_checks, slot_without_packets, gone_on, accepted_slots}
+use Rattle.spec_stream.specs.Slots.{begun_slot, no_slots}
 use Rattle.key_slots.specs.{SlotPair, slot_in as key_slot_in, with_both, live_draw, is_only_live}
 use Rattle.key_slots.specs.{is_live as is_live_key}
 use Rattle.key_slots.specs.declared.slot.Slot.TheVariants as key
@@ -21,12 +20,11 @@ use Rattle.sub_stream.specs.declared.answer.Taken.TheVariants as answers
 use Rattle.sub_stream.specs.declared.receiver.Holds.{Holds}
 use Rattle.sub_stream.specs.declared.receiver.Holds.TheVariants.{Nothing, HeldZero, HeldOne, Delivered}
 use Rattle.sub_stream.specs.Seen.{slot_as_seen, slot_pair, has_armed}
-use Rattle.spec_stream.specs.Slots.{no_slots}
 use Rattle.sub_stream.specs.Gathered.{Gathered, with_packet, opened_packets}
 use Rattle.sub_stream.specs.Senders.{unit_ahead}
 
--- units of at most `aggregation` packets; `ahead` comes before what the held packets authenticate, `delivered` are the
--- packets of the last accepted unit, decrypted, until the next change, and `takes` how many packets it was given
+-- units of at most `aggregation` packets; `ahead` comes before what the held packets authenticate, and `delivered` are
+-- the packets of the last accepted unit, decrypted, until the next change
 pub record Receiver : Type 0 where
   pub stream : ℕ
   pub sub : SubKind
@@ -34,7 +32,6 @@ pub record Receiver : Type 0 where
   pub ahead : List ℕ
   pub slots : LaneSlots
   pub delivered : List Packet
-  pub takes : ℕ
 
 abbrev pub new_receiver : ℕ → SubKind → ℕ → Receiver
 new_receiver stream sub aggregation =
@@ -45,8 +42,6 @@ new_receiver stream sub aggregation =
       ahead = [];
       slots = no_slots;
       delivered = [];
-      takes
-          = 0;
     }
 
 -- ---- what is kept, as the code keeps it
@@ -141,16 +136,23 @@ HoldsFew pair aggregation HeldZero ps = (is_live_key pair.zero ≡ true) × (0 <
 HoldsFew pair aggregation HeldOne ps = (is_live_key pair.one ≡ true) × (0 < length ps) × (length ps < aggregation)
 HoldsFew pair aggregation h ps = Unit {0}
 
-pub record IsReceiver (aggregation units_zero units_one takes : ℕ) (pair : SlotPair) (h : Holds)
-    (unit : Gathered) : Type 0 where
+pub record IsReceiver (aggregation : ℕ) (pair : SlotPair) (h : Holds) (unit : Gathered) : Type 0 where
   pub sender : pair.sender ≡ false
   pub never_armed : has_armed pair ≡ false
   pub some_aggregation : 1 ≤ aggregation
   pub small_aggregation : aggregation ≤ 8
   pub same_aggregation : unit.aggregation ≡ aggregation
-  pub few_zero : units_zero ≤ takes
-  pub few_one : units_one ≤ takes
   pub few : HoldsFew pair aggregation h unit.packets
+
+-- ---- how many units
+
+-- so many were accepted under each Live key at the most
+abbrev pub KeyUnitsAtMost : ℕ → LaneSlot → Type 0
+KeyUnitsAtMost n (Live x) = x.units ≤ n
+KeyUnitsAtMost n slot = Unit {0}
+
+abbrev pub LaneUnitsAtMost : ℕ → LaneSlots → Type 0
+LaneUnitsAtMost n slots = KeyUnitsAtMost n slots.first × KeyUnitsAtMost n slots.second
 
 -- ---- packets
 
@@ -238,8 +240,7 @@ after_answer rx total p (Accepted draw unit packets) =
 after_answer rx total p answer = rx
 
 abbrev pub receiver_after : Receiver → ℕ → List ℕ → Packet → Receiver
-receiver_after rx allowed total p = record (after_answer rx total p (receiver_outcome rx allowed total p))
-    { takes = rx.takes + 1 }
+receiver_after rx allowed total p = after_answer rx total p (receiver_outcome rx allowed total p)
 
 -- ---- keys: the held packets go with their slot, and what was delivered is lent no more
 
@@ -254,7 +255,7 @@ programmed_receiver rx k key draw =
     if is_only_live (slot_pair false rx.slots) k then rx else with_slots rx (with_slot rx.slots k (Programmed draw key))
 
 abbrev pub gone_receiver : Receiver → Bool → Receiver
-gone_receiver rx k = with_slots rx (with_slot rx.slots k (begun (slot_in_set rx.slots k)))
+gone_receiver rx k = with_slots rx (with_slot rx.slots k (begun_slot (slot_in_set rx.slots k)))
 
 abbrev pub stopped_receiver : Receiver → Bool → Receiver
 stopped_receiver rx k = with_slots rx (with_slot rx.slots k Empty)

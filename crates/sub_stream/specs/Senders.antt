@@ -9,14 +9,13 @@ use Rattle.link_verdicts.specs.declared.verdict.SealedPacket.{SealedPacket as De
 use Rattle.ide_prefix.specs.Packet.{Packet, packet_bytes, sync_head}
 use Rattle.spec_stream.specs.Stream.{Empty, Programmed, LaneSlots, LiveKey, live_sender, untagged_under, tagged_under}
 use Rattle.spec_stream.specs.Stream.{sealed_slots, slot_in_set, with_slot}
-use Rattle.spec_stream.specs.Slots.{both_slots, slot_gone, woken_slot, is_live_slot}
+use Rattle.spec_stream.specs.Slots.{both_slots, slot_gone, woken_slot, is_live_slot, no_slots}
 use Rattle.key_slots.specs.{SlotPair, is_only_live}
 use Rattle.sub_stream.specs.declared.answer.MeasuredPacket.{MeasuredPacket}
 use Rattle.sub_stream.specs.declared.answer.TxRefusal.{TxRefusal}
 use Rattle.sub_stream.specs.declared.answer.TxRefusal.TheVariants.{NoKey, Worn}
 use Rattle.sub_stream.specs.declared.sender.PacketParts.{PacketParts}
 use Rattle.sub_stream.specs.Seen.{slot_pair, has_live, both_live}
-use Rattle.spec_stream.specs.Slots.{no_slots}
 use Rattle.sub_stream.specs.Gathered.{Gathered}
 
 -- units of at most `aggregation` packets, and at most `limit` units under one key; `ahead` comes before what the open

@@ -23,12 +23,11 @@ use crate::lent::Delivered;
 use crate::sender::begin_where_empty;
 use crate::unit_packets::UnitPackets;
 use gcm_seal::Gcm;
-use ide_prefix::{PacketView, carried_head, unit_iv};
+use ide_prefix::{PacketView, UnitBuf, carried_head, unit_iv};
 use ide_types::{FailCause, KeySet, OutOfMemory, SubKind};
 use key_slots::{Key, OnlyLive, SlotEmpty, SlotState, Slots};
 use std::alloc::Global;
 use std::marker::Model;
-use unit_aggregation::UnitBuf;
 
 /// What a receiver's buffer holds: nothing that counts, packets without M in key set 0 or in key set 1, or an accepted
 /// unit, decrypted.
@@ -120,7 +119,6 @@ pub struct Rx {
     slots: Slots,
     holds: Holds,
     unit: UnitPackets,
-    takes: u64,
 }
 
 impl Model for Rx {
@@ -136,10 +134,9 @@ impl Model for Rx {
       ahead = ahead_if_held r.holds r.unit.ahead;
       slots = receiver_slots_seen r.slots r.zero r.one r.holds r.unit.packets;
       delivered = packets_if_delivered r.holds r.unit.packets;
-      takes = r.takes;
     } };
 
-    ghost invariant = { λ r. IsReceiver r.aggregation r.zero r.one r.takes r.slots r.holds r.unit };
+    ghost invariant = { λ r. IsReceiver r.aggregation r.slots r.holds r.unit };
 }
 
 // No unit is counted yet under a Programmed key of this set.
@@ -181,7 +178,7 @@ fn fits(holds: Holds, unit: &UnitPackets, aggregation: u8, packet: &PacketView) 
 impl Rx {
     ghost use Rattle.sub_stream.specs.Receivers.{new_receiver, early_of, receiver_outcome, receiver_after};
     ghost use Rattle.sub_stream.specs.Receivers.{dropped_receiver, programmed_receiver, gone_receiver};
-    ghost use Rattle.sub_stream.specs.Receivers.{stopped_receiver};
+    ghost use Rattle.sub_stream.specs.Receivers.{stopped_receiver, LaneUnitsAtMost};
 
     /// A receiver with no key. `aggregation` is 1, 2, 4 or 8, with which `buf` was reserved.
     pub fn make(
@@ -205,7 +202,6 @@ impl Rx {
             slots: Slots::make(alloc, false)?,
             holds: Holds::Nothing,
             unit: UnitPackets::new(buf),
-            takes: 0,
         })
     }
 
@@ -229,7 +225,7 @@ impl Rx {
     /// carries is lent until the next change. A failed check drops the held packets.
     pub fn take(&mut self, packet: &PacketView, allowed: u64, total: Option<&[u8; 8]>) -> Taken
         requires view { IsView packet.now }
-        requires few { self.old.takes < 2 ^ 40 }
+        requires few { LaneUnitsAtMost (2 ^ 40) self.old.slots }
         ensures answer { Some result ≡ answer_taken (receiver_outcome self.old allowed (lent_totals total.entry)
             (packet_of_view packet.now)) }
         ensures receiver { self.new ≡ receiver_after self.old allowed (lent_totals total.entry)
@@ -237,7 +233,6 @@ impl Rx {
     {
         match self.early(packet) {
             Some(taken) => {
-                self.takes += 1;
                 self.holds = self.holds.unless_failed(&taken);
                 taken
             }
@@ -248,7 +243,7 @@ impl Rx {
     // Takes a packet under its Live key, if it fits what is held.
     fn take_keyed(&mut self, packet: &PacketView, allowed: u64, total: Option<&[u8; 8]>) -> Taken
         requires view { IsView packet.now }
-        requires few { self.old.takes < 2 ^ 40 }
+        requires few { LaneUnitsAtMost (2 ^ 40) self.old.slots }
         requires early { early_of self.old (packet_of_view packet.now) ≡ None }
         ensures answer { Some result ≡ answer_taken (receiver_outcome self.old allowed (lent_totals total.entry)
             (packet_of_view packet.now)) }
@@ -260,7 +255,6 @@ impl Rx {
             unreachable!()
         };
         let units = units_in(k, self.zero, self.one);
-        self.takes += 1;
         keep_held(&mut self.unit, self.holds);
         let taken = take_under(cipher, draw, units, packet, allowed, total, &mut self.unit);
         count_accepted(&taken, k, &mut self.slots, &mut self.zero, &mut self.one);
@@ -331,8 +325,7 @@ impl Rx {
 
     /// Empties both slots, and drops what is held.
     pub fn clear(&mut self)
-        ensures { self.new ≡ record (new_receiver self.old.stream self.old.sub self.old.aggregation)
-            { takes = self.old.takes } }
+        ensures { self.new ≡ new_receiver self.old.stream self.old.sub self.old.aggregation }
     {
         self.holds = Holds::Nothing;
         self.slots.clear();
@@ -395,7 +388,7 @@ fn take_under(
     unit: &mut UnitPackets,
 ) -> Taken
     requires view { IsView packet.now }
-    requires few { units < 2 ^ 40 }
+    requires few { units ≤ 2 ^ 40 }
     requires room { length unit.old.packets < unit.old.aggregation }
     ensures answer { let x = live_key_seen units unit.old.packets (record { key = cipher.now; draw = draw }) in
         let begun = begun_where_empty unit.old (lent_totals total.entry) (units + 1) in
@@ -443,8 +436,7 @@ fn retire_older(slots: &mut Slots, set: KeySet, draw: u32)
 // Counts an accepted unit under this Live key, whose other slot is emptied if it is Live under an older draw.
 fn count_accepted(taken: &Taken, k: bool, slots: &mut Slots, zero: &mut u64, one: &mut u64)
     requires live { is_live (key_slot_in slots.old k) ≡ true }
-    requires zero { zero.old + 1 < 2 ^ 64 }
-    requires one { one.old + 1 < 2 ^ 64 }
+    requires few { (if k then one.old else zero.old) ≤ 2 ^ 40 }
     ensures slots { slots.new ≡ slots_after taken.now k slots.old }
     ensures zero { zero.new ≡ (if is_accepted taken.now && not k then zero.old + 1 else zero.old) }
     ensures one { one.new ≡ (if is_accepted taken.now && k then one.old + 1 else one.old) }

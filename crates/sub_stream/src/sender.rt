@@ -23,12 +23,11 @@ use crate::answer::{MeasuredPacket, TxRefusal};
 use crate::facts::{SetFacts, slot_facts};
 use crate::unit_packets::UnitPackets;
 use gcm_seal::{Gcm, MAX_BYTES};
-use ide_prefix::{Prefix, SYNC_FIRST, unit_iv, write_prefix};
+use ide_prefix::{Prefix, SYNC_FIRST, UnitBuf, unit_iv, write_prefix};
 use ide_types::{KeySet, OutOfMemory, SubKind};
 use key_slots::{Key, OnlyLive, SlotEmpty, SlotState, Slots};
 use std::alloc::Global;
 use std::marker::Model;
-use unit_aggregation::UnitBuf;
 
 /// The most bytes that a TLP's header has: four double words (PCI Express Base 6.0 section 2.2).
 pub const TLP_HEAD_BYTES: usize = 16;

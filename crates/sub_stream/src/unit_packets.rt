@@ -5,15 +5,14 @@ ghost use Rattle.gcm_seal.specs.Gcm.{masked_bytes};
 ghost use Rattle.ide_prefix.specs.Packet.{prefix_bytes, begins_sync};
 ghost use Rattle.ide_prefix.specs.Units.{encrypted_bytes};
 ghost use Rattle.spec_stream.specs.Stream.{posted_sum};
-ghost use Rattle.unit_aggregation.specs.{with_bodies, body_of};
+ghost use Rattle.ide_prefix.specs.{with_bodies, body_of};
 
 use crate::answer::PacketMark;
 use crate::sender::{PAYLOAD_BYTES, TLP_HEAD_BYTES};
 use gcm_seal::{Gcm, MAX_BYTES};
-use ide_prefix::{Prefix, SYNC_FIRST, write_prefix};
+use ide_prefix::{Prefix, SYNC_FIRST, UnitBuf, write_prefix};
 use ide_types::SubKind;
 use std::marker::Model;
-use unit_aggregation::UnitBuf;
 
 // What stands in the places of no packet.
 const BLANK: Prefix = Prefix {

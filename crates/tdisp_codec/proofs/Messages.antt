@@ -13,7 +13,7 @@ use Rattle.tdisp_codec.specs.declared.fault.TdispFault.TheVariants.{Version, Kin
 use Rattle.tdisp_codec.specs.Messages.{Ignored, message_bytes, SpellsMessage, type_in, function_in, body_in}
 use Rattle.tdisp_codec.specs.Messages.{message_fault, message_fault_at}
 use Rattle.tdisp_codec.proofs.Octets.{no_bytes, AreOctets, are_bytes, octets, joins, leads, drop_split_cells}
-use Rattle.tdisp_codec.proofs.Octets.{list_cells, number_4, below_4, drop_octets, four_bytes, ignored}
+use Rattle.tdisp_codec.proofs.Octets.{list_cells, number_4, below_4, drop_octets, four_bytes, ignored_bytes}
 use Rattle.tdisp_codec.proofs.Shapes.{IsSized, IsShaped, Judged, judged_at, judged_length, IsReader}
 
 -- what stands in the bytes of a message
@@ -65,7 +65,12 @@ header_spells s f le e0 e1 =
     let x4 : little_bytes 4 (function_in s) ≡ cells 4 5 s = number_4 5 s f in
     let whole : cells 17 0 s ++ drop 17 s ≡ message_bytes (cells 2 3 s) (cells 8 9 s) (type_in s) (function_in s)
     (drop 17 s) = cc in
-    record { first = ignored 2 3 s f; second = ignored 8 9 s f; spelled = drop_split_cells 17 0 s le ∙ whole }
+    record {
+      first = ignored_bytes 2 3 s f;
+      second = ignored_bytes 8 9 s f;
+      spelled = drop_split_cells 17 0 s le
+          ∙ whole;
+    }
 
 -- ---- the shape of messages, for requests and for replies
 

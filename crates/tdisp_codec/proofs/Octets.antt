@@ -121,8 +121,8 @@ pub zero_bytes_by : (n : ℕ) → AllByRecursion IsByte (replicate n 0)
 zero_bytes_by zero = tt
 zero_bytes_by (suc n) = (omega arith, zero_bytes_by n)
 
-abbrev pub ignored : (n i : ℕ) (s : List ℕ) → IsBytes s → Ignored n
-ignored n i s f = record
+abbrev pub ignored_bytes : (n i : ℕ) (s : List ℕ) → IsBytes s → Ignored n
+ignored_bytes n i s f = record
     { bytes = cells n i s; long = length-cells n i s; octets = all_of (cells n i s) (cells_octets n i s f) }
 
 pub take_long : (n : ℕ) (s : List ℕ) → length s ≡ n → take n s ≡ s

@@ -16,7 +16,7 @@ use Rattle.tdisp_codec.specs.Replies.{IsCountedReply}
 use Rattle.tdisp_codec.specs.Replies.{FitsReplyBody, FitsReply, SpellsReply, is_reply, reply_size, reply_of_type}
 use Rattle.tdisp_codec.proofs.Octets.{octets, joins, leads, at_value, take_long, nonce_fits, IsByte, list_cells}
 use Rattle.tdisp_codec.proofs.Octets.{drop_split_cells, take_cells, drop_octets, all_of, number_2, number_4, below_2}
-use Rattle.tdisp_codec.proofs.Octets.{below_4, two_bytes, four_bytes, no_bytes, ignored, zeros, same_2}
+use Rattle.tdisp_codec.proofs.Octets.{below_4, two_bytes, four_bytes, no_bytes, ignored_bytes, zeros, same_2}
 use Rattle.tdisp_codec.proofs.Messages.{SaysItsSize, Messages, IsWritten, IsBack, IsCodec}
 
 -- ---- from a reply to its body, and back
@@ -111,7 +111,7 @@ capabilities_back function b f long =
     let e6 = get_or-drop 20 b 6 0 in
     let e7 = get_or-drop 20 b 7 0 in
     let r : take 16 (drop 4 b) ≡ cells 16 4 b = take_cells 16 4 b (omega arith) in
-    let some : All IsByte (take 16 (drop 4 b)) = rw r (ignored 16 4 b f).octets in
+    let some : All IsByte (take 16 (drop 4 b)) = rw r (ignored_bytes 16 4 b f).octets in
     let whole : cells 28 0 b ≡ reply_body (reply_of_type 0x02 function b) (cells 3 22 b) = rw r (cc) in
     record {
       fits = (
@@ -126,7 +126,7 @@ capabilities_back function b f long =
           drop_octets 20 b f 7,
         ),
       );
-      reserved = ignored 3 22 b f;
+      reserved = ignored_bytes 3 22 b f;
       type_is = refl;
       function_is = refl;
       body_is = list_cells 28 b long ∙ whole;

@@ -14,7 +14,7 @@ use Rattle.tdisp_codec.specs.Ranges.{range_bytes, ranges_in}
 use Rattle.tdisp_codec.specs.Reports.{Report, report_shown, report_bytes, report_spelling, FitsReport, SpellsReport}
 use Rattle.tdisp_codec.specs.Reports.{range_count, device_place, report_size, report_in, report_fault_at}
 use Rattle.tdisp_codec.proofs.Octets.{are_bytes, octets, joins, list_cells, drop_split_cells, drop_octets, all_of}
-use Rattle.tdisp_codec.proofs.Octets.{number_2, number_4, below_2, below_4, two_bytes, four_bytes, ignored, zeros}
+use Rattle.tdisp_codec.proofs.Octets.{number_2, number_4, below_2, below_4, two_bytes, four_bytes, ignored_bytes, zeros}
 use Rattle.tdisp_codec.proofs.Octets.{same_4, all_taken}
 use Rattle.tdisp_codec.proofs.Shapes.{IsSized, IsShaped, judged_length, IsReader}
 use Rattle.tdisp_codec.proofs.RangeBytes.{length-first_ranges, length-ranges, range_octets, ranges_again, ranges_back}
@@ -139,7 +139,7 @@ spells_of s shape =
         device = all_of device (drop_octets (place + 4) s f);
         counted = record { ranges = omega arith; device = omega arith };
       };
-      reserved = ignored 2 2 s f;
+      reserved = ignored_bytes 2 2 s f;
       spelled = drop_split_cells 16 0 s (omega arith) ∙ whole;
     }
 

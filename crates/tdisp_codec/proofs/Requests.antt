@@ -15,8 +15,8 @@ use Rattle.tdisp_codec.specs.Requests.{request_type, request_function, request_r
 use Rattle.tdisp_codec.specs.Requests.{FitsRequestBody, FitsRequest, SpellsRequest, is_request, request_size}
 use Rattle.tdisp_codec.specs.Requests.{request_from}
 use Rattle.tdisp_codec.proofs.Octets.{octets, joins, leads, at_value, take_long, nonce_fits, list_cells, all_of}
-use Rattle.tdisp_codec.proofs.Octets.{number_2, number_8, below_2, below_8, two_bytes, eight_bytes, no_bytes, ignored}
-use Rattle.tdisp_codec.proofs.Octets.{zeros}
+use Rattle.tdisp_codec.proofs.Octets.{number_2, number_8, below_2, below_8, two_bytes, eight_bytes, no_bytes}
+use Rattle.tdisp_codec.proofs.Octets.{ignored_bytes, zeros}
 use Rattle.tdisp_codec.proofs.Messages.{Messages, IsWritten, IsBack, IsCodec}
 
 abbrev requests : Messages RequestView
@@ -35,8 +35,7 @@ requests = record {
 
 -- the reserved byte is written out, so each field is computed at its place
 lock_again : (function flags stream offset mask : ℕ) (x : List ℕ)
-    → FitsRequestBody (LockInterface function flags stream offset mask) → length x ≡ 1
-    → request_from 0x83 function
+    → FitsRequestBody (LockInterface function flags stream offset mask) → length x ≡ 1 → request_from 0x83 function
     (little_bytes 2 flags ++ (stream ∷ (x ++ (little_bytes 8 offset ++ little_bytes 8 mask))))
     ≡ LockInterface function flags stream offset mask
 lock_again function flags stream offset mask x f long =
@@ -91,7 +90,7 @@ lock_back function b f long =
     let whole : cells 20 0 b ≡ request_body lock (cells 1 3 b) = cc in
     record {
       fits = (below_2 0 b f, f 2, below_8 4 b f, below_8 12 b f);
-      reserved = ignored 1 3 b f;
+      reserved = ignored_bytes 1 3 b f;
       type_is = refl;
       function_is = refl;
       body_is = list_cells 20 b long ∙ whole;

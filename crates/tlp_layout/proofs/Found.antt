@@ -91,8 +91,7 @@ head_found k s n h le =
 
 -- up to the length that they say, they are a prefix of a spelling
 ends : (size : List ℕ → ℕ) (k : Layout) (s : List ℕ) (n : ℕ) → HasHead k s n → (place : ℕ) → place ≤ length s
-    → place ≤ size s
-    → (place < length s → place ≡ size s) → EndsAt size may_follow s place
+    → place ≤ size s → (place < length s → place ≡ size s) → EndsAt size may_follow s place
 ends size k s n h place le sized there = record {
   within = le;
   sized = sized;

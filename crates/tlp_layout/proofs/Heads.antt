@@ -14,8 +14,7 @@ use Rattle.byteorder.specs.Numbers.{big_from-lt, big_number-reads_back}
 use Rattle.ide_types.proofs.Cells.{IsBytes, cells, drop_cells, all_bytes}
 use Rattle.tlp_layout.specs.{Layout, Lead, HeadView, Fields, Routing, bit, routing_bits, routing_from, status_bits}
 use Rattle.tlp_layout.specs.{completion_status, head_bytes, FitsLead, FitsFields, FitsHead, SpellsHead, is_wide}
-use Rattle.tlp_layout.specs.{has_data}
-use Rattle.tlp_layout.specs.{head_size, layout_at, is_allowed_byte, reserved, layout_of, head_of}
+use Rattle.tlp_layout.specs.{has_data, head_size, layout_at, is_allowed_byte, reserved_bits, layout_of, head_of}
 use Rattle.tlp_layout.specs.Terms.layouts
 use Rattle.tlp_layout.specs.declared.head.MemoryFields.{MemoryFields}
 use Rattle.tlp_layout.specs.declared.head.ConfigFields.{ConfigFields}
@@ -115,8 +114,7 @@ joined_4 : {xs : List ℕ} {a b c d c' d' : ℕ} → xs ≡ a ∷ b ∷ [] → c
     ∷ []
 joined_4 {a = a} {b = b} {c' = c'} {d' = d'} e ec ed = rw (e, ec, ed) refl
 
-config_tail : (t : List ℕ) → IsBytes t → length t ≡ 4 → get_or t 3 0 % 4 ≡ 0
-    → big_bytes 2 (big_number 2 t)
+config_tail : (t : List ℕ) → IsBytes t → length t ≡ 4 → get_or t 3 0 % 4 ≡ 0 → big_bytes 2 (big_number 2 t)
     ++ ((64 * get_or t 2 0 + get_or t 3 0 / 4) / 64) ∷ (0x04 * ((64 * get_or t 2 0 + get_or t 3 0 / 4) % 64)) ∷ [] ≡ t
 config_tail t fit long z =
     let f3 : get_or t 3 0 < 256 = fit 3 in
@@ -124,12 +122,10 @@ config_tail t fit long z =
     let low : 0x04 * ((64 * get_or t 2 0 + get_or t 3 0 / 4) % 64) ≡ get_or t 3 0 = omega arith in
     joined_4 (number_2 t fit) high low ∙ sym (drop_cells 4 0 t long)
 
-message_tail : (t : List ℕ) → IsBytes t → length t ≡ 8
-    → big_bytes 2 (big_number 2 t) ++ cells 6 2 t ≡ t
+message_tail : (t : List ℕ) → IsBytes t → length t ≡ 8 → big_bytes 2 (big_number 2 t) ++ cells 6 2 t ≡ t
 message_tail t fit long = ap (λ (x : List ℕ). x ++ cells 6 2 t) (number_2 t fit) ∙ sym (drop_cells 8 0 t long)
 
-completion_tail : (b1 : ℕ) (t : List ℕ) → IsBytes t → length t ≡ 4
-    → big_bytes 2 (big_number 2 t)
+completion_tail : (b1 : ℕ) (t : List ℕ) → IsBytes t → length t ≡ 4 → big_bytes 2 (big_number 2 t)
     ++ ((512 * (b1 / 128) + 256 * (b1 / 8 % 2) + get_or t 2 0) % 256) ∷ (get_or t 3 0) ∷ [] ≡ t
 completion_tail b1 t fit long =
     joined_4 (number_2 t fit) (tag_back b1 (get_or t 2 0) (fit 2)) refl ∙ sym (drop_cells 4 0 t long)
@@ -165,7 +161,7 @@ status_byte_back b6 b7 lt less =
 
 -- the places of a header that have bits that are 0
 clear_at : (k : Layout) (s : List ℕ) (i : ℕ) → IsRight k s → 0 < i → i < length s
-    → eqb (bit_and (reserved k (head_size (get_or s 0 0)) i) (get_or s i 0)) 0 ≡ true
+    → eqb (bit_and (reserved_bits k (head_size (get_or s 0 0)) i) (get_or s i 0)) 0 ≡ true
 clear_at k s i r pos lt = (and_parts _ _ (r.agrees i pos lt)).0
 
 rest_long : (w : Bool) (n : ℕ) → n + 8 ≡ cond w 16 12 → n ≡ cond w 8 4
@@ -201,8 +197,7 @@ early_clear layouts.Completion size b1 b2 f1 f2 a1 a2 =
 
 -- the first six bytes come back in each layout; low is the byte of the tag, and x what is written after them
 back_by : (k : Layout) (b0 b1 b2 b3 b4 b5 low : ℕ) (r x : List ℕ) → IsRight k (b0 ∷ b1 ∷ b2 ∷ b3 ∷ b4 ∷ b5 ∷ r)
-    → low < 256
-    → type_of (fields_of k (b0 ∷ b1 ∷ b2 ∷ b3 ∷ b4 ∷ b5 ∷ r)) ≡ type_from k b0
+    → low < 256 → type_of (fields_of k (b0 ∷ b1 ∷ b2 ∷ b3 ∷ b4 ∷ b5 ∷ r)) ≡ type_from k b0
     → tag_in (fields_of k (b0 ∷ b1 ∷ b2 ∷ b3 ∷ b4 ∷ b5 ∷ r)) ≡ 512 * (b1 / 128) + 256 * (b1 / 8 % 2) + low
     → field_bytes (is_wide b0) (fields_of k (b0 ∷ b1 ∷ b2 ∷ b3 ∷ b4 ∷ b5 ∷ r))
     ≡ big_bytes 2 (big_number 2 (b4 ∷ b5 ∷ r)) ++ x → x ≡ r
@@ -514,8 +509,7 @@ address_again false first x1 x2 x3 requester tag be address more lt = big_number
 kept_again : (kept more : List ℕ) → length kept ≡ 6 → cells 6 0 (kept ++ more) ≡ kept
 kept_again kept more long = subst (λ (r : List ℕ). cells 6 0 (r ++ more) ≡ r) (sym (drop_cells 6 0 kept long)) refl
 
-head_is : {l l' : Lead} {p p' : Bool} {f f' : Fields} → l ≡ l' → p ≡ p' → f ≡ f'
-    → head_with l p f ≡ head_with l' p' f'
+head_is : {l l' : Lead} {p p' : Bool} {f f' : Fields} → l ≡ l' → p ≡ p' → f ≡ f' → head_with l p f ≡ head_with l' p' f'
 head_is el ep ef = λ i. record { lead = el i; has_payload = ep i; fields = ef i }
 
 again_fields : (l : Lead) (p : Bool) (f : Fields) (more : List ℕ) → FitsLead l → FitsFields l f

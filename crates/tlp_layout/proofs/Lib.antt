@@ -4,3 +4,5 @@ pub mod Walk
 pub mod Grammar
 pub mod Found
 pub mod Readings
+pub mod Least
+pub mod Outgoing

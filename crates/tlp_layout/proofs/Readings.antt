@@ -5,9 +5,9 @@ use Rattle.std.specs.Prelude.{All, ◌↔◌, IfOk, IfErr, MatchResult}
 use Rattle.std.proofs.Math.Seq.{drop-append_seam, take-append_seam}
 use Rattle.ide_types.proofs.Walks.{reads_iff, refuses_iff}
 use Rattle.tlp_layout.specs.{Layout, TlpFault, HeadView, TlpView, head_bytes, head_length, FitsHead, SpellsHead}
-use Rattle.tlp_layout.specs.{body_size, FitsTlp, tlp_bytes, SpellsTlp, header, body, with_payload, viewed_tlp, viewed}
-use Rattle.tlp_layout.specs.{head_size, fault_at, IsFault, IsHeadFault, head_of, head_read, tlp_read, read_head_of}
-use Rattle.tlp_layout.specs.{read_of}
+use Rattle.tlp_layout.specs.{body_size, FitsTlp, tlp_bytes, SpellsTlp, header, body, with_payload, viewed_tlp}
+use Rattle.tlp_layout.specs.{viewed_result, head_size, fault_at, IsFault, IsHeadFault, head_of, head_read, tlp_read}
+use Rattle.tlp_layout.specs.{read_head_of, read_of}
 use Rattle.tlp_layout.specs.Terms.{Tlp}
 use Rattle.tlp_layout.specs.Terms.layouts
 use Rattle.tlp_layout.proofs.Heads.{kept, again}
@@ -96,8 +96,7 @@ read_again s (Ok v) ok err t p = same_tlp (viewed_tlp v) t s ok p
 read_again s (Err f) ok err t p = err.1.not_spelled (record { tlp = t; spells = p })
 
 pub read_is : (s : List ℕ) (r : Result TlpView TlpFault) → IfOk r (λ v. SpellsTlp (viewed_tlp v) s)
-    → IfErr r (IsFault s)
-    → viewed r ≡ read_of s
+    → IfErr r (IsFault s) → viewed_result r ≡ read_of s
 read_is s (Ok v) ok err = sym ((read_spells_tlp (viewed_tlp v) s).0 ok)
 read_is s (Err f) ok err = sym ((read_refuses f s).0 err)
 

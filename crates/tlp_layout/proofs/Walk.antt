@@ -7,7 +7,7 @@ use Rattle.std.proofs.Common.{arith, length-take, get_or-take}
 use Rattle.std.proofs.lemmas.Bool.{cases_lt, ltb-true, lt-ltb, le-ltb, ne_eqb, and_parts, and_from, cases_eq, eq-eqb}
 use Rattle.std.proofs.lemmas.Nat.{and_comm}
 use Rattle.ide_types.proofs.Fronts.{Fitting}
-use Rattle.tlp_layout.specs.{Layout, may_follow, rest_size, whole_size, is_wide, head_size, layout_at, reserved}
+use Rattle.tlp_layout.specs.{Layout, may_follow, rest_size, whole_size, is_wide, head_size, layout_at, reserved_bits}
 use Rattle.tlp_layout.specs.{is_allowed_byte, body_size}
 use Rattle.tlp_layout.specs.Terms.layouts
 pub use Rattle.tlp_layout.proofs.Heads.{head_size_at_least}
@@ -95,12 +95,22 @@ zero_clear m = rw and_comm refl
 next_allowed : (k : Layout) (size i : ℕ) → (b : ℕ) × (b < 256) × (is_allowed_byte k size i b ≡ true)
 next_allowed layouts.Config size i = elim (cases_eq i 3) [
   | inl e ↦ (1, omega arith, rw e refl)
-  | inr ne ↦ (0, omega arith, and_from _ _ (zero_clear (reserved layouts.Config size i)) (rw (ne_eqb i 3 ne) refl))
+  | inr ne ↦ (0, omega arith, and_from _ _ (zero_clear (reserved_bits layouts.Config size i)) (rw (ne_eqb i 3 ne) refl))
 ]
-next_allowed layouts.Memory size i = (0, omega arith, and_from _ _ (zero_clear (reserved layouts.Memory size i)) refl)
-next_allowed layouts.Message size i = (0, omega arith, and_from _ _ (zero_clear (reserved layouts.Message size i)) refl)
+next_allowed layouts.Memory size i = (
+  0,
+  omega arith,
+  and_from _ _ (zero_clear (reserved_bits layouts.Memory size i))
+      refl,
+)
+next_allowed layouts.Message size i = (
+  0,
+  omega arith,
+  and_from _ _ (zero_clear (reserved_bits layouts.Message size i))
+      refl,
+)
 next_allowed layouts.Completion size i =
-    (0, omega arith, and_from _ _ (zero_clear (reserved layouts.Completion size i)) refl)
+    (0, omega arith, and_from _ _ (zero_clear (reserved_bits layouts.Completion size i)) refl)
 
 pub next_fits : (s : List ℕ) → Fitting may_follow s (length s) → (b : ℕ) × IsTrue (may_follow s b)
 next_fits [] f = (0, refl)

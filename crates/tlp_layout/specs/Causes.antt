@@ -34,14 +34,14 @@ layout_at b =
 -- the bits that are 0 in the byte at this place of a header of this length:
 -- bit 1 and TH of byte 1, TD and EP of byte 2, what is reserved, the two lowest bits of an address,
 -- and in byte 2 of a configuration request Length[9:8]
-abbrev pub reserved : Layout → ℕ → ℕ → ℕ
-reserved Memory size place =
+abbrev pub reserved_bits : Layout → ℕ → ℕ → ℕ
+reserved_bits Memory size place =
     if place == 1 then 0x03 else if place == 2 then 0xc0 else if place + 1 == size then 0x03 else 0x00
-reserved Config size place =
+reserved_bits Config size place =
     if place == 1 then 0x03 else if place == 2 then 0xc3 else if place == 10 then 0xf0
     else if place == 11 then 0x03 else 0x00
-reserved Message size place = if place == 1 then 0x03 else if place == 2 then 0xc0 else 0x00
-reserved Completion size place =
+reserved_bits Message size place = if place == 1 then 0x03 else if place == 2 then 0xc0 else 0x00
+reserved_bits Completion size place =
     if place == 1 then 0x03 else if place == 2 then 0xc0 else if place == 11 then 0x80 else 0x00
 
 -- Length[7:0] of a configuration request is 1
@@ -50,7 +50,7 @@ has_length Config place b = if place == 3 then b == 1 else true
 has_length _ place b = true
 
 abbrev pub is_allowed_byte : Layout → ℕ → ℕ → ℕ → Bool
-is_allowed_byte layout size place b = (bit_and (reserved layout size place) b == 0) && has_length layout place b
+is_allowed_byte layout size place b = (bit_and (reserved_bits layout size place) b == 0) && has_length layout place b
 
 -- ---- why the byte at a place ends the reading, the first cause
 

@@ -38,10 +38,10 @@ kind_class Completion = Cpl
 abbrev pub class_of : HeadView → SubKind
 class_of h = kind_class (kind_of h)
 
-abbrev pub kind_among : Option Layout → Bool → Option TlpKind
-kind_among None has_payload = None
-kind_among (Some layout) has_payload = Some (kind_with layout has_payload)
+abbrev pub kind_if_layout : Option Layout → Bool → Option TlpKind
+kind_if_layout None has_payload = None
+kind_if_layout (Some layout) has_payload = Some (kind_with layout has_payload)
 
 -- the kind of TLP whose header this byte 0 begins
-abbrev pub kind_at : ℕ → Option TlpKind
-kind_at b = kind_among (layout_at b) (has_data b)
+abbrev pub kind_of_byte : ℕ → Option TlpKind
+kind_of_byte b = kind_if_layout (layout_at b) (has_data b)

@@ -1,10 +1,9 @@
 -- Reading from left to right: the header or the TLP that bytes spell, or their first fault, as functions.
-use Rattle.std.specs.Prelude.{ℕ, zero, suc, ◌+◌, ◌*◌, ◌/◌, ◌%◌, Bool, true, false, List, [], ◌∷◌, length, drop}
-use Rattle.std.specs.Prelude.{slice_index, Option, Some, None, is_some, unwrap_or, Result, nat_lt, ◌==◌, ◌&&◌}
-use Rattle.std.specs.Prelude.{if◌then◌else◌}
+use Rattle.std.specs.Prelude.{ℕ, zero, suc, ◌+◌, ◌*◌, ◌/◌, ◌%◌, Bool, true, false, List, [], ◌∷◌, length, drop, Result}
+use Rattle.std.specs.Prelude.{slice_index, Option, Some, None, is_some, unwrap_or, nat_lt, ◌==◌, ◌&&◌, if◌then◌else◌}
 use Rattle.byteorder.specs.Endian.{big_number}
-use Rattle.ide_types.specs.Walks.{reading}
-use Rattle.tlp_layout.specs.Terms.{Layout, TlpFault, Lead, HeadView, Fields, Memory, Config, Message, Completion, Tlp}
+use Rattle.ide_types.specs.Walks.{whole_reading}
+use Rattle.tlp_layout.specs.Terms.{Layout, Lead, HeadView, Fields, Memory, Config, Message, Completion, Tlp, TlpFault}
 use Rattle.tlp_layout.specs.Terms.layouts
 use Rattle.tlp_layout.specs.Causes.{is_wide, has_data, head_size, layout_at, is_allowed_byte, fault_at}
 use Rattle.tlp_layout.specs.Numbers.{routing_from, completion_status}
@@ -117,8 +116,8 @@ wants_tlp front = nat_lt (length front) (whole_size front)
 
 -- the header that the bytes spell, all of the bytes, or their first fault
 unfoldable pub read_head_of : List ℕ → Result HeadView TlpFault
-read_head_of bytes = reading wants_head may_follow head_read fault_at bytes
+read_head_of bytes = whole_reading wants_head may_follow head_read fault_at bytes
 
 -- the TLP that the bytes spell, all of the bytes, or their first fault
 unfoldable pub read_of : List ℕ → Result Tlp TlpFault
-read_of bytes = reading wants_tlp may_follow tlp_read fault_at bytes
+read_of bytes = whole_reading wants_tlp may_follow tlp_read fault_at bytes

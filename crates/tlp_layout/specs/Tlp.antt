@@ -42,6 +42,6 @@ abbrev pub viewed_tlp : TlpView → Tlp
 viewed_tlp v = with_payload v.head v.payload.now
 
 -- what a reader answers, with the TLP in the view's place
-abbrev pub viewed : Result TlpView TlpFault → Result Tlp TlpFault
-viewed (Ok v) = Ok (viewed_tlp v)
-viewed (Err f) = Err f
+abbrev pub viewed_result : Result TlpView TlpFault → Result Tlp TlpFault
+viewed_result (Ok v) = Ok (viewed_tlp v)
+viewed_result (Err f) = Err f

@@ -2,9 +2,10 @@
 //! (PCI Express Base 6.0 section 2.2).
 
 ghost use Rattle.std.specs.Prelude.{◌≡◌, ◌<◌};
-ghost use Rattle.tlp_layout.specs.Causes.{layout_at as layout_named, head_size as size_named, reserved as reserved_at};
+ghost use Rattle.tlp_layout.specs.Causes.{layout_at as layout_named, head_size as size_named};
+ghost use Rattle.tlp_layout.specs.Causes.{reserved_bits as reserved_at};
 ghost use Rattle.tlp_layout.specs.Causes.{is_allowed_byte, cause_at};
-ghost use Rattle.tlp_layout.specs.Class.{kind_with, kind_at as kind_named};
+ghost use Rattle.tlp_layout.specs.Class.{kind_with, kind_of_byte as kind_named};
 
 use crate::fault::TlpFault;
 use crate::head::TlpKind;

@@ -3,7 +3,7 @@
 ghost use Rattle.std.specs.Prelude.{◌≡◌, ◌<◌, ◌≤◌, ◌+◌, Some, IfOk, IfErr, MatchResult, length, slice_index};
 ghost use Rattle.std.specs.Prelude.{if◌then◌else◌};
 ghost use Rattle.tlp_layout.specs.Head.{SpellsHead};
-ghost use Rattle.tlp_layout.specs.Tlp.{SpellsTlp, viewed_tlp, viewed};
+ghost use Rattle.tlp_layout.specs.Tlp.{SpellsTlp, viewed_tlp, viewed_result};
 ghost use Rattle.tlp_layout.specs.Causes.{layout_at as layout_named, head_size as size_named};
 ghost use Rattle.tlp_layout.specs.Faults.{IsFault, IsHeadFault};
 ghost use Rattle.tlp_layout.specs.Reading.{read_of, read_head_of, head_of, lead_of, fields_of, address_read};
@@ -202,7 +202,7 @@ pub fn read(bytes: &[u8]) -> Result<TlpView<'_>, TlpFault>
     // Bytes that are no TLP are refused at their first fault.
     ensures err { IfErr result (IsFault bytes.now) }
     // It is this function of the bytes.
-    ensures reading { viewed result ≡ read_of bytes.now }
+    ensures reading { viewed_result result ≡ read_of bytes.now }
 {
     whole(bytes)
 }

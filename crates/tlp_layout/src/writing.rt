@@ -3,7 +3,7 @@
 ghost use Rattle.std.specs.Prelude.{◌≡◌, ◌+◌, ◌<◌, ◌≤◌, ◌++◌, OnOk, OnErr, length, vec_len, vec_capacity};
 ghost use Rattle.arrayvec.specs.ArrayVec.{array_vec_len};
 ghost use Rattle.byteorder.specs.Endian.{big_bytes};
-ghost use Rattle.tlp_layout.specs.Head.{head_bytes, lead_bytes as lead_bytes_of, field_bytes};
+ghost use Rattle.tlp_layout.specs.Head.{head_bytes, head_length, lead_bytes as lead_bytes_of, field_bytes};
 ghost use Rattle.tlp_layout.specs.Head.{first_byte as first_byte_of, tag_in, FitsLead, FitsFields, FitsHead};
 ghost use Rattle.tlp_layout.specs.Tlp.{tlp_bytes, FitsTlp};
 ghost use Rattle.tlp_layout.specs.declared.head.Fields.TheVariants as variants;
@@ -170,6 +170,19 @@ fn header_bytes(head: &HeadView) -> Header
     put(&mut out, &lead_bytes(&head.lead, tag_of(&head.fields)));
     put_fields(&mut out, &head.lead, &head.fields);
     out
+}
+
+/// Appends a header's one spelling, 12 or 16 bytes (PCI Express Base 6.0 section 2.2). That there is room for it and
+/// that its fields are in range are the caller's conditions. It takes no memory.
+#[tactic(auto, using(crate::proofs::Readings::head_sized))]
+pub fn write_head(head: &HeadView, out: &mut Vec<u8>)
+    requires fits { FitsHead head.now }
+    requires room { vec_len out.old + head_length head.now ≤ vec_capacity out.old }
+    ensures items { out.new.items ≡ out.old.items ++ head_bytes head.now }
+    ensures len { vec_len out.new ≡ vec_len out.old + head_length head.now }
+    ensures capacity { vec_capacity out.old ≤ vec_capacity out.new }
+{
+    append(out, header_bytes(head).as_slice());
 }
 
 /// Appends the TLP's one spelling to `out` (PCI Express Base 6.0 section 2.2, as this profile has it). That

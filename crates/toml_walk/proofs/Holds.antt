@@ -17,8 +17,8 @@ use Rattle.toml_walk.specs.declared.fault.PlanFault.{PlanFault}
 use Rattle.toml_walk.specs.declared.fault.PlanFault.TheVariants.{Range, Limit}
 use Rattle.toml_walk.specs.Fault.{◌>>=◌, or_fault}
 use Rattle.toml_walk.specs.Bounds.{admits, has_form}
-use Rattle.toml_walk.specs.Walk.{Text, Reader, place, required, found_or, optional, table, values_of, is_past}
-use Rattle.toml_walk.specs.Walk.{within_span, each, list, given}
+use Rattle.toml_walk.specs.Walk.{Text, Reader, place, required_value, found_or, optional, table, values_of, is_past}
+use Rattle.toml_walk.specs.Walk.{within_span, each, list, given_value}
 use Rattle.toml_walk.specs.Values.{integer, bounded_number, number, text, or_length, key_bytes, hex_bytes, both, two_in}
 use Rattle.toml_walk.specs.Values.{two}
 
@@ -119,7 +119,7 @@ hex_holds most path d = next (λ _. Unit {0}) _ (text path d)
 
 -- a key's value, and its default
 pub required_holds : {A : Type 0} (P : A → Type 0) (t : Text) (ms : Members) (name : Text) (read : Reader A)
-    → ((path : Text) (d : Data) → Holds P (read path d)) → Holds P (required t ms name read)
+    → ((path : Text) (d : Data) → Holds P (read path d)) → Holds P (required_value t ms name read)
 required_holds P t ms name read h = next (λ _. Unit {0}) P (or_fault (get_member name ms) _) (λ d. read _ d)
     (anything _) (λ d _. h _ d)
 
@@ -135,7 +135,7 @@ optional_holds P t ms name default read p h = found_holds P _ default read (get_
 
 pub given_holds : {A : Type 0} (P : A → Type 0) (read : Reader A)
     → ((path : Text) (d : Data) → Holds P (read path d)) → (path : Text) (d : Data)
-    → Holds (λ (o : Option A). IfSome o P) (given read path d)
+    → Holds (λ (o : Option A). IfSome o P) (given_value read path d)
 given_holds {A} P read h path d =
     next P (λ (o : Option A). IfSome o P) (read path d) (λ x. Ok (Some x)) (h path d)
     (λ x p. gives (λ (o : Option A). IfSome o P) (Some x) p)

@@ -23,14 +23,14 @@ four k (a ∷ b ∷ c ∷ d ∷ bs) = k
     (((value_of_digit a * 16 + value_of_digit b) * 16 + value_of_digit c) * 16 + value_of_digit d) bs
 four k _ = (0, [])
 
-abbrev named : ℕ → ℕ
-named b = cond (b == 98) 8 (cond (b == 116) 9 (cond (b == 110) 10 (cond (b == 102) 12 (cond (b == 114) 13 b))))
+abbrev named_escape : ℕ → ℕ
+named_escape b = cond (b == 98) 8 (cond (b == 116) 9 (cond (b == 110) 10 (cond (b == 102) 12 (cond (b == 114) 13 b))))
 
 abbrev escape : List ℕ → ℕ × List ℕ
 escape [] = (0, [])
 escape (b ∷ bs) =
     cond (b == 117) (four (λ n rest. (n, rest)) bs)
-    (cond (b == 85) (four (λ m more. four (λ n rest. (m * 65536 + n, rest)) more) bs) (named b, bs))
+    (cond (b == 85) (four (λ m more. four (λ n rest. (m * 65536 + n, rest)) more) bs) (named_escape b, bs))
 
 abbrev unshown : List ℕ → ℕ × List ℕ
 unshown [] = (0, [])

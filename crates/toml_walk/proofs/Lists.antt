@@ -1,6 +1,5 @@
 -- Lists of a table as lists, and reading them one element after the other.
-use Rattle.std.proofs.Common.{◌≡◌, ◌+◌, List, [], ◌∷◌, ◌++◌, Result, Ok, refl, ap, map}
-use Rattle.std.proofs.Common.{String, string_bytes}
+use Rattle.std.proofs.Common.{◌≡◌, ◌+◌, List, [], ◌∷◌, ◌++◌, Result, Ok, refl, ap, map, String, string_bytes}
 use Rattle.toml.specs.Data.{Data}
 use Rattle.toml.specs.View.{view, items_view, items_of, members_view, table_view}
 use Rattle.std.specs.BTreeMap.{BTreeMap, keys}

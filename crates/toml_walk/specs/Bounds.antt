@@ -13,8 +13,8 @@ abbrev pub within : ℕ → ℕ → Bounds
 within least most = record { least = least; most = most; form = Any }
 
 -- the same, of a form
-abbrev pub formed : ℕ → ℕ → Form → Bounds
-formed least most form = record { least = least; most = most; form = form }
+abbrev pub bounds_of_form : ℕ → ℕ → Form → Bounds
+bounds_of_form least most form = record { least = least; most = most; form = form }
 
 abbrev pub has_form : Form → ℕ → Bool
 has_form Any n = true

@@ -56,8 +56,8 @@ abbrev pub only_known : Text → List Text → Members → Result (Unit {0}) Pla
 only_known table known ms = refused_key table (unknown_in known (key_names ms))
 
 -- the value of a key that has to be there
-abbrev pub required : {A : Type 0} → Text → Members → Text → Reader A → Result A PlanFault
-required table ms name read = do
+abbrev pub required_value : {A : Type 0} → Text → Members → Text → Reader A → Result A PlanFault
+required_value table ms name read = do
   d ← or_fault (get_member name ms) (Missing (table ++ name))
   read (table ++ name) d
 
@@ -70,8 +70,8 @@ abbrev pub optional : {A : Type 0} → Text → Members → Text → A → Reade
 optional table ms name default read = found_or (table ++ name) default read (get_member name ms)
 
 -- a value that is there, which may be without a default
-abbrev pub given : {A : Type 0} → Reader A → Reader (Option A)
-given read path d = do
+abbrev pub given_value : {A : Type 0} → Reader A → Reader (Option A)
+given_value read path d = do
   x ← read path d
   Ok (Some x)
 
@@ -117,8 +117,8 @@ list span one path d = do
   each one path 0 counted_ds
 
 -- so many elements, or any number from the least on
-abbrev pub between : ℕ → ℕ → CountRange
-between least most = record { least = least; most = Some most; allowed = true }
+abbrev pub count_between : ℕ → ℕ → CountRange
+count_between least most = record { least = least; most = Some most; allowed = true }
 
 abbrev pub any_number : CountRange
 any_number = record { least = 0; most = None; allowed = true }

@@ -1,7 +1,7 @@
 //! Which numbers a key takes.
 
 ghost use Rattle.std.specs.Prelude.{◌≡◌, ◌<◌, ◌^◌};
-ghost use Rattle.toml_walk.specs.Bounds.{within, formed, has_form, admits};
+ghost use Rattle.toml_walk.specs.Bounds.{within, bounds_of_form, has_form, admits};
 
 /// The greatest number that TOML has, 2^63 - 1 (TOML 1.0).
 pub const GREATEST: u64 = 9223372036854775807;
@@ -54,7 +54,7 @@ impl Bounds {
 
     /// The numbers from `least` to `most` that have the form.
     pub fn formed(least: u64, most: u64, form: Form) -> Bounds
-        ensures { result ≡ formed least most form }
+        ensures { result ≡ bounds_of_form least most form }
     {
         Bounds { least, most, form }
     }

@@ -4,7 +4,7 @@ ghost use Rattle.std.specs.Prelude.{◌≡◌, map, option_map, length};
 ghost use Rattle.toml.specs.Data.{as_array};
 ghost use Rattle.toml.specs.View.{view};
 ghost use Rattle.toml_walk.specs.Fault.{Gives};
-ghost use Rattle.toml_walk.specs.Walk.{list_of, values_of, within_span, each, list, is_past, between, any_number};
+ghost use Rattle.toml_walk.specs.Walk.{list_of, values_of, within_span, each, list, is_past, count_between, any_number};
 
 use crate::{PlanError, PlanFault, Reader, place_path};
 use ide_types::{Bytes, Items};
@@ -24,7 +24,7 @@ pub struct CountRange {
 impl CountRange {
     /// From `least` to `most` elements.
     pub fn between(least: usize, most: usize) -> CountRange
-        ensures { result ≡ between least most }
+        ensures { result ≡ count_between least most }
     {
         CountRange {
             least,
@@ -122,7 +122,7 @@ pub struct ListOf<R> {
 impl<R> ListOf<R> {
     /// From `least` to `most` elements.
     pub fn between(least: usize, most: usize, element: R) -> ListOf<R>
-        ensures span { result.span ≡ between least most }
+        ensures span { result.span ≡ count_between least most }
         ensures element { result.element ≡ element }
     {
         ListOf {

@@ -2,7 +2,7 @@
 
 ghost use Rattle.std.specs.Prelude.{◌≡◌, ◌≤◌, ◌<◌, ◌^◌, IfOk, map};
 ghost use Rattle.toml.specs.View.{view};
-ghost use Rattle.toml_walk.specs.Bounds.{greatest, within, formed};
+ghost use Rattle.toml_walk.specs.Bounds.{greatest, within, bounds_of_form};
 ghost use Rattle.toml_walk.specs.Fault.{Gives};
 ghost use Rattle.toml_walk.specs.Walk.{values_of};
 ghost use Rattle.toml_walk.specs.Values.{integer, bounded_number, number, both, two_in, two};
@@ -68,7 +68,7 @@ impl Byte {
 
     /// From `least` to `most`, of the form.
     pub fn formed(least: u8, most: u8, form: Form) -> Byte
-        ensures { result.bounds ≡ formed least most form }
+        ensures { result.bounds ≡ bounds_of_form least most form }
     {
         Byte {
             bounds: Bounds::formed(u64::from(least), u64::from(most), form),
@@ -106,7 +106,7 @@ impl Word {
 
     /// From `least` to `most`, of the form.
     pub fn formed(least: u16, most: u16, form: Form) -> Word
-        ensures { result.bounds ≡ formed least most form }
+        ensures { result.bounds ≡ bounds_of_form least most form }
     {
         Word {
             bounds: Bounds::formed(u64::from(least), u64::from(most), form),
@@ -172,7 +172,7 @@ impl Wide {
 
     /// From `least` on, of the form.
     pub fn formed(least: u64, form: Form) -> Wide
-        ensures { result.bounds ≡ formed least greatest form }
+        ensures { result.bounds ≡ bounds_of_form least greatest form }
     {
         Wide {
             bounds: Bounds::formed(least, GREATEST, form),

@@ -5,7 +5,7 @@ ghost use Rattle.toml.specs.Data.{Data};
 ghost use Rattle.toml.specs.View.{view};
 ghost use Rattle.toml_walk.specs.declared.fault.PlanFault.{PlanFault};
 ghost use Rattle.toml_walk.specs.Fault.{Gives};
-ghost use Rattle.toml_walk.specs.Walk.{given};
+ghost use Rattle.toml_walk.specs.Walk.{given_value};
 
 use crate::PlanError;
 use std::alloc::Global;
@@ -32,7 +32,7 @@ pub struct Given<R> {
 impl<R: Reader> Reader for Given<R> {
     type Out = Option<R::Out>;
 
-    ghost reads = { λ g. given (R.reads g.element) };
+    ghost reads = { λ g. given_value (R.reads g.element) };
 
     fn read(&self, alloc: Global, path: &[u8], value: &Value) -> Result<Option<R::Out>, PlanError> {
         let given = self.element.read(alloc, path, value)?;

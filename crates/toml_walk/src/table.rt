@@ -7,7 +7,7 @@ ghost use Rattle.toml.specs.Data.{get_member, as_table};
 ghost use Rattle.toml.specs.View.{view, table_view};
 ghost use Rattle.toml_walk.specs.declared.fault.PlanFault.TheVariants.{Kind};
 ghost use Rattle.toml_walk.specs.Fault.{Gives, or_fault};
-ghost use Rattle.toml_walk.specs.Walk.{is_known, unknown_in, only_known, key_names, Ascend, required, optional};
+ghost use Rattle.toml_walk.specs.Walk.{is_known, unknown_in, only_known, key_names, Ascend, required_value, optional};
 
 use crate::shown::shown_path;
 use crate::{PlanError, PlanFault, Reader, key_path};
@@ -78,7 +78,7 @@ impl Keys<'_> {
     /// refuses its value.
     pub fn required<R: Reader>(&self, name: &str, reader: &R) -> Result<R::Out, PlanError>
         ensures { Gives (λ x. x) result
-            (required self.now.path (table_view self.now.table.now) name.now (R.reads reader.now)) }
+            (required_value self.now.path (table_view self.now.table.now) name.now (R.reads reader.now)) }
     {
         let path = key_path(self.alloc, self.path.as_slice(), name)?;
         match found(self.table, name) {

@@ -13,20 +13,18 @@ use Rattle.std.proofs.lemmas.Bool.{and_parts, or_cases}
 use Rattle.std.proofs.lemmas.Cmp.{nat_list_cmp_total}
 use Rattle.std.proofs.lemmas.Slice.Eq.{bytes_eq-Decides}
 use Rattle.toml.specs.Data.{Data, string, integer, float, boolean, datetime, array, table as data_table, Items}
-use Rattle.toml.specs.Data.{no_items, item, Members, no_members, member, get_member, as_integer, as_bool, as_str}
-use Rattle.toml.specs.Data.{depth, items_depth, members_depth, is_before, is_sorted}
-use Rattle.toml.specs.Data.{items_are_sorted, members_are_sorted}
+use Rattle.toml.specs.Data.{no_items, item, Members, no_members, member, get_member, as_integer, as_bool, as_str, depth}
+use Rattle.toml.specs.Data.{items_depth, members_depth, is_before, is_sorted, items_are_sorted, members_are_sorted}
 use Rattle.toml_walk.specs.declared.bounds.Bounds.{Bounds}
 use Rattle.toml_walk.specs.declared.bounds.Form.TheVariants.{Pages, Mebibytes, LastOfMebibyte, UnitMode}
 use Rattle.toml_walk.specs.declared.fault.PlanFault.{PlanFault}
 use Rattle.toml_walk.specs.declared.list.CountRange.{CountRange}
 use Rattle.toml_walk.specs.Fault.{◌>>=◌, or_fault}
-use Rattle.toml_walk.specs.Bounds.{greatest, within, formed}
+use Rattle.toml_walk.specs.Bounds.{greatest, within, bounds_of_form, admits}
 use Rattle.toml_walk.specs.Values.{integer as any_integer, number, truth, text, key_bytes, hex_bytes, two, two_in}
-use Rattle.toml_walk.specs.Walk.{Text, Reader, place, is_known, key_names, unknown_in, only_known, required, optional}
-use Rattle.toml_walk.specs.Walk.{table, list_of, values_of, is_past, within_span, each, list, between}
-use Rattle.toml_walk.specs.Walk.{any_number, given as walk_given}
-use Rattle.toml_walk.specs.Bounds.{admits}
+use Rattle.toml_walk.specs.Walk.{Text, Reader, place, is_known, key_names, unknown_in, only_known, required_value}
+use Rattle.toml_walk.specs.Walk.{optional, table, list_of, values_of, is_past, within_span, each, list, count_between}
+use Rattle.toml_walk.specs.Walk.{any_number, given_value as walk_given}
 use Rattle.toml_walk.specs.Values.{bounded_number}
 use Rattle.toml_walk.specs.declared.fault.PlanFault.TheVariants.{Missing, Kind, Range}
 use Rattle.std.specs.Option.{option_and_then}
@@ -212,8 +210,9 @@ ids_deep allowed path d x s e =
 
 addresses_deep : Deep 1 address_range
 addresses_deep path d x s e =
-    let a = first (two true (formed 0 greatest Mebibytes) (formed 0 greatest LastOfMebibyte) path d) _ x e in
-    two_deep true (formed 0 greatest Mebibytes) (formed 0 greatest LastOfMebibyte) path d a.0 s a.1
+    let a = first (two true (bounds_of_form 0 greatest Mebibytes) (bounds_of_form 0 greatest LastOfMebibyte) path d) _ x
+    e in
+    two_deep true (bounds_of_form 0 greatest Mebibytes) (bounds_of_form 0 greatest LastOfMebibyte) path d a.0 s a.1
 
 -- ---- members
 
@@ -298,7 +297,7 @@ table_deep n keys h path (array y) x s e = absurd cc
 table_deep n keys h path (data_table ms) x s e = let few = h _ ms x s e in omega (arith, few)
 
 of_required : {A : Type 0} (n : ℕ) (t : Text) (ms : Members) (name : Text) (read : Reader A) (x : A) → Deep n read
-    → required t ms name read ≡ Ok x → Found n ms name
+    → required_value t ms name read ≡ Ok x → Found n ms name
 of_required n t ms name read x h e d sorted at =
     let a = first (or_fault (get_member name ms) _) _ x e in
     let there : get_member name ms ≡ Some a.0 = given (get_member name ms) _ a.0 a.1 in
@@ -321,8 +320,8 @@ bar_deep : (t : Text) (ms : Members) (x : BarPlan) → members_are_sorted ms ≡
 unfolding bar_keys
 bar_deep t ms x s e =
     let k = first (only_known t bar_names ms) _ x e in
-    let base = first (required t ms (codes "base") (number (within 0 greatest))) _ x k.2 in
-    let pages = first (required t ms (codes "pages") (number (within 0 1048576))) _ x base.2 in
+    let base = first (required_value t ms (codes "base") (number (within 0 greatest))) _ x k.2 in
+    let pages = first (required_value t ms (codes "pages") (number (within 0 1048576))) _ x base.2 in
     let attributes = first (optional t ms (codes "attributes") 0 (number (within 0 15))) _ x pages.2 in
     known_deep 0 bar_names ms s (none_refused t (unknown_in bar_names (key_names ms)) k.1) (each_name 0 ms bar_names (
       of_required 0 t ms (codes "base") (number (within 0 greatest)) base.0 (number_deep 0 (within 0 greatest)) base.1,
@@ -342,15 +341,15 @@ region_deep : (t : Text) (ms : Members) (x : Region) → members_are_sorted ms �
 unfolding region_keys
 region_deep t ms x s e =
     let k = first (only_known t region_names ms) _ x e in
-    let base = first (required t ms (codes "base") (number (formed 0 greatest Pages))) _ x k.2 in
-    let size = first (required t ms (codes "size") (number (formed 4096 greatest Pages))) _ x base.2 in
+    let base = first (required_value t ms (codes "base") (number (bounds_of_form 0 greatest Pages))) _ x k.2 in
+    let size = first (required_value t ms (codes "size") (number (bounds_of_form 4096 greatest Pages))) _ x base.2 in
     known_deep 0 region_names ms s (none_refused t (unknown_in region_names (key_names ms)) k.1)
     (each_name 0 ms region_names (
-      of_required 0 t ms (codes "base") (number (formed 0 greatest Pages)) base.0
-          (number_deep 0 (formed 0 greatest Pages)) base.1,
+      of_required 0 t ms (codes "base") (number (bounds_of_form 0 greatest Pages)) base.0
+          (number_deep 0 (bounds_of_form 0 greatest Pages)) base.1,
       (
-        of_required 0 t ms (codes "size") (number (formed 4096 greatest Pages)) size.0
-            (number_deep 0 (formed 4096 greatest Pages)) size.1,
+        of_required 0 t ms (codes "size") (number (bounds_of_form 4096 greatest Pages)) size.0
+            (number_deep 0 (bounds_of_form 4096 greatest Pages)) size.1,
         tt,
       ),
     ))
@@ -360,12 +359,12 @@ stream_deep : (t : Text) (ms : Members) (x : StreamPlan) → members_are_sorted 
 unfolding stream_keys
 stream_deep t ms x s e =
     let k = first (only_known t stream_names ms) _ x e in
-    let id = first (required t ms (codes "id") (number (within 0 255))) _ x k.2 in
-    let kind = first (required t ms (codes "kind") stream_kind) _ x id.2 in
-    let aggregation = first (optional t ms (codes "mode") 1 (number (formed 1 8 UnitMode))) _ x kind.2 in
+    let id = first (required_value t ms (codes "id") (number (within 0 255))) _ x k.2 in
+    let kind = first (required_value t ms (codes "kind") stream_kind) _ x id.2 in
+    let aggregation = first (optional t ms (codes "mode") 1 (number (bounds_of_form 1 8 UnitMode))) _ x kind.2 in
     let rid = first (optional t ms (codes "rid") None (id_range (is_selective_kind kind.0))) _ x aggregation.2 in
     let ranges = first (optional t ms (codes "ranges") []
-    (list (only_if (is_selective_kind kind.0) (between 0 8)) address_range)) _ x rid.2 in
+    (list (only_if (is_selective_kind kind.0) (count_between 0 8)) address_range)) _ x rid.2 in
     let default = first (optional t ms (codes "default") false (truth_if (is_selective_kind kind.0))) _ x ranges.2 in
     let tcs = first (optional t ms (codes "tcs") []
     (list (only_if (not (is_selective_kind kind.0)) any_number) (number (within 0 7)))) _ x default.2 in
@@ -376,16 +375,16 @@ stream_deep t ms x s e =
       (
         of_required 2 t ms (codes "kind") stream_kind kind.0 (kind_deep 2) kind.1,
         (
-          of_optional 2 t ms (codes "mode") 1 (number (formed 1 8 UnitMode)) aggregation.0
-              (number_deep 2 (formed 1 8 UnitMode)) aggregation.1,
+          of_optional 2 t ms (codes "mode") 1 (number (bounds_of_form 1 8 UnitMode)) aggregation.0
+              (number_deep 2 (bounds_of_form 1 8 UnitMode)) aggregation.1,
           (
             of_optional 2 t ms (codes "rid") None (id_range (is_selective_kind kind.0)) rid.0
                 (deeper 1 2 (id_range (is_selective_kind kind.0)) (lit≤ tt) (ids_deep (is_selective_kind kind.0)))
                 rid.1,
             (
               of_optional 2 t ms (codes "ranges") []
-                  (list (only_if (is_selective_kind kind.0) (between 0 8)) address_range) ranges.0
-                  (list_deep 1 (only_if (is_selective_kind kind.0) (between 0 8)) address_range addresses_deep)
+                  (list (only_if (is_selective_kind kind.0) (count_between 0 8)) address_range) ranges.0
+                  (list_deep 1 (only_if (is_selective_kind kind.0) (count_between 0 8)) address_range addresses_deep)
                   ranges.1,
               (
                 of_optional 2 t ms (codes "default") false (truth_if (is_selective_kind kind.0)) default.0
@@ -412,11 +411,11 @@ interface_deep : (t : Text) (ms : Members) (x : InterfaceDraft) → members_are_
 unfolding interface_keys
 interface_deep t ms x s e =
     step (members_depth ms ≤ 2) (only_known t (interface_names 2) ms) _ x (λ k k_is more0.
-    step (members_depth ms ≤ 2) (required t ms (codes "rid") (number (within 0 65535))) _ x (λ rid rid_is more1.
-    step (members_depth ms ≤ 2) (required t ms (codes "stream") any_integer) _ x (λ bound bound_is more2.
+    step (members_depth ms ≤ 2) (required_value t ms (codes "rid") (number (within 0 65535))) _ x (λ rid rid_is more1.
+    step (members_depth ms ≤ 2) (required_value t ms (codes "stream") any_integer) _ x (λ bound bound_is more2.
     step (members_depth ms ≤ 2) (optional t ms (codes "flags") 0 (number (within 0 31))) _ x
     (λ flags flags_is more3.
-    step (members_depth ms ≤ 2) (optional t ms (codes "offset") 0 (number (formed 0 greatest Pages))) _ x
+    step (members_depth ms ≤ 2) (optional t ms (codes "offset") 0 (number (bounds_of_form 0 greatest Pages))) _ x
     (λ offset offset_is more4.
     step (members_depth ms ≤ 2) (optional t ms (codes "command") 0 (number (within 0 65535))) _ x
     (λ command command_is more5.
@@ -428,7 +427,7 @@ interface_deep t ms x s e =
     (λ pasid pasid_is more10.
     step (members_depth ms ≤ 2) (optional t ms (codes "ats") 0 (number (within 0 65535))) _ x (λ ats ats_is more11.
     step (members_depth ms ≤ 2) (optional t ms (codes "info") [] (hex_bytes 1024)) _ x (λ info info_is more12.
-    step (members_depth ms ≤ 2) (optional t ms (codes "bars") [] (list (between 0 6) (table bar_keys))) _ x
+    step (members_depth ms ≤ 2) (optional t ms (codes "bars") [] (list (count_between 0 6) (table bar_keys))) _ x
     (λ bars bars_is more13.
     known_deep 2 (interface_names 2) ms s (none_refused t (unknown_in (interface_names 2) (key_names ms)) k_is)
     (each_name 2 ms (interface_names 2) (
@@ -443,8 +442,8 @@ interface_deep t ms x s e =
               of_optional 2 t ms (codes "flags") 0 (number (within 0 31)) flags
                   (number_deep 2 (within 0 31)) flags_is,
               (
-                of_optional 2 t ms (codes "offset") 0 (number (formed 0 greatest Pages)) offset
-                    (number_deep 2 (formed 0 greatest Pages)) offset_is,
+                of_optional 2 t ms (codes "offset") 0 (number (bounds_of_form 0 greatest Pages)) offset
+                    (number_deep 2 (bounds_of_form 0 greatest Pages)) offset_is,
                 (
                   of_optional 2 t ms (codes "command") 0 (number (within 0 65535)) command
                       (number_deep 2 (within 0 65535)) command_is,
@@ -463,8 +462,9 @@ interface_deep t ms x s e =
                           (
                             of_optional 2 t ms (codes "info") [] (hex_bytes 1024) info (hex_deep 2 1024) info_is,
                             (
-                              of_optional 2 t ms (codes "bars") [] (list (between 0 6) (table bar_keys)) bars
-                                  (list_deep 1 (between 0 6) (table bar_keys) (table_deep 0 bar_keys bar_deep)) bars_is,
+                              of_optional 2 t ms (codes "bars") [] (list (count_between 0 6) (table bar_keys)) bars
+                                  (list_deep 1 (count_between 0 6) (table bar_keys) (table_deep 0 bar_keys bar_deep))
+                                  bars_is,
                               tt,
                             ),
                           ),
@@ -486,8 +486,9 @@ link_deep : (t : Text) (ms : Members) (x : LinkDraft) → members_are_sorted ms 
 unfolding link_keys
 link_deep t ms x s e =
     let k = first (only_known t (link_names 2) ms) _ x e in
-    let nonces = first (optional t ms (codes "nonces") [] (list (between 0 1024) key_bytes)) _ x k.2 in
-    let streams = first (required t ms (codes "stream") (list (between 1 16) (table stream_keys))) _ x nonces.2 in
+    let nonces = first (optional t ms (codes "nonces") [] (list (count_between 0 1024) key_bytes)) _ x k.2 in
+    let streams = first (required_value t ms (codes "stream") (list (count_between 1 16) (table stream_keys))) _ x
+    nonces.2 in
     let interfaces = first (optional t ms (codes "interface") [] (list any_number (table (interface_keys 2)))) _ x
     streams.2 in
     let hop = first (optional t ms (codes "hop") None (walk_given (number (within 0 255)))) _ x interfaces.2 in
@@ -502,11 +503,11 @@ link_deep t ms x s e =
             (given_deep 4 (list any_number (number (within 0 7)))
             (list_deep 3 any_number (number (within 0 7)) (number_deep 3 (within 0 7)))) classes.1,
         (
-          of_optional 4 t ms (codes "nonces") [] (list (between 0 1024) key_bytes) nonces.0
-              (list_deep 3 (between 0 1024) key_bytes (key_deep 3)) nonces.1,
+          of_optional 4 t ms (codes "nonces") [] (list (count_between 0 1024) key_bytes) nonces.0
+              (list_deep 3 (count_between 0 1024) key_bytes (key_deep 3)) nonces.1,
           (
-            of_required 4 t ms (codes "stream") (list (between 1 16) (table stream_keys)) streams.0
-                (list_deep 3 (between 1 16) (table stream_keys) (table_deep 2 stream_keys stream_deep)) streams.1,
+            of_required 4 t ms (codes "stream") (list (count_between 1 16) (table stream_keys)) streams.0
+                (list_deep 3 (count_between 1 16) (table stream_keys) (table_deep 2 stream_keys stream_deep)) streams.1,
             (
               of_optional 4 t ms (codes "interface") [] (list any_number (table (interface_keys 2))) interfaces.0
                   (list_deep 3 any_number (table (interface_keys 2)) (table_deep 2 (interface_keys 2) interface_deep))
@@ -523,10 +524,10 @@ peer_deep : (t : Text) (ms : Members) (x : PeerPlan) → members_are_sorted ms �
 unfolding peer_keys
 peer_deep t ms x s e =
     let k = first (only_known t peer_names ms) _ x e in
-    let id = first (required t ms (codes "id") (number (within 0 255))) _ x k.2 in
-    let near = first (required t ms (codes "a") (number (within 0 7))) _ x id.2 in
-    let far = first (required t ms (codes "b") (number (within 0 7))) _ x near.2 in
-    let aggregation = first (optional t ms (codes "mode") 1 (number (formed 1 8 UnitMode))) _ x far.2 in
+    let id = first (required_value t ms (codes "id") (number (within 0 255))) _ x k.2 in
+    let near = first (required_value t ms (codes "a") (number (within 0 7))) _ x id.2 in
+    let far = first (required_value t ms (codes "b") (number (within 0 7))) _ x near.2 in
+    let aggregation = first (optional t ms (codes "mode") 1 (number (bounds_of_form 1 8 UnitMode))) _ x far.2 in
     known_deep 0 peer_names ms s (none_refused t (unknown_in peer_names (key_names ms)) k.1)
     (each_name 0 ms peer_names (
       of_required 0 t ms (codes "id") (number (within 0 255)) id.0 (number_deep 0 (within 0 255)) id.1,
@@ -535,8 +536,8 @@ peer_deep t ms x s e =
         (
           of_required 0 t ms (codes "b") (number (within 0 7)) far.0 (number_deep 0 (within 0 7)) far.1,
           (
-            of_optional 0 t ms (codes "mode") 1 (number (formed 1 8 UnitMode)) aggregation.0
-                (number_deep 0 (formed 1 8 UnitMode))
+            of_optional 0 t ms (codes "mode") 1 (number (bounds_of_form 1 8 UnitMode)) aggregation.0
+                (number_deep 0 (bounds_of_form 1 8 UnitMode))
                 aggregation.1,
             tt,
           ),
@@ -563,7 +564,7 @@ two_read t (Some d) e = by (as_integer d) e
         two n false e = absurd cc
     by (Some (negsuc n)) e = absurd cc
 
-newer_read : (t : Text) (ms : Members) → required t ms (codes "version") (number (within 1 2)) ≡ Ok 2
+newer_read : (t : Text) (ms : Members) → required_value t ms (codes "version") (number (within 1 2)) ≡ Ok 2
     → is_newer ms ≡ true
 newer_read t ms e = two_read t (get_member (codes "version") ms) e
 
@@ -572,27 +573,29 @@ same_version v r a b = cc
 
 -- the version is 2
 top_deep : (t : Text) (ms : Members) (x : PlanDraft) → members_are_sorted ms ≡ true
-    → required t ms (codes "version") (number (within 1 2)) ≡ Ok 2 → top_keys t ms ≡ Ok x → members_depth ms ≤ 6
+    → required_value t ms (codes "version") (number (within 1 2)) ≡ Ok 2 → top_keys t ms ≡ Ok x → members_depth ms ≤ 6
 unfolding top_keys
 top_deep t ms x s two e =
     let k = first (only_known t (top_names (is_newer ms)) ms) _ x e in
     let known : only_known t (top_names true) ms ≡ Ok k.0 = subst (λ (b : Bool). only_known t (top_names b) ms ≡ Ok k.0)
     (newer_read t ms two) k.1 in
-    let version = first (required t ms (codes "version") (number (within 1 2))) _ x k.2 in
+    let version = first (required_value t ms (codes "version") (number (within 1 2))) _ x k.2 in
     let is : version.0 ≡ 2 = same_version version.0 _ version.1 two in
     let portion = first (optional t ms (codes "portion") 64 (number (within 16 65535))) _ x version.2 in
     let units = first (optional t ms (codes "units_per_key") 4294967296 (number (within 1 4294967296))) _ x portion.2 in
-    let pool = first (required t ms (codes "pool") (list (between 6 6144) key_bytes)) _ x units.2 in
-    let links = first (required t ms (codes "link") (list (between 1 8) (table (link_keys version.0)))) _ x pool.2 in
-    let read : required t ms (codes "link") (list (between 1 8) (table (link_keys 2)))
-    ≡ Ok links.0 = subst (λ (v : ℕ). required t ms (codes "link") (list (between 1 8) (table (link_keys v)))
+    let pool = first (required_value t ms (codes "pool") (list (count_between 6 6144) key_bytes)) _ x units.2 in
+    let links = first (required_value t ms (codes "link") (list (count_between 1 8) (table (link_keys version.0)))) _ x
+    pool.2 in
+    let read : required_value t ms (codes "link") (list (count_between 1 8) (table (link_keys 2)))
+    ≡ Ok links.0 = subst (λ (v : ℕ). required_value t ms (codes "link") (list (count_between 1 8) (table (link_keys v)))
     ≡ Ok links.0) is links.1 in
-    let memory = first (optional t ms (codes "memory") [] (list (between 0 16) (table region_keys))) _ x links.2 in
-    let peers = first (optional t ms (codes "p2p") [] (list (between 0 8) (table peer_keys))) _ x memory.2 in
+    let memory = first (optional t ms (codes "memory") [] (list (count_between 0 16) (table region_keys))) _ x links.2
+    in
+    let peers = first (optional t ms (codes "p2p") [] (list (count_between 0 8) (table peer_keys))) _ x memory.2 in
     known_deep 6 (top_names true) ms s (none_refused t (unknown_in (top_names true) (key_names ms)) known)
     (each_name 6 ms (top_names true) (
-      of_optional 6 t ms (codes "p2p") [] (list (between 0 8) (table peer_keys)) peers.0
-          (list_deep 5 (between 0 8) (table peer_keys)
+      of_optional 6 t ms (codes "p2p") [] (list (count_between 0 8) (table peer_keys)) peers.0
+          (list_deep 5 (count_between 0 8) (table peer_keys)
           (deeper 1 5 (table peer_keys) (lit≤ tt) (table_deep 0 peer_keys peer_deep))) peers.1,
       (
         of_required 6 t ms (codes "version") (number (within 1 2)) version.0 (number_deep 6 (within 1 2)) version.1,
@@ -603,14 +606,14 @@ top_deep t ms x s two e =
             of_optional 6 t ms (codes "units_per_key") 4294967296 (number (within 1 4294967296)) units.0
                 (number_deep 6 (within 1 4294967296)) units.1,
             (
-              of_required 6 t ms (codes "pool") (list (between 6 6144) key_bytes) pool.0
-                  (list_deep 5 (between 6 6144) key_bytes (key_deep 5)) pool.1,
+              of_required 6 t ms (codes "pool") (list (count_between 6 6144) key_bytes) pool.0
+                  (list_deep 5 (count_between 6 6144) key_bytes (key_deep 5)) pool.1,
               (
-                of_required 6 t ms (codes "link") (list (between 1 8) (table (link_keys 2))) links.0
-                    (list_deep 5 (between 1 8) (table (link_keys 2)) (table_deep 4 (link_keys 2) link_deep)) read,
+                of_required 6 t ms (codes "link") (list (count_between 1 8) (table (link_keys 2))) links.0
+                    (list_deep 5 (count_between 1 8) (table (link_keys 2)) (table_deep 4 (link_keys 2) link_deep)) read,
                 (
-                  of_optional 6 t ms (codes "memory") [] (list (between 0 16) (table region_keys)) memory.0
-                      (list_deep 5 (between 0 16) (table region_keys)
+                  of_optional 6 t ms (codes "memory") [] (list (count_between 0 16) (table region_keys)) memory.0
+                      (list_deep 5 (count_between 0 16) (table region_keys)
                       (deeper 1 5 (table region_keys) (lit≤ tt) (table_deep 0 region_keys region_deep))) memory.1,
                   tt,
                 ),
@@ -623,7 +626,7 @@ top_deep t ms x s two e =
 
 -- a table that means a plan in version 2
 pub plan_deep : (ms : Members) (p : Plan) → members_are_sorted ms ≡ true
-    → required [] ms (codes "version") (number (within 1 2)) ≡ Ok 2 → plan_in ms ≡ Ok p → members_depth ms ≤ 6
+    → required_value [] ms (codes "version") (number (within 1 2)) ≡ Ok 2 → plan_in ms ≡ Ok p → members_depth ms ≤ 6
 plan_deep ms p s two e =
     let d = first (top_keys [] ms) (λ d. rules d >>= λ _. Ok (plan_from d)) p e in
     top_deep [] ms d.0 s two d.1

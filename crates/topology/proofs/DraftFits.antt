@@ -10,18 +10,19 @@ use Rattle.ide_types.specs.declared.stream.StreamPlan.{StreamPlan}
 use Rattle.ide_types.specs.Plans.{has_selective, is_selective}
 use Rattle.ide_types.specs.Fits.{AreBytes, IsKey, FitsStream, FitsBar, FitsInterface, FitsRegion}
 use Rattle.toml_walk.specs.declared.bounds.Form.TheVariants.{Pages}
-use Rattle.toml_walk.specs.Bounds.{greatest, within, formed}
-use Rattle.toml_walk.specs.Walk.{Text, only_known, required, optional, table, list, between, any_number, given}
+use Rattle.toml_walk.specs.Bounds.{greatest, within, bounds_of_form}
+use Rattle.toml_walk.specs.Walk.{Text, only_known, required_value, optional, table, list, count_between, any_number}
+use Rattle.toml_walk.specs.Walk.{given_value}
 use Rattle.toml_walk.specs.Values.{integer, number, key_bytes, hex_bytes}
 use Rattle.toml_walk.proofs.Holds.{Holds, gives, anything, next, weaker, Admitted, Listed, number_holds, key_holds}
 use Rattle.toml_walk.proofs.Holds.{hex_holds, required_holds, optional_holds, given_holds, table_holds, list_holds}
-use Rattle.topology.specs.declared.draft.InterfaceDraft.{InterfaceDraft}
 use Rattle.topology.specs.declared.draft.LinkDraft.{LinkDraft}
 use Rattle.topology.specs.declared.draft.PlanDraft.{PlanDraft}
 use Rattle.topology.specs.Tables.{stream_keys, bar_keys, stream_id_of, interface_names, interface_keys, link_names}
 use Rattle.topology.specs.Tables.{link_keys, region_keys, peer_keys, is_newer, top_names, top_keys}
 use Rattle.topology.specs.Rules.{is_id, is_bound}
 use Rattle.topology.proofs.TableFits.{Upto, upto, stream_holds, bar_holds, region_holds, PeerHolds, peer_holds}
+use Rattle.topology.specs.declared.draft.InterfaceDraft.{InterfaceDraft}
 
 id_is : (z : ℤ) (id : ℕ) → id ≤ 255 → is_id z id ≡ true → (id == stream_id_of z) ≡ true
 id_is (pos n) id small h =
@@ -55,9 +56,9 @@ DraftFits d = (streams : List StreamPlan) → All FitsStream streams → is_boun
     → FitsInterface streams d.interface
 
 bars_hold : (path : Text) (d : Data) → Holds (λ xs. (length xs ≤ 6) × All FitsBar xs)
-    (list (between 0 6) (table bar_keys) path d)
+    (list (count_between 0 6) (table bar_keys) path d)
 bars_hold path d =
-    weaker (Listed (between 0 6) FitsBar) _ _
+    weaker (Listed (count_between 0 6) FitsBar) _ _
     (list_holds _ FitsBar (table bar_keys) (table_holds FitsBar bar_keys bar_holds) path d)
     (λ xs l. (ltb-false 6 (length xs) l.most, l.each))
 
@@ -66,13 +67,13 @@ pub interface_holds : (version : ℕ) (t : Text) (ms : Members) → Holds DraftF
 unfolding interface_keys DraftFits
 interface_holds version t ms =
     next (λ _. Unit {0}) DraftFits (only_known t (interface_names version) ms) _ (anything _) (λ _ _.
-    next (Upto 65535) DraftFits (required t ms (codes "rid") (number (within 0 65535))) _
+    next (Upto 65535) DraftFits (required_value t ms (codes "rid") (number (within 0 65535))) _
     (required_holds _ t ms (codes "rid") _ (upto 65535)) (λ rid rid_fits.
-    next (λ _. Unit {0}) DraftFits (required t ms (codes "stream") integer) _ (anything _) (λ z _.
+    next (λ _. Unit {0}) DraftFits (required_value t ms (codes "stream") integer) _ (anything _) (λ z _.
     next (Upto 31) DraftFits (optional t ms (codes "flags") 0 (number (within 0 31))) _
     (optional_holds _ t ms (codes "flags") 0 _ (lit≤ tt) (upto 31)) (λ flags flags_fit.
-    next (Admitted (formed 0 greatest Pages)) DraftFits
-    (optional t ms (codes "offset") 0 (number (formed 0 greatest Pages))) _
+    next (Admitted (bounds_of_form 0 greatest Pages)) DraftFits
+    (optional t ms (codes "offset") 0 (number (bounds_of_form 0 greatest Pages))) _
     (optional_holds _ t ms (codes "offset") 0 _ (record { least = lit≤ tt; most = lit≤ tt; form = refl })
     (number_holds _)) (λ offset offset_fits.
     next (Upto 65535) DraftFits (optional t ms (codes "command") 0 (number (within 0 65535))) _
@@ -93,7 +94,7 @@ interface_holds version t ms =
     _
     (optional_holds _ t ms (codes "info") [] _ (lit≤ tt, All-nil (λ b. b < 256)) (hex_holds 1024)) (λ info info_fits.
     next (λ xs. (length xs ≤ 6) × All FitsBar xs) DraftFits
-    (optional t ms (codes "bars") [] (list (between 0 6) (table bar_keys))) _
+    (optional t ms (codes "bars") [] (list (count_between 0 6) (table bar_keys))) _
     (optional_holds _ t ms (codes "bars") [] _ (lit≤ tt, All-nil FitsBar) bars_hold) (λ bars bars_fit.
     gives DraftFits _ (λ streams streams_fit bound. record {
       requester = rid_fits;
@@ -130,8 +131,8 @@ classes_hold path d =
     (λ xs l. l.each)
 
 nonces_hold : (path : Text) (d : Data) → Holds (λ xs. (length xs ≤ 1024) × All IsKey xs)
-    (list (between 0 1024) key_bytes path d)
-nonces_hold path d = weaker (Listed (between 0 1024) IsKey) _ _ (list_holds _ IsKey key_bytes key_holds path d)
+    (list (count_between 0 1024) key_bytes path d)
+nonces_hold path d = weaker (Listed (count_between 0 1024) IsKey) _ _ (list_holds _ IsKey key_bytes key_holds path d)
     (λ xs l. (ltb-false 1024 (length xs) l.most, l.each))
 
 interfaces_hold : (version : ℕ) (path : Text) (d : Data) → Holds (All DraftFits)
@@ -147,10 +148,10 @@ unfolding link_keys
 link_holds version t ms =
     next (λ _. Unit {0}) LinkHolds (only_known t (link_names version) ms) _ (anything _) (λ _ _.
     next (λ xs. (length xs ≤ 1024) × All IsKey xs) LinkHolds
-    (optional t ms (codes "nonces") [] (list (between 0 1024) key_bytes)) _
+    (optional t ms (codes "nonces") [] (list (count_between 0 1024) key_bytes)) _
     (optional_holds _ t ms (codes "nonces") [] _ (lit≤ tt, All-nil IsKey) nonces_hold) (λ nonces nonces_fit.
-    next (Listed (between 1 16) FitsStream) LinkHolds
-    (required t ms (codes "stream") (list (between 1 16) (table stream_keys))) _
+    next (Listed (count_between 1 16) FitsStream) LinkHolds
+    (required_value t ms (codes "stream") (list (count_between 1 16) (table stream_keys))) _
     (required_holds _ t ms (codes "stream") _
     (list_holds _ FitsStream (table stream_keys) (table_holds FitsStream stream_keys stream_holds)))
     (λ streams streams_fit.
@@ -159,10 +160,10 @@ link_holds version t ms =
     (optional_holds _ t ms (codes "interface") [] _ (All-nil DraftFits) (interfaces_hold version))
     (λ interfaces interfaces_fit.
     next (λ (o : Option ℕ). IfSome o (Upto 255)) LinkHolds
-    (optional t ms (codes "hop") None (given (number (within 0 255)))) _
+    (optional t ms (codes "hop") None (given_value (number (within 0 255)))) _
     (optional_holds _ t ms (codes "hop") None _ tt (given_holds (Upto 255) _ (upto 255))) (λ hop hop_fits.
     next (λ (o : Option (List ℕ)). IfSome o (All (λ c. c ≤ 7))) LinkHolds
-    (optional t ms (codes "hop_tcs") None (given (list any_number (number (within 0 7))))) _
+    (optional t ms (codes "hop_tcs") None (given_value (list any_number (number (within 0 7))))) _
     (optional_holds _ t ms (codes "hop_tcs") None _ tt (given_holds (All (λ c. c ≤ 7)) _ classes_hold))
     (λ hop_classes hop_classes_fit.
     gives LinkHolds _ (record {
@@ -180,17 +181,17 @@ pub record TopHolds (d : PlanDraft) : Type 0 where
   pub version : Admitted (within 1 2) d.version
   pub portion : Admitted (within 16 65535) d.portion
   pub units : Admitted (within 1 4294967296) d.units_per_key
-  pub pool : Listed (between 6 6144) IsKey d.pool
-  pub links : Listed (between 1 8) LinkHolds d.links
-  pub regions : Listed (between 0 16) FitsRegion d.memory
-  pub peers : Listed (between 0 8) PeerHolds d.peers
+  pub pool : Listed (count_between 6 6144) IsKey d.pool
+  pub links : Listed (count_between 1 8) LinkHolds d.links
+  pub regions : Listed (count_between 0 16) FitsRegion d.memory
+  pub peers : Listed (count_between 0 8) PeerHolds d.peers
 
 -- key by key, as the keys are read
 pub top_holds : (t : Text) (ms : Members) → Holds TopHolds (top_keys t ms)
 unfolding top_keys
 top_holds t ms =
     next (λ _. Unit {0}) TopHolds (only_known t (top_names (is_newer ms)) ms) _ (anything _) (λ _ _.
-    next (Admitted (within 1 2)) TopHolds (required t ms (codes "version") (number (within 1 2))) _
+    next (Admitted (within 1 2)) TopHolds (required_value t ms (codes "version") (number (within 1 2))) _
     (required_holds _ t ms (codes "version") _ (number_holds _)) (λ version version_fits.
     next (Admitted (within 16 65535)) TopHolds (optional t ms (codes "portion") 64 (number (within 16 65535))) _
     (optional_holds _ t ms (codes "portion") 64 _ (record { least = lit≤ tt; most = lit≤ tt; form = refl })
@@ -199,20 +200,21 @@ top_holds t ms =
     (optional t ms (codes "units_per_key") 4294967296 (number (within 1 4294967296))) _
     (optional_holds _ t ms (codes "units_per_key") 4294967296 _
     (record { least = lit≤ tt; most = lit≤ tt; form = refl }) (number_holds _)) (λ units units_fit.
-    next (Listed (between 6 6144) IsKey) TopHolds (required t ms (codes "pool") (list (between 6 6144) key_bytes)) _
+    next (Listed (count_between 6 6144) IsKey) TopHolds
+    (required_value t ms (codes "pool") (list (count_between 6 6144) key_bytes)) _
     (required_holds _ t ms (codes "pool") _ (list_holds _ IsKey key_bytes key_holds)) (λ pool pool_fits.
-    next (Listed (between 1 8) LinkHolds) TopHolds
-    (required t ms (codes "link") (list (between 1 8) (table (link_keys version)))) _
+    next (Listed (count_between 1 8) LinkHolds) TopHolds
+    (required_value t ms (codes "link") (list (count_between 1 8) (table (link_keys version)))) _
     (required_holds _ t ms (codes "link") _
     (list_holds _ LinkHolds (table (link_keys version))
     (table_holds LinkHolds (link_keys version) (link_holds version)))) (λ links links_fit.
-    next (Listed (between 0 16) FitsRegion) TopHolds
-    (optional t ms (codes "memory") [] (list (between 0 16) (table region_keys))) _
+    next (Listed (count_between 0 16) FitsRegion) TopHolds
+    (optional t ms (codes "memory") [] (list (count_between 0 16) (table region_keys))) _
     (optional_holds _ t ms (codes "memory") [] _ (record { least = lit≤ tt; most = refl; each = All-nil FitsRegion })
     (list_holds _ FitsRegion (table region_keys) (table_holds FitsRegion region_keys region_holds)))
     (λ memory memory_fits.
-    next (Listed (between 0 8) PeerHolds) TopHolds
-    (optional t ms (codes "p2p") [] (list (between 0 8) (table peer_keys))) _
+    next (Listed (count_between 0 8) PeerHolds) TopHolds
+    (optional t ms (codes "p2p") [] (list (count_between 0 8) (table peer_keys))) _
     (optional_holds _ t ms (codes "p2p") [] _ (record { least = lit≤ tt; most = refl; each = All-nil PeerHolds })
     (list_holds _ PeerHolds (table peer_keys) (table_holds PeerHolds peer_keys peer_holds)))
     (λ peers peers_fit.

@@ -18,8 +18,7 @@ pub record Looked (keys : List (List ℕ)) (places : BTreeMap (List ℕ) ℕ) (p
 
 -- one more key was looked up
 pub looked_more : (keys : List (List ℕ)) (m n : BTreeMap (List ℕ) ℕ) (pair : Option (ℕ × ℕ)) (old : Option ℕ) (i : ℕ)
-    → 0 < i → Looked keys m pair i
-    → old ≡ get (slice_cmp nat_cmp) m (get_or keys (i - 1) [])
+    → 0 < i → Looked keys m pair i → old ≡ get (slice_cmp nat_cmp) m (get_or keys (i - 1) [])
     → Updates (slice_cmp nat_cmp) m n (get_or keys (i - 1) []) (Some (i - 1))
     → Looked keys n (pair_or (i - 1) old pair) (i - 1)
 looked_more keys m n pair old i some h e u =

@@ -71,8 +71,7 @@ classes_small (Some classes) h = h
 
 pub hop_fits : (peers : List PeerPlan) (link : ℕ) (streams : List StreamPlan) (hop : Option ℕ)
     (classes : Option (List ℕ)) → IfSome hop (Upto 255) → IfSome classes (All (λ c. c ≤ 7))
-    → ((id : ℕ) → hop ≡ Some id → HopRuled peers link streams id classes)
-    → FitsHopIf streams (hop_of hop classes)
+    → ((id : ℕ) → hop ≡ Some id → HopRuled peers link streams id classes) → FitsHopIf streams (hop_of hop classes)
 hop_fits peers link streams None classes h c r = tt
 hop_fits peers link streams (Some id) classes h c r =
     let ruled = r id refl in
@@ -110,8 +109,7 @@ hop_other (Some n) classes id other = apart_test n id (other n refl)
 
 -- no stream and no hop of the link has the ID
 no_id : (links : List LinkDraft) (link id : ℕ) (o : Option LinkDraft) → slice_get links link ≡ o
-    → has_stream_id (draft_streams o) id ≡ false
-    → ((l : LinkDraft) → o ≡ Some l → (n : ℕ) → l.hop ≡ Some n → n ≢ id)
+    → has_stream_id (draft_streams o) id ≡ false → ((l : LinkDraft) → o ≡ Some l → (n : ℕ) → l.hop ≡ Some n → n ≢ id)
     → link_has_id (option_map link_of o) id ≡ false
 no_id links link id None is own other = refl
 no_id links link id (Some l) is own other = rw (own, hop_other l.hop l.hop_classes id (other l refl)) refl

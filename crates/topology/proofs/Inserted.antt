@@ -17,7 +17,7 @@ use Rattle.ide_types.specs.declared.bytes.Bytes.{Bytes}
 use Rattle.ide_types.specs.declared.plan.Plan.{Plan}
 use Rattle.toml_walk.specs.Bounds.{within}
 use Rattle.toml_walk.specs.Values.{number}
-use Rattle.toml_walk.specs.Walk.{Text, required}
+use Rattle.toml_walk.specs.Walk.{Text, required_value}
 use Rattle.topology.specs.Meaning.{document, plan_in}
 use Rattle.topology.specs.Migration.{IsMigrated, MigText, with_member, migrated_members}
 use Rattle.topology.proofs.Migrated.{own_value}
@@ -38,7 +38,7 @@ inserted k v [] = refl
 inserted k v (e ∷ es) = inserted_at (string_cmp k e.0) k v e es refl (inserted k v es)
 
 -- the version of a table in version 2
-version_read : (ms : Members) → required [] (migrated_members ms) (codes "version") (number (within 1 2)) ≡ Ok 2
+version_read : (ms : Members) → required_value [] (migrated_members ms) (codes "version") (number (within 1 2)) ≡ Ok 2
 version_read ms = rw (own_value (codes "version") (integer (pos 2)) ms refl) refl
 
 -- a topology in version 2 is not deep

@@ -1,6 +1,5 @@
 -- The table with `version` 2 means the plan of the table, version aside.
-use Rattle.std.proofs.Common.{◌≡◌, refl, sym, ◌∙◌, true, List}
-use Rattle.std.proofs.Common.{Option, Some, None}
+use Rattle.std.proofs.Common.{◌≡◌, refl, sym, ◌∙◌, true, List, Option, Some, None}
 use Rattle.std.specs.Ordering.{nat_cmp, match_ordering}
 use Rattle.std.specs.Cmp.Lexicographic.{slice_cmp}
 use Rattle.std.specs.declared.cmp.Ordering.{Ordering}
@@ -21,8 +20,7 @@ abbrev pub Apart : Text → Text → Type 0
 Apart name key = (other : Text) → slice_cmp nat_cmp key other ≡ Equal → slice_cmp nat_cmp name other ≡ Equal → ⊥
 
 other_at : (o : Ordering) (name key other : Text) (d e : Data) (ms : Members) → slice_cmp nat_cmp key other ≡ o
-    → slice_cmp nat_cmp key key ≡ Equal → Apart name key
-    → get_member name (with_member key d ms) ≡ get_member name ms
+    → slice_cmp nat_cmp key key ≡ Equal → Apart name key → get_member name (with_member key d ms) ≡ get_member name ms
     → get_member name (with_member key d (member other e ms)) ≡ get_member name (member other e ms)
 other_at Less name key other d e ms is same apart later = rw is
     (skipped (slice_cmp nat_cmp name key) (get_member name (member other e ms)) d (apart key same))

@@ -1,10 +1,9 @@
 -- The plan of the table with `version` 2.
 use Rattle.std.proofs.Common.{◌≡◌, refl, sym, ◌∙◌, ℕ, ◌==◌, ◌||◌, ◌≤◌, nat_le, pos, Bool, true, false, []}
 use Rattle.std.proofs.Common.{Option, Some, None, Ok, codes, arith}
-use Rattle.std.specs.Ordering.{nat_cmp}
+use Rattle.std.specs.Ordering.{nat_cmp, is_eq}
 use Rattle.std.specs.Cmp.Lexicographic.{slice_cmp}
 use Rattle.std.specs.declared.cmp.Ordering.TheVariants.{Equal}
-use Rattle.std.specs.Ordering.{is_eq}
 use Rattle.std.specs.Str.{bytes_eq}
 use Rattle.std.proofs.lemmas.Bool.{leb-true, le-leb, true≢false}
 use Rattle.std.proofs.lemmas.Map.Text.{is_eq-slice_cmp}
@@ -16,8 +15,8 @@ use Rattle.toml_walk.specs.declared.fault.PlanFault.TheVariants.{Missing}
 use Rattle.toml_walk.specs.Fault.{◌>>=◌, or_fault}
 use Rattle.toml_walk.specs.Bounds.{within}
 use Rattle.toml_walk.specs.Values.{number, key_bytes}
-use Rattle.toml_walk.specs.Walk.{Text, Reader, is_known, only_known, required, optional, table, list}
-use Rattle.toml_walk.specs.Walk.{between}
+use Rattle.toml_walk.specs.Walk.{Text, Reader, is_known, only_known, required_value, optional, table, list}
+use Rattle.toml_walk.specs.Walk.{count_between}
 use Rattle.topology.specs.declared.draft.PlanDraft.{PlanDraft}
 use Rattle.topology.specs.Tables.{is_newer, top_names, link_keys, region_keys, peer_keys, top_keys}
 use Rattle.topology.specs.Rules.{in_sixes, no_clash, each_link, at_most, interface_count, rules}
@@ -56,8 +55,8 @@ from_value path read again None h = record { given = λ x e. absurd cc }
 from_value path read again (Some d) h = h path d
 
 required_is : {A : Type 0} (name : Text) (read again : Reader A) (ms : Members) → bytes_eq name (codes "version")
-    ≡ false → Extends read again → Carries Same (required [] ms name read)
-    (required [] (migrated_members ms) name again)
+    ≡ false → Extends read again → Carries Same (required_value [] ms name read)
+    (required_value [] (migrated_members ms) name again)
 required_is name read again ms other h = rw (value_is name ms other) (from_value _ read again (get_member name ms) h)
 
 newer_is : (ms : Members) → is_newer (migrated_members ms) ≡ true
@@ -77,8 +76,9 @@ known_is ms =
     rw (newer_is ms, same_unknown (top_names true) (codes "version") (integer (pos 2)) ms refl)
     (more_known (top_names (is_newer ms)) (top_names true) [] ms (top_known (is_newer ms)))
 
-version_is : (ms : Members) → Carries (λ (v w : ℕ). w ≡ 2) (required [] ms (codes "version") (number (within 1 2)))
-    (required [] (migrated_members ms) (codes "version") (number (within 1 2)))
+version_is : (ms : Members) → Carries (λ (v w : ℕ). w ≡ 2)
+    (required_value [] ms (codes "version") (number (within 1 2)))
+    (required_value [] (migrated_members ms) (codes "version") (number (within 1 2)))
 version_is ms = record { given = λ v e. (2, rw (own_value (codes "version") (integer (pos 2)) ms refl) refl, refl) }
 
 abbrev pub InVersion2 : PlanDraft → PlanDraft → Type 0
@@ -90,28 +90,28 @@ top_is ms =
     next Same InVersion2 (only_known [] (top_names (is_newer ms)) ms)
     (only_known [] (top_names (is_newer (migrated_members ms))) (migrated_members ms)) _ _ (known_is ms)
     (λ _ _ _.
-    next (λ (v w : ℕ). w ≡ 2) InVersion2 (required [] ms (codes "version") (number (within 1 2)))
-    (required [] (migrated_members ms) (codes "version") (number (within 1 2))) _ _ (version_is ms) (λ v w two.
+    next (λ (v w : ℕ). w ≡ 2) InVersion2 (required_value [] ms (codes "version") (number (within 1 2)))
+    (required_value [] (migrated_members ms) (codes "version") (number (within 1 2))) _ _ (version_is ms) (λ v w two.
     next Same InVersion2 (optional [] ms (codes "portion") 64 (number (within 16 65535)))
     (optional [] (migrated_members ms) (codes "portion") 64 (number (within 16 65535))) _ _
     (optional_is (codes "portion") 64 (number (within 16 65535)) ms refl) (λ p q portion.
     next Same InVersion2 (optional [] ms (codes "units_per_key") 4294967296 (number (within 1 4294967296)))
     (optional [] (migrated_members ms) (codes "units_per_key") 4294967296 (number (within 1 4294967296))) _ _
     (optional_is (codes "units_per_key") 4294967296 (number (within 1 4294967296)) ms refl) (λ u w2 units.
-    next Same InVersion2 (required [] ms (codes "pool") (list (between 6 6144) key_bytes))
-    (required [] (migrated_members ms) (codes "pool") (list (between 6 6144) key_bytes)) _ _
-    (required_is (codes "pool") (list (between 6 6144) key_bytes) (list (between 6 6144) key_bytes) ms refl
+    next Same InVersion2 (required_value [] ms (codes "pool") (list (count_between 6 6144) key_bytes))
+    (required_value [] (migrated_members ms) (codes "pool") (list (count_between 6 6144) key_bytes)) _ _
+    (required_is (codes "pool") (list (count_between 6 6144) key_bytes) (list (count_between 6 6144) key_bytes) ms refl
     (λ path d. itself _)) (λ k l pool.
-    next Same InVersion2 (required [] ms (codes "link") (list (between 1 8) (table (link_keys v))))
-    (required [] (migrated_members ms) (codes "link") (list (between 1 8) (table (link_keys w)))) _ _
-    (rw two (required_is (codes "link") (list (between 1 8) (table (link_keys v)))
-    (list (between 1 8) (table (link_keys 2))) ms refl (links_extend v))) (λ x y links.
-    next Same InVersion2 (optional [] ms (codes "memory") [] (list (between 0 16) (table region_keys)))
-    (optional [] (migrated_members ms) (codes "memory") [] (list (between 0 16) (table region_keys))) _ _
-    (optional_is (codes "memory") [] (list (between 0 16) (table region_keys)) ms refl) (λ r s memory.
-    next Same InVersion2 (optional [] ms (codes "p2p") [] (list (between 0 8) (table peer_keys)))
-    (optional [] (migrated_members ms) (codes "p2p") [] (list (between 0 8) (table peer_keys))) _ _
-    (optional_is (codes "p2p") [] (list (between 0 8) (table peer_keys)) ms refl) (λ x2 y2 peers.
+    next Same InVersion2 (required_value [] ms (codes "link") (list (count_between 1 8) (table (link_keys v))))
+    (required_value [] (migrated_members ms) (codes "link") (list (count_between 1 8) (table (link_keys w)))) _ _
+    (rw two (required_is (codes "link") (list (count_between 1 8) (table (link_keys v)))
+    (list (count_between 1 8) (table (link_keys 2))) ms refl (links_extend v))) (λ x y links.
+    next Same InVersion2 (optional [] ms (codes "memory") [] (list (count_between 0 16) (table region_keys)))
+    (optional [] (migrated_members ms) (codes "memory") [] (list (count_between 0 16) (table region_keys))) _ _
+    (optional_is (codes "memory") [] (list (count_between 0 16) (table region_keys)) ms refl) (λ r s memory.
+    next Same InVersion2 (optional [] ms (codes "p2p") [] (list (count_between 0 8) (table peer_keys)))
+    (optional [] (migrated_members ms) (codes "p2p") [] (list (count_between 0 8) (table peer_keys))) _ _
+    (optional_is (codes "p2p") [] (list (count_between 0 8) (table peer_keys)) ms refl) (λ x2 y2 peers.
     gives InVersion2 _ _ (rw (two, portion, units, pool, links, memory, peers) refl)))))))))
 
 -- what meets a limit meets a greater one

@@ -9,8 +9,7 @@ use Rattle.std.proofs.lemmas.Bool.{leb-true, ltb-true, eqb-true, and_parts}
 use Rattle.std.proofs.lemmas.List.Elements.{All-nil, All-cons}
 use Rattle.std.proofs.lemmas.List.Kept.{AllPairs-cons}
 use Rattle.ide_types.specs.declared.stream.StreamPlan.{StreamPlan}
-use Rattle.ide_types.specs.Plans.{interface_limit, same_id, both_default, share_class, overlap}
-use Rattle.ide_types.specs.Plans.{has_stream_id}
+use Rattle.ide_types.specs.Plans.{interface_limit, same_id, both_default, share_class, overlap, has_stream_id}
 use Rattle.ide_types.specs.declared.plan.PeerPlan.{PeerPlan}
 use Rattle.toml_walk.specs.declared.fault.PlanFault.{PlanFault}
 use Rattle.toml_walk.specs.Fault.{◌>>=◌}
@@ -19,9 +18,9 @@ use Rattle.topology.specs.declared.draft.InterfaceDraft.{InterfaceDraft}
 use Rattle.topology.specs.declared.draft.LinkDraft.{LinkDraft}
 use Rattle.topology.specs.declared.draft.PlanDraft.{PlanDraft}
 use Rattle.topology.specs.Rules.{pair_or, pair_from, refused_pair, no_clash, at_most, in_sixes, same_requester}
-use Rattle.topology.specs.Rules.{is_bound, each_bound, link_rules, each_link, interface_count, allowed, link_has}
-use Rattle.topology.specs.Rules.{peer_rules, each_peer, is_peer_with_id, is_hop_taken, classes_apart, hop_rules_of}
-use Rattle.topology.specs.Rules.{hop_rules, each_hop, rules}
+use Rattle.topology.specs.Rules.{is_bound, each_bound, link_rules, each_link, interface_count, allowed_or_range}
+use Rattle.topology.specs.Rules.{link_has, peer_rules, each_peer, is_peer_with_id, is_hop_taken, classes_apart}
+use Rattle.topology.specs.Rules.{hop_rules_of, hop_rules, each_hop, rules}
 
 -- both steps gave a value
 pub steps : {B : Type 0} (r : Result (Unit {0}) PlanFault) (f : Unit {0} → Result B PlanFault) (y : B) → (r >>= f)
@@ -73,8 +72,7 @@ clash_free path clash xs e =
 
 -- nor do what they are mapped to
 pub clash_free_map : {A B : Type 0} (path : Text) (clash : A → A → Bool) (R : B → B → Type 0) (f : A → B) (xs : List A)
-    → ((a b : A) → clash a b ≡ false → R (f a) (f b))
-    → no_clash path clash xs ≡ Ok tt → AllPairs R (map f xs)
+    → ((a b : A) → clash a b ≡ false → R (f a) (f b)) → no_clash path clash xs ≡ Ok tt → AllPairs R (map f xs)
 clash_free_map path clash R f xs sound e = apart clash R f sound 0 xs (no_pair path (pair_from clash 0 xs) e)
 
 pub at_most_is : (limit : ℕ) (path : Text) (total : ℕ) → at_most limit path total ≡ Ok tt → total ≤ limit
@@ -124,7 +122,7 @@ links_ruled i (l ∷ ls) e =
 
 -- ---- streams between devices, and hops
 
-pub allowed_is : (path : Text) (n : ℕ) (b : Bool) → allowed path n b ≡ Ok tt → b ≡ true
+pub allowed_is : (path : Text) (n : ℕ) (b : Bool) → allowed_or_range path n b ≡ Ok tt → b ≡ true
 allowed_is path n true e = refl
 allowed_is path n false e = cc
 
@@ -149,8 +147,9 @@ peer_ruled : (path : Text) (links : List LinkDraft) (earlier : List PeerPlan) (p
     → peer_rules path links earlier p ≡ Ok tt → PeerRuled links earlier p
 unfolding peer_rules
 peer_ruled path links earlier p e =
-    let a = steps (allowed (path ++ codes ".a") p.near (nat_lt p.near (length links))) _ tt e in
-    let b = steps (allowed (path ++ codes ".b") p.far (nat_lt p.far (length links) && not (p.far == p.near))) _ tt a.1
+    let a = steps (allowed_or_range (path ++ codes ".a") p.near (nat_lt p.near (length links))) _ tt e in
+    let b = steps (allowed_or_range (path ++ codes ".b") p.far (nat_lt p.far (length links) && not (p.far == p.near))) _
+    tt a.1
     in
     let near = allowed_is (path ++ codes ".a") p.near _ a.0 in
     let far = and_parts _ _ (allowed_is (path ++ codes ".b") p.far _ b.0) in
@@ -200,7 +199,8 @@ unfolding hop_rules
 hop_ruled path peers link l e id is =
     let ruled : hop_rules_of path peers link l.streams (Some id) l.hop_classes
     ≡ Ok tt = subst (λ o. hop_rules_of path peers link l.streams o l.hop_classes ≡ Ok tt) is e in
-    let a = steps (allowed (path ++ codes ".hop") id (not (is_hop_taken peers link l.streams id))) _ tt ruled in
+    let a = steps (allowed_or_range (path ++ codes ".hop") id (not (is_hop_taken peers link l.streams id))) _ tt ruled
+    in
     let new = or_parts _ _ (not_true _ (allowed_is (path ++ codes ".hop") id _ a.0)) in
     record { path = path ++ codes ".hop_tcs"; id_new = new.0; peers_new = new.1; apart = a.1 }
 

@@ -1,7 +1,6 @@
 -- What the tables of a topology give meets every bound of its keys.
 use Rattle.std.proofs.Common.{◌≡◌, refl, ℕ, ◌+◌, ◌≤◌, nat_le, nat_lt, List, [], length, Bool, true, false, not, Option}
-use Rattle.std.proofs.Common.{Some}
-use Rattle.std.proofs.Common.{None, arith, codes, lit≤}
+use Rattle.std.proofs.Common.{Some, None, arith, codes, lit≤}
 use Rattle.std.specs.List.{All}
 use Rattle.std.proofs.lemmas.Bool.{leb-true, ltb-true, ltb-false, eqb-true}
 use Rattle.std.proofs.lemmas.List.Elements.{All-nil}
@@ -10,8 +9,8 @@ use Rattle.ide_types.specs.declared.stream.IdRange.{IdRange}
 use Rattle.ide_types.specs.declared.stream.AddressRange.{AddressRange}
 use Rattle.ide_types.specs.Fits.{is_aggregation, FitsIds, FitsAddresses, FitsSelector, FitsStream, FitsBar, FitsRegion}
 use Rattle.toml_walk.specs.declared.bounds.Form.TheVariants.{Pages, Mebibytes, LastOfMebibyte, UnitMode}
-use Rattle.toml_walk.specs.Bounds.{greatest, within, formed}
-use Rattle.toml_walk.specs.Walk.{Text, only_known, required, optional, list, between, any_number}
+use Rattle.toml_walk.specs.Bounds.{greatest, within, bounds_of_form}
+use Rattle.toml_walk.specs.Walk.{Text, only_known, required_value, optional, list, count_between, any_number}
 use Rattle.toml_walk.specs.Values.{number, truth, two}
 use Rattle.toml_walk.proofs.Holds.{Holds, gives, anything, next, weaker, checked, Admitted, Listed, number_holds}
 use Rattle.toml_walk.proofs.Holds.{required_holds, optional_holds, list_holds, two_holds}
@@ -38,9 +37,11 @@ ids_hold allowed path d =
 
 addresses_hold : (path : Text) (d : Data) → Holds FitsAddresses (address_range path d)
 addresses_hold path d =
-    next (λ (p : ℕ × ℕ). Admitted (formed 0 greatest Mebibytes) p.0 × Admitted (formed 0 greatest LastOfMebibyte) p.1)
+    next (λ (p : ℕ × ℕ). Admitted (bounds_of_form 0 greatest Mebibytes) p.0
+    × Admitted (bounds_of_form 0 greatest LastOfMebibyte) p.1)
     FitsAddresses
-    (two true (formed 0 greatest Mebibytes) (formed 0 greatest LastOfMebibyte) path d) (addresses_in_order path)
+    (two true (bounds_of_form 0 greatest Mebibytes) (bounds_of_form 0 greatest LastOfMebibyte) path d)
+    (addresses_in_order path)
     (two_holds true _ _ path d)
     (λ p a. checked FitsAddresses (nat_lt p.0 p.1) (record { base = p.0; limit = p.1 }) _ (λ h. record {
       base = eqb-true _ _ a.0.form;
@@ -57,9 +58,9 @@ selector_fits kind.Selective ids addresses default classes i a c = (i, a.0, a.1)
 selector_fits kind.Link ids addresses default classes i a c = c
 
 ranges_hold : (allowed : Bool) (path : Text) (d : Data) → Holds (λ xs. (length xs ≤ 8) × All FitsAddresses xs)
-    (list (only_if allowed (between 0 8)) address_range path d)
+    (list (only_if allowed (count_between 0 8)) address_range path d)
 ranges_hold allowed path d =
-    weaker (Listed (only_if allowed (between 0 8)) FitsAddresses) _ _
+    weaker (Listed (only_if allowed (count_between 0 8)) FitsAddresses) _ _
     (list_holds _ FitsAddresses address_range addresses_hold path d)
     (λ xs l. (ltb-false 8 (length xs) l.most, l.each))
 
@@ -74,16 +75,17 @@ pub stream_holds : (t : Text) (ms : Members) → Holds FitsStream (stream_keys t
 unfolding stream_keys
 stream_holds t ms =
     next (λ _. Unit {0}) FitsStream (only_known t stream_names ms) _ (anything _) (λ _ _.
-    next (Upto 255) FitsStream (required t ms (codes "id") (number (within 0 255))) _
+    next (Upto 255) FitsStream (required_value t ms (codes "id") (number (within 0 255))) _
     (required_holds (Upto 255) t ms (codes "id") _ (upto 255)) (λ id id_fits.
-    next (λ _. Unit {0}) FitsStream (required t ms (codes "kind") stream_kind) _ (anything _) (λ k _.
-    next (Admitted (formed 1 8 UnitMode)) FitsStream (optional t ms (codes "mode") 1 (number (formed 1 8 UnitMode))) _
+    next (λ _. Unit {0}) FitsStream (required_value t ms (codes "kind") stream_kind) _ (anything _) (λ k _.
+    next (Admitted (bounds_of_form 1 8 UnitMode)) FitsStream
+    (optional t ms (codes "mode") 1 (number (bounds_of_form 1 8 UnitMode))) _
     (optional_holds _ t ms (codes "mode") 1 _ (record { least = lit≤ tt; most = lit≤ tt; form = refl })
     (number_holds _)) (λ aggregation aggregation_fits.
     next FitsIds FitsStream (optional t ms (codes "rid") None (id_range (is_selective_kind k))) _
     (optional_holds FitsIds t ms (codes "rid") None _ tt (ids_hold (is_selective_kind k))) (λ ids ids_fit.
     next (λ xs. (length xs ≤ 8) × All FitsAddresses xs) FitsStream
-    (optional t ms (codes "ranges") [] (list (only_if (is_selective_kind k) (between 0 8)) address_range)) _
+    (optional t ms (codes "ranges") [] (list (only_if (is_selective_kind k) (count_between 0 8)) address_range)) _
     (optional_holds _ t ms (codes "ranges") [] _ (lit≤ tt, All-nil FitsAddresses) (ranges_hold (is_selective_kind k)))
     (λ addresses addresses_fit.
     next (λ _. Unit {0}) FitsStream (optional t ms (codes "default") false (truth_if (is_selective_kind k))) _
@@ -104,9 +106,9 @@ pub bar_holds : (t : Text) (ms : Members) → Holds FitsBar (bar_keys t ms)
 unfolding bar_keys
 bar_holds t ms =
     next (λ _. Unit {0}) FitsBar (only_known t bar_names ms) _ (anything _) (λ _ _.
-    next (Upto greatest) FitsBar (required t ms (codes "base") (number (within 0 greatest))) _
+    next (Upto greatest) FitsBar (required_value t ms (codes "base") (number (within 0 greatest))) _
     (required_holds _ t ms (codes "base") _ (upto greatest)) (λ base base_fits.
-    next (Upto 1048576) FitsBar (required t ms (codes "pages") (number (within 0 1048576))) _
+    next (Upto 1048576) FitsBar (required_value t ms (codes "pages") (number (within 0 1048576))) _
     (required_holds _ t ms (codes "pages") _ (upto 1048576)) (λ pages pages_fit.
     next (Upto 15) FitsBar (optional t ms (codes "attributes") 0 (number (within 0 15))) _
     (optional_holds _ t ms (codes "attributes") 0 _ (lit≤ tt) (upto 15)) (λ attributes attributes_fit.
@@ -116,11 +118,11 @@ pub region_holds : (t : Text) (ms : Members) → Holds FitsRegion (region_keys t
 unfolding region_keys
 region_holds t ms =
     next (λ _. Unit {0}) FitsRegion (only_known t region_names ms) _ (anything _) (λ _ _.
-    next (Admitted (formed 0 greatest Pages)) FitsRegion
-    (required t ms (codes "base") (number (formed 0 greatest Pages))) _
+    next (Admitted (bounds_of_form 0 greatest Pages)) FitsRegion
+    (required_value t ms (codes "base") (number (bounds_of_form 0 greatest Pages))) _
     (required_holds _ t ms (codes "base") _ (number_holds _)) (λ base base_fits.
-    next (Admitted (formed 4096 greatest Pages)) FitsRegion
-    (required t ms (codes "size") (number (formed 4096 greatest Pages))) _
+    next (Admitted (bounds_of_form 4096 greatest Pages)) FitsRegion
+    (required_value t ms (codes "size") (number (bounds_of_form 4096 greatest Pages))) _
     (required_holds _ t ms (codes "size") _ (number_holds _)) (λ size size_fits.
     checked FitsRegion (nat_le (base + size) 9223372036854775808) (record { base = base; size = size }) _ (λ h. record {
       base = eqb-true _ _ base_fits.form;
@@ -139,11 +141,12 @@ pub peer_holds : (t : Text) (ms : Members) → Holds PeerHolds (peer_keys t ms)
 unfolding peer_keys
 peer_holds t ms =
     next (λ _. Unit {0}) PeerHolds (only_known t peer_names ms) _ (anything _) (λ _ _.
-    next (Upto 255) PeerHolds (required t ms (codes "id") (number (within 0 255))) _
+    next (Upto 255) PeerHolds (required_value t ms (codes "id") (number (within 0 255))) _
     (required_holds _ t ms (codes "id") _ (upto 255)) (λ id id_fits.
-    next (λ _. Unit {0}) PeerHolds (required t ms (codes "a") (number (within 0 7))) _ (anything _) (λ near _.
-    next (λ _. Unit {0}) PeerHolds (required t ms (codes "b") (number (within 0 7))) _ (anything _) (λ far _.
-    next (Admitted (formed 1 8 UnitMode)) PeerHolds (optional t ms (codes "mode") 1 (number (formed 1 8 UnitMode))) _
+    next (λ _. Unit {0}) PeerHolds (required_value t ms (codes "a") (number (within 0 7))) _ (anything _) (λ near _.
+    next (λ _. Unit {0}) PeerHolds (required_value t ms (codes "b") (number (within 0 7))) _ (anything _) (λ far _.
+    next (Admitted (bounds_of_form 1 8 UnitMode)) PeerHolds
+    (optional t ms (codes "mode") 1 (number (bounds_of_form 1 8 UnitMode))) _
     (optional_holds _ t ms (codes "mode") 1 _ (record { least = lit≤ tt; most = lit≤ tt; form = refl })
     (number_holds _)) (λ aggregation aggregation_fits.
     gives PeerHolds _ (record { id = id_fits; aggregation = aggregation_fits.form }))))))

@@ -4,8 +4,8 @@ use Rattle.std.proofs.Common.{◌∷◌, Option, Some, None, Ok, codes}
 use Rattle.toml.specs.Data.{Members, get_member}
 use Rattle.ide_types.specs.declared.stream.StreamPlan.{StreamPlan}
 use Rattle.toml_walk.specs.Values.{key_bytes}
-use Rattle.toml_walk.specs.Walk.{Text, is_known, key_names, unknown_in, refused_key, only_known, required, optional}
-use Rattle.toml_walk.specs.Walk.{table, list, between, any_number}
+use Rattle.toml_walk.specs.Walk.{Text, is_known, key_names, unknown_in, refused_key, only_known, required_value}
+use Rattle.toml_walk.specs.Walk.{optional, table, list, count_between, any_number}
 use Rattle.topology.specs.Tables.{link_names, interface_names, interface_keys, link_keys, stream_keys}
 use Rattle.topology.proofs.Carries.{Carries, Same, Extends, next, then, itself, list_extends, table_extends}
 use Rattle.topology.proofs.Carries.{found_extends}
@@ -71,8 +71,10 @@ link_extends version t ms =
     next Same Same (only_known t (link_names version) ms) (only_known t (link_names 2) ms) _ _
     (more_known (link_names version) (link_names 2) t ms (λ k. both_link_known (version == 2) version k refl))
     (λ u v e.
-    then {A = List (List ℕ)} Same (optional t ms (codes "nonces") [] (list (between 0 1024) key_bytes)) _ _ (λ nonces.
-    then {A = List StreamPlan} Same (required t ms (codes "stream") (list (between 1 16) (table stream_keys))) _ _
+    then {A = List (List ℕ)} Same (optional t ms (codes "nonces") [] (list (count_between 0 1024) key_bytes)) _ _
+    (λ nonces.
+    then {A = List StreamPlan} Same (required_value t ms (codes "stream")
+    (list (count_between 1 16) (table stream_keys))) _ _
     (λ streams.
     next Same Same (optional t ms (codes "interface") [] (list any_number (table (interface_keys version))))
     (optional t ms (codes "interface") [] (list any_number (table (interface_keys 2)))) _ _
@@ -80,6 +82,6 @@ link_extends version t ms =
     (list_extends any_number _ _ (table_extends _ _ (interface_extends version)))) (λ xs ys e.
     rw e (itself _)))))
 
-pub links_extend : (version : ℕ) → Extends (list (between 1 8) (table (link_keys version)))
-    (list (between 1 8) (table (link_keys 2)))
-links_extend version = list_extends (between 1 8) _ _ (table_extends _ _ (link_extends version))
+pub links_extend : (version : ℕ) → Extends (list (count_between 1 8) (table (link_keys version)))
+    (list (count_between 1 8) (table (link_keys 2)))
+links_extend version = list_extends (count_between 1 8) _ _ (table_extends _ _ (link_extends version))

@@ -1,8 +1,7 @@
 -- The rules over several values of a topology, in their order.
 use Rattle.std.specs.Prelude.{◌+◌, ◌%◌, ◌==◌, ◌&&◌, ◌||◌, ℕ, ℤ, pos, negsuc, nat_le, nat_lt, Bool, true, false, not}
-use Rattle.std.specs.Prelude.{List}
-use Rattle.std.specs.Prelude.{[], ◌∷◌, ◌++◌, length, take, find, slice_get}
-use Rattle.std.specs.Prelude.{Option, Some, None, Result, Ok, Err, if◌then◌else◌, codes, sum_by}
+use Rattle.std.specs.Prelude.{List, [], ◌∷◌, ◌++◌, length, take, find, slice_get, Option, Some, None, Result, Ok, Err}
+use Rattle.std.specs.Prelude.{if◌then◌else◌, codes, sum_by}
 use Rattle.std.specs.List.{list_any, position_from}
 use Rattle.std.specs.Str.{bytes_eq}
 use Rattle.ide_types.specs.declared.stream.StreamPlan.{StreamPlan}
@@ -82,9 +81,9 @@ interface_count links = sum_by (λ l. length l.interfaces) links
 -- ---- streams between devices, and hops
 
 -- the number at the path may be there
-abbrev pub allowed : Text → ℕ → Bool → Result (Unit {0}) PlanFault
-allowed path n true = Ok tt
-allowed path n false = Err (Range path (pos n))
+abbrev pub allowed_or_range : Text → ℕ → Bool → Result (Unit {0}) PlanFault
+allowed_or_range path n true = Ok tt
+allowed_or_range path n false = Err (Range path (pos n))
 
 abbrev pub draft_streams : Option LinkDraft → List StreamPlan
 draft_streams None = []
@@ -102,9 +101,9 @@ is_id_taken links earlier p =
 -- both links are there, and are two, and the ID is new
 unfoldable pub peer_rules : Text → List LinkDraft → List PeerPlan → PeerPlan → Result (Unit {0}) PlanFault
 peer_rules path links earlier p = do
-  _ ← allowed (path ++ codes ".a") p.near (nat_lt p.near (length links))
-  _ ← allowed (path ++ codes ".b") p.far (nat_lt p.far (length links) && not (p.far == p.near))
-  allowed (path ++ codes ".id") p.id (not (is_id_taken links earlier p))
+  _ ← allowed_or_range (path ++ codes ".a") p.near (nat_lt p.near (length links))
+  _ ← allowed_or_range (path ++ codes ".b") p.far (nat_lt p.far (length links) && not (p.far == p.near))
+  allowed_or_range (path ++ codes ".id") p.id (not (is_id_taken links earlier p))
 
 -- the rules of each of all from place i on
 abbrev pub each_peer : List LinkDraft → List PeerPlan → ℕ → List PeerPlan → Result (Unit {0}) PlanFault
@@ -135,7 +134,7 @@ abbrev pub hop_rules_of : Text → List PeerPlan → ℕ → List StreamPlan →
 hop_rules_of path peers link streams None None = Ok tt
 hop_rules_of path peers link streams None (Some classes) = Err (Missing (path ++ codes ".hop"))
 hop_rules_of path peers link streams (Some id) classes = do
-  _ ← allowed (path ++ codes ".hop") id (not (is_hop_taken peers link streams id))
+  _ ← allowed_or_range (path ++ codes ".hop") id (not (is_hop_taken peers link streams id))
   classes_apart (path ++ codes ".hop_tcs") streams classes
 
 -- the hop of a link: classes do not stand alone, the ID is new, and no class is one of a stream's

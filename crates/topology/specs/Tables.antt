@@ -1,7 +1,6 @@
 -- The tables of a topology: for each its keys in their order, with kind, bounds and default.
 use Rattle.std.specs.Prelude.{◌+◌, ℕ, ℤ, pos, negsuc, nat_le, nat_lt, Bool, true, false, not, ◌&&◌, ◌==◌, List, [], ◌∷◌}
-use Rattle.std.specs.Prelude.{◌++◌}
-use Rattle.std.specs.Prelude.{Option, Some, None, Result, Ok, Err, if◌then◌else◌, codes}
+use Rattle.std.specs.Prelude.{◌++◌, Option, Some, None, Result, Ok, Err, if◌then◌else◌, codes}
 use Rattle.std.specs.Str.{bytes_eq}
 use Rattle.std.specs.Option.{option_and_then}
 use Rattle.toml.specs.Data.{Members, get_member, as_integer}
@@ -9,21 +8,21 @@ use Rattle.ide_types.specs.declared.stream.IdRange.{IdRange}
 use Rattle.ide_types.specs.declared.stream.AddressRange.{AddressRange}
 use Rattle.ide_types.specs.declared.stream.Selector.{Selector}
 use Rattle.ide_types.specs.declared.stream.Selector.TheVariants as selector
-use Rattle.ide_types.specs.declared.stream.StreamPlan.{StreamPlan}
-use Rattle.ide_types.specs.declared.interface.BarPlan.{BarPlan}
-use Rattle.ide_types.specs.declared.plan.PeerPlan.{PeerPlan}
 use Rattle.ide_types.specs.declared.plan.Region.{Region}
 use Rattle.toml_walk.specs.declared.bounds.Form.TheVariants.{Pages, Mebibytes, LastOfMebibyte, UnitMode}
 use Rattle.toml_walk.specs.declared.list.CountRange.{CountRange}
 use Rattle.toml_walk.specs.declared.fault.PlanFault.{PlanFault}
 use Rattle.toml_walk.specs.declared.fault.PlanFault.TheVariants.{Range}
 use Rattle.toml_walk.specs.Fault.{◌>>=◌}
-use Rattle.toml_walk.specs.Bounds.{greatest, within, formed}
-use Rattle.toml_walk.specs.Walk.{Text, Reader, place, only_known, required, optional, table, list, between, any_number}
-use Rattle.toml_walk.specs.Walk.{given}
+use Rattle.toml_walk.specs.Bounds.{greatest, within, bounds_of_form}
+use Rattle.toml_walk.specs.Walk.{Text, Reader, place, only_known, required_value, optional, table, list, count_between}
+use Rattle.toml_walk.specs.Walk.{any_number, given_value}
 use Rattle.toml_walk.specs.Values.{integer, number, truth, text, or_length, key_bytes, hex_bytes, two}
 use Rattle.topology.specs.declared.draft.StreamKind.{StreamKind}
 use Rattle.topology.specs.declared.draft.StreamKind.TheVariants as kind
+use Rattle.ide_types.specs.declared.stream.StreamPlan.{StreamPlan}
+use Rattle.ide_types.specs.declared.interface.BarPlan.{BarPlan}
+use Rattle.ide_types.specs.declared.plan.PeerPlan.{PeerPlan}
 use Rattle.topology.specs.declared.draft.InterfaceDraft.{InterfaceDraft}
 use Rattle.topology.specs.declared.draft.LinkDraft.{LinkDraft}
 use Rattle.topology.specs.declared.draft.PlanDraft.{PlanDraft}
@@ -67,7 +66,7 @@ addresses_in_order path (base, limit) =
 -- base and limit + 1 are multiples of 2^20
 abbrev pub address_range : Reader AddressRange
 address_range path d = do
-  ends ← two true (formed 0 greatest Mebibytes) (formed 0 greatest LastOfMebibyte) path d
+  ends ← two true (bounds_of_form 0 greatest Mebibytes) (bounds_of_form 0 greatest LastOfMebibyte) path d
   addresses_in_order path ends
 
 -- true if it is allowed, or false; Range with 1 is the fault of true
@@ -91,11 +90,12 @@ stream_names = codes "id" ∷ codes "kind" ∷ codes "mode" ∷ codes "rid" ∷ 
 unfoldable pub stream_keys : Text → Members → Result StreamPlan PlanFault
 stream_keys t ms = do
   _ ← only_known t stream_names ms
-  id ← required t ms (codes "id") (number (within 0 255))
-  kind ← required t ms (codes "kind") stream_kind
-  aggregation ← optional t ms (codes "mode") 1 (number (formed 1 8 UnitMode))
+  id ← required_value t ms (codes "id") (number (within 0 255))
+  kind ← required_value t ms (codes "kind") stream_kind
+  aggregation ← optional t ms (codes "mode") 1 (number (bounds_of_form 1 8 UnitMode))
   ids ← optional t ms (codes "rid") None (id_range (is_selective_kind kind))
-  addresses ← optional t ms (codes "ranges") [] (list (only_if (is_selective_kind kind) (between 0 8)) address_range)
+  addresses ← optional t ms (codes "ranges") []
+      (list (only_if (is_selective_kind kind) (count_between 0 8)) address_range)
   default ← optional t ms (codes "default") false (truth_if (is_selective_kind kind))
   classes ← optional t ms (codes "tcs") [] (list (only_if (not (is_selective_kind kind)) any_number)
       (number (within 0 7)))
@@ -115,8 +115,8 @@ bar_names = codes "base" ∷ codes "pages" ∷ codes "attributes" ∷ []
 unfoldable pub bar_keys : Text → Members → Result BarPlan PlanFault
 bar_keys t ms = do
   _ ← only_known t bar_names ms
-  base ← required t ms (codes "base") (number (within 0 greatest))
-  pages ← required t ms (codes "pages") (number (within 0 1048576))
+  base ← required_value t ms (codes "base") (number (within 0 greatest))
+  pages ← required_value t ms (codes "pages") (number (within 0 1048576))
   attributes ← optional t ms (codes "attributes") 0 (number (within 0 15))
   Ok (record { base = base; pages = pages; attributes = attributes })
 
@@ -140,10 +140,10 @@ interface_names version = if version == 2 then codes "pasid" ∷ codes "ats" ∷
 unfoldable pub interface_keys : ℕ → Text → Members → Result InterfaceDraft PlanFault
 interface_keys version t ms = do
   _ ← only_known t (interface_names version) ms
-  rid ← required t ms (codes "rid") (number (within 0 65535))
-  stream ← required t ms (codes "stream") integer
+  rid ← required_value t ms (codes "rid") (number (within 0 65535))
+  stream ← required_value t ms (codes "stream") integer
   flags ← optional t ms (codes "flags") 0 (number (within 0 31))
-  offset ← optional t ms (codes "offset") 0 (number (formed 0 greatest Pages))
+  offset ← optional t ms (codes "offset") 0 (number (bounds_of_form 0 greatest Pages))
   command ← optional t ms (codes "command") 0 (number (within 0 65535))
   msix ← optional t ms (codes "msix") 0 (number (within 0 65535))
   lnr ← optional t ms (codes "lnr") 0 (number (within 0 65535))
@@ -152,7 +152,7 @@ interface_keys version t ms = do
   pasid ← optional t ms (codes "pasid") 0 (number (within 0 65535))
   ats ← optional t ms (codes "ats") 0 (number (within 0 65535))
   info ← optional t ms (codes "info") [] (hex_bytes 1024)
-  bars ← optional t ms (codes "bars") [] (list (between 0 6) (table bar_keys))
+  bars ← optional t ms (codes "bars") [] (list (count_between 0 6) (table bar_keys))
   Ok (record {
     stream = stream;
     interface = record {
@@ -183,11 +183,11 @@ link_names version = if version == 2 then codes "hop" ∷ codes "hop_tcs" ∷ co
 unfoldable pub link_keys : ℕ → Text → Members → Result LinkDraft PlanFault
 link_keys version t ms = do
   _ ← only_known t (link_names version) ms
-  nonces ← optional t ms (codes "nonces") [] (list (between 0 1024) key_bytes)
-  streams ← required t ms (codes "stream") (list (between 1 16) (table stream_keys))
+  nonces ← optional t ms (codes "nonces") [] (list (count_between 0 1024) key_bytes)
+  streams ← required_value t ms (codes "stream") (list (count_between 1 16) (table stream_keys))
   interfaces ← optional t ms (codes "interface") [] (list any_number (table (interface_keys version)))
-  hop ← optional t ms (codes "hop") None (given (number (within 0 255)))
-  classes ← optional t ms (codes "hop_tcs") None (given (list any_number (number (within 0 7))))
+  hop ← optional t ms (codes "hop") None (given_value (number (within 0 255)))
+  classes ← optional t ms (codes "hop_tcs") None (given_value (list any_number (number (within 0 7))))
   Ok (record { nonces = nonces; streams = streams; interfaces = interfaces; hop = hop; hop_classes = classes })
 
 abbrev pub region_names : List Text
@@ -203,8 +203,8 @@ region_within t base size =
 unfoldable pub region_keys : Text → Members → Result Region PlanFault
 region_keys t ms = do
   _ ← only_known t region_names ms
-  base ← required t ms (codes "base") (number (formed 0 greatest Pages))
-  size ← required t ms (codes "size") (number (formed 4096 greatest Pages))
+  base ← required_value t ms (codes "base") (number (bounds_of_form 0 greatest Pages))
+  size ← required_value t ms (codes "size") (number (bounds_of_form 4096 greatest Pages))
   region_within t base size
 
 abbrev pub peer_names : List Text
@@ -214,10 +214,10 @@ peer_names = codes "id" ∷ codes "a" ∷ codes "b" ∷ codes "mode" ∷ []
 unfoldable pub peer_keys : Text → Members → Result PeerPlan PlanFault
 peer_keys t ms = do
   _ ← only_known t peer_names ms
-  id ← required t ms (codes "id") (number (within 0 255))
-  near ← required t ms (codes "a") (number (within 0 7))
-  far ← required t ms (codes "b") (number (within 0 7))
-  aggregation ← optional t ms (codes "mode") 1 (number (formed 1 8 UnitMode))
+  id ← required_value t ms (codes "id") (number (within 0 255))
+  near ← required_value t ms (codes "a") (number (within 0 7))
+  far ← required_value t ms (codes "b") (number (within 0 7))
+  aggregation ← optional t ms (codes "mode") 1 (number (bounds_of_form 1 8 UnitMode))
   Ok (record { id = id; near = near; far = far; aggregation = aggregation })
 
 abbrev pub common_top_names : List Text
@@ -240,13 +240,13 @@ top_names newer = if newer then codes "p2p" ∷ common_top_names else common_top
 unfoldable pub top_keys : Text → Members → Result PlanDraft PlanFault
 top_keys t ms = do
   _ ← only_known t (top_names (is_newer ms)) ms
-  version ← required t ms (codes "version") (number (within 1 2))
+  version ← required_value t ms (codes "version") (number (within 1 2))
   portion ← optional t ms (codes "portion") 64 (number (within 16 65535))
   units ← optional t ms (codes "units_per_key") 4294967296 (number (within 1 4294967296))
-  pool ← required t ms (codes "pool") (list (between 6 6144) key_bytes)
-  links ← required t ms (codes "link") (list (between 1 8) (table (link_keys version)))
-  memory ← optional t ms (codes "memory") [] (list (between 0 16) (table region_keys))
-  peers ← optional t ms (codes "p2p") [] (list (between 0 8) (table peer_keys))
+  pool ← required_value t ms (codes "pool") (list (count_between 6 6144) key_bytes)
+  links ← required_value t ms (codes "link") (list (count_between 1 8) (table (link_keys version)))
+  memory ← optional t ms (codes "memory") [] (list (count_between 0 16) (table region_keys))
+  peers ← optional t ms (codes "p2p") [] (list (count_between 0 8) (table peer_keys))
   Ok (record {
     version = version;
     portion = portion;

@@ -2,7 +2,7 @@
 
 ghost use Rattle.std.specs.Prelude.{◌≡◌, codes, map};
 ghost use Rattle.toml.specs.View.{view, table_view};
-ghost use Rattle.toml_walk.specs.Bounds.{within, formed};
+ghost use Rattle.toml_walk.specs.Bounds.{within, bounds_of_form};
 ghost use Rattle.toml_walk.specs.Fault.{Gives};
 ghost use Rattle.toml_walk.specs.Values.{integer};
 ghost use Rattle.toml_walk.specs.Walk.{table};

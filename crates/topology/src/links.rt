@@ -5,7 +5,7 @@ ghost use Rattle.toml.specs.View.{view, table_view};
 ghost use Rattle.toml_walk.specs.Bounds.{greatest, within};
 ghost use Rattle.toml_walk.specs.Fault.{Gives};
 ghost use Rattle.toml_walk.specs.Values.{number};
-ghost use Rattle.toml_walk.specs.Walk.{table, list, between, any_number, given, required, optional};
+ghost use Rattle.toml_walk.specs.Walk.{table, list, count_between, any_number, given_value, required_value, optional};
 ghost use Rattle.topology.specs.Tables.{link_names, link_keys, region_within, region_keys, peer_keys, is_newer};
 ghost use Rattle.topology.specs.Tables.{top_names, top_keys};
 
@@ -38,7 +38,7 @@ fn link_names_of(version: u8) -> &'static [&'static str]
 
 fn hop_in(keys: &Keys) -> Result<Option<u8>, PlanError>
     ensures { Gives (λ x. x) result (optional keys.now.path (table_view keys.now.table.now) (codes "hop") None
-        (given (number (within 0 255)))) }
+        (given_value (number (within 0 255)))) }
 {
     let id = Given {
         element: Byte::within(0, 255),
@@ -48,7 +48,7 @@ fn hop_in(keys: &Keys) -> Result<Option<u8>, PlanError>
 
 fn hop_classes_in(keys: &Keys) -> Result<Option<Items<u8>>, PlanError>
     ensures { Gives (λ x. x) result (optional keys.now.path (table_view keys.now.table.now) (codes "hop_tcs") None
-        (given (list any_number (number (within 0 7))))) }
+        (given_value (list any_number (number (within 0 7))))) }
 {
     let classes = Given {
         element: ListOf {
@@ -182,15 +182,15 @@ fn units_in(keys: &Keys) -> Result<u64, PlanError>
 }
 
 fn links_in(version: u8, keys: &Keys) -> Result<Items<LinkDraft>, PlanError>
-    ensures { Gives (λ xs. xs) result (required keys.now.path (table_view keys.now.table.now) (codes "link")
-        (list (between 1 8) (table (link_keys version)))) }
+    ensures { Gives (λ xs. xs) result (required_value keys.now.path (table_view keys.now.table.now) (codes "link")
+        (list (count_between 1 8) (table (link_keys version)))) }
 {
     keys.required("link", &ListOf::between(1, 8, Links { version }))
 }
 
 fn memory_in(keys: &Keys) -> Result<Items<Region>, PlanError>
     ensures { Gives (λ xs. xs) result (optional keys.now.path (table_view keys.now.table.now) (codes "memory") []
-        (list (between 0 16) (table region_keys))) }
+        (list (count_between 0 16) (table region_keys))) }
 {
     let none = Items::new(Vec::new(keys.alloc));
     keys.optional("memory", none, &ListOf::between(0, 16, Regions))
@@ -198,7 +198,7 @@ fn memory_in(keys: &Keys) -> Result<Items<Region>, PlanError>
 
 fn peers_in(keys: &Keys) -> Result<Items<PeerPlan>, PlanError>
     ensures { Gives (λ xs. xs) result (optional keys.now.path (table_view keys.now.table.now) (codes "p2p") []
-        (list (between 0 8) (table peer_keys))) }
+        (list (count_between 0 8) (table peer_keys))) }
 {
     let none = Items::new(Vec::new(keys.alloc));
     keys.optional("p2p", none, &ListOf::between(0, 8, Peers))

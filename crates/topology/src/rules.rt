@@ -7,7 +7,7 @@ ghost use Rattle.toml_walk.specs.Fault.{Gives};
 ghost use Rattle.toml_walk.specs.declared.fault.PlanFault.TheVariants.{Limit};
 ghost use Rattle.ide_types.specs.Plans.{interface_limit, is_selective, has_stream_id, lists_class};
 ghost use Rattle.topology.specs.Rules.{refused_pair, no_clash, in_sixes, is_id, is_bound, each_bound, link_rules};
-ghost use Rattle.topology.specs.Rules.{each_link, interface_count, allowed, link_has, is_id_taken, peer_rules};
+ghost use Rattle.topology.specs.Rules.{each_link, interface_count, allowed_or_range, link_has, is_id_taken, peer_rules};
 ghost use Rattle.topology.specs.Rules.{each_peer};
 ghost use Rattle.topology.specs.Rules.{is_peer_with_id, refused_class, classes_apart, hop_rules_of, hop_rules};
 ghost use Rattle.topology.specs.Rules.{each_hop};
@@ -178,7 +178,7 @@ fn refuse_number(
     number: u8,
     may: bool,
 ) -> Result<(), PlanError>
-    ensures { Gives (λ u. u) result (allowed (table.now ++ name.now) number may) }
+    ensures { Gives (λ u. u) result (allowed_or_range (table.now ++ name.now) number may) }
 {
     if may {
         Ok(())

@@ -2,9 +2,9 @@
 
 ghost use Rattle.std.specs.Prelude.{◌≡◌, ◌≤◌, not, IfOk, codes};
 ghost use Rattle.toml.specs.View.{view, table_view};
-ghost use Rattle.toml_walk.specs.Bounds.{greatest, within, formed};
+ghost use Rattle.toml_walk.specs.Bounds.{greatest, within, bounds_of_form};
 ghost use Rattle.toml_walk.specs.Fault.{Gives};
-ghost use Rattle.toml_walk.specs.Walk.{table, between, any_number};
+ghost use Rattle.toml_walk.specs.Walk.{table, count_between, any_number};
 ghost use Rattle.topology.specs.Tables.{kind_named, stream_kind, is_selective_kind, only_if, ids_in_order, id_range};
 ghost use Rattle.topology.specs.Tables.{addresses_in_order, address_range, true_if, truth_if, selector_for};
 ghost use Rattle.topology.specs.Tables.{stream_keys};
@@ -147,7 +147,7 @@ impl Reader for TruthIf {
 
 // Up to 8 ranges of addresses, or none if none are allowed.
 fn ranges(allowed: bool) -> ListOf<Addresses>
-    ensures { result.span ≡ only_if allowed (between 0 8) }
+    ensures { result.span ≡ only_if allowed (count_between 0 8) }
 {
     let span = CountRange {
         least: 0,

@@ -3,13 +3,14 @@ use Rattle.std.proofs.Common.{◌≡◌, ℕ, Bool, true, false, cond, not, ◌&
 use Rattle.std.proofs.Common.{◌∷◌, ◌++◌, Option, Some, None, is_some, refl, sym, ap, ◌∙◌, arith}
 use Rattle.std.specs.Option.{option_or}
 use Rattle.std.proofs.lemmas.Bool.Decides.{nat_tests}
+use Rattle.ide_types.specs.declared.binding.Binding.{Binding}
 use Rattle.ide_types.specs.declared.plan.Region.{Region}
 use Rattle.link_verdicts.specs.declared.verdict.BlockCause.{BlockCause}
 use Rattle.link_verdicts.specs.declared.verdict.BlockCause.TheVariants as cause
 use Rattle.trusted_memory.specs.declared.grant.Grant.{Grant}
 use Rattle.trusted_memory.specs.declared.span.Span.{Span}
 use Rattle.trusted_memory.specs.Spans.{span_byte_count, enables, crosses}
-use Rattle.trusted_memory.specs.Writes.{Write, payload_byte, written, newest_first}
+use Rattle.trusted_memory.specs.Writes.{Write, payload_byte, byte_written, newest_first}
 use Rattle.trusted_memory.specs.Regions.{in_one_region}
 use Rattle.trusted_memory.specs.Causes.{grant_cause, place_cause, block_cause, block_effect, is_applied}
 use Rattle.trusted_memory.specs.Admitted.{is_on_bound, is_placed, admitted_write}
@@ -33,12 +34,12 @@ bound_says true false le o x is says = rw is says
 le_not_less : (m n : ℕ) → nat_le m n ≡ not (nat_lt n m)
 le_not_less m n = grind (arith, nat_tests)
 
-grant_says : (o : Option (ℕ × ℕ)) (stream draw : ℕ) (place : Option BlockCause) (x : Bool)
+grant_says : (o : Option Binding) (stream draw : ℕ) (place : Option BlockCause) (x : Bool)
     → is_applied (block_effect place) ≡ x
     → is_applied (block_effect (option_or (grant_cause o stream draw) place)) ≡ (is_on_bound stream draw o && x)
 grant_says None stream draw place x says = refl
-grant_says (Some b) stream draw place x says = bound_says (b.0 == stream) (nat_lt draw b.1) (nat_le b.1 draw) place x
-    (le_not_less b.1 draw) says
+grant_says (Some b) stream draw place x says =
+    bound_says (b.stream == stream) (nat_lt draw b.floor) (nat_le b.floor draw) place x (le_not_less b.floor draw) says
 
 pub cause_says : (regions : List Region) (s : Span) (t : Bool) (g : Grant)
     → is_applied (block_effect (block_cause regions s t g)) ≡
@@ -72,7 +73,7 @@ admitted_if_none regions t g w = (by_effect _ _ w (cause_says regions w.span t g
 -- ---- packets in turn
 
 pub leads_applied : (m n : MemoryContents) (o : Option Write) (w : Write) → o ≡ Some w
-    → ((a : ℕ) → byte_at n a ≡ written w (byte_at m) a) → Leads m (o ∷ []) n
+    → ((a : ℕ) → byte_at n a ≡ byte_written w (byte_at m) a) → Leads m (o ∷ []) n
 leads_applied m n o w is h older left a =
     let same : newest_first (o ∷ []) older ≡ w ∷ older = ap (λ (p : Option Write). newest_first (p ∷ []) older) is in
     rw same (h a ∙ ap (λ (b : ℕ). cond (enables w.span a) (payload_byte w a) b) (left a) ∙ sym

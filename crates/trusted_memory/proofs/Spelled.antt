@@ -1,17 +1,18 @@
 -- A completion has a spelling, if the fields of the read are in range and memory has bytes.
 use Rattle.std.proofs.Common.{◌≡◌, ℕ, ◌+◌, ◌*◌, ◌%◌, ◌<◌, ◌≤◌, Bool, true, false, cond, eqb, length, get_or, All, refl}
-use Rattle.std.proofs.Common.{◌∙◌, arith}
-use Rattle.std.proofs.Common.{lit<}
+use Rattle.std.proofs.Common.{◌∙◌, arith, lit<, Ok}
 use Rattle.std.specs.List.{range_with_len}
 use Rattle.std.proofs.lemmas.Bool.Decides.{nat_tests}
 use Rattle.std.proofs.lemmas.List.FromFn.{length-map-range_with_len}
 use Rattle.std.proofs.lemmas.List.Elements.{All-map}
 use Rattle.tlp_layout.specs.Head.{FitsHead}
 use Rattle.tlp_layout.specs.Tlp.{body_size}
+use Rattle.tlp_layout.specs.Reading.{read_of}
+use Rattle.tlp_layout.proofs.Readings.{read_spells_tlp, spells_whole}
 use Rattle.trusted_memory.specs.Spans.{span_byte_count, is_enabled}
 use Rattle.trusted_memory.specs.declared.read.MemReadView.{MemReadView}
 use Rattle.trusted_memory.specs.Requests.{FitsRead}
-use Rattle.trusted_memory.specs.Completions.{read_bytes, completion_head}
+use Rattle.trusted_memory.specs.Completions.{read_bytes, completion_head, completion, completion_bytes}
 
 pub head_fits : (r : MemReadView) → FitsRead r → FitsHead (completion_head r)
 head_fits r fits = record {
@@ -38,3 +39,11 @@ read_bytes_small byte r small =
     All-map (λ b. b < 256) _ (range_with_len 0 (span_byte_count r.span))
     (λ k d less. small_if (is_enabled r.span (place k d)) (byte (r.span.address + place k d))
     (small (r.span.address + place k d)))
+
+pub reads_if_small : (byte : ℕ → ℕ) (r : MemReadView) → FitsRead r → All (λ b. b < 256) (read_bytes byte r.span)
+    → read_of (completion_bytes byte r) ≡ Ok (completion byte r)
+unfolding completion_bytes
+reads_if_small byte r fits small =
+    let spells = spells_whole (completion_head r) (read_bytes byte r.span) (head_fits r fits)
+    (length-read_bytes byte r fits) small in
+    (read_spells_tlp (completion byte r) (completion_bytes byte r)).0 spells.0

@@ -2,10 +2,10 @@
 use Rattle.std.proofs.Common.{◌≡◌, ℕ, cond, List, [], ◌∷◌, refl, ap, ◌∙◌, inl, inr}
 use Rattle.std.proofs.lemmas.Bool.{cases_Bool}
 use Rattle.trusted_memory.specs.Spans.{enables}
-use Rattle.trusted_memory.specs.Writes.{Write, payload_byte, written, byte_after, written_in_turn}
+use Rattle.trusted_memory.specs.Writes.{Write, payload_byte, byte_written, byte_after, written_in_turn}
 
 pub byte_after-next : (w : Write) (older : List Write) (a : ℕ) → byte_after (w ∷ older) a
-    ≡ written w (byte_after older) a
+    ≡ byte_written w (byte_after older) a
 unfolding byte_after
 byte_after-next w older a = elim (cases_Bool (enables w.span a)) [ inl e ↦ rw e refl | inr e ↦ rw e refl ]
 

@@ -13,7 +13,7 @@ use Rattle.std.proofs.lemmas.Map.Made.{is_some-lookup}
 use Rattle.ide_types.specs.declared.plan.Region.{Region}
 use Rattle.trusted_memory.specs.declared.span.Span.{Span}
 use Rattle.trusted_memory.specs.Spans.{span_byte_count, is_enabled, reaches, enables, crosses}
-use Rattle.trusted_memory.specs.Writes.{Write, written}
+use Rattle.trusted_memory.specs.Writes.{Write, byte_written}
 use Rattle.trusted_memory.specs.Regions.{in_region, in_one_region}
 use Rattle.trusted_memory.specs.Memory.{byte_at, bytes_from, has_page}
 use Rattle.trusted_memory.specs.Pages.{page_bytes, paged_byte, contents_seen, memory_seen, HasWritten}
@@ -58,7 +58,7 @@ place-same_page w a same = omega arith
 
 pub written-same_page : (w : Write) (old : List ℕ) (a : ℕ) (b : ℕ) → w.span.address / 4096 ≡ a / 4096 → b
     ≡ get_or old (a % 4096) 0
-    → written (in_its_page w) (λ i. get_or old i 0) (a % 4096) ≡ written w (λ _. b) a
+    → byte_written (in_its_page w) (λ i. get_or old i 0) (a % 4096) ≡ byte_written w (λ _. b) a
 written-same_page w old a b same e =
     let r = reaches-same_page w a same in
     let p = place-same_page w a same in
@@ -120,7 +120,7 @@ page_bytes-put n q new es es' puts = elim (cases_Bool (eqb n q)) [
 pub paged-written : (w : Write) (old new : List ℕ) (es es' : List (ℕ × List ℕ)) → crosses w.span ≡ false
     → page_bytes es (w.span.address / 4096) ≡ old
     → HasWritten (w.span.address % 4096) w old new → PutsPage (w.span.address / 4096) new es es' → (a : ℕ)
-    → paged_byte es' a ≡ written w (paged_byte es) a
+    → paged_byte es' a ≡ byte_written w (paged_byte es) a
 paged-written w old new es es' whole was has puts a =
     let put = page_bytes-put (w.span.address / 4096) (a / 4096) new es es' puts in
     elim (cases_Bool (eqb (w.span.address / 4096) (a / 4096))) [
@@ -148,8 +148,8 @@ enables-reaches s a e = grind arith
 -- what is read through regions is what is read through pages, before and after
 pub byte_at-written : (rs : List Region) (es es' : List (ℕ × List ℕ)) (w : Write)
     → in_one_region rs w.span.address (span_byte_count w.span) ≡ true
-    → ((a : ℕ) → paged_byte es' a ≡ written w (paged_byte es) a) → (a : ℕ) → byte_at (contents_seen rs es') a
-    ≡ written w (byte_at (contents_seen rs es)) a
+    → ((a : ℕ) → paged_byte es' a ≡ byte_written w (paged_byte es) a) → (a : ℕ) → byte_at (contents_seen rs es') a
+    ≡ byte_written w (byte_at (contents_seen rs es)) a
 byte_at-written rs es es' w inside h a = elim (cases_Bool (enables w.span a)) [
   | inl e ↦
       let reached = enables-reaches w.span a e in

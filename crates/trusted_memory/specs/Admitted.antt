@@ -1,6 +1,7 @@
 -- Which writes are admitted (this profile): the trusted ones of a running interface, on its bound stream, under a draw
 -- from its floor on, whose bytes lie in one region and cross no 4 KiB boundary.
 use Rattle.std.specs.Prelude.{ℕ, ◌==◌, ◌&&◌, nat_le, not, Bool, false, if◌then◌else◌, List, Option, Some, None}
+use Rattle.ide_types.specs.declared.binding.Binding.{Binding}
 use Rattle.ide_types.specs.declared.plan.Region.{Region}
 use Rattle.trusted_memory.specs.declared.grant.Grant.{Grant}
 use Rattle.trusted_memory.specs.declared.span.Span.{Span}
@@ -9,9 +10,9 @@ use Rattle.trusted_memory.specs.Regions.{in_one_region}
 use Rattle.trusted_memory.specs.Writes.{Write}
 
 -- on the bound stream, under a draw from the floor on
-abbrev pub is_on_bound : ℕ → ℕ → Option (ℕ × ℕ) → Bool
+abbrev pub is_on_bound : ℕ → ℕ → Option Binding → Bool
 is_on_bound stream draw None = false
-is_on_bound stream draw (Some b) = (b.0 == stream) && nat_le b.1 draw
+is_on_bound stream draw (Some b) = (b.stream == stream) && nat_le b.floor draw
 
 -- in one region, and not across 4 KiB
 abbrev pub is_placed : List Region → Span → Bool

@@ -1,26 +1,23 @@
 -- Why a memory request at a host's port is blocked, the first cause that holds (this profile). The causes speak of the
 -- bytes that it names and of its grant, and of no payload.
-use Rattle.std.specs.Prelude.{ℕ, ◌==◌, nat_lt, not, Bool, true, false, if◌then◌else◌, List, Option, Some, None}
+use Rattle.std.specs.Prelude.{ℕ, not, Bool, true, false, if◌then◌else◌, List, Option, Some, None}
 use Rattle.std.specs.Option.{option_or}
+use Rattle.ide_types.specs.declared.binding.Binding.{Binding}
 use Rattle.ide_types.specs.declared.plan.Region.{Region}
 use Rattle.link_verdicts.specs.declared.verdict.BlockCause.{BlockCause}
-use Rattle.link_verdicts.specs.declared.verdict.BlockCause.TheVariants.{NotTrusted, NotRunning, WrongStream, Stale}
-use Rattle.link_verdicts.specs.declared.verdict.BlockCause.TheVariants.{Outside, Crosses}
+use Rattle.link_verdicts.specs.declared.verdict.BlockCause.TheVariants.{NotTrusted, NotRunning, Outside, Crosses}
 use Rattle.link_verdicts.specs.declared.verdict.Effect.{Effect}
 use Rattle.link_verdicts.specs.declared.verdict.Effect.TheVariants.{Applied, Blocked, Delivered}
+use Rattle.link_verdicts.specs.Causes.{binding_cause}
 use Rattle.trusted_memory.specs.declared.grant.Grant.{Grant}
 use Rattle.trusted_memory.specs.declared.span.Span.{Span}
 use Rattle.trusted_memory.specs.Spans.{span_byte_count, crosses}
 use Rattle.trusted_memory.specs.Regions.{in_one_region}
 
--- the requester is no running interface; the packet came on another stream than the bound one; its draw is less than
--- the floor
-abbrev pub grant_cause : Option (ℕ × ℕ) → ℕ → ℕ → Option BlockCause
+-- the requester is no running interface; else by its binding, of the packet's stream and draw
+abbrev pub grant_cause : Option Binding → ℕ → ℕ → Option BlockCause
 grant_cause None stream draw = Some NotRunning
-grant_cause (Some bound) stream draw =
-    if not (bound.0 == stream) then Some WrongStream
-    else if nat_lt draw bound.1 then Some Stale
-    else None
+grant_cause (Some bound) stream draw = binding_cause bound (Some stream) draw
 
 -- the bytes of all double words are not in one region; they cross a 4 KiB boundary
 abbrev pub place_cause : List Region → Span → Option BlockCause

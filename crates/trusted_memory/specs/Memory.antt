@@ -7,7 +7,7 @@ use Rattle.link_verdicts.specs.declared.verdict.BlockCause.{BlockCause}
 use Rattle.link_verdicts.specs.declared.verdict.Effect.{Effect}
 use Rattle.link_verdicts.specs.declared.verdict.Effect.TheVariants.{Applied}
 use Rattle.trusted_memory.specs.declared.span.Span.{Span}
-use Rattle.trusted_memory.specs.Writes.{Write, written, byte_after, newest_first}
+use Rattle.trusted_memory.specs.Writes.{Write, byte_written, byte_after, newest_first}
 use Rattle.trusted_memory.specs.Regions.{is_inside}
 
 -- the regions, and the bytes of each from its base on
@@ -57,7 +57,7 @@ takes_page m s (Some cause) = false
 
 -- what stands at an address after a write of this effect
 abbrev pub byte_by : Effect → Write → (ℕ → ℕ) → ℕ → ℕ
-byte_by Applied w old a = written w old a
+byte_by Applied w old a = byte_written w old a
 byte_by _ w old a = old a
 
 -- what is read anywhere is what these writes left, the newest first

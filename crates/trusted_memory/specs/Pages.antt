@@ -4,7 +4,7 @@ use Rattle.std.specs.Prelude.{All}
 use Rattle.std.specs.Map.{lookup, keys_of}
 use Rattle.ide_types.specs.declared.plan.Region.{Region}
 use Rattle.ide_types.specs.Fits.{FitsRegion}
-use Rattle.trusted_memory.specs.Writes.{Write, written}
+use Rattle.trusted_memory.specs.Writes.{Write, byte_written}
 use Rattle.trusted_memory.specs.Memory.{MemoryContents, TrustedMemory, bytes_from}
 
 -- the bytes of a page, none if it is not there
@@ -41,6 +41,6 @@ pub record IsMemoryKept (regions : List Region) (spare : List (List ℕ)) (room 
 
 -- the enabled bytes of a write stand in a page, the first of its bytes at `start`, and all else is as before
 abbrev pub HasWritten : ℕ → Write → List ℕ → List ℕ → Type 0
-HasWritten start w old new = (k : ℕ) → slice_index new k ≡ written
+HasWritten start w old new = (k : ℕ) → slice_index new k ≡ byte_written
     (record w { span = record w.span { address = start } })
     (λ i. slice_index old i) k

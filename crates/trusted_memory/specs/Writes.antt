@@ -19,8 +19,8 @@ abbrev pub payload_byte : Write → ℕ → ℕ
 payload_byte w a = slice_index w.payload (a - w.span.address)
 
 -- what stands at an address once the write is written over old bytes
-abbrev pub written : Write → (ℕ → ℕ) → ℕ → ℕ
-written w old a = if enables w.span a then payload_byte w a else old a
+abbrev pub byte_written : Write → (ℕ → ℕ) → ℕ → ℕ
+byte_written w old a = if enables w.span a then payload_byte w a else old a
 
 -- ---- writes, the newest first
 
@@ -39,7 +39,7 @@ byte_after writes a = written_byte (last_enabling writes a) a
 -- each write written over what the older ones left, from 0 everywhere on
 abbrev pub written_in_turn : List Write → ℕ → ℕ
 written_in_turn [] a = 0
-written_in_turn (w ∷ older) a = written w (written_in_turn older) a
+written_in_turn (w ∷ older) a = byte_written w (written_in_turn older) a
 
 -- writes that come one after another, before older ones in the list, the newest first
 abbrev pub newest_first : List (Option Write) → List Write → List Write

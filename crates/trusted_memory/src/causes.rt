@@ -6,7 +6,7 @@ ghost use Rattle.trusted_memory.specs.Causes.{grant_cause, place_cause, block_ca
 use crate::regions::in_one_region;
 use crate::{Grant, Span};
 use ide_types::Region;
-use link_verdicts::BlockCause;
+use link_verdicts::{BlockCause, binding_cause};
 
 /// Why the grant does not admit a trusted request: its requester is no running interface; it came on another stream
 /// than the bound one; its draw is less than the floor (this profile).
@@ -15,15 +15,7 @@ pub fn grant_cause(grant: Grant) -> Option<BlockCause>
 {
     match grant.bound {
         None => Some(BlockCause::NotRunning),
-        Some((stream, floor)) => {
-            if stream != grant.stream {
-                Some(BlockCause::WrongStream)
-            } else if grant.draw < floor {
-                Some(BlockCause::Stale)
-            } else {
-                None
-            }
-        }
+        Some(bound) => binding_cause(bound, Some(grant.stream), grant.draw),
     }
 }
 

@@ -1,17 +1,18 @@
 //! The completion that answers a read.
 
-ghost use Rattle.std.specs.Prelude.{◌≡◌, ◌+◌, ◌≤◌, ◌<◌, ◌++◌, ◌∷◌, ℕ, List, Some, true, false, IfSome, length};
+ghost use Rattle.std.specs.Prelude.{◌≡◌, ◌+◌, ◌≤◌, ◌<◌, ◌++◌, ℕ, List, Some, Ok, true, IfSome, All, length};
 ghost use Rattle.std.specs.Prelude.{slice_index, vec_len, vec_capacity, if◌then◌else◌};
-ghost use Rattle.tlp_layout.specs.Head.{head_bytes, first_byte, field_bytes as field_bytes_of};
-ghost use Rattle.tlp_layout.specs.Head.{lead_bytes as lead_bytes_of};
+ghost use Rattle.tlp_layout.specs.Reading.{read_of};
 ghost use Rattle.trusted_memory.specs.Spans.{span_byte_count, is_enabled};
 ghost use Rattle.trusted_memory.specs.Writes.{Write, byte_after};
 ghost use Rattle.trusted_memory.specs.Memory.{byte_at, IsLeftBy};
 ghost use Rattle.trusted_memory.specs.Requests.{FitsRead};
 ghost use Rattle.trusted_memory.specs.Completions.{enabled_places, first_and_last, first_or, byte_count};
-ghost use Rattle.trusted_memory.specs.Completions.{lower_address, read_bytes, completion_head, completion_bytes};
+ghost use Rattle.trusted_memory.specs.Completions.{lower_address, read_bytes, completion_head, completion};
+ghost use Rattle.trusted_memory.specs.Completions.{completion_bytes};
 
 use crate::{MemReadView, Span, Trusted};
+use tlp_layout::{CompletionFields, CompletionStatus, Fields, HeadView, Lead, write_head};
 
 /// The most bytes of a completion with data: a header of 3 double words, and 1,024 double words (PCI Express Base 6.0
 /// section 2.2.9).
@@ -71,80 +72,64 @@ fn enabled_ends(span: Span) -> Option<(usize, usize)>
     ends
 }
 
-fn byte_count(span: Span) -> u16
+fn byte_count(span: Span, ends: Option<(usize, usize)>) -> u16
+    requires ends { ends ≡ first_and_last (enabled_places span) }
+    requires within { IfSome ends (λ ends. (ends.0 ≤ ends.1) × (ends.1 < span_byte_count span)) }
     ensures { result ≡ byte_count span }
 {
-    match enabled_ends(span) {
+    match ends {
         Some((first, last)) => ((last - first + 1) % 4_096) as u16,
         None => 1,
     }
 }
 
-fn lower_address(span: Span) -> u8
+fn lower_address(span: Span, ends: Option<(usize, usize)>) -> u8
+    requires { ends ≡ first_and_last (enabled_places span) }
     ensures { result ≡ lower_address span }
 {
-    let skipped = first_or(enabled_ends(span), 0);
+    let skipped = first_or(ends, 0);
     ((span.address % 128 + (skipped % 128) as u64) % 128) as u8
 }
 
 // ---- the header
 
-// Its first double word.
-fn lead_bytes(read: &MemReadView) -> [u8; 4]
-    requires { FitsRead read.now }
-    ensures { let head = completion_head read.now in
-        result ≡ first_byte head ∷ lead_bytes_of head.lead read.now.tag }
+fn completion_head(read: &MemReadView) -> HeadView
+    ensures { result ≡ completion_head read.now }
 {
-    let length = read.span.length % 1_024;
-    let second = (((read.tag >> 9) as u8) << 7)
-        + (read.tc << 4)
-        + ((((read.tag >> 8) & 1) as u8) << 3)
-        + ((read.attr >> 2) << 2);
-    let third = ((read.attr & 3) << 4) + (length >> 8) as u8;
-    [0x4a, second, third, (length & 0xff) as u8]
+    let ends = enabled_ends(read.span);
+    HeadView {
+        lead: Lead {
+            wide: false,
+            tc: read.tc,
+            attr: read.attr,
+            at: 0,
+            length: read.span.length % 1_024,
+        },
+        has_payload: true,
+        fields: Fields::Completion(CompletionFields {
+            completer: 0,
+            status: CompletionStatus::Successful,
+            bcm: false,
+            count: byte_count(read.span, ends),
+            requester: read.requester,
+            tag: read.tag,
+            lower: lower_address(read.span, ends),
+        }),
+    }
 }
 
-// The other two.
-fn field_bytes(read: &MemReadView) -> [u8; 8]
-    requires { FitsRead read.now }
-    ensures { result ≡ field_bytes_of false (completion_head read.now).fields }
-{
-    let count = byte_count(read.span);
-    let lower = lower_address(read.span);
-    [
-        0,
-        0,
-        (count / 256) as u8,
-        (count % 256) as u8,
-        (read.requester / 256) as u8,
-        (read.requester % 256) as u8,
-        (read.tag % 256) as u8,
-        lower,
-    ]
-}
+// ---- the data
 
 // Appends the bytes, for which there is room.
 fn append(out: &mut Vec<u8>, bytes: &[u8])
     requires { vec_len out.old + length bytes.now ≤ vec_capacity out.old }
     ensures items { out.new.items ≡ out.old.items ++ bytes.now }
-    ensures len { vec_len out.new ≡ vec_len out.old + length bytes.now }
     ensures capacity { vec_capacity out.old ≤ vec_capacity out.new }
+    // They are bytes.
+    ensures bytes { All (λ b. b < 256) bytes.now }
 {
     let _ = out.extend_from_slice(bytes);
 }
-
-fn append_head(read: &MemReadView, out: &mut Vec<u8>)
-    requires fits { FitsRead read.now }
-    requires room { vec_len out.old + 12 ≤ vec_capacity out.old }
-    ensures items { out.new.items ≡ out.old.items ++ head_bytes (completion_head read.now) }
-    ensures len { vec_len out.new ≡ vec_len out.old + 12 }
-    ensures capacity { vec_capacity out.old ≤ vec_capacity out.new }
-{
-    append(out, &lead_bytes(read));
-    append(out, &field_bytes(read));
-}
-
-// ---- the data
 
 // What is shown of byte `i` where this one stands.
 fn shown(span: Span, i: usize, byte: u8) -> u8
@@ -176,6 +161,7 @@ fn append_data(memory: &Trusted, span: Span, out: &mut Vec<u8>)
     requires room { vec_len out.old + 4096 ≤ vec_capacity out.old }
     ensures items { out.new.items ≡ out.old.items ++ read_bytes (byte_at memory.now.contents) span }
     ensures capacity { vec_capacity out.old ≤ vec_capacity out.new }
+    ensures bytes { All (λ b. b < 256) (read_bytes (byte_at memory.now.contents) span) }
 {
     let mut page = [0u8; DATA_BYTES];
     let bytes = &mut page[..span.bytes()];
@@ -183,11 +169,11 @@ fn append_data(memory: &Trusted, span: Span, out: &mut Vec<u8>)
     append(out, bytes);
 }
 
-/// Appends the completion that answers a read of this memory as it stands, with as many bytes of data as the read names
-/// (PCI Express Base 6.0 section 2.2.9). Its completer ID is 0, and a byte that the read does not enable, or that no
-/// region has, is 0 (this profile). That there is room for 4,108 bytes and that the read's fields are in range are the
-/// caller's conditions. It takes no memory.
-pub fn complete(memory: &Trusted, read: &MemReadView, out: &mut Vec<u8>)
+/// Appends the completion that answers a read of this memory as it stands, with as many bytes of data as the read
+/// names, and gives its header (PCI Express Base 6.0 section 2.2.9). Its completer ID is 0, and a byte that the read
+/// does not enable, or that no region has, is 0 (this profile). That there is room for 4,108 bytes and that the read's
+/// fields are in range are the caller's conditions. It takes no memory.
+pub fn complete(memory: &Trusted, read: &MemReadView, out: &mut Vec<u8>) -> HeadView
     requires fits { FitsRead read.now }
     requires room { vec_len out.old + COMPLETION_BYTES ≤ vec_capacity out.old }
     ensures bytes { out.new.items ≡ out.old.items ++ completion_bytes (byte_at memory.now.contents) read.now }
@@ -195,7 +181,13 @@ pub fn complete(memory: &Trusted, read: &MemReadView, out: &mut Vec<u8>)
     ensures last { (writes : List Write) → IsLeftBy memory.now.contents writes
         → out.new.items ≡ out.old.items ++ completion_bytes (byte_after writes) read.now }
     ensures capacity { vec_capacity out.old ≤ vec_capacity out.new }
+    ensures head { result ≡ completion_head read.now }
+    // So it is read again.
+    ensures reads { let byte = byte_at memory.now.contents in
+        read_of (completion_bytes byte read.now) ≡ Ok (completion byte read.now) }
 {
-    append_head(read, out);
+    let head = completion_head(read);
+    write_head(&head, out);
     append_data(memory, read.span, out);
+    head
 }

@@ -12,10 +12,7 @@ ghost use Rattle.trusted_memory.specs.Cases.{AnswerCases, TableCases};
 pub fn completions_are_read()
     ensures { (byte : ℕ → ℕ) (read : MemReadView) → FitsRead read → ((a : ℕ) → byte a < 256)
         → read_of (completion_bytes byte read) ≡ Ok (completion byte read) }
-{
-    tlp_layout::parts_of_spelling();
-    tlp_layout::reading_is_grammar();
-}
+{}
 
 /// Of memory a completion shows the bytes that its read enables, and nothing of any other.
 pub fn completions_show_enabled_bytes()

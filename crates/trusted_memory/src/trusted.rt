@@ -6,7 +6,7 @@ ghost use Rattle.std.specs.Bool.{OnTrue, OnFalse};
 ghost use Rattle.ide_types.specs.Fits.{FitsRegion};
 ghost use Rattle.tlp_layout.specs.Tlp.{viewed_tlp};
 ghost use Rattle.trusted_memory.specs.Spans.{span_byte_count, crosses, write_span};
-ghost use Rattle.trusted_memory.specs.Writes.{Write, written, byte_after, write_in, write_of};
+ghost use Rattle.trusted_memory.specs.Writes.{Write, byte_written, byte_after, write_in, write_of};
 
 use crate::blanks::{fill, put};
 use crate::causes::block_cause;
@@ -108,7 +108,7 @@ impl Trusted {
             (span_byte_count write.now.span) ≡ true }
         requires in_page { crosses write.now.span ≡ false }
         requires there { has_page self.old (write.now.span.address / 4096) ≡ true }
-        ensures bytes { (a : ℕ) → byte_at self.new.contents a ≡ written (write_of write.now)
+        ensures bytes { (a : ℕ) → byte_at self.new.contents a ≡ byte_written (write_of write.now)
             (byte_at self.old.contents) a }
         ensures regions { self.new.contents.regions ≡ self.old.contents.regions }
         ensures kept { self.new ≡ record self.old { contents = self.new.contents } }

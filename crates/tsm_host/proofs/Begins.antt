@@ -10,7 +10,7 @@ use Rattle.spec_keys.specs.Operations.{work_of}
 use Rattle.tsm_host.specs.declared.operation.StreamRefusal.{StreamRefusal}
 use Rattle.tsm_host.specs.Streams.{StreamView, new_stream, HostView, is_named, unless, ok_unless, refusal_of}
 use Rattle.tsm_host.specs.Streams.{begun_stream, has_host}
-use Rattle.tsm_host.specs.Managers.{ManagerView, Named, named, named_at, named_in, stream_place, asking_begun}
+use Rattle.tsm_host.specs.Managers.{ManagerView, Named, named_stream, named_at, named_in, stream_place, asking_begun}
 use Rattle.tsm_host.specs.Managers.{begun_manager}
 use Rattle.ide_types.proofs.Places.{get_at}
 
@@ -18,11 +18,11 @@ abbrev pub named_as : ℕ → StreamView → Named
 named_as place s = record { place = place; stream = s }
 
 -- the stream at the place that was found
-pub found : (m : ManagerView) (link id place : ℕ) (s : StreamView) → stream_place m link id ≡ Some place → s
+pub found : (m : ManagerView) (line id place : ℕ) (s : StreamView) → stream_place m line id ≡ Some place → s
     ≡ get_or m.streams place s
-    → named m link id ≡ Some (named_as place s)
-found m link id place s at is =
-    let lt = (position-Some (is_named link id) m.streams place s at).0 in
+    → named_stream m line id ≡ Some (named_as place s)
+found m line id place s at is =
+    let lt = (position-Some (is_named line id) m.streams place s at).0 in
     ap (named_in m.streams) at ∙ ap (named_at place) (get_at m.streams place s lt is)
 
 -- a refusal leaves the streams and what is asked
@@ -67,9 +67,9 @@ some_at : (place : ℕ) (s : Option StreamView) → is_some (named_at place s) �
 some_at place None = refl
 some_at place (Some s) = refl
 
-pub has_place : (m : ManagerView) (link id : ℕ) (place : Option ℕ) → stream_place m link id ≡ place
-    → is_some (named m link id) ≡ is_some place
-has_place m link id None at = ap (λ x. is_some (named_in m.streams x)) at
-has_place m link id (Some place) at =
-    let lt = (position-Some (is_named link id) m.streams place (new_stream 0 0) at).0 in
+pub has_place : (m : ManagerView) (line id : ℕ) (place : Option ℕ) → stream_place m line id ≡ place
+    → is_some (named_stream m line id) ≡ is_some place
+has_place m line id None at = ap (λ x. is_some (named_in m.streams x)) at
+has_place m line id (Some place) at =
+    let lt = (position-Some (is_named line id) m.streams place (new_stream 0 0) at).0 in
     ap (λ x. is_some (named_in m.streams x)) at ∙ some_at place (slice_get m.streams place) ∙ within m.streams place lt

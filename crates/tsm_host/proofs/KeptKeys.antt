@@ -1,9 +1,7 @@
--- Keys that are kept until they are acknowledged: what one that is spent leaves.
-use Rattle.std.proofs.Common.{◌≡◌, ◌≢◌, ℕ, ◌+◌, ◌-◌, ◌<◌, ◌≤◌, Bool, true, false, Option, Some, None, length, refl}
-use Rattle.std.proofs.Common.{arith}
-use Rattle.std.proofs.Common.{ap, sym, ◌∙◌}
-use Rattle.std.specs.Prelude.{IsSome, slice_set, ◌==◌}
-use Rattle.std.proofs.lemmas.List.{set-append_left, set-append_right, get_or-set_other}
+-- Keys that are kept until they are acknowledged: those that are left after an exchange.
+use Rattle.std.proofs.Common.{◌≡◌, ◌≢◌, ℕ, ◌+◌, ◌-◌, ◌<◌, ◌≤◌, Bool, true, false, Option, Some, None, refl, arith, ◌∙◌}
+use Rattle.std.specs.Prelude.{IsSome, ◌==◌}
+use Rattle.std.proofs.lemmas.List.{get_or-set_other}
 use Rattle.std.proofs.lemmas.Bool.Decides.{nat_tests}
 use Rattle.link_verdicts.specs.declared.verdict.Operation.{Operation}
 use Rattle.link_verdicts.specs.declared.verdict.Operation.TheVariants as op
@@ -14,30 +12,11 @@ use Rattle.tsm_host.specs.declared.exchange.Exchange.TheVariants.{Query, Program
 use Rattle.tsm_host.specs.declared.stage.NextExchange.{NextExchange}
 use Rattle.tsm_host.specs.declared.stage.Stage.{Stage}
 use Rattle.tsm_host.specs.declared.stage.Stage.TheVariants as stage
-use Rattle.tsm_host.specs.Exchanges.{WireKeys, kept_key, exchange_of, end_of, exchange_lane, wire_number}
+use Rattle.key_slots.specs.Wires.{WireKeys}
+use Rattle.tsm_host.specs.Exchanges.{kept_key, exchange_of, end_of, exchange_lane, wire_number}
 use Rattle.tsm_host.specs.Streams.{op_in, stage_keys, asked_of_unfinished, op_advanced, is_last, exchange_asked}
 use Rattle.tsm_host.specs.Streams.{wire_asked, KeysLeft}
 use Rattle.tsm_host.specs.Streams.{StageHolds, IsWithin, key_count, first_program, wire_keys_after}
-use Rattle.tsm_host.specs.Wires.{both_keys, SixEach}
-
--- ---- a key of the near end, and a key of the far end behind it
-
-pub spent_near : (near far new now : WireKeys) (n : Option WireKeys) (i : ℕ) → n ≡ Some near → both_keys n far ≡ now
-    → SixEach n far → i < 6 → new ≡ slice_set near i None → both_keys (Some new) far ≡ slice_set now i None
-spent_near near far new now None i is view six lt spent = absurd cc
-spent_near near far new now (Some keys) i is view six lt spent =
-    let same : keys ≡ near = (let e = is in cc) in
-    let count : length near ≡ 6 = ap length (sym same) ∙ six.near_six in
-    rw (spent, ← view, same) (sym (set-append_left near far i None (omega (arith, count, lt))))
-
-pub spent_far : (near far new now : WireKeys) (n : Option WireKeys) (i : ℕ) → n ≡ Some near → both_keys n far ≡ now
-    → SixEach n far → 6 ≤ i → new ≡ slice_set far (i - 6) None → both_keys (Some near) new ≡ slice_set now i None
-spent_far near far new now None i is view six le spent = absurd cc
-spent_far near far new now (Some keys) i is view six le spent =
-    let same : keys ≡ near = (let e = is in cc) in
-    rw (spent, ← view, ← same) (sym (set-append_right keys far 6 i None six.near_six le))
-
--- ---- the keys that are left after an exchange
 
 -- whether an exchange brings a key
 abbrev brings : Exchange → Bool
@@ -112,8 +91,7 @@ left_next hosted o a next count keys of_o at low left = rw (← of_o, ← at)
     (keys_left hosted a.operation a.set a.exchange count keys (rw at low) (rw (of_o, at) left))
 
 pub advances : (hosted : Bool) (old new : Stage) (a : NextExchange) → StageHolds hosted old
-    → asked_of_unfinished (op_in old) ≡ Some a
-    → is_last hosted a ≡ false → op_in new ≡ op_advanced (op_in old)
+    → asked_of_unfinished (op_in old) ≡ Some a → is_last hosted a ≡ false → op_in new ≡ op_advanced (op_in old)
     → stage_keys new ≡ wire_keys_after (exchange_asked hosted a) (wire_asked hosted a) (stage_keys old)
     → StageHolds hosted new
 advances hosted stage.Idle new a holds asked last ops keys = absurd cc

@@ -4,8 +4,8 @@ use Rattle.std.specs.Prelude.{nat_lt, not, ◌&&◌, ◌||◌}
 use Rattle.spec_keys.proofs.Tests.{same-true, true-same, lt-true, true-lt, both-true}
 use Rattle.key_slots.specs.declared.slot.Slot.{Slot}
 use Rattle.key_slots.specs.declared.slot.Slot.TheVariants.{Empty, Programmed, Armed, Live}
-use Rattle.key_slots.specs.{SlotPair, DrawnKey, slot_in, is_live, is_only_live, is_last_live, live_draw, programmed}
-use Rattle.key_slots.specs.{after_go, armed_pair, stopped_pair}
+use Rattle.key_slots.specs.{SlotPair, DrawnKey, slot_in, is_live, is_only_live, is_last_live, live_draw}
+use Rattle.key_slots.specs.{programmed_pair, after_go, armed_pair, stopped_pair}
 use Rattle.spec_keys.specs.Operations.{Idle, Establishing, Up, Refreshing, Stopping}
 use Rattle.tsm_host.specs.Fits.{is_ahead, is_in_use, pair_fits, PairsFit}
 
@@ -14,7 +14,7 @@ pair_of sender zero one = record { sender = sender; zero = zero; one = one }
 
 first_set : (sender : Bool) (zero one : Slot) (key : List ℕ) (j : ℕ) → pair_fits Idle (pair_of sender zero one) ≡ true
     → (is_only_live (pair_of sender zero one) false ≡ false) ×
-    (pair_fits (Establishing j 1) (programmed (pair_of sender zero one) false (record { key = key; draw = j }))
+    (pair_fits (Establishing j 1) (programmed_pair (pair_of sender zero one) false (record { key = key; draw = j }))
     ≡ true)
 first_set sender Empty Empty key j fits = (refl, same-true j)
 first_set sender Empty (Programmed b) key j fits = absurd cc
@@ -119,7 +119,7 @@ next_set : (sender : Bool) (zero one : Slot) (key : List ℕ) (j : ℕ) (k : Boo
     → (sender && is_live (slot_in (pair_of sender zero one) (not k))) ≡ false
     → (is_only_live (pair_of sender zero one) (not k) ≡ false)
     × (pair_fits (Refreshing (not k) j 1)
-    (programmed (pair_of sender zero one) (not k) (record { key = key; draw = j })) ≡ true)
+    (programmed_pair (pair_of sender zero one) (not k) (record { key = key; draw = j })) ≡ true)
 next_set sender zero one key j false i fits lt live =
     let older = older_of sender zero one i fits live in
     let last = not_last true zero one i older in

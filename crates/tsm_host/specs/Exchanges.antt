@@ -1,8 +1,8 @@
 -- The exchanges of each operation, in order, and their requests (this profile).
 use Rattle.std.specs.Prelude.{ℕ, ◌+◌, ◌-◌, ◌*◌, ◌/◌, ◌%◌, ◌==◌, ◌++◌, nat_lt, Bool, true, false, if◌then◌else◌, Option}
-use Rattle.std.specs.Prelude.{Some}
-use Rattle.std.specs.Prelude.{None, List, [], slice_index_or}
+use Rattle.std.specs.Prelude.{Some, None, List, [], slice_index_or}
 use Rattle.key_slots.specs.{KeySet, set_number, unspent_keys, near_six}
+use Rattle.key_slots.specs.Wires.{WireKeys}
 use Rattle.ide_types.specs.declared.port.Side.{Side}
 use Rattle.ide_types.specs.declared.port.Side.TheVariants.{Host, Device}
 use Rattle.ide_types.specs.declared.key_set.KeySet.TheVariants.{Zero, One}
@@ -55,10 +55,6 @@ is_last_receiver_go exchange = false
 -- bit 0 is the key set, bit 1 is 0 for what the end receives and 1 for what it sends, bits 7 to 4 are the sub-stream
 abbrev pub selector_of : KeySet → ℕ → ℕ
 selector_of set lane = set_number set + 2 * (lane / 3) + 16 * (lane % 3)
-
--- keys in the order of their KEY_PROGs, each there until its own is acknowledged: by lane, those of a near end first
-abbrev pub WireKeys : Type 0
-WireKeys = List (Option (List ℕ))
 
 abbrev pub key_or_none : Option (List ℕ) → List ℕ
 key_or_none None = []

@@ -3,7 +3,7 @@ use Rattle.std.specs.Prelude.{ℕ, ◌≡◌, ◌<◌, ◌==◌, nat_lt, nat_le,
 use Rattle.std.specs.Prelude.{List}
 use Rattle.key_slots.specs.declared.slot.Slot.{Slot}
 use Rattle.key_slots.specs.declared.slot.Slot.TheVariants.{Empty, Programmed, Armed, Live}
-use Rattle.key_slots.specs.{SlotPair, slot_in, is_live, is_only_live, programmed, armed_pair, stopped_pair}
+use Rattle.key_slots.specs.{SlotPair, slot_in, is_live, is_only_live, programmed_pair, armed_pair, stopped_pair}
 use Rattle.spec_keys.specs.Operations.{StreamStage, Idle, Establishing, Up, Refreshing, Stopping}
 
 abbrev pub are_empty : Slot → Slot → Bool
@@ -42,11 +42,11 @@ pair_fits (Stopping n) pair = are_empty pair.zero pair.one
 -- unfinished only if a key is Live, and a refresh begins only if the slot of its set at a sender is not.
 pub record SlotPairFits (pair : SlotPair) (key : List ℕ) (j : ℕ) : Type 0 where
   pub establishes : pair_fits Idle pair ≡ true → (is_only_live pair false ≡ false)
-      × (pair_fits (Establishing j 1) (programmed pair false (record { key = key; draw = j })) ≡ true)
+      × (pair_fits (Establishing j 1) (programmed_pair pair false (record { key = key; draw = j })) ≡ true)
   pub refreshes : (k : Bool) (i : ℕ) → pair_fits (Up k i) pair ≡ true → i < j
       → (pair.sender && is_live (slot_in pair (not k))) ≡ false
       → (is_only_live pair (not k) ≡ false)
-      × (pair_fits (Refreshing (not k) j 1) (programmed pair (not k) (record { key = key; draw = j })) ≡ true)
+      × (pair_fits (Refreshing (not k) j 1) (programmed_pair pair (not k) (record { key = key; draw = j })) ≡ true)
   pub goes_first : (unfinished : Bool) → (unfinished ≡ true → (is_live pair.zero || is_live pair.one) ≡ true)
       → pair_fits (Establishing j 10) pair ≡ true
       → pair_fits (Establishing j 11) (armed_pair pair false unfinished) ≡ true

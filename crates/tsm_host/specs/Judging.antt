@@ -45,7 +45,7 @@ judged_reply request (Err fault) = Bad
 judged_reply request (Ok reply) = if is_expected request reply then Expected else refusal_in reply
 
 -- no reply of the device is a bad one
-abbrev pub judged : KmView → ExchangeReply → Judged
-judged request carried.Lost = Lost
-judged request (carried.Reply None) = Bad
-judged request (carried.Reply (Some bytes)) = judged_reply request (object_reading bytes.now)
+abbrev pub judged_exchange : KmView → ExchangeReply → Judged
+judged_exchange request carried.Lost = Lost
+judged_exchange request (carried.Reply None) = Bad
+judged_exchange request (carried.Reply (Some bytes)) = judged_reply request (object_reading bytes.now)

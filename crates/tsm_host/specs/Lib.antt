@@ -5,6 +5,5 @@ pub mod Local
 pub mod Streams
 pub mod Managers
 pub mod Walk
-pub mod Wires
 pub mod Fits
 pub mod Facts

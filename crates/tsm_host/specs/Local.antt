@@ -14,8 +14,7 @@ pub record CallMoves {Port : Type 0} (slots : Port → SlotsShown) (unfinished :
 
 -- the calls of a list, in order; with none the port is as before
 abbrev pub CallsMove : {Port : Type 0} → (Port → SlotsShown) → (Port → Place → Bool)
-    → (Port → PlaceCall → Port → Type 0)
-    → Port → List PlaceCall → Port → Type 0
+    → (Port → PlaceCall → Port → Type 0) → Port → List PlaceCall → Port → Type 0
 CallsMove slots unfinished moves before [] after = after ≡ before
 CallsMove {Port} slots unfinished moves before (c ∷ cs) after =
     (next : Port) × (CallMoves slots unfinished moves before c next) × (CallsMove slots unfinished moves next cs after)
@@ -50,5 +49,5 @@ stops_in stream set =
     ∷ place_call (place_at stream Upstream 1) (Stop set) ∷ place_call (place_at stream Upstream 2) (Stop set) ∷ []
 
 -- all slots of a stream
-abbrev pub halts : ℕ → List PlaceCall
-halts stream = stops_in stream false ++ stops_in stream true
+abbrev pub stream_stop_calls : ℕ → List PlaceCall
+stream_stop_calls stream = stops_in stream false ++ stops_in stream true

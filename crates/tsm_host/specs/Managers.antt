@@ -15,14 +15,12 @@ use Rattle.tsm_host.specs.declared.operation.StreamOutcome.{StreamOutcome}
 use Rattle.tsm_host.specs.declared.operation.StreamOutcome.TheVariants.{Next}
 use Rattle.tsm_host.specs.declared.operation.StreamRefusal.{StreamRefusal}
 use Rattle.tsm_host.specs.declared.stage.NextExchange.{NextExchange}
-use Rattle.tsm_host.specs.Judging.{judged}
-use Rattle.tsm_host.specs.Streams.{has_host, key_status}
+use Rattle.tsm_host.specs.Judging.{judged_exchange}
+use Rattle.tsm_host.specs.Streams.{has_host, key_status, StreamView, new_stream, is_named, reset_stream}
+use Rattle.tsm_host.specs.Streams.{asked_of_unfinished, request_asked, HostView, refusal_of, unless, begun_stream}
+use Rattle.tsm_host.specs.Streams.{begun_pool, begun_calls, outcome_of, taken_stream, taken_calls}
 use Rattle.ide_types.specs.declared.status.StreamStatus.{StreamStatus}
 use Rattle.ide_types.specs.declared.status.StreamStatus.TheVariants as status
-use Rattle.tsm_host.specs.Streams.{StreamView, new_stream, is_named, reset_stream, asked_of_unfinished, request_asked}
-use Rattle.tsm_host.specs.Streams.{HostView}
-use Rattle.tsm_host.specs.Streams.{refusal_of, unless, begun_stream, begun_pool, begun_calls, outcome_of, taken_stream}
-use Rattle.tsm_host.specs.Streams.{taken_calls}
 
 -- The streams of all lines, in the order of the lines and of each line's streams, and the place of the one whose
 -- exchange is to be asked and taken.
@@ -63,7 +61,7 @@ new_manager links peers = record {
 -- ---- streams by name
 
 abbrev pub stream_place : ManagerView → ℕ → ℕ → Option ℕ
-stream_place m link id = position (is_named link id) m.streams
+stream_place m line id = position (is_named line id) m.streams
 
 -- a stream and its place
 pub record Named : Type 0 where
@@ -78,8 +76,8 @@ abbrev pub named_in : List StreamView → Option ℕ → Option Named
 named_in streams None = None
 named_in streams (Some place) = named_at place (slice_get streams place)
 
-abbrev pub named : ManagerView → ℕ → ℕ → Option Named
-named m link id = named_in m.streams (stream_place m link id)
+abbrev pub named_stream : ManagerView → ℕ → ℕ → Option Named
+named_stream m line id = named_in m.streams (stream_place m line id)
 
 abbrev pub op_named : Option Named → Option StreamStage
 op_named None = None
@@ -156,19 +154,20 @@ asking_after place outcome = None
 
 abbrev pub outcome_now : Current → ExchangeReply → StreamOutcome
 outcome_now c carried = outcome_of (has_host c.stream) c.asked
-    (judged (request_asked (has_host c.stream) c.asked c.stream) carried)
+    (judged_exchange (request_asked (has_host c.stream) c.asked c.stream) carried)
 
 abbrev pub manager_after_reply : ManagerView → Current → ExchangeReply → ManagerView
 manager_after_reply m c carried = record {
   streams = slice_set m.streams c.place
-      (taken_stream (has_host c.stream) c.asked (judged (request_asked (has_host c.stream) c.asked c.stream) carried)
+      (taken_stream (has_host c.stream) c.asked
+      (judged_exchange (request_asked (has_host c.stream) c.asked c.stream) carried)
       c.stream);
   asking = asking_after c.place (outcome_now c carried);
 }
 
 abbrev pub calls_taken : Current → ExchangeReply → List PlaceCall
 calls_taken c carried = taken_calls (has_host c.stream) c.asked
-    (judged (request_asked (has_host c.stream) c.asked c.stream) carried)
+    (judged_exchange (request_asked (has_host c.stream) c.asked c.stream) carried)
     c.stream.id
 
 -- ---- reset

@@ -12,6 +12,6 @@ pub record OpName : Type 0 where
   pub stream : ℕ
 
 abbrev pub op_name : NamedOperation → OpName
-op_name (Establish link stream) = record { operation = op.Establish; line = link; stream = stream }
-op_name (Refresh link stream) = record { operation = op.Refresh; line = link; stream = stream }
-op_name (Stop link stream) = record { operation = op.Stop; line = link; stream = stream }
+op_name (Establish line stream) = record { operation = op.Establish; line = line; stream = stream }
+op_name (Refresh line stream) = record { operation = op.Refresh; line = line; stream = stream }
+op_name (Stop line stream) = record { operation = op.Stop; line = line; stream = stream }

@@ -1,7 +1,6 @@
 -- What the manager keeps of a stream, and what each call makes of it (this profile).
 use Rattle.std.specs.Prelude.{ℕ, ◌+◌, ◌<◌, ◌≤◌, ◌==◌, nat_lt, Bool, true, false, not, ◌&&◌, if◌then◌else◌, IsSome}
-use Rattle.std.specs.Prelude.{Option}
-use Rattle.std.specs.Prelude.{Some, None, List, [], Result, Ok, Err, slice_set}
+use Rattle.std.specs.Prelude.{Option, Some, None, List, [], Result, Ok, Err, slice_set}
 use Rattle.ide_types.specs.declared.sub.SubKind.{SubKind}
 use Rattle.ide_types.specs.declared.sub.SubKind.TheVariants.{Pr, Npr, Cpl}
 use Rattle.ide_types.specs.declared.status.StreamStatus.{StreamStatus}
@@ -10,8 +9,7 @@ use Rattle.link_verdicts.specs.declared.verdict.Operation.{Operation}
 use Rattle.link_verdicts.specs.declared.verdict.Operation.TheVariants as op
 use Rattle.key_slots.specs.{KeySet, is_one, key_set, Pool, draws_in, six_keys, pool_after}
 use Rattle.spec_keys.specs.Operations.{StreamStage, Idle, Establishing, Up, Refreshing, Stopping, Work, work, work_of}
-use Rattle.spec_keys.specs.Operations.{last_exchange_of}
-use Rattle.spec_keys.specs.Operations.{makes_draw, reach, op_after, op_cut, op_standing}
+use Rattle.spec_keys.specs.Operations.{last_exchange_of, makes_draw, reach, op_after, op_cut, op_at_exchange}
 use Rattle.key_messages.specs.declared.object.KmView.{KmView}
 use Rattle.key_messages.specs.{PlaceCall}
 use Rattle.tsm_host.specs.declared.exchange.Exchange.{Exchange}
@@ -28,13 +26,14 @@ use Rattle.tsm_host.specs.declared.operation.StreamResult.TheVariants as shown
 use Rattle.tsm_host.specs.declared.stage.NextExchange.{NextExchange}
 use Rattle.tsm_host.specs.declared.stage.Stage.{Stage}
 use Rattle.tsm_host.specs.declared.stage.Stage.TheVariants as stage
-use Rattle.tsm_host.specs.Exchanges.{exchange_of, end_of, exchange_lane, is_last_receiver_go, WireKeys, kept_key}
+use Rattle.key_slots.specs.Wires.{WireKeys}
+use Rattle.tsm_host.specs.Exchanges.{exchange_of, end_of, exchange_lane, is_last_receiver_go, kept_key}
 use Rattle.tsm_host.specs.Exchanges.{wire_number, wire_keys, request_of}
 use Rattle.ide_types.specs.Lines.{is_hosted}
 use Rattle.ide_types.specs.declared.port.Side.{Side}
 use Rattle.ide_types.specs.declared.port.PortName.{PortName}
 use Rattle.spec_keys.specs.Places.{is_cut}
-use Rattle.tsm_host.specs.Local.{programs, goes, halts}
+use Rattle.tsm_host.specs.Local.{programs, goes, stream_stop_calls}
 
 -- A stream of a line, with the state of its operations, and the keys of an establish or refresh that is unfinished, in
 -- the order of their KEY_PROGs: each is kept until its own is acknowledged. There are no others.
@@ -45,10 +44,10 @@ pub record StreamView : Type 0 where
   pub keys : WireKeys
 
 abbrev pub new_stream : ℕ → ℕ → StreamView
-new_stream link id = record { line = link; id = id; op = Idle; keys = [] }
+new_stream line id = record { line = line; id = id; op = Idle; keys = [] }
 
 abbrev pub is_named : ℕ → ℕ → StreamView → Bool
-is_named link id s = (s.line == link) && (s.id == id)
+is_named line id s = (s.line == line) && (s.id == id)
 
 -- after a reset that clears these ends: of a line that is cut no keys are on their way
 abbrev pub reset_stream : List PortName → StreamView → StreamView
@@ -244,7 +243,7 @@ abbrev pub begun_stream : (hosted : Bool) → Work → Pool → StreamView → S
 begun_stream hosted w pool s =
     if w.begins then
     record s {
-      op = op_standing w 1;
+      op = op_at_exchange w 1;
       keys = if makes_draw w.operation then wire_keys hosted (six_keys pool.keys w.draw) else [];
     }
     else s
@@ -256,7 +255,7 @@ begun_pool w pool = if draws_now w then pool_after pool else pool
 abbrev pub begun_calls : (hosted : Bool) → Work → Pool → ℕ → List PlaceCall
 begun_calls true w pool stream =
     if w.begins then (if makes_draw w.operation then programs stream w.set (six_keys pool.keys w.draw) w.draw
-    else halts stream)
+    else stream_stop_calls stream)
     else []
 begun_calls false w pool stream = []
 
@@ -280,15 +279,15 @@ wire_keys_after (exchange.Program set lane) i keys = slice_set keys i None
 wire_keys_after e i keys = keys
 
 -- the exchange is acknowledged
-abbrev pub acknowledged : (hosted : Bool) → NextExchange → StreamView → StreamView
-acknowledged hosted a s = record s {
+abbrev pub stream_acknowledged : (hosted : Bool) → NextExchange → StreamView → StreamView
+stream_acknowledged hosted a s = record s {
   op = op_after hosted (work_asked a) (reach (a.exchange + 1) (a.exchange + 1));
   keys = if is_last hosted a then [] else wire_keys_after (exchange_asked hosted a) (wire_asked hosted a) s.keys;
 }
 
 -- only an expected reply goes on
 abbrev pub taken_stream : (hosted : Bool) → NextExchange → Judged → StreamView → StreamView
-taken_stream hosted a Expected s = acknowledged hosted a s
+taken_stream hosted a Expected s = stream_acknowledged hosted a s
 taken_stream hosted a judged s = s
 
 -- a host's port goes on if the last of the device's receivers did

@@ -26,8 +26,7 @@ use Rattle.tsm_host.specs.declared.operation.StreamResult.{StreamResult}
 use Rattle.tsm_host.specs.declared.operation.StreamResult.TheVariants as shown
 use Rattle.tsm_host.specs.declared.stage.NextExchange.{NextExchange}
 use Rattle.tsm_host.specs.Streams.{StreamView, has_host, HostView, asked_of_unfinished, is_set, refusal_of}
-use Rattle.tsm_host.specs.Streams.{begun_stream, outcome_of}
-use Rattle.tsm_host.specs.Streams.{taken_stream}
+use Rattle.tsm_host.specs.Streams.{begun_stream, outcome_of, taken_stream}
 
 -- ---- the walk
 
@@ -80,10 +79,10 @@ walk_result hosted operation host pool carried s =
 -- ---- the verdict that it is
 
 abbrev pub shown_verdict : Operation → ℕ → ℕ → StreamResult → Option Verdict
-shown_verdict op.Establish link stream (shown.Draw j) = Some (v.Established link stream j)
-shown_verdict op.Refresh link stream (shown.Draw j) = Some (v.Refreshed link stream j)
-shown_verdict op.Stop link stream shown.Stopped = Some (v.Stopped link stream)
-shown_verdict o link stream s = None
+shown_verdict op.Establish line stream (shown.Draw j) = Some (v.Established line stream j)
+shown_verdict op.Refresh line stream (shown.Draw j) = Some (v.Refreshed line stream j)
+shown_verdict op.Stop line stream shown.Stopped = Some (v.Stopped line stream)
+shown_verdict o line stream s = None
 
 -- of a stream on a line: a lost exchange has the verdict of the message that was lost there. If none was, it has no
 -- verdict, nor has a bad reply.
@@ -99,9 +98,9 @@ key_refusal_verdict line loss (UnitOpen u) = Some (v.RefusedUnitOpen u)
 
 -- nor has an operation that is not at its end
 abbrev pub verdict_of : Operation → ℕ → ℕ → Option Loss → StreamOutcome → Option Verdict
-verdict_of o link stream loss outcome.Next = None
-verdict_of o link stream loss (outcome.Done s) = shown_verdict o link stream s
-verdict_of o link stream loss (outcome.Refused refusal) = key_refusal_verdict link loss refusal
+verdict_of o line stream loss outcome.Next = None
+verdict_of o line stream loss (outcome.Done s) = shown_verdict o line stream s
+verdict_of o line stream loss (outcome.Refused refusal) = key_refusal_verdict line loss refusal
 
 -- No reply was bad, and no exchange was lost but one whose message is lost.
 abbrev pub NoBadReply : Option Loss → StreamOutcome → Type 0
@@ -117,16 +116,16 @@ IsAsked hosted None = Unit {0}
 IsAsked hosted (Some a) = (1 ≤ a.exchange) × (a.exchange ≤ last_exchange_of hosted a.operation)
 
 -- what the host's port and the pool show is what the definitions read of them
-pub record Reads (plan : KeyPlan) (ports : PortView) (link stream : ℕ) (status : StreamStatus) (host : HostView)
+pub record Reads (plan : KeyPlan) (ports : PortView) (line stream : ℕ) (status : StreamStatus) (host : HostView)
     (pool : Pool) : Type 0 where
   pub pool_is : plan.pool ≡ draws_in pool.keys
   pub status_is : host.status ≡ Some status
-  pub live_is : (set : Bool) (u : SubKind) → is_set set (host.live u) ≡ is_live_sender ports link stream set u
+  pub live_is : (set : Bool) (u : SubKind) → is_set set (host.live u) ≡ is_live_sender ports line stream set u
 
 abbrev pub due_on : Operation → KeyPlan → StreamStage → ℕ → PortView → StreamStatus → ℕ → ℕ → Option Loss → Verdict
-due_on op.Establish plan o next ports status link stream loss = establish_on plan o next ports link stream loss
-due_on op.Refresh plan o next ports status link stream loss = refresh_on plan o next ports status link stream loss
-due_on op.Stop plan o next ports status link stream loss = stop_on o next ports link stream loss
+due_on op.Establish plan o next ports status line stream loss = establish_on plan o next ports line stream loss
+due_on op.Refresh plan o next ports status line stream loss = refresh_on plan o next ports status line stream loss
+due_on op.Stop plan o next ports status line stream loss = stop_on o next ports line stream loss
 
 -- the operations of the stream after its verdict
 abbrev pub op_by : (hosted : Bool) → StreamStage → Work → Option Reach → StreamStage

@@ -2,7 +2,7 @@
 
 ghost use Rattle.std.specs.Prelude.{◌≡◌};
 ghost use Rattle.tsm_host.specs.Judging.{is_description, is_key_acknowledgement, is_acknowledgement, is_expected};
-ghost use Rattle.tsm_host.specs.Judging.{refusal_in, judged_reply, judged};
+ghost use Rattle.tsm_host.specs.Judging.{refusal_in, judged_reply, judged_exchange};
 ghost use Rattle.key_messages.specs.{object_reading};
 
 use crate::operation::ExchangeReply;
@@ -112,7 +112,7 @@ fn reply(request: KmView, bytes: &[u8]) -> Judged
 
 /// Judges what was carried in answer to a request (this profile).
 pub fn judge(request: KmView, carried: ExchangeReply) -> Judged
-    ensures { result ≡ judged request carried.entry }
+    ensures { result ≡ judged_exchange request carried.entry }
 {
     match carried {
         ExchangeReply::Lost => Judged::Lost,

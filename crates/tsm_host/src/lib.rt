@@ -15,7 +15,6 @@ mod operation;
 mod port;
 mod stage;
 mod stream;
-mod wires;
 
 pub use facts::StageFacts;
 pub use laws::{pairs_fit, walks_are_due};

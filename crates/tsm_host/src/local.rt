@@ -4,7 +4,7 @@ ghost use Rattle.std.specs.Prelude.{◌≡◌};
 ghost use Rattle.ide_types.specs.{is_one};
 ghost use Rattle.key_slots.specs.{Program, Go, Stop};
 ghost use Rattle.key_messages.specs.{place_at, place_call};
-ghost use Rattle.tsm_host.specs.Local.{CallMoves, CallsMove, six_key, programs, goes, halts};
+ghost use Rattle.tsm_host.specs.Local.{CallMoves, CallsMove, six_key, programs, goes, stream_stop_calls};
 
 use ide_types::Direction::{Downstream, Upstream};
 use ide_types::{Direction, KeySet};
@@ -99,7 +99,7 @@ pub fn go_six<P: SlotPort>(port: &mut P, stream: u8, set: KeySet)
 
 /// Empties all slots of a stream.
 pub fn stop_all<P: SlotPort>(port: &mut P, stream: u8)
-    ensures { CallsMove P.slots P.unfinished P.moves port.old (halts stream) port.new }
+    ensures { CallsMove P.slots P.unfinished P.moves port.old (stream_stop_calls stream) port.new }
 {
     stop(port, stream, KeySet::Zero, Downstream, 0);
     stop(port, stream, KeySet::Zero, Downstream, 1);

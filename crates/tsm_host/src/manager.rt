@@ -2,7 +2,7 @@
 
 ghost use Rattle.std.specs.Prelude.{◌≡◌, ℕ, ◌+◌, ◌++◌, ◌≤◌, ◌<◌, IsSome, IfSome, IfOk, is_some, Some, [], length, map};
 ghost use Rattle.std.specs.Prelude.{slice_get, vec_len, vec_capacity};
-ghost use Rattle.key_messages.specs.{spelling};
+ghost use Rattle.key_messages.specs.{object_spelling};
 ghost use Rattle.spec_keys.specs.Operations.{work_of};
 ghost use Rattle.std.specs.Option.{option_map};
 ghost use Rattle.tsm_host.specs.Facts.{op_seen};
@@ -10,7 +10,7 @@ ghost use Rattle.tsm_host.specs.Local.{CallsMove};
 ghost use Rattle.tsm_host.specs.Operations.{op_name};
 ghost use Rattle.tsm_host.specs.Streams.{reset_stream, has_host, end_asked, request_asked, host_view, ok_unless};
 ghost use Rattle.tsm_host.specs.Managers.{new_streams, streams_from, new_hop, hops_from, peers_from, asking_begun};
-ghost use Rattle.tsm_host.specs.Managers.{asking_after, named, op_named};
+ghost use Rattle.tsm_host.specs.Managers.{asking_after, named_stream, op_named};
 
 use crate::facts::StageFacts;
 use crate::operation::{ExchangeReply, NamedOperation, StreamOutcome, StreamRefusal};
@@ -44,13 +44,13 @@ impl Model for Manager {
 /// Adds a link's streams.
 fn add_streams(
     streams: &mut Vec<StreamKeys>,
-    link: u8,
+    line: u8,
     plans: &[StreamPlan],
 ) -> Result<(), OutOfMemory>
-    ensures { IfOk result (λ _. streams.new.items ≡ streams.old.items ++ new_streams link plans.now) }
+    ensures { IfOk result (λ _. streams.new.items ≡ streams.old.items ++ new_streams line plans.now) }
 {
     for plan in plans {
-        streams.push(StreamKeys::new(link, plan.id))?;
+        streams.push(StreamKeys::new(line, plan.id))?;
     }
     Ok(())
 }
@@ -113,7 +113,8 @@ fn add_peers(streams: &mut Vec<StreamKeys>, peers: &[PeerPlan]) -> Result<(), Ou
 }
 
 impl Manager {
-    ghost use Rattle.tsm_host.specs.Managers.{new_manager, stream_place, named, status_named, current, begin_refusal};
+    ghost use Rattle.tsm_host.specs.Managers.{new_manager, stream_place, named_stream, status_named, current};
+    ghost use Rattle.tsm_host.specs.Managers.{begin_refusal};
     ghost use Rattle.tsm_host.specs.Managers.{begun_manager, pool_begun, calls_begun, outcome_now, manager_after_reply};
     ghost use Rattle.tsm_host.specs.Managers.{calls_taken, reset_manager, asked_now};
 
@@ -133,23 +134,23 @@ impl Manager {
         })
     }
 
-    fn place(&self, link: u8, stream: u8) -> Option<usize>
-        ensures { result ≡ stream_place self.now link stream }
+    fn place(&self, line: u8, stream: u8) -> Option<usize>
+        ensures { result ≡ stream_place self.now line stream }
     {
-        self.streams.iter().position(|s| s.is_named(link, stream))
+        self.streams.iter().position(|s| s.is_named(line, stream))
     }
 
     /// Whether the line has the stream.
-    pub fn has_stream(&self, link: u8, stream: u8) -> bool
-        ensures { result ≡ is_some (named self.now link stream) }
+    pub fn has_stream(&self, line: u8, stream: u8) -> bool
+        ensures { result ≡ is_some (named_stream self.now line stream) }
     {
-        self.place(link, stream).is_some()
+        self.place(line, stream).is_some()
     }
 
     /// What it says of a stream by its operations alone: Secure if the stream has keys, Idle if it has none or the line
     /// has no such stream, Partial while an operation is unfinished.
     pub fn status(&self, line: u8, stream: u8) -> StreamStatus
-        ensures { result ≡ status_named (named self.now line stream) }
+        ensures { result ≡ status_named (named_stream self.now line stream) }
     {
         match self.place(line, stream) {
             None => StreamStatus::Idle,
@@ -159,11 +160,11 @@ impl Manager {
 
     /// Whether an operation on a stream that its line has would begin, and not go on.
     pub fn begins(&self, op: NamedOperation) -> bool
-        requires { IsSome (named self.now (op_name op).line (op_name op).stream) }
-        ensures { let name = op_name op in IfSome (named self.now name.line name.stream) (λ n.
+        requires { IsSome (named_stream self.now (op_name op).line (op_name op).stream) }
+        ensures { let name = op_name op in IfSome (named_stream self.now name.line name.stream) (λ n.
             result ≡ (work_of name.operation n.stream.op 0).begins) }
     {
-        let Some(place) = self.place(op.link(), op.stream()) else {
+        let Some(place) = self.place(op.line(), op.stream()) else {
             unreachable!()
         };
         let stream = &self.streams[place];
@@ -182,21 +183,21 @@ impl Manager {
         pool: &mut KeyPool,
         op: NamedOperation,
     ) -> Result<(), StreamRefusal>
-        requires { IsSome (named self.old (op_name op).line (op_name op).stream) }
-        ensures answer { let name = op_name op in IfSome (named self.old name.line name.stream) (λ n.
+        requires { IsSome (named_stream self.old (op_name op).line (op_name op).stream) }
+        ensures answer { let name = op_name op in IfSome (named_stream self.old name.line name.stream) (λ n.
             let host = host_view P.status_of P.live_of port.old n.stream.id in
             result ≡ ok_unless (begin_refusal name.operation host pool.old n)) }
-        ensures manager { let name = op_name op in IfSome (named self.old name.line name.stream) (λ n.
+        ensures manager { let name = op_name op in IfSome (named_stream self.old name.line name.stream) (λ n.
             let host = host_view P.status_of P.live_of port.old n.stream.id in
             self.new ≡ begun_manager self.old name.operation host pool.old n) }
-        ensures pool { let name = op_name op in IfSome (named self.old name.line name.stream) (λ n.
+        ensures pool { let name = op_name op in IfSome (named_stream self.old name.line name.stream) (λ n.
             let host = host_view P.status_of P.live_of port.old n.stream.id in
             pool.new ≡ pool_begun name.operation host pool.old n) }
-        ensures calls { let name = op_name op in IfSome (named self.old name.line name.stream) (λ n.
+        ensures calls { let name = op_name op in IfSome (named_stream self.old name.line name.stream) (λ n.
             let host = host_view P.status_of P.live_of port.old n.stream.id in
             CallsMove P.slots P.unfinished P.moves port.old (calls_begun name.operation host pool.old n) port.new) }
     {
-        let Some(place) = self.place(op.link(), op.stream()) else {
+        let Some(place) = self.place(op.line(), op.stream()) else {
             unreachable!()
         };
         let stream = &mut self.streams[place];
@@ -258,7 +259,7 @@ impl Manager {
         requires asking { IsSome (current self.now) }
         requires room { vec_len out.old + 49 ≤ vec_capacity out.old }
         ensures items { IfSome (current self.now) (λ c. out.new.items ≡ out.old.items
-            ++ spelling (request_asked (has_host c.stream) c.asked c.stream)) }
+            ++ object_spelling (request_asked (has_host c.stream) c.asked c.stream)) }
         ensures draw { IfSome (current self.now) (λ c. result ≡ c.asked.draw) }
         ensures capacity { vec_capacity out.old ≤ vec_capacity out.new }
     {
@@ -343,7 +344,7 @@ fn reset_streams(streams: &mut Vec<StreamKeys>, ends: &[PortName])
 impl Manager {
     /// The state of a stream's operations; `None` if the line has no such stream.
     pub fn facts(&self, line: u8, stream: u8) -> Option<StageFacts>
-        ensures { option_map op_seen result ≡ op_named (named self.now line stream) }
+        ensures { option_map op_seen result ≡ op_named (named_stream self.now line stream) }
     {
         match self.place(line, stream) {
             None => None,

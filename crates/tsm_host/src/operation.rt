@@ -76,13 +76,13 @@ impl NamedOperation {
     }
 
     /// The number of the line.
-    pub fn link(self) -> u8
+    pub fn line(self) -> u8
         ensures { result ≡ (op_name self).line }
     {
         match self {
-            NamedOperation::Establish(link, _)
-            | NamedOperation::Refresh(link, _)
-            | NamedOperation::Stop(link, _) => link,
+            NamedOperation::Establish(line, _)
+            | NamedOperation::Refresh(line, _)
+            | NamedOperation::Stop(line, _) => line,
         }
     }
 

@@ -16,8 +16,8 @@ use crate::exchange::{Exchange, end_at, exchange_at, last, wire_number};
 use crate::facts::StageFacts;
 use crate::operation::{StreamRefusal, StreamResult};
 use crate::port::HostPort;
-use crate::wires::Wires;
 use ide_types::{KeySet, Side, StreamStatus, SubKind};
+use key_slots::Wires;
 use link_verdicts::Operation;
 
 /// The state of a stream for the manager. `next` is the number of the exchange that is to be asked next, from 1; the

@@ -8,7 +8,7 @@ ghost use Rattle.tsm_host.specs.declared.judge.Judged.TheVariants.{Expected};
 ghost use Rattle.ide_types.specs.Lines.{is_hosted};
 ghost use Rattle.tsm_host.specs.Exchanges.{wire_keys};
 ghost use Rattle.tsm_host.specs.Facts.{op_seen};
-ghost use Rattle.tsm_host.specs.Local.{CallsMove, programs, halts};
+ghost use Rattle.tsm_host.specs.Local.{CallsMove, programs, stream_stop_calls};
 ghost use Rattle.tsm_host.specs.Streams.{key_status, op_in, stage_keys, work_asked, StageHolds, keyed_stage};
 ghost use Rattle.tsm_host.specs.Streams.{taken_calls};
 
@@ -19,10 +19,9 @@ use crate::local::{go_six, program_six, stop_all};
 use crate::operation::{ExchangeReply, StreamOutcome, StreamRefusal};
 use crate::port::HostPort;
 use crate::stage::{NextExchange, Stage};
-use crate::wires::Wires;
 use ide_types::{KeySet, PortName, Side, StreamStatus};
 use key_messages::{KmView, km_write};
-use key_slots::{KeyPool, KeySix, PoolEmpty};
+use key_slots::{KeyPool, KeySix, PoolEmpty, Wires};
 use link_verdicts::Operation;
 use std::marker::Model;
 use std::mem;
@@ -55,28 +54,28 @@ fn is_hosted(line: u8) -> bool
 
 impl StreamKeys {
     ghost use Rattle.tsm_host.specs.Exchanges.{request_of};
-    ghost use Rattle.tsm_host.specs.Judging.{judged};
+    ghost use Rattle.tsm_host.specs.Judging.{judged_exchange};
     ghost use Rattle.tsm_host.specs.Streams.{new_stream, has_host, is_named, reset_stream, asked_of_unfinished};
     ghost use Rattle.tsm_host.specs.Streams.{exchange_asked, host_view, refusal_of, ok_unless, unless, begun_stream};
-    ghost use Rattle.tsm_host.specs.Streams.{begun_pool, begun_calls, outcome_of, taken_stream, acknowledged};
+    ghost use Rattle.tsm_host.specs.Streams.{begun_pool, begun_calls, outcome_of, taken_stream, stream_acknowledged};
     ghost use Rattle.tsm_host.specs.Streams.{end_asked, request_asked, pool_refusal};
 
     /// A stream without keys.
-    pub fn new(link: u8, id: u8) -> StreamKeys
-        ensures { result ≡ new_stream link id }
+    pub fn new(line: u8, id: u8) -> StreamKeys
+        ensures { result ≡ new_stream line id }
     {
         StreamKeys {
-            line: link,
+            line,
             id,
             stage: Stage::Idle,
         }
     }
 
     /// Whether it is this stream of this line.
-    pub fn is_named(&self, link: u8, id: u8) -> bool
-        ensures { result ≡ is_named link id self.now }
+    pub fn is_named(&self, line: u8, id: u8) -> bool
+        ensures { result ≡ is_named line id self.now }
     {
-        self.line == link && self.id == id
+        self.line == line && self.id == id
     }
 
     /// After a reset that clears these ends, a stream of their lines has no keys on their way; one between devices is
@@ -223,11 +222,11 @@ impl StreamKeys {
         carried: ExchangeReply,
     ) -> StreamOutcome
         requires { asked_of_unfinished self.old.op ≡ Some asked }
-        ensures outcome { result ≡ outcome_of (has_host self.old) asked (judged (request_asked
+        ensures outcome { result ≡ outcome_of (has_host self.old) asked (judged_exchange (request_asked
             (has_host self.old) asked self.old) carried.entry) }
-        ensures stream { self.new ≡ taken_stream (has_host self.old) asked (judged (request_asked
+        ensures stream { self.new ≡ taken_stream (has_host self.old) asked (judged_exchange (request_asked
             (has_host self.old) asked self.old) carried.entry) self.old }
-        ensures calls { let calls = taken_calls (has_host self.old) asked (judged (request_asked
+        ensures calls { let calls = taken_calls (has_host self.old) asked (judged_exchange (request_asked
             (has_host self.old) asked self.old) carried.entry)
             self.old.id in
             CallsMove P.slots P.unfinished P.moves port.old calls port.new }
@@ -247,7 +246,7 @@ impl StreamKeys {
     fn acknowledge<P: HostPort>(&mut self, port: &mut P, asked: NextExchange) -> StreamOutcome
         requires { asked_of_unfinished self.old.op ≡ Some asked }
         ensures outcome { result ≡ outcome_of (has_host self.old) asked Expected }
-        ensures stream { self.new ≡ acknowledged (has_host self.old) asked self.old }
+        ensures stream { self.new ≡ stream_acknowledged (has_host self.old) asked self.old }
         ensures calls { CallsMove P.slots P.unfinished P.moves port.old
             (taken_calls (has_host self.old) asked Expected self.old.id) port.new }
     {
@@ -262,7 +261,7 @@ impl StreamKeys {
 
     fn advance(&mut self, asked: NextExchange)
         requires { asked_of_unfinished self.old.op ≡ Some asked }
-        ensures { self.new ≡ acknowledged (has_host self.old) asked self.old }
+        ensures { self.new ≡ stream_acknowledged (has_host self.old) asked self.old }
     {
         let stage = mem::replace(&mut self.stage, Stage::Idle);
         let hosted = is_hosted(self.line);
@@ -332,7 +331,8 @@ fn split_keys<P: HostPort>(
 
 /// Empties all slots of a stream at a host's port.
 fn empty_host<P: HostPort>(port: &mut P, hosted: bool, stream: u8)
-    ensures { CallsMove P.slots P.unfinished P.moves port.old (if hosted then halts stream else []) port.new }
+    ensures { CallsMove P.slots P.unfinished P.moves port.old (if hosted then stream_stop_calls stream else [])
+        port.new }
 {
     if hosted {
         stop_all(port, stream);

@@ -1,6 +1,6 @@
 -- What events make of the accesses of all links: of one link, or of none.
 use Rattle.std.proofs.Common.{◌≡◌, ℕ, ◌==◌, Bool, true, false, List, [], ◌∷◌, length, refl, ap, sym, subst}
-use Rattle.std.proofs.Common.{◌∙◌, drop, arith, zero, suc}
+use Rattle.std.proofs.Common.{◌∙◌, ◌<◌, drop, arith, zero, suc}
 use Rattle.std.proofs.lemmas.Bool.Decides.{nat_tests}
 use Rattle.std.specs.Prelude.{Option, Some, None, slice_get, slice_set, if◌then◌else◌, ◌&&◌, nat_lt, IfSome, IfOk}
 use Rattle.std.specs.Prelude.{Result, Ok, Err}
@@ -23,8 +23,8 @@ use Rattle.guarded_memory.specs.Happenings.{Happened, AllReset, newest_happened}
 use Rattle.guarded_memory.specs.Contents.{GuardedMemory, MmioLeads}
 use Rattle.spec_links.specs.Hops.{clears_hop, is_forward_on}
 use Rattle.link_stores.specs.declared.link.LinkAccesses.{LinkAccesses}
-use Rattle.join_stores.specs.Turns.{hops_cleared}
-use Rattle.join_stores.proofs.Turns.{turn_at, rests_all, turn_then}
+use Rattle.join_ends.specs.Turns.{hops_cleared}
+use Rattle.join_ends.proofs.Turns.{turn_at, rests_all, turn_then}
 use Rattle.all_links.specs.{waiting_reads_after, LinkEnds}
 use Rattle.all_links.specs.declared.links.Links.{Links}
 use Rattle.all_links.specs.Interfaces.{interface_named}
@@ -34,7 +34,9 @@ use Rattle.ide_types.specs.declared.memory.OutOfMemory.{OutOfMemory}
 use Rattle.link_events.specs.declared.event.Loss.{Loss}
 use Rattle.link_events.specs.declared.event.InterfaceEvent.{InterfaceEvent}
 use Rattle.link_events.specs.declared.event.InterfaceEvent.TheVariants as ie
+use Rattle.all_links.specs.{IsThere}
 use Rattle.whole_links.specs.declared.whole.WholeLinks.{WholeLinks}
+use Rattle.whole_links.specs.Whole.{HasAllAccesses}
 use Rattle.std.specs.Option.{option_map_or}
 use Rattle.interface_state.specs.Machine.{Tdi}
 use Rattle.all_links.proofs.Asked.{if_some, is_found}
@@ -89,6 +91,11 @@ answer_takes plan xs link a a' w is after takes =
 
 -- ---- what happens to the memory of devices
 
+pub accesses_there : (s : WholeLinks) (o : Option (ℕ × ℕ)) → HasAllAccesses s
+    → IfSome o (λ (at : ℕ × ℕ). IsThere s.links.ends at.0 at.1) → IfSome o (λ (at : ℕ × ℕ). at.0 < length s.accesses)
+accesses_there s None whole here = tt
+accesses_there s (Some at) whole here = subst (λ (n : ℕ). at.0 < n) (sym whole) here.link_there
+
 -- the base address registers that the topology lays out
 pub bars_at : (s : Links) (n : ℕ) (at : ℕ × ℕ) (bars : List BarPlan)
     → Some at ≡ interface_named s.keeper.interfaces s.ends.links n
@@ -132,8 +139,7 @@ happens_here happens o which at xs a a' happens_is named is after sizes leads =
 
 pub floors_here : (s : Links) (i : ℕ) (came : Bool) (at : ℕ × ℕ) (draw : ℕ) (xs : List LinkAccesses)
     (a a' : LinkAccesses) → came ≡ true → Some at ≡ interface_named s.keeper.interfaces s.ends.links i
-    → slice_get xs at.0 ≡ Some a → draw ≡ device_draw s i at.0
-    → a' ≡ record a { floors = slice_set a.floors at.1 draw }
+    → slice_get xs at.0 ≡ Some a → draw ≡ device_draw s i at.0 → a' ≡ record a { floors = slice_set a.floors at.1 draw }
     → AccessesTurn same_reads (floors_if came s i) nothing_happens same_carried xs (slice_set xs at.0 a')
 floors_here s i came at draw xs a a' came_is named is draw_is after =
     turn_at same_reads _ nothing_happens same_carried xs at.0 a a' is
@@ -234,8 +240,7 @@ reset_turns plan ends xs zs link count a a' w says many is after sizes leads cle
     })
 
 -- of no link
-pub reset_keeps : (plan : Plan) (ends : List PortName) (xs : List LinkAccesses) (link : ℕ) (w : Verdict)
-    → w ≡ v.Nothing
+pub reset_keeps : (plan : Plan) (ends : List PortName) (xs : List LinkAccesses) (link : ℕ) (w : Verdict) → w ≡ v.Nothing
     → AccessesTurn (waiting_reads_after plan [] (Reset link ends) w) same_floors (reset_happens w)
     (carried_after_event (Reset link ends) w) xs xs
 reset_keeps plan ends xs link w says =
@@ -254,8 +259,7 @@ keeps_tlps : (link : ℕ) (way : Direction) (w : Verdict) (k : ℕ) (d : Directi
     → is_sealed w ≡ false → is_sending w ≡ true → carried_after_event (Forward link way) w k d ts ≡ ts
 keeps_tlps link way w k d ts stays sends = grind arith
 
-takes_tlps : (link : ℕ) (way : Direction) (w : Verdict) (k : ℕ) (d : Direction) (ts : List HopTlp)
-    → is_sealed w ≡ true
+takes_tlps : (link : ℕ) (way : Direction) (w : Verdict) (k : ℕ) (d : Direction) (ts : List HopTlp) → is_sealed w ≡ true
     → carried_after_event (Forward link way) w k d ts ≡ (if is_forward_on k d (Forward link way) then drop 1 ts else ts)
 takes_tlps link way w k d ts sealed = grind arith
 
@@ -280,8 +284,7 @@ first_left q Upstream Downstream = refl
 first_left q Upstream Upstream = refl
 
 pub forward_takes : (xs : List LinkAccesses) (link : ℕ) (way : Direction) (a a' : LinkAccesses) (w : Verdict)
-    → slice_get xs link ≡ Some a
-    → a' ≡ record a {
+    → slice_get xs link ≡ Some a → a' ≡ record a {
       carried = with_queue a.carried way
           (record (queue_of a.carried way) { tlps = drop 1 (queue_of a.carried way).tlps });
     }

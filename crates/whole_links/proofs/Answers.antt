@@ -17,7 +17,7 @@ use Rattle.link_events.specs.declared.event.Event.TheVariants.{Access}
 use Rattle.link_events.specs.declared.event.AccessEvent.TheVariants as ae
 use Rattle.link_verdicts.specs.declared.verdict.Verdict.{Verdict}
 use Rattle.link_verdicts.specs.declared.verdict.Verdict.TheVariants as v
-use Rattle.association.specs.Outgoing.{outgoing_of}
+use Rattle.tlp_layout.specs.Outgoing.{outgoing_of}
 use Rattle.spec_links.specs.Plan.{has_link, has_port, streams_of}
 use Rattle.spec_stream.specs.Stream.{StreamState, at_sub}
 use Rattle.spec_stream.specs.Slots.{sealing_draw}
@@ -66,8 +66,7 @@ found_at x Pr = refl
 found_at x Npr = refl
 found_at x Cpl = refl
 
-found_draw : (o : Option Found)
-    → sealing_draw_at Cpl (option_map (λ (f : Found). f.state) o)
+found_draw : (o : Option Found) → sealing_draw_at Cpl (option_map (λ (f : Found). f.state) o)
     ≡ option_and_then (λ (f : Found). sealing_draw (at_sub f.state.tx Cpl).slots) o
 found_draw None = refl
 found_draw (Some f) = found_at f.state Cpl
@@ -110,21 +109,22 @@ module _ (plan : Plan) (b : BesidePorts) (st : LinkState) (link : ℕ) (r : Boun
   abbrev sends : Stepped
   sends = stepped_send plan b st (port_at Host link) (outgoing_of (streams_of plan link) Host r.bytes) false true
 
-  older : (draw : ℕ) → draw_below o r.floor ≡ Some draw
-      → stepped_completion plan b st (port_at Host link) r o ≡ (v.Interface (iv.RefusedRefreshFirst draw r.floor), st)
+  older : (draw : ℕ) → draw_below o r.bound.floor ≡ Some draw
+      → stepped_completion plan b st (port_at Host link) r o
+      ≡ (v.Interface (iv.RefusedRefreshFirst draw r.bound.floor), st)
   older draw below =
-      let at = below_is o r.floor draw below in
-      (λ i. if at.0 i then (v.Interface (iv.RefusedRefreshFirst (at.1 i) r.floor), st) else sends)
+      let at = below_is o r.bound.floor draw below in
+      (λ i. if at.0 i then (v.Interface (iv.RefusedRefreshFirst (at.1 i) r.bound.floor), st) else sends)
 
-  newer : draw_below o r.floor ≡ None → stepped_completion plan b st (port_at Host link) r o ≡ sends
+  newer : draw_below o r.bound.floor ≡ None → stepped_completion plan b st (port_at Host link) r o ≡ sends
   newer below =
-      let none : is_below o r.floor ≡ false = not_below o r.floor below in
-      (λ i. if none i then (v.Interface (iv.RefusedRefreshFirst (unwrap_or o 0) r.floor), st) else sends)
+      let none : is_below o r.bound.floor ≡ false = not_below o r.bound.floor below in
+      (λ i. if none i then (v.Interface (iv.RefusedRefreshFirst (unwrap_or o 0) r.bound.floor), st) else sends)
 
 pub answer_older : {verdict : Verdict} {old new : WholeLinks} (plan : Plan) (link : ℕ) (r : BoundCompletion)
     (l : LinkEnds) (draw : ℕ) → link_reply old link ≡ Ok r → slice_get old.links.ends.links link ≡ Some l
-    → draw_below (sealing_draw_in l.host r.stream Cpl) r.floor ≡ Some draw
-    → verdict ≡ v.Interface (iv.RefusedRefreshFirst draw r.floor)
+    → draw_below (sealing_draw_in l.host r.bound.stream Cpl) r.bound.floor ≡ Some draw
+    → verdict ≡ v.Interface (iv.RefusedRefreshFirst draw r.bound.floor)
     → new.links ≡ record old.links { steps = old.links.steps + 1 } → new.accesses ≡ old.accesses → IsBoundedWhole old
     → WholeEnds plan verdict old new (Access (ae.Answer link))
 answer_older {verdict} {old} {new} plan link r l draw due l_is below says is same bounded =
@@ -135,8 +135,8 @@ answer_older {verdict} {old} {new} plan link r l draw due l_is below says is sam
     let beside : BesidePorts = beside_in old.links b in
     answer_step plan beside st link (Ok r) so
     ∙ ap (λ (o : Option ℕ). stepped_completion plan beside st (port_at Host link) r o)
-    (draw_same old.links plan link l r.stream links l_is)
-    ∙ older plan beside st link r (sealing_draw_in l.host r.stream Cpl) draw below))
+    (draw_same old.links plan link l r.bound.stream links l_is)
+    ∙ older plan beside st link r (sealing_draw_in l.host r.bound.stream Cpl) draw below))
     bounded.whole (ap length same) (λ answer by regions. due)
 
 -- ---- the send
@@ -149,7 +149,7 @@ host_there plan link less =
 
 sent_as_answer : {verdict : Verdict} (plan : Plan) (old new : WholeLinks) (link : ℕ) (r : BoundCompletion)
     (l : LinkEnds) → slice_get old.links.ends.links link ≡ Some l
-    → draw_below (sealing_draw_in l.host r.stream Cpl) r.floor ≡ None
+    → draw_below (sealing_draw_in l.host r.bound.stream Cpl) r.bound.floor ≡ None
     → EndsSending plan verdict old.links new.links (port_at Host link) r.bytes false true
     → EndsIf (λ b. b.reply link ≡ Ok r) plan verdict old.links new.links (Access (ae.Answer link))
 sent_as_answer {verdict} plan old new link r l l_is below x = record {
@@ -165,15 +165,15 @@ sent_as_answer {verdict} plan old new link r l l_is below x = record {
       subst (λ (s : Stepped). Ends plan new.links verdict s)
       (sym (answer_step plan beside st link (Ok r) so
       ∙ ap (λ (o : Option ℕ). stepped_completion plan beside st (port_at Host link) r o)
-      (draw_same old.links plan link l r.stream links l_is)
-      ∙ newer plan beside st link r (sealing_draw_in l.host r.stream Cpl) below))
+      (draw_same old.links plan link l r.bound.stream links l_is)
+      ∙ newer plan beside st link r (sealing_draw_in l.host r.bound.stream Cpl) below))
       (x.ends b (host_there plan link here) h links stands);
 }
 
 pub answer_sent_or : (plan : Plan) (r : Result Verdict OutOfMemory) (old new : WholeLinks) (link : ℕ)
     (reply : BoundCompletion) (l : LinkEnds)
     → link_reply old link ≡ Ok reply → slice_get old.links.ends.links link ≡ Some l
-    → draw_below (sealing_draw_in l.host reply.stream Cpl) reply.floor ≡ None
+    → draw_below (sealing_draw_in l.host reply.bound.stream Cpl) reply.bound.floor ≡ None
     → EndsSendingOr plan r old.links new.links (port_at Host link) reply.bytes false true
     → new.accesses ≡ old.accesses → IsBoundedWhole old → WholeEndsOr plan r old new (Access (ae.Answer link))
 answer_sent_or plan (Ok verdict) old new link reply l due l_is below x same bounded =

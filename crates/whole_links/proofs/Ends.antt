@@ -19,10 +19,11 @@ use Rattle.all_links.specs.States.{links_state}
 use Rattle.all_links.specs.Links.{Ends, EndsIf, EndsWith, EndsAs, EndsAsOr, Stays}
 use Rattle.all_links.specs.Accesses.{AccessesStay}
 use Rattle.link_stores.specs.declared.link.LinkAccesses.{LinkAccesses}
-use Rattle.join_stores.proofs.Turns.{stays_all}
+use Rattle.join_ends.proofs.Turns.{stays_all}
 use Rattle.whole_links.specs.declared.whole.WholeLinks.{WholeLinks}
 use Rattle.whole_links.specs.Besides.{beside_whole}
-use Rattle.whole_links.specs.Whole.{IsWhole, IsBoundedWhole, IsSaid, WholeEnds, WholeStays, WholeEndsAs, WholeEndsAsOr}
+use Rattle.whole_links.specs.Whole.{HasAllAccesses, IsBoundedWhole, IsSaid, WholeEnds, WholeStays, WholeEndsAs}
+use Rattle.whole_links.specs.Whole.{WholeEndsAsOr}
 
 -- what is said of every plan may be taken of this one
 pub any_plan : Plan
@@ -30,13 +31,14 @@ any_plan = record { version = 0; portion = 0; units_per_key = 0; pool = []; link
 
 -- an event that the links bound leaves all of it bounded
 pub bounded_with : {verdict : Verdict} {event : Event} (old : WholeLinks) (mid : Links)
-    → EndsWith any_plan verdict old.links mid event → IsWhole old
+    → EndsWith any_plan verdict old.links mid event → HasAllAccesses old
     → IsBoundedWhole (record { links = mid; accesses = old.accesses })
 bounded_with old mid x whole = record { bounded = x.bounded; whole = whole ∙ sym x.many }
 
 -- what is said beside the ports is so
 pub ends_if : {IsSo : BesidePorts → Type 0} {verdict : Verdict} {old new : WholeLinks} {event : Event} (plan : Plan)
-    → EndsIf IsSo plan verdict old.links new.links event → IsWhole old → length new.accesses ≡ length old.accesses
+    → EndsIf IsSo plan verdict old.links new.links event → HasAllAccesses old → length new.accesses
+    ≡ length old.accesses
     → ((answer : InterfaceEvent → Verdict) → IsSaid answer old event
     → old.links.trusted.contents.regions ≡ plan.memory → IsSo (beside_whole plan old answer))
     → WholeEnds plan verdict old new event
@@ -49,13 +51,14 @@ ends_if {IsSo} {verdict} {old} {new} {event} plan x whole many so = record {
 }
 
 pub ends_with : {verdict : Verdict} {old new : WholeLinks} {event : Event} (plan : Plan)
-    → EndsWith plan verdict old.links new.links event → IsWhole old → new.accesses ≡ old.accesses
+    → EndsWith plan verdict old.links new.links event → HasAllAccesses old → new.accesses ≡ old.accesses
     → WholeEnds plan verdict old new event
 ends_with plan x whole same = ends_if plan x whole (ap length same) (λ answer by regions. by)
 
 -- an event, and how it is spelled
 pub ends_of : {verdict : Verdict} {event : Event} (plan : Plan) (old new : WholeLinks) (e : Event) (mid : Links)
-    → event ≡ e → EndsWith plan verdict old.links mid e → IsWhole old → new.links ≡ mid → new.accesses ≡ old.accesses
+    → event ≡ e → EndsWith plan verdict old.links mid e → HasAllAccesses old → new.links ≡ mid → new.accesses
+    ≡ old.accesses
     → WholeEnds plan verdict old new event
 ends_of {verdict} {event} plan old new e mid is x whole links same =
     subst (λ (v : Event). WholeEnds plan verdict old new v) (sym is)
@@ -88,7 +91,7 @@ whole_noted {verdict} {event} plan old mid new x same many = record {
 -- ---- a verdict, or none
 
 pub ends_as : (plan : Plan) (o : Option Verdict) (old new : WholeLinks) (event : Event)
-    → EndsAs plan o old.links new.links event → IsWhole old → length new.accesses ≡ length old.accesses
+    → EndsAs plan o old.links new.links event → HasAllAccesses old → length new.accesses ≡ length old.accesses
     → WholeEndsAs plan o old new event
 ends_as plan (Some verdict) old new event x whole many = ends_if plan x whole many (λ answer by regions. by)
 ends_as plan None old new event x whole many = x
@@ -100,7 +103,7 @@ stays_with {old} {new} x same = record {
 }
 
 pub ends_as_or : (plan : Plan) (r : Result (Option Verdict) OutOfMemory) (old new : WholeLinks) (event : Event)
-    → EndsAsOr plan r old.links new.links event → IsWhole old → new.accesses ≡ old.accesses
+    → EndsAsOr plan r old.links new.links event → HasAllAccesses old → new.accesses ≡ old.accesses
     → WholeEndsAsOr plan r old new event
 ends_as_or plan (Ok o) old new event x whole same = ends_as plan o old new event x whole (ap length same)
 ends_as_or plan (Err e) old new event x whole same = stays_with x same

@@ -90,8 +90,7 @@ leaving_there plan link Upstream has =
 -- ---- the machine's step
 
 forward_step : (plan : Plan) (b : BesidePorts) (st : LinkState) (link : ℕ) (d : Direction) (o : Result HopTlp Verdict)
-    → b.forward link d ≡ o
-    → step_of plan b st (Forward link d) ≡ stepped_forward plan b st (leaving_end link d) o
+    → b.forward link d ≡ o → step_of plan b st (Forward link d) ≡ stepped_forward plan b st (leaving_end link d) o
 unfolding step_of
 forward_step plan b st link d o is =
     ap (λ (r : Result HopTlp Verdict). stepped_forward plan b st (leaving_end link d) r) is
@@ -143,8 +142,7 @@ forward_empty {verdict} {old} {new} plan link d has none says is same bounded =
 -- ---- the send
 
 sent_as_forward : {verdict : Verdict} (plan : Plan) (old new : WholeLinks) (link : ℕ) (d : Direction) (x : HopTlp)
-    → has_hop plan link ≡ true
-    → EndsSending plan verdict old.links new.links (leaving_end link d) x.bytes false x.t
+    → has_hop plan link ≡ true → EndsSending plan verdict old.links new.links (leaving_end link d) x.bytes false x.t
     → EndsIf (λ b. b.forward link d ≡ Ok x) plan verdict old.links new.links (Forward link d)
 sent_as_forward {verdict} plan old new link d x has sent = record {
   counted = sent.counted;

@@ -22,13 +22,13 @@ use Rattle.spec_links.specs.Hops.{HopTlp}
 use Rattle.machine_ports.specs.Machine.{LinkState}
 use Rattle.machine_ports.specs.Stands.{PortsStandFor}
 use Rattle.link_stores.specs.declared.link.LinkAccesses.{LinkAccesses}
-use Rattle.join_stores.specs.{waiting_next}
+use Rattle.join_ends.specs.{waiting_next}
 use Rattle.all_links.specs.{AreLinks, carried_next, unit_in, unit_tlps, waiting_reads_after}
 use Rattle.interface_state.specs.Machine.{Tdi}
 use Rattle.all_links.specs.Accesses.{runs_in, device_draw, same_reads, same_floors, nothing_happens, same_carried}
 use Rattle.all_links.specs.Accesses.{AccessesTurn, policy_in}
 use Rattle.all_links.specs.Interfaces.{interface_named, tdi_named}
-use Rattle.all_links.specs.Sides.{arrival_at}
+use Rattle.all_links.specs.Sides.{arrival_in_state}
 use Rattle.all_links.specs.States.{links_state}
 use Rattle.all_links.specs.declared.links.Links.{Links}
 use Rattle.whole_links.specs.declared.whole.WholeLinks.{WholeLinks}
@@ -114,7 +114,7 @@ pub record AccessesArrive (plan : Plan) (arrival : LinkState → Option Arrival)
 
 abbrev pub AccessesArriveAt : Plan → Event → Verdict → WholeLinks → WholeLinks → Type 0
 AccessesArriveAt plan e verdict old new =
-    AccessesArrive plan (arrival_at plan e) e verdict old.links old.accesses new.accesses
+    AccessesArrive plan (arrival_in_state plan e) e verdict old.links old.accesses new.accesses
 
 -- an answer to a read
 abbrev pub AccessesAnswer : Plan → Event → Verdict → WholeLinks → WholeLinks → Type 0

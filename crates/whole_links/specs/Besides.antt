@@ -1,29 +1,29 @@
 -- What all links say beside their ports: also the effects of accepted units, the answers to reads that wait, what is
 -- shown of the memory of devices, and what the first TLP comes to that waits at a switch.
-use Rattle.std.specs.Prelude.{ℕ, nat_lt, nat_le, not, Bool, false, if◌then◌else◌, List, [], ◌∷◌, Option, Some, None}
-use Rattle.std.specs.Prelude.{Result, Ok, Err, slice_get}
+use Rattle.std.specs.Prelude.{ℕ, nat_le, Bool, false, if◌then◌else◌, List, [], ◌∷◌, Option, Some, None}
+use Rattle.std.specs.Prelude.{Result, Err, slice_get}
 use Rattle.ide_types.specs.declared.direction.Direction.{Direction}
 use Rattle.ide_types.specs.declared.plan.Plan.{Plan}
 use Rattle.link_events.specs.declared.event.InterfaceEvent.{InterfaceEvent}
-use Rattle.link_verdicts.specs.declared.verdict.BlockCause.TheVariants as cause
 use Rattle.link_verdicts.specs.declared.verdict.Verdict.{Verdict}
 use Rattle.link_verdicts.specs.declared.verdict.Verdict.TheVariants as v
 use Rattle.link_verdicts.specs.declared.access.AccessVerdict.TheVariants as av
-use Rattle.association.specs.Outgoing.{outgoing_of, stream_taken}
+use Rattle.tlp_layout.specs.Outgoing.{outgoing_of, stream_taken}
 use Rattle.trusted_memory.specs.{MemoryContents, byte_at, bytes_from}
 use Rattle.trusted_memory.specs.declared.queue.WaitingRead.{WaitingRead}
 unfoldable use Rattle.trusted_memory.specs.{completion_bytes}
 use Rattle.guarded_memory.specs.Contents.{has_bytes}
-use Rattle.interface_host.specs.Managers.{granted, interface_of_requester}
+use Rattle.interface_host.specs.Managers.{running_grant, interface_of_requester}
 use Rattle.all_links.specs.{LinkEnds, InterfacesView}
-use Rattle.spec_links.specs.Memory.{effects_by}
+use Rattle.spec_links.specs.Memory.{effects_under_policy}
 use Rattle.spec_links.specs.Hops.{HopTlp}
 use Rattle.spec_links.specs.Ports.{port_of}
-use Rattle.spec_links.specs.Due.{is_stream}
+pub use Rattle.spec_links.specs.Due.{judged_bound}
 use Rattle.spec_links.specs.Guarded.{mmio_if}
 use Rattle.machine_ports.specs.Machine.{BesidePorts}
 use Rattle.machine_ports.specs.Forwards.{forward_of}
 use Rattle.machine_ports.specs.Replies.{BoundCompletion}
+pub use Rattle.machine_ports.specs.Replies.{completion_with_bytes}
 use Rattle.std.specs.Option.{option_map_or, option_and_then}
 use Rattle.spec_keys.specs.Keys.{is_below}
 use Rattle.all_links.specs.Accesses.{reads_at, sizes_at, mmio_at, carried_on_link, policy_in}
@@ -37,26 +37,13 @@ use Rattle.whole_links.specs.declared.whole.WholeLinks.{WholeLinks}
 abbrev pub host_stream : LinkEnds → List ℕ → Option ℕ
 host_stream l bytes = stream_taken (outgoing_of l.host.plans l.host.name.side bytes)
 
--- of a read of an interface that came under this draw: by what the manager says of the interface, by its bound stream
--- and floor, and by the stream that the completion takes
-abbrev pub judged_bound : Option ℕ → ℕ → ℕ → Option (ℕ × ℕ) → Result (ℕ × ℕ) Verdict
-judged_bound taken interface draw None = Err (v.Access (av.Dropped interface cause.NotRunning))
-judged_bound taken interface draw (Some bound) =
-    if not (is_stream bound.0 taken) then Err (v.Access (av.Dropped interface cause.WrongStream))
-    else if nat_lt draw bound.1 then Err (v.Access (av.Dropped interface cause.Stale))
-    else Ok bound
-
--- with the completion's bytes
-abbrev pub completion_with_bytes : Result (ℕ × ℕ) Verdict → List ℕ → Result BoundCompletion Verdict
-completion_with_bytes (Err verdict) bytes = Err verdict
-completion_with_bytes (Ok bound) bytes = Ok (record { stream = bound.0; floor = bound.1; bytes = bytes })
-
 abbrev pub reply_numbered : InterfacesView → LinkEnds → ℕ → MemoryContents → WaitingRead → Option ℕ
     → Result BoundCompletion Verdict
 reply_numbered m l link memory r None = Err v.Nothing
 reply_numbered m l link memory r (Some interface) =
     let bytes = completion_bytes (byte_at memory) r.read in
-    completion_with_bytes (judged_bound (host_stream l bytes) interface r.draw (granted m link r.read.requester)) bytes
+    completion_with_bytes (judged_bound (host_stream l bytes) interface r.draw (running_grant m link r.read.requester))
+    bytes
 
 -- the number of the interface of a link with this requester ID
 abbrev pub small_number : ℕ → Option ℕ
@@ -116,7 +103,7 @@ beside_whole plan s answer =
     beside_in s.links (record {
       t = λ port head stream trusted. trusted;
       effects = λ port.
-          effects_by plan (policy_in s.links.keeper.interfaces s.links.ends s.accesses) (port_of plan port);
+          effects_under_policy plan (policy_in s.links.keeper.interfaces s.links.ends s.accesses) (port_of plan port);
       answer = answer;
       reply = link_reply s;
       shows = shown_mmio s;

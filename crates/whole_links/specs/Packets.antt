@@ -1,7 +1,6 @@
 -- What becomes of a packet on its way to the other end of its line.
 use Rattle.std.specs.Prelude.{ℕ, nat_lt, nat_le, bit_xor, List, length, take, slice_index, slice_set, Option, Some}
-use Rattle.std.specs.Prelude.{None}
-use Rattle.std.specs.Prelude.{if◌then◌else◌}
+use Rattle.std.specs.Prelude.{None, if◌then◌else◌}
 use Rattle.link_events.specs.declared.event.Event.{Event}
 use Rattle.link_events.specs.declared.event.Event.TheVariants as event
 use Rattle.whole_links.specs.declared.packets.Passage.{Passage}

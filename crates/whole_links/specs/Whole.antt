@@ -19,13 +19,13 @@ use Rattle.whole_links.specs.declared.whole.WholeLinks.{WholeLinks}
 use Rattle.whole_links.specs.Besides.{beside_whole}
 
 -- each link has its accesses
-abbrev pub IsWhole : WholeLinks → Type 0
-IsWhole s = length s.accesses ≡ length s.links.ends.links
+abbrev pub HasAllAccesses : WholeLinks → Type 0
+HasAllAccesses s = length s.accesses ≡ length s.links.ends.links
 
 -- what always holds
 pub record IsBoundedWhole (s : WholeLinks) : Type 0 where
   pub bounded : IsBounded s.links.ends s.links.packets.packets s.links.steps
-  pub whole : IsWhole s
+  pub whole : HasAllAccesses s
 
 -- before the first event
 pub record IsFirstWhole (plan : Plan) (s : WholeLinks) : Type 0 where

@@ -1,40 +1,26 @@
 //! What an answer to the oldest read of a link comes to beside the ports.
 
 ghost use Rattle.std.specs.Prelude.{◌≡◌, Some};
-ghost use Rattle.spec_links.specs.Due.{is_stream};
 ghost use Rattle.whole_links.specs.Besides.{draw_below, judged_bound, small_number};
 
 use crate::verdicts::dropped;
-use link_verdicts::{BlockCause, Verdict};
+use ide_types::Binding;
+use link_verdicts::{Verdict, binding_cause};
 
-// Whether the stream that is taken is this one.
-fn is_stream(stream: u8, taken: Option<u8>) -> bool
-    ensures { result ≡ is_stream stream taken }
-{
-    match taken {
-        None => false,
-        Some(taken) => taken == stream,
-    }
-}
-
-/// The stream that an interface is bound to and its floor, if a completion for it takes that stream, and if its read
-/// came under a draw from the floor on; else the verdict that drops the read. `taken` is the stream that the completion
-/// takes.
+/// The binding of an interface, if a completion for it takes that stream, and if its read came under a draw from the
+/// floor on; else the verdict that drops the read. `taken` is the stream that the completion takes.
 pub fn judged(
     taken: Option<u8>,
     interface: u8,
     draw: u32,
-    bound: (u8, u32),
-) -> Result<(u8, u32), Verdict>
+    bound: Binding,
+) -> Result<Binding, Verdict>
     ensures { result ≡ judged_bound taken interface draw (Some bound) }
 {
-    if !is_stream(bound.0, taken) {
-        return Err(dropped(interface, BlockCause::WrongStream));
+    match binding_cause(bound, taken, draw) {
+        Some(cause) => Err(dropped(interface, cause)),
+        None => Ok(bound),
     }
-    if draw < bound.1 {
-        return Err(dropped(interface, BlockCause::Stale));
-    }
-    Ok(bound)
 }
 
 /// The draw, if it is less than the floor.

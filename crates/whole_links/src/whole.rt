@@ -6,7 +6,9 @@ ghost use Rattle.std.specs.Bool.{OnTrue};
 ghost use Rattle.link_events.specs.Spells.{IsAllowed};
 ghost use Rattle.link_events.specs.Interfaces.{IsAllowedInterface};
 ghost use Rattle.link_events.specs.Accesses.{IsAllowedAccess};
+ghost use Rattle.spec_interfaces.specs.Exchanges.{changes_device};
 ghost use Rattle.trusted_memory.specs.{FitsRead};
+ghost use Rattle.guarded_memory.specs.Happenings.{InterfaceReset};
 ghost use Rattle.ide_port.specs.{sealing_draw_in};
 ghost use Rattle.all_links.specs.{LinkEnds};
 ghost use Rattle.all_links.specs.Events.{operation_event};
@@ -21,10 +23,10 @@ use crate::reply::{draw_below, judged, small_number};
 use crate::verdicts::{changes_device, dropped, empty, is_sealed, reaches, takes_read};
 use all_links::Links;
 use ide_types::{
-    Bytes, Direction, InterfaceVerdict, OutOfMemory, PortName, Side, SubKind, ValidPlan,
+    Binding, Bytes, Direction, InterfaceVerdict, OutOfMemory, PortName, Side, SubKind, ValidPlan,
 };
 use interface_host::InterfaceOperation;
-use join_stores::clear_hops;
+use join_ends::clear_hops;
 use line_routes::{has_hop, leaving_end};
 use link_events::{AccessEvent, Event, InterfaceEvent, Loss};
 use link_stores::Accesses;
@@ -46,9 +48,9 @@ impl WholeLinks {
     ghost use Rattle.whole_links.specs.Besides.{completion_with_bytes, reply_numbered, link_reply};
     ghost use Rattle.whole_links.specs.Besides.{reader_of};
     ghost use Rattle.whole_links.specs.Besides.{has_shown, bytes_shown};
-    ghost use Rattle.whole_links.specs.Whole.{IsFirstWhole, IsWhole, IsBoundedWhole, WholeEnds, WholeEndsAs};
+    ghost use Rattle.whole_links.specs.Whole.{IsFirstWhole, HasAllAccesses, IsBoundedWhole, WholeEnds, WholeEndsAs};
     ghost use Rattle.whole_links.specs.Whole.{WholeEndsOr, WholeEndsAsOr};
-    ghost use Rattle.whole_links.specs.Accesses.{takes_read, is_sealed, floors_if, halted_in, flr_at};
+    ghost use Rattle.whole_links.specs.Accesses.{takes_read, is_sealed, floors_if, halted_in, happens_at};
     ghost use Rattle.whole_links.specs.Accesses.{AccessesInterface, AccessesForward, AccessesAfter};
 
     /// The links of the plan before the first event, with no read and no TLP that waits, and 0 in all ranges of its
@@ -72,7 +74,7 @@ impl WholeLinks {
         interface: u8,
         waiting: &WaitingRead,
         bytes: &mut Vec<u8>,
-    ) -> Result<(u8, u32), Verdict>
+    ) -> Result<Binding, Verdict>
         requires here { link < length self.now.links.ends.links }
         requires fits { FitsRead waiting.now.read }
         requires empty { bytes.old.items ≡ [] }
@@ -92,8 +94,8 @@ impl WholeLinks {
         {
             None => Err(dropped(interface, BlockCause::NotRunning)),
             Some(bound) => {
-                complete(&self.links.trusted, &waiting.read, bytes);
-                let taken = self.links.ends.link(link).host.outgoing_stream(bytes);
+                let head = complete(&self.links.trusted, &waiting.read, bytes);
+                let taken = self.links.ends.link(link).host.stream_by_head(&head);
                 judged(taken, interface, waiting.draw, bound)
             }
         }
@@ -116,9 +118,9 @@ impl WholeLinks {
     }
 
     // Appends the completion of the oldest read of the link, or gives the verdict without one. There is room for it.
-    fn reply(&self, link: u8, bytes: &mut Vec<u8>) -> Result<(u8, u32), Verdict>
+    fn reply(&self, link: u8, bytes: &mut Vec<u8>) -> Result<Binding, Verdict>
         requires here { link < length self.now.links.ends.links }
-        requires whole { IsWhole self.now }
+        requires whole { HasAllAccesses self.now }
         requires empty { bytes.old.items ≡ [] }
         requires room { vec_len bytes.old + 4108 ≤ vec_capacity bytes.old }
         ensures { completion_with_bytes result bytes.new.items ≡ link_reply self.now link }
@@ -133,14 +135,14 @@ impl WholeLinks {
     }
 
     // The draw that completions of the stream are sealed under at the host's port, if it is less than the floor.
-    fn older_draw(&self, link: u8, bound: (u8, u32)) -> Option<u32>
+    fn older_draw(&self, link: u8, bound: Binding) -> Option<u32>
         requires here { link < length self.now.links.ends.links }
         ensures { (l : LinkEnds) → slice_get self.now.links.ends.links link ≡ Some l → result
-            ≡ draw_below (sealing_draw_in l.host bound.0 SubKind.Cpl) bound.1 }
+            ≡ draw_below (sealing_draw_in l.host bound.stream SubKind.Cpl) bound.floor }
     {
         let host = &self.links.ends.link(link).host;
-        let draw = host.sealing_draw(bound.0, SubKind::Cpl);
-        draw_below(draw, bound.1)
+        let draw = host.sealing_draw(bound.stream, SubKind::Cpl);
+        draw_below(draw, bound.floor)
     }
 
     // Sends the completion as any TLP is sent, with T, unless that would be under too old a draw.
@@ -148,7 +150,7 @@ impl WholeLinks {
         &mut self,
         plan: &ValidPlan,
         link: u8,
-        bound: (u8, u32),
+        bound: Binding,
         bytes: &[u8],
     ) -> Result<Verdict, OutOfMemory>
         requires steps { self.old.links.steps < 2 ^ 28 }
@@ -162,7 +164,7 @@ impl WholeLinks {
     {
         match self.older_draw(link, bound) {
             Some(draw) => {
-                let needed = bound.1;
+                let needed = bound.floor;
                 let verdict = InterfaceVerdict::RefusedRefreshFirst { draw, needed };
                 Ok(self.links.only(Verdict::Interface { verdict }))
             }
@@ -279,10 +281,11 @@ impl WholeLinks {
         ensures accesses { AccessesTurn same_reads (floors_if (not ran && runs_in self.old.links interface)
             self.old.links interface) nothing_happens same_carried self.old.accesses self.new.accesses }
     {
-        if ran || !self.links.runs(interface) {
+        let at = self.links.interface(interface);
+        if ran || !self.links.runs(at) {
             return;
         }
-        match self.links.interface(interface) {
+        match at {
             None => {}
             Some((link, place)) => {
                 let draw = self.links.device_draw(link, interface);
@@ -301,10 +304,11 @@ impl WholeLinks {
         ensures accesses { IfSome result (λ v. AccessesInterface (InterfaceEvent.Start interface loss)
             v self.old self.new) }
     {
-        let ran = self.links.runs(interface);
+        let at = self.links.interface(interface);
+        let ran = self.links.runs(at);
         let verdict = self
             .links
-            .operate_interface(alloc, InterfaceOperation::Start, interface, loss)?;
+            .operate_interface(alloc, InterfaceOperation::Start, interface, at, loss)?;
         self.note_start(interface, ran);
         Some(verdict)
     }
@@ -342,24 +346,26 @@ impl WholeLinks {
         ensures accesses { IfSome result (λ v. AccessesInterface (InterfaceEvent.Halt interface loss)
             v self.old self.new) }
     {
+        let at = self.links.interface(interface);
         let verdict = self
             .links
-            .operate_interface(alloc, InterfaceOperation::Halt, interface, loss)?;
+            .operate_interface(alloc, InterfaceOperation::Halt, interface, at, loss)?;
         self.note_halt(interface, &verdict);
         Some(verdict)
     }
 
-    // Of an interface whose level reset has this verdict: all its ranges are 0.
-    fn note_flr(&mut self, interface: u64, verdict: &Verdict)
-        requires bounded { IsBoundedWhole self.old }
+    // Of an interface at this place whose level reset has this verdict: all its ranges are 0.
+    fn note_flr(&mut self, at: Option<(u8, usize)>, verdict: &Verdict)
+        requires { IfSome at (λ p. p.0 < length self.old.accesses) }
         ensures links { self.new.links ≡ self.old.links }
-        ensures accesses { AccessesTurn same_reads same_floors (flr_at self.old.links interface verdict.now)
+        ensures accesses { AccessesTurn same_reads same_floors
+            (happens_at (changes_device verdict.now) at InterfaceReset)
             same_carried self.old.accesses self.new.accesses }
     {
         if !changes_device(verdict) {
             return;
         }
-        match self.links.interface(interface) {
+        match at {
             None => {}
             Some((link, place)) => self.accesses.at_mut(link).guarded.reset(place),
         }
@@ -373,8 +379,9 @@ impl WholeLinks {
         ensures sides { SidesInterface (InterfaceEvent.Flr interface) self.old.links self.new.links }
         ensures accesses { AccessesInterface (InterfaceEvent.Flr interface) result self.old self.new }
     {
-        let verdict = self.links.flr(interface);
-        self.note_flr(interface, &verdict);
+        let at = self.links.interface(interface);
+        let verdict = self.links.flr(interface, at);
+        self.note_flr(at, &verdict);
         verdict
     }
 
@@ -501,18 +508,18 @@ impl WholeLinks {
     fn operate(
         &mut self,
         operation: Operation,
-        link: u64,
+        line: u64,
         stream: u64,
         loss: Option<Loss>,
     ) -> Option<Verdict>
         requires steps { self.old.links.steps < 2 ^ 28 }
         requires bounded { IsBoundedWhole self.old }
         ensures ends { (plan : PlanView) → WholeEndsAs plan result self.old self.new
-            (operation_event operation link stream loss) }
-        ensures sides { IfSome result (λ v. SidesOperate operation link stream v self.old.links self.new.links) }
+            (operation_event operation line stream loss) }
+        ensures sides { IfSome result (λ v. SidesOperate operation line stream v self.old.links self.new.links) }
         ensures accesses { self.new.accesses ≡ self.old.accesses }
     {
-        self.links.operate(operation, link, stream, loss)
+        self.links.operate(operation, line, stream, loss)
     }
 
     /// The verdict of an event, and what it makes of the links (this profile). For want of memory nothing changes.
@@ -534,14 +541,14 @@ impl WholeLinks {
         ensures accesses { IfOk result (λ o. IfSome o (λ v. AccessesAfter plan.now event.now v self.old self.new)) }
     {
         match event {
-            Event::Establish { link, stream, lose } => {
-                Ok(self.operate(Operation::Establish, *link, *stream, *lose))
+            Event::Establish { line, stream, lose } => {
+                Ok(self.operate(Operation::Establish, *line, *stream, *lose))
             }
-            Event::Refresh { link, stream, lose } => {
-                Ok(self.operate(Operation::Refresh, *link, *stream, *lose))
+            Event::Refresh { line, stream, lose } => {
+                Ok(self.operate(Operation::Refresh, *line, *stream, *lose))
             }
-            Event::Stop { link, stream, lose } => {
-                Ok(self.operate(Operation::Stop, *link, *stream, *lose))
+            Event::Stop { line, stream, lose } => {
+                Ok(self.operate(Operation::Stop, *line, *stream, *lose))
             }
             Event::Interface { event } => self.ask(alloc, event),
             Event::Access { event } => Ok(Some(self.access(alloc, plan, event)?)),
@@ -571,7 +578,7 @@ impl WholeLinks {
                 Ok(Some(self.arrive(alloc, plan, *port, bytes)?))
             }
             Event::Dump { packet } => Ok(Some(self.links.dump(alloc, *packet)?)),
-            Event::Status { link, stream } => Ok(Some(self.links.status(*link, *stream))),
+            Event::Status { line, stream } => Ok(Some(self.links.status(*line, *stream))),
             Event::Absent => Ok(Some(self.links.only(Verdict::Nothing))),
         }
     }

@@ -17,21 +17,19 @@ use Rattle.spec_stream.specs.Stream.{RxSub, at_sub, live_in, slot_in_set}
 use Rattle.spec_stream.specs.Slots.{stream_status}
 use Rattle.spec_links.specs.Plan.{SubStream, lane_in}
 use Rattle.spec_links.specs.Ports.{goes_through, port_of}
-use Rattle.spec_links.specs.History.{Arrival, altered_arrival, arrival_at_partner, failed, port_keys, on_draw}
-use Rattle.spec_links.specs.History.{sealed_packets}
-use Rattle.spec_links.specs.History.{shortened_arrival}
+use Rattle.spec_links.specs.History.{Arrival, altered_arrival, arrival_at_partner, has_failed, port_keys, on_draw}
+use Rattle.spec_links.specs.History.{sealed_packets, shortened_arrival}
 unfoldable use Rattle.spec_links.specs.History.{arrival_of_event}
 use Rattle.machine_ports.specs.Machine.{kept_packet}
-use Rattle.machine_ports.specs.Stands.{rx_slot, rx_slots, rx_standing}
-use Rattle.machine_operations.specs.{LinkState, PortsStand, altered_to, cut_short, passed, standing}
+use Rattle.machine_ports.specs.Stands.{rx_slot, rx_slots, rx_state_due}
+use Rattle.machine_operations.specs.{LinkState, PortsStand, altered_to, cut_short, whole_arrival, stream_state_due}
 use Rattle.machine_operations.proofs.{of_numbered}
 use Rattle.machine_operations.proofs.Terms.{at_each}
 use Rattle.machine_whole.specs.Machine.{Whole, arrival_of}
 use Rattle.machine_whole.specs.Stands.{StandsFor}
-use Rattle.why_lines.specs.declared.fact.Fact.{Fact}
+use Rattle.why_facts.specs.declared.fact.Fact.{Fact}
 use Rattle.why_facts.specs.Forms.{arrives_fact, packets_fact, state_fact, unit_facts}
-use Rattle.why_facts.specs.Due.{arrival_facts_due, asks_due, asks_under, held_due, packet_due}
-use Rattle.why_facts.specs.Due.{received_due, sealed_due}
+use Rattle.why_facts.specs.Due.{arrival_facts_due, asks_due, asks_under, held_due, packet_due, received_due, sealed_due}
 use Rattle.why_facts.specs.Kept.{arrival_facts_in, asks_in, asks_live, packet_facts, received_by, packet_count_facts}
 use Rattle.why_facts.proofs.Sites.{readings_are}
 use Rattle.why_facts.proofs.Streams.{of_stream, receiver_is}
@@ -42,7 +40,7 @@ pub arrival_is : (plan : Plan) (st : LinkState) (h : History) → PortsStand pla
     → arrival_of plan st e ≡ arrival_of_event plan h e
 unfolding arrival_of_event
 arrival_is plan st h stands (event.Pass n) =
-    of_numbered st.packets (sealed_packets plan h) n stands.packets (option_and_then (passed plan))
+    of_numbered st.packets (sealed_packets plan h) n stands.packets (option_and_then (whole_arrival plan))
     (option_map (λ x. arrival_at_partner plan x (packet_bytes x.1))) refl (λ x. refl)
 arrival_is plan st h stands (event.Alter n at mask) =
     of_numbered st.packets (sealed_packets plan h) n stands.packets (option_and_then (altered_to plan at mask))
@@ -81,19 +79,19 @@ unless_failed true x y z same = refl
 unless_failed false x y z same = same
 
 asks_there : (plan : Plan) (w : Whole) (h : History) → StandsFor plan w h → (port : PortName) (p : Packet)
-    → asks_in plan w port (standing plan h port p.prefix.stream) p
+    → asks_in plan w port (stream_state_due plan h port p.prefix.stream) p
     ≡ asks_due plan h port (lane_in port p.prefix.stream p.prefix.sub) p
-unfolding standing
-asks_there plan w h stands port p = unless_failed (failed h port p.prefix.stream) _ _ _
+unfolding stream_state_due
+asks_there plan w h stands port p = unless_failed (has_failed h port p.prefix.stream) _ _ _
     (slots_are ∙ asks_is plan w h stands port (lane_in port p.prefix.stream p.prefix.sub) p p.prefix.k)
   where
     slots_are : asks_live plan w port p (live_in (slot_in_set
-        (at_sub (standing plan h port p.prefix.stream).rx p.prefix.sub).slots p.prefix.k))
+        (at_sub (stream_state_due plan h port p.prefix.stream).rx p.prefix.sub).slots p.prefix.k))
         ≡ asks_live plan w port p (live_in (slot_in_set
         (rx_slots plan h port (lane_in port p.prefix.stream p.prefix.sub)
         (port_keys h port (lane_in port p.prefix.stream p.prefix.sub))) p.prefix.k))
     slots_are = ap (λ (x : RxSub). asks_live plan w port p (live_in (slot_in_set x.slots p.prefix.k)))
-        (at_each (λ u. rx_standing plan h port (lane_in port p.prefix.stream u)) p.prefix.sub)
+        (at_each (λ u. rx_state_due plan h port (lane_in port p.prefix.stream u)) p.prefix.sub)
 
 -- ---- arrivals
 
@@ -106,8 +104,9 @@ packet_is plan w h stands port (Ok (IdePacket p)) =
     (of_stream plan w.links h stands.links.ports_stand port p.prefix.stream (received_by plan w port p) []
     (received_due plan h port (lane_in port p.prefix.stream p.prefix.sub) p) refl there)
   where
-    there : stream_status (standing plan h port p.prefix.stream) ≡ history_status h port.side port.line p.prefix.stream
-        → received_by plan w port p (Some (standing plan h port p.prefix.stream))
+    there : stream_status (stream_state_due plan h port p.prefix.stream)
+        ≡ history_status h port.side port.line p.prefix.stream
+        → received_by plan w port p (Some (stream_state_due plan h port p.prefix.stream))
         ≡ received_due plan h port (lane_in port p.prefix.stream p.prefix.sub) p
     there same = λ i. state_fact (same i)
         ∷ (receiver_is plan h port p.prefix.stream p.prefix.sub i ++ asks_there plan w h stands port p i)

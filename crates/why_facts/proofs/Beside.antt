@@ -7,13 +7,13 @@ use Rattle.ide_types.specs.declared.stream.StreamPlan.{StreamPlan}
 use Rattle.spec_keys.specs.History.{History}
 use Rattle.spec_links.specs.Plan.{streams_of}
 use Rattle.spec_interfaces.specs.Sites.{Site, sites, site_at}
-use Rattle.machine_interfaces.specs.Machine.{Face, find_face}
-use Rattle.machine_interfaces.specs.Stands.{face_at}
+use Rattle.machine_whole.specs.Interfaces.{Face, find_face}
+use Rattle.machine_whole.specs.InterfacesStand.{face_at}
 use Rattle.machine_whole.specs.Machine.{Whole}
 use Rattle.machine_whole.specs.Stands.{StandsFor}
 use Rattle.machine_whole.proofs.Streams.{status_all}
 use Rattle.why_facts.specs.Forms.{clears_fact}
-use Rattle.why_facts.specs.Due.{cleared_due, reset_facts_due, shown_due}
+use Rattle.why_facts.specs.Due.{cleared_due, reset_facts_due, bar_facts_due}
 use Rattle.why_facts.specs.Kept.{cleared_in, reset_facts_in, shown_in}
 use Rattle.why_facts.proofs.Operations.{status_is}
 use Rattle.why_facts.proofs.Sites.{found_is, with_face}
@@ -36,13 +36,13 @@ reset_is plan w h stands (e ∷ es) = λ i.
 -- ---- what is shown
 
 shown_by : (plan : Plan) (h : History) (bar : ℕ) (o : Option Site)
-    → shown_in bar (option_map (with_face plan h) o) ≡ shown_due plan h bar o
+    → shown_in bar (option_map (with_face plan h) o) ≡ bar_facts_due plan h bar o
 shown_by plan h bar None = refl
 shown_by plan h bar (Some x) = refl
 
 pub shown_is : (plan : Plan) (w : Whole) (h : History) → StandsFor plan w h → (interface bar : ℕ)
     → shown_in bar (find_face (λ x. x.number == interface) (sites plan) w.faces.list)
-    ≡ shown_due plan h bar (site_at plan interface)
+    ≡ bar_facts_due plan h bar (site_at plan interface)
 shown_is plan w h stands interface bar =
     ap (λ (fs : List Face). shown_in bar (find_face (λ x. x.number == interface) (sites plan) fs)) stands.faces.faces
     ∙ (ap (shown_in bar) (found_is (λ x. x.number == interface) (face_at plan h) (sites plan))

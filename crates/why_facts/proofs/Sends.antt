@@ -11,21 +11,21 @@ use Rattle.ide_types.specs.declared.plan.Plan.{Plan}
 use Rattle.tlp_layout.specs.declared.head.HeadView.{HeadView}
 use Rattle.tlp_layout.specs.Class.{class_of}
 use Rattle.tlp_layout.specs.Tlp.{header}
-use Rattle.association.specs.Outgoing.{Outgoing, NoTlp, OnNone, OnStream}
+use Rattle.tlp_layout.specs.Outgoing.{Outgoing, NoTlp, OnNone, OnStream}
 use Rattle.spec_keys.specs.History.{History, history_status}
 use Rattle.spec_stream.specs.Slots.{stream_status}
 use Rattle.spec_interfaces.specs.Sites.{Site, site_with}
-use Rattle.spec_interfaces.specs.Views.{managed}
+use Rattle.spec_interfaces.specs.Views.{managed_view}
 use Rattle.spec_interfaces.specs.Devices.{interface_at}
 use Rattle.spec_interfaces.specs.Cause.{owners_link}
-use Rattle.spec_links.specs.{WaitingRead, has_hop, leaving_end, waiting, hop_waiting}
+use Rattle.spec_links.specs.{WaitingRead, has_hop, leaving_end, waiting_reads, hop_waiting}
 use Rattle.spec_links.specs.Hops.{HopTlp}
 use Rattle.spec_links.specs.Plan.{has_link, lane_out}
 use Rattle.spec_links.specs.Ports.{outgoing_at}
-use Rattle.machine_operations.specs.{find, standing}
+use Rattle.machine_operations.specs.{find, stream_state_due}
 use Rattle.machine_whole.specs.Machine.{Whole}
 use Rattle.machine_whole.specs.Stands.{StandsFor}
-use Rattle.why_lines.specs.declared.fact.Fact.{Fact}
+use Rattle.why_facts.specs.declared.fact.Fact.{Fact}
 use Rattle.why_facts.specs.Forms.{each_looked_at, face_facts, read_fact, sends_fact, state_fact, waiting_fact}
 use Rattle.why_facts.specs.Due.{answer_facts_due, completion_due, first_due, forward_facts_due, oldest_due}
 use Rattle.why_facts.specs.Due.{owner_due, reader_due, send_facts_due, sender_due, senders_due, sets_own_t, site_due}
@@ -47,8 +47,8 @@ owner_is plan w h stands end head = if_same (sets_own_t plan end) _ _ _
     (of_owner plan h w.faces stands.faces (owners_link plan end) head known_of (site_due plan h) (known_is plan h))
 
 senders_are : (plan : Plan) (h : History) (port : PortName) (stream : ℕ) (class : SubKind)
-    → stream_status (standing plan h port stream) ≡ history_status h port.side port.line stream
-    → senders_in plan port stream class (standing plan h port stream) ≡ senders_due plan h port stream class
+    → stream_status (stream_state_due plan h port stream) ≡ history_status h port.side port.line stream
+    → senders_in plan port stream class (stream_state_due plan h port stream) ≡ senders_due plan h port stream class
 senders_are plan h port stream class same = λ i. state_fact (same i)
     ∷ each_looked_at (λ u. sender_is plan h port stream u i) class
 
@@ -61,8 +61,8 @@ send_is plan w h stands end (OnStream t stream) =
     (sends_fact plan end stream (class_of (header t))
     ∷ (senders_due plan h end stream (class_of (header t)) ++ owner_due plan h end (header t))) refl there
   where
-    there : stream_status (standing plan h end stream) ≡ history_status h end.side end.line stream
-        → sent_stream_facts plan w end stream (header t) (Some (standing plan h end stream))
+    there : stream_status (stream_state_due plan h end stream) ≡ history_status h end.side end.line stream
+        → sent_stream_facts plan w end stream (header t) (Some (stream_state_due plan h end stream))
         ≡ sends_fact plan end stream (class_of (header t))
         ∷ (senders_due plan h end stream (class_of (header t)) ++ owner_due plan h end (header t))
     there same = λ i. sends_fact plan end stream (class_of (header t))
@@ -82,7 +82,7 @@ reader_is : (plan : Plan) (w : Whole) (h : History) → StandsFor plan w h → (
     → reader_in plan w (option_map (with_face plan h) o) ≡ reader_due plan h o
 reader_is plan w h stands None = refl
 reader_is plan w h stands (Some x) = ap
-    (λ (xs : List Fact). face_facts x (interface_at plan h x) (managed h x) ++ xs)
+    (λ (xs : List Fact). face_facts x (interface_at plan h x) (managed_view h x) ++ xs)
     (completion_is plan w h stands (host_port x.link) x.plan.stream)
 
 oldest_is : (plan : Plan) (w : Whole) (h : History) → StandsFor plan w h → (link : ℕ) (rs : List WaitingRead)
@@ -97,8 +97,8 @@ pub answer_is : (plan : Plan) (w : Whole) (h : History) → StandsFor plan w h �
 answer_is plan w h stands link = if_same (has_link plan link) _ _ _
     (ap (λ (rs : List WaitingRead). waiting_fact (length rs) ∷ oldest_read_facts plan w link rs)
     (stands.accesses.waiting link)
-    ∙ ap (λ (xs : List Fact). waiting_fact (length (waiting plan h link)) ∷ xs)
-    (oldest_is plan w h stands link (waiting plan h link)))
+    ∙ ap (λ (xs : List Fact). waiting_fact (length (waiting_reads plan h link)) ∷ xs)
+    (oldest_is plan w h stands link (waiting_reads plan h link)))
 
 -- ---- forwards
 

@@ -7,9 +7,9 @@ use Rattle.ide_types.specs.declared.plan.Plan.{Plan}
 use Rattle.tlp_layout.specs.declared.head.HeadView.{HeadView}
 use Rattle.spec_keys.specs.History.{History}
 use Rattle.spec_interfaces.specs.Sites.{Site, sites, site_with}
-use Rattle.spec_interfaces.specs.Cause.{owner_of, owner_at}
-use Rattle.machine_interfaces.specs.Machine.{Face, Faces, find_face, with_requester}
-use Rattle.machine_interfaces.specs.Stands.{FacesStandFor, face_at}
+use Rattle.spec_interfaces.specs.Cause.{owner_id, owner_site}
+use Rattle.machine_whole.specs.Interfaces.{Face, Faces, find_face, with_requester}
+use Rattle.machine_whole.specs.InterfacesStand.{FacesStandFor, face_at}
 use Rattle.machine_whole.specs.Machine.{Whole}
 use Rattle.machine_whole.specs.Stands.{StandsFor}
 use Rattle.machine_whole.proofs.Accesses.{standings_are}
@@ -41,8 +41,8 @@ requester_is plan h fs stands link requester =
 pub of_owner : {A : Type 0} (plan : Plan) (h : History) (fs : Faces) → FacesStandFor plan fs h → (link : ℕ)
     (head : HeadView) (f : Option (Site × Face) → A) (g : Option Site → A)
     → ((o : Option Site) → f (option_map (with_face plan h) o) ≡ g o)
-    → f (owner_found plan fs link head) ≡ g (owner_at plan link head)
-of_owner plan h fs stands link head f g same = by (owner_of head)
+    → f (owner_found plan fs link head) ≡ g (owner_site plan link head)
+of_owner plan h fs stands link head f g same = by (owner_id head)
   where
     by : (o : Option ℕ) → f (option_and_then (with_requester plan fs link) o)
         ≡ g (option_and_then (site_with plan link) o)

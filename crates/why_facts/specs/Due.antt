@@ -15,7 +15,7 @@ use Rattle.ide_types.specs.declared.stream.StreamPlan.{StreamPlan}
 use Rattle.tlp_layout.specs.declared.head.HeadView.{HeadView}
 use Rattle.tlp_layout.specs.Class.{class_of}
 use Rattle.tlp_layout.specs.Tlp.{header}
-use Rattle.association.specs.Outgoing.{Outgoing, NoTlp, OnNone, OnStream}
+use Rattle.tlp_layout.specs.Outgoing.{Outgoing, NoTlp, OnNone, OnStream}
 use Rattle.ide_prefix.specs.Packet.{Packet}
 use Rattle.ide_prefix.specs.Reading.{CutValue, PlainTlp, IdePacket, cut_of}
 use Rattle.ide_prefix.specs.declared.fault.PacketFault.{PacketFault}
@@ -27,46 +27,46 @@ use Rattle.spec_keys.specs.Keys.{Keyed, Off, Loaded, On}
 use Rattle.spec_keys.specs.History.{History, base, op_of, draws, history_status}
 use Rattle.spec_keys.specs.Due.{ports_at}
 use Rattle.spec_interfaces.specs.Sites.{Site, site_at, site_with}
-use Rattle.spec_interfaces.specs.Views.{managed, number_in}
+use Rattle.spec_interfaces.specs.Views.{managed_view, number_in}
 use Rattle.spec_interfaces.specs.Devices.{interface_at}
-use Rattle.spec_interfaces.specs.Due.{standing_at}
-use Rattle.spec_interfaces.specs.Floors.{history_standings}
-use Rattle.spec_interfaces.specs.Cause.{is_peer, owner_at, owners_link}
-use Rattle.spec_links.specs.{WaitingRead, has_hop, leaving_end, waiting, hop_waiting}
+use Rattle.spec_interfaces.specs.Due.{asked_state}
+use Rattle.spec_interfaces.specs.Floors.{history_statuses}
+use Rattle.spec_interfaces.specs.Cause.{is_peer, owner_site, owners_link}
+use Rattle.spec_links.specs.{WaitingRead, has_hop, leaving_end, waiting_reads, hop_waiting}
 use Rattle.spec_links.specs.Hops.{HopTlp}
 use Rattle.spec_links.specs.Plan.{SubStream, has_link, has_stream, is_closed, lane_in, lane_out, stream_plan}
 use Rattle.spec_links.specs.Plan.{streams_of}
 use Rattle.spec_links.specs.Ports.{at_switch, goes_through, may_send, outgoing_at, port_of, sealing_end}
-use Rattle.spec_links.specs.History.{Arrival, arrival_of_event, failed, got_since, has_live_in, has_live_out, port_keys}
-use Rattle.spec_links.specs.History.{on_draw, pending_packets, posted_count, posted_of, sealed_packets, sent, total_in}
-use Rattle.spec_links.specs.History.{units_got, units_since, waits}
+use Rattle.spec_links.specs.History.{Arrival, arrival_of_event, has_failed, got_since, has_live_in, has_live_out}
+use Rattle.spec_links.specs.History.{port_keys, on_draw, pending_packets, posted_count, posted_lane, sealed_packets}
+use Rattle.spec_links.specs.History.{sent_packets, total_in, units_got, units_since, waits}
 use Rattle.spec_links.specs.Units.{units, open_unit}
-use Rattle.why_lines.specs.declared.fact.Fact.{Fact}
-use Rattle.why_lines.specs.declared.fact.SetState.{SetState}
-use Rattle.why_lines.specs.declared.fact.SetState.TheVariants as set
+use Rattle.why_facts.specs.declared.fact.Fact.{Fact}
+use Rattle.why_facts.specs.declared.fact.SetState.{SetState}
+use Rattle.why_facts.specs.declared.fact.SetState.TheVariants as set
 use Rattle.why_facts.specs.Forms.{Readings, arrives_fact, asked_facts, at_port, counts_facts, each_looked_at}
 use Rattle.why_facts.specs.Forms.{clears_fact, establish_facts, face_facts, manager_fact, memory_facts, packets_fact}
-use Rattle.why_facts.specs.Forms.{posted_fact, refresh_facts, sends_fact, set_facts, shown_facts, state_fact}
+use Rattle.why_facts.specs.Forms.{posted_fact, refresh_facts, sends_fact, facts_of_sets, shown_facts, state_fact}
 use Rattle.why_facts.specs.Forms.{stop_facts, total_facts, unit_facts, waiting_fact, read_fact}
 
 -- ---- what is known of interfaces
 
 abbrev pub site_due : Plan → History → Option Site → List Fact
 site_due plan h None = []
-site_due plan h (Some x) = face_facts x (interface_at plan h x) (managed h x)
+site_due plan h (Some x) = face_facts x (interface_at plan h x) (managed_view h x)
 
 abbrev pub readings_at : Plan → History → Readings
 readings_at plan h = record {
   known = λ link requester. site_due plan h (site_with plan link requester);
-  waiting = λ link. length (waiting plan h link);
-  standings = history_standings plan h;
+  waiting = λ link. length (waiting_reads plan h link);
+  standings = history_statuses plan h;
 }
 
 -- ---- arrivals
 
 -- how many packets are held for the next unit under a draw; a failed stream holds none
 abbrev pub held_count : Plan → History → PortName → SubStream → ℕ → ℕ
-held_count plan h port s j = if failed h port s.stream then 0 else length (pending_packets plan h s j)
+held_count plan h port s j = if has_failed h port s.stream then 0 else length (pending_packets plan h s j)
 
 -- what a set holds where a sub-stream is received
 abbrev pub received_set : Plan → History → PortName → SubStream → Keyed → SetState
@@ -76,7 +76,7 @@ received_set plan h port s (On j) = set.On j (units_got h s j) (held_count plan 
 
 abbrev pub received_sets : Plan → History → PortName → SubStream → List Fact
 received_sets plan h port s =
-    set_facts (received_set plan h port s (port_keys h port s).first)
+    facts_of_sets (received_set plan h port s (port_keys h port s).first)
     (received_set plan h port s (port_keys h port s).second)
 
 -- what was accepted since the last establish of its stream; the counts of a direction are 0 without a Live key
@@ -86,7 +86,7 @@ got_now plan h port s = if has_live_in h port s.stream then got_since plan h s (
 abbrev pub counts_due : Plan → History → PortName → SubStream → List Fact
 counts_due plan h port s =
     counts_facts s.sub (sum_by (λ (p : Packet). p.prefix.posted) (got_now plan h port s))
-    (length (got_now plan h port (posted_of s)))
+    (length (got_now plan h port (posted_lane s)))
 
 abbrev pub total_got : Plan → History → PortName → SubStream → List Fact
 total_got plan h port s =
@@ -95,7 +95,7 @@ total_got plan h port s =
 
 -- the packets that are held for the next unit under a draw
 abbrev pub held_due : Plan → History → PortName → SubStream → ℕ → List Packet
-held_due plan h port s j = if failed h port s.stream then [] else pending_packets plan h s j
+held_due plan h port s j = if has_failed h port s.stream then [] else pending_packets plan h s j
 
 -- of a packet under the draw that its key set has
 abbrev pub asks_under : Plan → History → PortName → SubStream → Packet → Option ℕ → List Fact
@@ -106,7 +106,7 @@ asks_under plan h port s p (Some j) =
 -- an insecure stream takes none
 abbrev pub asks_due : Plan → History → PortName → SubStream → Packet → List Fact
 asks_due plan h port s p =
-    if failed h port s.stream then [] else asks_under plan h port s p (on_draw h port s p.prefix.k)
+    if has_failed h port s.stream then [] else asks_under plan h port s p (on_draw h port s p.prefix.k)
 
 abbrev pub receiver_due : Plan → History → PortName → SubStream → List Fact
 receiver_due plan h port s = received_sets plan h port s ++ counts_due plan h port s ++ total_got plan h port s
@@ -141,12 +141,12 @@ sent_set plan h s k Off other = set.Empty
 sent_set plan h s k (Loaded j) other = set.Kept j
 sent_set plan h s k (On j) other =
     if waits k j other then set.Waits j
-    else set.On j (length (units (sent plan h s j))) (length (open_unit (sent plan h s j)))
+    else set.On j (length (units (sent_packets plan h s j))) (length (open_unit (sent_packets plan h s j)))
 
 abbrev pub sent_sets : Plan → History → PortName → SubStream → List Fact
 sent_sets plan h port s =
     let keys = port_keys h port s in
-    set_facts (sent_set plan h s false keys.first keys.second) (sent_set plan h s true keys.second keys.first)
+    facts_of_sets (sent_set plan h s false keys.first keys.second) (sent_set plan h s true keys.second keys.first)
 
 abbrev pub posted_now : Plan → History → PortName → SubStream → ℕ
 posted_now plan h port s = if has_live_out h port s.stream then posted_count plan h s else 0
@@ -175,7 +175,7 @@ sets_own_t plan end = not (at_switch plan end) && (is_peer plan end || is_device
 
 abbrev pub owner_due : Plan → History → PortName → HeadView → List Fact
 owner_due plan h end head =
-    if sets_own_t plan end then site_due plan h (owner_at plan (owners_link plan end) head) else []
+    if sets_own_t plan end then site_due plan h (owner_site plan (owners_link plan end) head) else []
 
 abbrev pub send_facts_due : Plan → History → PortName → Outgoing → List Fact
 send_facts_due plan h end (NoTlp f) = at_port plan end ∷ []
@@ -198,7 +198,7 @@ completion_due plan h port stream =
 abbrev pub reader_due : Plan → History → Option Site → List Fact
 reader_due plan h None = []
 reader_due plan h (Some x) =
-    face_facts x (interface_at plan h x) (managed h x) ++ completion_due plan h (host_port x.link) x.plan.stream
+    face_facts x (interface_at plan h x) (managed_view h x) ++ completion_due plan h (host_port x.link) x.plan.stream
 
 -- the oldest read
 abbrev pub oldest_due : Plan → History → ℕ → List WaitingRead → List Fact
@@ -208,7 +208,7 @@ oldest_due plan h link (r ∷ rs) = read_fact r.draw ∷ reader_due plan h (site
 abbrev pub answer_facts_due : Plan → History → ℕ → List Fact
 answer_facts_due plan h link =
     if has_link plan link
-    then waiting_fact (length (waiting plan h link)) ∷ oldest_due plan h link (waiting plan h link) else []
+    then waiting_fact (length (waiting_reads plan h link)) ∷ oldest_due plan h link (waiting_reads plan h link) else []
 
 -- the first TLP that waits
 abbrev pub first_due : Plan → History → PortName → List HopTlp → List Fact
@@ -243,7 +243,7 @@ reset_facts_due plan h (e ∷ es) = cleared_due plan h e (streams_of plan e.line
 
 abbrev pub asked_site_due : Plan → History → InterfaceEvent → Option Site → List Fact
 asked_site_due plan h e None = []
-asked_site_due plan h e (Some x) = asked_facts plan x (standing_at plan h x) e
+asked_site_due plan h e (Some x) = asked_facts plan x (asked_state plan h x) e
 
 abbrev pub asked_facts_due : Plan → History → InterfaceEvent → Option ℕ → List Fact
 asked_facts_due plan h e None = memory_facts plan e
@@ -251,9 +251,9 @@ asked_facts_due plan h e (Some i) = asked_site_due plan h e (site_at plan i)
 
 -- ---- the memory of interfaces
 
-abbrev pub shown_due : Plan → History → ℕ → Option Site → List Fact
-shown_due plan h bar None = []
-shown_due plan h bar (Some x) = shown_facts x.number (interface_at plan h x) bar
+abbrev pub bar_facts_due : Plan → History → ℕ → Option Site → List Fact
+bar_facts_due plan h bar None = []
+bar_facts_due plan h bar (Some x) = shown_facts x.number (interface_at plan h x) bar
 
 -- ---- all events
 
@@ -284,7 +284,7 @@ facts_due plan h (event.Stop line stream loss) =
 facts_due plan h (event.Status line stream) = if_stream plan line stream (manager_fact (op_of h line stream) ∷ [])
 facts_due plan h (event.Interface e) = asked_facts_due plan h e (number_in e)
 facts_due plan h (event.Access (ae.Answer link)) = answer_facts_due plan h link
-facts_due plan h (event.Access (ae.Mmio interface bar offset len)) = shown_due plan h bar (site_at plan interface)
+facts_due plan h (event.Access (ae.Mmio interface bar offset len)) = bar_facts_due plan h bar (site_at plan interface)
 facts_due plan h (event.Forward link d) = forward_facts_due plan h link d
 facts_due plan h (event.Reset link ends) = if has_link plan link then reset_facts_due plan h ends else []
 facts_due plan h event.Absent = []

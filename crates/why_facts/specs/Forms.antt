@@ -25,12 +25,12 @@ use Rattle.link_verdicts.specs.declared.verdict.Operation.TheVariants as op
 use Rattle.spec_keys.specs.Places.{KeyPlace, told_places}
 use Rattle.spec_keys.specs.Operations.{StreamStage, Idle, Establishing, Up, Refreshing, Stopping, Work, work_of}
 use Rattle.spec_keys.specs.Operations.{last_exchange_of}
-use Rattle.spec_keys.specs.History.{program_at}
+use Rattle.spec_keys.specs.History.{program_exchange}
 use Rattle.spec_keys.specs.Due.{PortView, is_live_sender}
 use Rattle.spec_stream.specs.Stream.{posted_sum}
 use Rattle.interface_state.specs.{Tdi, state_code}
 use Rattle.interface_state.specs.Bars.{bars_of}
-use Rattle.interface_state.specs.declared.bindings.Binding.{Binding}
+use Rattle.ide_types.specs.declared.binding.Binding.{Binding}
 use Rattle.trusted_memory.specs.{write_span}
 use Rattle.trusted_memory.specs.Regions.{holds_all}
 use Rattle.trusted_memory.specs.Spans.{span_byte_count, span_of}
@@ -39,21 +39,21 @@ use Rattle.trusted_memory.specs.Requests.{memory_read}
 use Rattle.guarded_memory.specs.{claim_of, is_open_range}
 use Rattle.guarded_memory.specs.declared.claims.Claim.{Claim}
 use Rattle.guarded_memory.specs.declared.standing.InterfaceStatus.{InterfaceStatus}
-use Rattle.spec_interfaces.specs.Cause.{owner_of}
+use Rattle.spec_interfaces.specs.Cause.{owner_id}
 use Rattle.spec_interfaces.specs.Peers.{has_peer}
 use Rattle.spec_interfaces.specs.Sites.{Site}
 use Rattle.spec_interfaces.specs.Terms.{View, Locked}
 use Rattle.spec_interfaces.specs.Views.{Managed, bound_if}
 use Rattle.spec_interfaces.specs.Due.{AskedState as Asked}
 use Rattle.spec_links.specs.Ports.{port_of, at_switch}
-use Rattle.why_lines.specs.declared.fact.Fact.{Fact}
-use Rattle.why_lines.specs.declared.fact.SetState.{SetState}
-use Rattle.why_lines.specs.declared.fact.ManagerState.{ManagerState}
-use Rattle.why_lines.specs.declared.fact.ManagerState.TheVariants as manager
-use Rattle.why_lines.specs.declared.fact.StreamFact.TheVariants as sf
-use Rattle.why_lines.specs.declared.fact.OperationFact.TheVariants as of
-use Rattle.why_lines.specs.declared.fact.InterfaceFact.TheVariants as face
-use Rattle.why_lines.specs.declared.fact.Fact.TheVariants as fact
+use Rattle.why_facts.specs.declared.fact.Fact.{Fact}
+use Rattle.why_facts.specs.declared.fact.SetState.{SetState}
+use Rattle.why_facts.specs.declared.fact.ManagerState.{ManagerState}
+use Rattle.why_facts.specs.declared.fact.ManagerState.TheVariants as manager
+use Rattle.why_facts.specs.declared.fact.StreamFact.TheVariants as sf
+use Rattle.why_facts.specs.declared.fact.OperationFact.TheVariants as of
+use Rattle.why_facts.specs.declared.fact.InterfaceFact.TheVariants as face
+use Rattle.why_facts.specs.declared.fact.Fact.TheVariants as fact
 
 -- ---- packets and streams
 
@@ -78,8 +78,8 @@ abbrev pub posted_fact : SubKind → ℕ → Fact
 posted_fact u posted = fact.Stream (sf.Posted u posted)
 
 -- what both key sets hold
-abbrev pub set_facts : SetState → SetState → List Fact
-set_facts first second = fact.Stream (sf.Set false first) ∷ fact.Stream (sf.Set true second) ∷ []
+abbrev pub facts_of_sets : SetState → SetState → List Fact
+facts_of_sets first second = fact.Stream (sf.Set false first) ∷ fact.Stream (sf.Set true second) ∷ []
 
 -- no rule of order speaks of posted packets
 abbrev pub counts_facts : SubKind → ℕ → ℕ → List Fact
@@ -131,7 +131,8 @@ refuses_fact plan exchange p =
 abbrev pub refusing_facts : Plan → PortView → Operation → Bool → ℕ → List KeyPlace → List Fact
 refusing_facts plan ports o set first [] = []
 refusing_facts plan ports o set first (p ∷ ps) =
-    if nat_le first (program_at o p) && is_some (ports.refusal p set) then refuses_fact plan (program_at o p) p ∷ []
+    if nat_le first (program_exchange o p) && is_some (ports.refusal p set)
+    then refuses_fact plan (program_exchange o p) p ∷ []
     else refusing_facts plan ports o set first ps
 
 abbrev pub programming_facts : Plan → PortView → ℕ → ℕ → Work → List Fact
@@ -196,9 +197,9 @@ abbrev pub read_fact : ℕ → Fact
 read_fact draw = fact.Interface (face.Read draw)
 
 -- while its view is Running
-abbrev pub bound_facts : Option (ℕ × ℕ) → List Fact
+abbrev pub bound_facts : Option Binding → List Fact
 bound_facts None = []
-bound_facts (Some bound) = fact.Interface (face.Bound bound.0 bound.1) ∷ []
+bound_facts (Some bound) = fact.Interface (face.Bound bound.stream bound.floor) ∷ []
 
 -- at its device and at the manager
 abbrev pub face_facts : Site → Tdi → Managed → List Fact
@@ -311,7 +312,7 @@ abbrev pub host_facts : Plan → Readings → ℕ → ℕ → Bool → Result He
 host_facts plan r link place t (Err f) = []
 host_facts plan r link place t (Ok head) =
     if is_request_head t head
-    then packet_fact place t ∷ (span_facts plan (span_of head) ++ known_to r link (owner_of head)
+    then packet_fact place t ∷ (span_facts plan (span_of head) ++ known_to r link (owner_id head)
     ++ waiting_facts (is_some (memory_read head)) (r.waiting link))
     else []
 

@@ -14,7 +14,7 @@ use Rattle.ide_types.specs.declared.stream.StreamPlan.{StreamPlan}
 use Rattle.tlp_layout.specs.declared.head.HeadView.{HeadView}
 use Rattle.tlp_layout.specs.Class.{class_of}
 use Rattle.tlp_layout.specs.Tlp.{header}
-use Rattle.association.specs.Outgoing.{Outgoing, NoTlp, OnNone, OnStream}
+use Rattle.tlp_layout.specs.Outgoing.{Outgoing, NoTlp, OnNone, OnStream}
 use Rattle.ide_prefix.specs.Packet.{Packet}
 use Rattle.ide_prefix.specs.Reading.{CutValue, PlainTlp, IdePacket, cut_of}
 use Rattle.ide_prefix.specs.declared.fault.PacketFault.{PacketFault}
@@ -28,23 +28,23 @@ use Rattle.spec_stream.specs.Stream.{at_sub, live_in, slot_in_set}
 use Rattle.spec_stream.specs.Slots.{stream_status}
 use Rattle.spec_interfaces.specs.Sites.{Site, sites}
 use Rattle.spec_interfaces.specs.Views.{number_in}
-use Rattle.spec_interfaces.specs.Cause.{owner_of, owners_link}
-use Rattle.machine_interfaces.specs.Machine.{Face, Faces, face_standing, find_face, with_requester}
+use Rattle.spec_interfaces.specs.Cause.{owner_id, owners_link}
+use Rattle.machine_whole.specs.Interfaces.{Face, Faces, asked_state_of_face, find_face, with_requester}
 use Rattle.spec_links.specs.{WaitingRead, has_hop, leaving_end}
 use Rattle.spec_links.specs.Hops.{HopTlp}
 use Rattle.spec_links.specs.Plan.{has_link, is_closed, streams_of}
 use Rattle.spec_links.specs.Ports.{goes_through, may_send, outgoing_at, port_of, sealing_end}
 use Rattle.spec_links.specs.History.{Arrival}
 use Rattle.machine_operations.specs.{find, find_op, ports_of, machine_status}
-use Rattle.machine_whole.specs.Accesses.{face_standings}
+use Rattle.machine_whole.specs.Accesses.{face_statuses}
 use Rattle.machine_whole.specs.Machine.{Whole, arrival_of, whole_streams}
-use Rattle.why_lines.specs.declared.fact.Fact.{Fact}
-use Rattle.why_lines.specs.declared.fact.SetState.{SetState}
-use Rattle.why_lines.specs.declared.fact.SetState.TheVariants as set
+use Rattle.why_facts.specs.declared.fact.Fact.{Fact}
+use Rattle.why_facts.specs.declared.fact.SetState.{SetState}
+use Rattle.why_facts.specs.declared.fact.SetState.TheVariants as set
 use Rattle.why_facts.specs.Forms.{Readings, arrives_fact, asked_facts, at_port, counts_facts, each_looked_at}
 use Rattle.why_facts.specs.Forms.{clears_fact, establish_facts, face_facts, manager_fact, memory_facts, packets_fact}
-use Rattle.why_facts.specs.Forms.{posted_fact, read_fact, refresh_facts, sends_fact, set_facts, shown_facts, state_fact}
-use Rattle.why_facts.specs.Forms.{stop_facts, total_facts, unit_facts, waiting_fact}
+use Rattle.why_facts.specs.Forms.{posted_fact, read_fact, refresh_facts, sends_fact, facts_of_sets, shown_facts}
+use Rattle.why_facts.specs.Forms.{state_fact, stop_facts, total_facts, unit_facts, waiting_fact}
 use Rattle.why_facts.specs.Due.{sets_own_t}
 
 -- ---- what is known of interfaces
@@ -54,13 +54,13 @@ known_of None = []
 known_of (Some y) = face_facts y.0 y.1.tdi y.1.managed
 
 abbrev pub owner_found : Plan → Faces → ℕ → HeadView → Option (Site × Face)
-owner_found plan fs link head = option_and_then (with_requester plan fs link) (owner_of head)
+owner_found plan fs link head = option_and_then (with_requester plan fs link) (owner_id head)
 
 abbrev pub readings_in : Plan → Whole → Readings
 readings_in plan w = record {
   known = λ link requester. known_of (with_requester plan w.faces link requester);
   waiting = λ link. length (w.accesses.waiting link);
-  standings = λ link. face_standings link (sites plan) w.faces.list w.accesses.floors;
+  standings = λ link. face_statuses link (sites plan) w.faces.list w.accesses.floors;
 }
 
 -- ---- a stream at a port
@@ -75,7 +75,7 @@ set_state_of_slot (Live x) = set.On x.draw x.units (length x.packets)
 abbrev pub receiver_fact_list : Bool → StreamState → SubKind → List Fact
 receiver_fact_list closed x u =
     let rx = at_sub x.rx u in
-    set_facts (set_state_of_slot rx.slots.first) (set_state_of_slot rx.slots.second)
+    facts_of_sets (set_state_of_slot rx.slots.first) (set_state_of_slot rx.slots.second)
     ++ counts_facts u rx.sum x.rx.pr.got
     ++ total_facts closed rx.total
 
@@ -83,7 +83,8 @@ abbrev pub sender_facts_of : Bool → StreamState → SubKind → List Fact
 sender_facts_of closed x u =
     let tx = at_sub x.tx u in
     posted_fact u tx.posted
-    ∷ (set_facts (set_state_of_slot tx.slots.first) (set_state_of_slot tx.slots.second) ++ total_facts closed tx.total)
+    ∷ (facts_of_sets (set_state_of_slot tx.slots.first) (set_state_of_slot tx.slots.second)
+    ++ total_facts closed tx.total)
 
 -- ---- arrivals
 
@@ -199,7 +200,7 @@ reset_facts_in plan w (e ∷ es) = cleared_in plan w e (streams_of plan e.line) 
 abbrev pub asked_face : Plan → Whole → InterfaceEvent → Option (Site × Face) → List Fact
 asked_face plan w e None = []
 asked_face plan w e (Some y) =
-    asked_facts plan y.0 (face_standing plan (whole_streams plan w) w.faces.used y.0 y.1) e
+    asked_facts plan y.0 (asked_state_of_face plan (whole_streams plan w) w.faces.used y.0 y.1) e
 
 abbrev pub asked_facts_in : Plan → Whole → InterfaceEvent → Option ℕ → List Fact
 asked_facts_in plan w e None = memory_facts plan e

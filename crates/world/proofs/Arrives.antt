@@ -9,17 +9,15 @@ use Rattle.link_verdicts.specs.declared.verdict.Verdict.{Verdict}
 use Rattle.spec_keys.specs.History.{History}
 use Rattle.trusted_memory.specs.{IsLeftBy, newest_first}
 use Rattle.spec_interfaces.specs.Sites.{Site}
-use Rattle.machine_interfaces.specs.Machine.{Face, around_of, grant_of}
+use Rattle.machine_whole.specs.Interfaces.{Face, around_of, grant_of}
 use Rattle.machine_ports.specs.Machine.{LinkState}
 use Rattle.machine_ports.specs.Stands.{PortsStandFor}
 use Rattle.machine_whole.specs.Machine.{Whole, whole_streams, arrival_of, written_after, whole_after}
-use Rattle.join_accesses.specs.{AllFollow, arrival_at, grants_in, InterfacesView, LinkEnds, Links, links_state}
-use Rattle.join_accesses.specs.{SidesArrive, writes_by}
-use Rattle.join_accesses.specs.{IsBeside}
-use Rattle.join_accesses.proofs.{is_of_ports, is_of_packets, of_ports, next_of_ports, none_of_ports}
-use Rattle.join_accesses.proofs.{managed_of_packets, draw_of_packets}
-use Rattle.join_accesses.proofs.{IsLed, OnlyLeaves, all_led, beside_led}
-use Rattle.join_accesses.proofs.{AreBoth, managed_kept, written_is}
+use Rattle.join_accesses.specs.{AllFollow, arrival_in_state, grants_in, InterfacesView, LinkEnds, Links, links_state}
+use Rattle.join_accesses.specs.{SidesArrive, writes_by, IsBeside}
+use Rattle.join_accesses.proofs.{is_of_ports, is_of_packets, of_ports, next_of_ports, none_of_ports, managed_of_packets}
+use Rattle.join_accesses.proofs.{draw_of_packets, IsLed, OnlyLeaves, all_led, beside_led, AreBoth, managed_kept}
+use Rattle.join_accesses.proofs.{written_is}
 
 -- an event on ports alone makes no more of an interface than that a stream that it is bound to leaves Secure
 pub only_leaves : (plan : Plan) (w : Whole) (e : Event) (verdict : Verdict) (new : LinkState) (x : Site) (f : Face)
@@ -42,7 +40,8 @@ each_led plan old new w both follows link l l' at at' =
 
 left_by : (plan : Plan) (old new : Links) (w : Whole) (h : History) (e : Event) (verdict : Verdict)
     → AreBoth plan old new w → PortsStandFor plan (links_state plan old) h
-    → grants_in old.keeper.interfaces ≡ grant_of plan w.faces → SidesArrive plan (arrival_at plan e) verdict old new
+    → grants_in old.keeper.interfaces ≡ grant_of plan w.faces
+    → SidesArrive plan (arrival_in_state plan e) verdict old new
     → IsLeftBy new.trusted.contents (written_after plan w e verdict)
 left_by plan old new w h e verdict both stands grants sides =
     let led = sides.contents h both.links stands both.whole.beside.regions w.written both.whole.beside.written in
@@ -58,7 +57,8 @@ left_by plan old new w h e verdict both stands grants sides =
 pub arrives_beside : (plan : Plan) (old new : Links) (w : Whole) (h : History) (e : Event) (verdict : Verdict)
     → is_of_packets e verdict ≡ true → AreBoth plan old new w → PortsStandFor plan (links_state plan old) h
     → grants_in old.keeper.interfaces ≡ grant_of plan w.faces
-    → new.trusted.contents.regions ≡ old.trusted.contents.regions → SidesArrive plan (arrival_at plan e) verdict old new
+    → new.trusted.contents.regions ≡ old.trusted.contents.regions
+    → SidesArrive plan (arrival_in_state plan e) verdict old new
     → IsBeside plan new.ends.links new.keeper.interfaces new.trusted.contents
     (whole_after plan w e verdict (links_state plan new))
 arrives_beside plan old new w h e verdict is both stands grants regions sides =

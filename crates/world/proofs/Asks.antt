@@ -2,10 +2,8 @@
 -- the machine's step, with what the ends show of the streams that it names (`joined_is`). If no interface has the
 -- number, or its device has no such stream, none is asked.
 use Rattle.std.proofs.Common.{◌≡◌, ℕ, ◌≤◌, List, length, refl, ap, sym, ◌∙◌, ◌+◌, subst, Option, Some, ⊎_elim, Bool}
-use Rattle.std.proofs.Common.{true}
-use Rattle.std.proofs.Common.{false}
-use Rattle.std.specs.Prelude.{slice_get, slice_set, if◌then◌else◌}
-use Rattle.std.specs.Prelude.{◌<◌}
+use Rattle.std.proofs.Common.{true, false}
+use Rattle.std.specs.Prelude.{slice_get, slice_set, if◌then◌else◌, ◌<◌}
 use Rattle.std.proofs.lemmas.Bool.{cases_Bool, cases_lt}
 use Rattle.ide_types.specs.declared.plan.Plan.{Plan}
 use Rattle.ide_types.specs.declared.plan.PeerPlan.{PeerPlan}
@@ -19,25 +17,20 @@ use Rattle.spec_interfaces.specs.Peers.{has_peer}
 use Rattle.spec_interfaces.specs.Sites.{Site, sites}
 use Rattle.spec_interfaces.specs.Views.{number_in}
 use Rattle.spec_interfaces.specs.Devices.{accepts_lock, one_if}
-use Rattle.machine_interfaces.specs.Machine.{around_of, face_after}
+use Rattle.machine_whole.specs.Interfaces.{around_of, face_after}
 use Rattle.interface_host.specs.declared.operation.InterfaceOperation.{InterfaceOperation}
 use Rattle.interface_host.specs.declared.operation.InterfaceOperation.TheVariants as op
-use Rattle.interface_device.specs.Replies.{DeviceTdis}
+use Rattle.interface_ends.specs.Replies.{DeviceTdis}
 use Rattle.machine_ports.specs.Machine.{Stepped, step_of}
 use Rattle.join_interfaces.specs.Faces.{IsFace}
 use Rattle.join_interfaces.specs.Joined.{InterfaceOperationsJoin}
 use Rattle.join_interfaces.specs.Verdicts.{op_event}
 use Rattle.join_accesses.specs.{EndsView, has_peer_at, has_peer_in, InterfacesView, Links, links_state}
-use Rattle.join_accesses.specs.{managed_peer_stream}
-use Rattle.join_accesses.specs.{SidesAsk, SidesPeer}
+use Rattle.join_accesses.specs.{managed_peer_stream, SidesAsk, SidesPeer, IsPlaced, IsBeside}
 use Rattle.machine_whole.specs.Machine.{Whole, ends_in, whole_streams, beside_of, whole_after}
-use Rattle.join_accesses.specs.{IsPlaced, IsBeside}
-use Rattle.join_accesses.proofs.{PeerFits, joined_is, peer_fits}
-use Rattle.join_accesses.proofs.{get_there}
-use Rattle.join_accesses.proofs.{interface_there, interface_absent}
+use Rattle.join_accesses.proofs.{PeerFits, joined_is, peer_fits, get_there, interface_there, interface_absent, AreBoth}
+use Rattle.join_accesses.proofs.{interface_step, unasked_beside, is_of_peer}
 use Rattle.world.proofs.Calls.{IsOne, there_beside, nowhere_beside, answer_there}
-use Rattle.join_accesses.proofs.{AreBoth, interface_step, unasked_beside}
-use Rattle.join_accesses.proofs.{is_of_peer}
 
 op_number : (o : InterfaceOperation) (i : ℕ) (loss : Option Loss) → number_in (op_event o i loss) ≡ Some i
 op_number op.Lock i loss = refl

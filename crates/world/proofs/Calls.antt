@@ -2,9 +2,8 @@
 -- its number, no other interface its place, and only a lock that it accepts takes a nonce. All that it is bound to then
 -- is Secure (`asked_keeps`). A write, a level reset and a firmware update call the device's interface if the machine
 -- applies them, and the manager keeps what it kept.
-use Rattle.std.proofs.Common.{◌≡◌, ℕ, suc, zero, ◌+◌, ◌≤◌, ◌==◌, ◌&&◌, ◌||◌, Bool, true, false, List, [], ◌∷◌}
-use Rattle.std.proofs.Common.{length, refl, ap, sym, ◌∙◌, subst, arith, Option, Some, inl, inr}
-use Rattle.std.proofs.Common.{◌⊎◌, ⊎_elim}
+use Rattle.std.proofs.Common.{◌≡◌, ℕ, suc, zero, ◌+◌, ◌≤◌, ◌==◌, ◌&&◌, ◌||◌, Bool, true, false, List, [], ◌∷◌, length}
+use Rattle.std.proofs.Common.{refl, ap, sym, ◌∙◌, subst, arith, Option, Some, inl, inr, ◌⊎◌, ⊎_elim}
 use Rattle.std.specs.Prelude.{slice_get, slice_set, if◌then◌else◌, IfSome}
 use Rattle.std.specs.List.{list_any}
 use Rattle.std.proofs.lemmas.Bool.{cases_Bool, cases_lt, eq-eqb, ne_eqb}
@@ -25,35 +24,26 @@ use Rattle.interface_state.specs.declared.states.TdiState.{TdiState}
 use Rattle.interface_state.specs.declared.states.TdiState.TheVariants.{ConfigUnlocked, ConfigLocked, Run, Error}
 use Rattle.interface_state.specs.RegisterValues.{has_bit, changes_listed}
 use Rattle.interface_state.specs.Machine.{Tdi, bound_link_stream, lock_flags, after_failure, after_change, Call}
-use Rattle.interface_state.specs.Machine.{WriteRegister}
-use Rattle.interface_state.specs.Machine.{LevelReset, FirmwareUpdate, tdi_after}
+use Rattle.interface_state.specs.Machine.{WriteRegister, LevelReset, FirmwareUpdate, tdi_after}
 use Rattle.spec_interfaces.specs.Exchanges.{changes_device}
 use Rattle.spec_interfaces.specs.Sites.{Site, sites}
 use Rattle.spec_interfaces.specs.Views.{Managed, is_number, number_in, on_operation}
 use Rattle.spec_interfaces.specs.Devices.{Around, interface_if_called, interface_asked, accepts_lock, one_if}
 use Rattle.spec_interfaces.specs.Due.{AskedState, asked_due}
-use Rattle.machine_interfaces.specs.Machine.{EndsRead, Face, Streams, around_of, face_after, gives_nonce, left_by}
-use Rattle.machine_interfaces.specs.Machine.{with_each, is_true, face_standing, asked_due_of, answer_to}
+use Rattle.machine_whole.specs.Interfaces.{EndsRead, Face, Streams, around_of, face_after, gives_nonce, left_by}
+use Rattle.machine_whole.specs.Interfaces.{with_each, is_true, asked_state_of_face, asked_due_of, answer_to}
 use Rattle.machine_ports.specs.Machine.{LinkState, Stepped}
 unfoldable use Rattle.machine_ports.specs.Machine.{step_of}
-use Rattle.machine_whole.specs.Machine.{Whole, ends_in, whole_streams, beside_of, whole_after}
-use Rattle.machine_whole.specs.Machine.{memory_shown}
+use Rattle.machine_whole.specs.Machine.{Whole, ends_in, whole_streams, beside_of, whole_after, memory_shown}
 use Rattle.join_interfaces.specs.Faces.{IsFace, IsManaged}
-use Rattle.join_accesses.specs.{Keeps, says_in}
-use Rattle.join_accesses.proofs.{StaysBound, asked_keeps}
-use Rattle.interface_device.specs.Replies.{called_at}
+use Rattle.join_accesses.specs.{Keeps, says_in, EndsView, InterfacesView, LinkEnds, Links, links_state, place_on_links}
+use Rattle.join_accesses.specs.{SidesCall, SidesKeep, IsPlaced, IsDevice, IsBeside}
+use Rattle.join_accesses.proofs.{StaysBound, asked_keeps, set_read, get_there, site_numbered, face_found, located_apart}
+use Rattle.join_accesses.proofs.{located_set, interface_there, interface_absent, each_at, each_many, none_of}
+use Rattle.join_accesses.proofs.{placed_keeps, AreBoth, elsewhere_beside, written_kept, interface_step}
+use Rattle.interface_ends.specs.Replies.{called_at}
 use Rattle.interface_host.specs.Views.{HostTdi}
 use Rattle.trusted_memory.specs.{MemoryContents, IsLeftBy}
-use Rattle.join_accesses.specs.{EndsView, InterfacesView, LinkEnds, Links, links_state, place_on_links, SidesCall}
-use Rattle.join_accesses.specs.{SidesKeep}
-use Rattle.join_accesses.proofs.{set_read}
-use Rattle.join_accesses.specs.{IsPlaced, IsDevice, IsBeside}
-use Rattle.join_accesses.proofs.{get_there}
-use Rattle.join_accesses.proofs.{site_numbered, face_found, located_apart, located_kept, interface_there}
-use Rattle.join_accesses.proofs.{interface_absent}
-use Rattle.join_accesses.proofs.{each_at, each_many, none_of}
-use Rattle.join_accesses.proofs.{placed_keeps}
-use Rattle.join_accesses.proofs.{AreBoth, elsewhere_beside, written_kept, interface_step}
 
 -- ---- numbers
 
@@ -109,8 +99,7 @@ either_none a b c same none = grind arith
 only_one : (g : Site → Face → Bool) (xs : List Site) (fs : List Face) (i : ℕ) (x : Site) (f : Face)
     → slice_get xs i ≡ Some x → slice_get fs i ≡ Some f
     → ((j : ℕ) (y : Site) (k : Face) → slice_get xs j ≡ Some y → slice_get fs j ≡ Some k → (i == j) ≡ false
-    → g y k ≡ false)
-    → list_any is_true (with_each g xs fs) ≡ g x f
+    → g y k ≡ false) → list_any is_true (with_each g xs fs) ≡ g x f
 only_one g [] fs i x f at there none = absurd (none-some x at)
 only_one g (y ∷ xs) [] i x f at there none = absurd (none-some f there)
 only_one g (y ∷ xs) (k ∷ fs) zero x f at there none =
@@ -172,19 +161,6 @@ places_apart ends i j a b p q is at link apart = ⊎_elim
     true_false (i == j) (eq-eqb i j (located_apart ends i j (a, p) is
     (at ∙ (λ n. Some (from n, place n))))) apart)
     (λ other. other) (cases_Bool (p == q))
-
--- a link's interfaces are as many as before
-pub located_set : (ends : List LinkEnds) (link i : ℕ) (l new : LinkEnds) → slice_get ends link ≡ Some l
-    → length new.device.interfaces.interfaces ≡ length l.device.interfaces.interfaces
-    → place_on_links 0 i (slice_set ends link new) ≡ place_on_links 0 i ends
-located_set ends link i l new is many = located_kept 0 i ends (slice_set ends link new)
-    (length-set ends link new)
-    (λ k x y was now. ⊎_elim
-    (λ same. sym (ap (λ (z : LinkEnds). length z.device.interfaces.interfaces) same.1)
-    ∙ (many ∙ ap (λ (z : LinkEnds). length z.device.interfaces.interfaces)
-    (same_Some l x (sym is ∙ (ap (slice_get ends) same.0 ∙ was)))))
-    (λ other. ap (λ (z : LinkEnds). length z.device.interfaces.interfaces) (same_Some y x (sym other.1 ∙ was)))
-    (set_item ends link k new y now))
 
 -- ---- an event on one interface
 
@@ -268,7 +244,7 @@ module _ (plan : Plan) (ends : List LinkEnds) (m : InterfacesView) (memory : Mem
       (other_lock (around_of plan streams_now w.faces.used y f) y e verdict f.tdi (is_other j y there apart)))
 
   located_now : (j : ℕ) → place_on_links 0 j ends_now ≡ place_on_links 0 j ends
-  located_now j = located_set ends x.link j p.link_ends link_now p.ends_are
+  located_now j = located_set 0 j ends x.link p.link_ends link_now p.ends_are
       (length-set p.link_ends.device.interfaces.interfaces p.place one.tdi)
 
   -- ---- devices
@@ -409,7 +385,8 @@ module _ (plan : Plan) (ends : List LinkEnds) (m : InterfacesView) (memory : Mem
 -- the verdict of an event on an interface that is there
 pub answer_there : (plan : Plan) (w : Whole) (e : InterfaceEvent) (i : ℕ) (x : Site) (f : Face) → number_in e ≡ Some i
     → slice_get (sites plan) i ≡ Some x → slice_get w.faces.list i ≡ Some f
-    → (beside_of plan w).answer e ≡ asked_due plan x (face_standing plan (whole_streams plan w) w.faces.used x f) e
+    → (beside_of plan w).answer e ≡ asked_due plan x (asked_state_of_face plan (whole_streams plan w) w.faces.used x f)
+    e
 answer_there plan w e i x f number at there =
     ap (λ (o : Option ℕ). answer_to plan (whole_streams plan w) w.faces e o (memory_shown plan w.written e)) number
     ∙ ap (asked_due_of plan (whole_streams plan w) w.faces.used e) (face_found plan w.faces.list i x f at there)
@@ -489,8 +466,7 @@ called_one false gives l place tdi call none is =
       };
     }
 
-write_applied : (b : Bool) (n code : ℕ)
-    → changes_device (if b then v.Interface (iv.Written n code) else v.Nothing) ≡ b
+write_applied : (b : Bool) (n code : ℕ) → changes_device (if b then v.Interface (iv.Written n code) else v.Nothing) ≡ b
 write_applied true n code = refl
 write_applied false n code = refl
 
@@ -517,7 +493,7 @@ module _ (plan : Plan) (old new : Links) (w : Whole) (verdict : Verdict) (both :
       let around = around_of plan (whole_streams plan w) w.faces.used x p.face in
       let applied : changes_device verdict ≡ test p.tdi =
       ap changes_device due ∙ c.applies plan x
-      (face_standing plan (whole_streams plan w) w.faces.used x p.face) p.tdi p.keeps.layout in
+      (asked_state_of_face plan (whole_streams plan w) w.faces.used x p.face) p.tdi p.keeps.layout in
       record {
         tdi = interface_if_called (test p.tdi) call p.tdi;
         interface = p.interface;

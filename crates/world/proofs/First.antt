@@ -16,10 +16,10 @@ use Rattle.ide_types.specs.declared.interface.InterfacePlan.{InterfacePlan}
 use Rattle.ide_types.specs.declared.plan.Region.{Region}
 use Rattle.ide_types.specs.Fits.{FitsPlan, IsKey}
 use Rattle.spec_interfaces.specs.Floors.{interfaces_before}
-use Rattle.spec_interfaces.specs.Sites.{Site, sites_on, sites_from}
+use Rattle.spec_interfaces.specs.Sites.{Site, sites_of_plans, sites_of_links}
 unfoldable use Rattle.spec_interfaces.specs.Sites.{sites}
 use Rattle.spec_interfaces.proofs.Floors.{planned_on, sites_of_is}
-use Rattle.machine_interfaces.specs.Machine.{new_face}
+use Rattle.machine_whole.specs.Interfaces.{new_face}
 use Rattle.guarded_memory.specs.{page_counts}
 use Rattle.link_stores.specs.declared.link.LinkAccesses.{LinkAccesses}
 use Rattle.link_stores.specs.{new_link_accesses, new_accesses}
@@ -34,12 +34,10 @@ use Rattle.trusted_memory.specs.{IsLeftBy, new_contents, byte_at, TrustedMemory}
 use Rattle.trusted_memory.proofs.Seen.{new_is_seen, byte_at-new}
 use Rattle.trusted_memory.proofs.Turns.{byte_after-none}
 use Rattle.machine_ports.specs.Machine.{first_state}
-use Rattle.join_accesses.specs.{AreLinks, EndsView, floors_at, InterfacesView, IsBounded, KeeperView}
-use Rattle.join_accesses.specs.{LinkEnds, links_state, mmio_at, new_all_ends, reads_at, carried_on_link}
-use Rattle.join_accesses.specs.{sizes_at, state_of, WholeLinks, IsFirstWhole}
-use Rattle.join_accesses.specs.{AreAccesses, on_link, link_seen}
-use Rattle.join_accesses.specs.{AreDrawn, IsPlaced, IsDevice, IsBeside}
-use Rattle.join_accesses.specs.{WorldStandsFor, IsNewWorld, world_of, IsWorld}
+use Rattle.join_accesses.specs.{AreLinks, EndsView, floors_at, InterfacesView, IsBounded, KeeperView, LinkEnds}
+use Rattle.join_accesses.specs.{links_state, mmio_at, new_all_ends, reads_at, carried_on_link, sizes_at, state_of}
+use Rattle.join_accesses.specs.{WholeLinks, IsFirstWhole, AreAccesses, on_link, link_seen, AreDrawn, IsPlaced, IsDevice}
+use Rattle.join_accesses.specs.{IsBeside, WorldStandsFor, IsNewWorld, world_of, IsWorld}
 use Rattle.join_ends.proofs.FirstEnds.{bounded_first, links_first, state_first}
 use Rattle.join_ends.proofs.FirstSites.{listed, device_at, nonces_at, managed_many}
 
@@ -88,7 +86,7 @@ placed_first plan i x is =
       interface = new_interface x.link x.plan;
       interface_is = r.interface_is;
       face = new_face x;
-      face_is = slice_get-map new_face (sites_from 0 0 plan.links) i ∙ ap (option_map new_face) is;
+      face_is = slice_get-map new_face (sites_of_links 0 0 plan.links) i ∙ ap (option_map new_face) is;
       keeps = face_first x;
       secure = tt;
       bound = λ stream none. absurd (true≢false (sym none));
@@ -121,7 +119,7 @@ unfolding sites
 beside_first plan = record {
   portion = refl;
   managed = managed_many 0 0 plan.links;
-  faced = length-map (sites_from 0 0 plan.links) new_face;
+  faced = length-map (sites_of_links 0 0 plan.links) new_face;
   devices = λ link l is. device_first plan link l is;
   placed = λ i x is. placed_first plan i x is;
   regions = refl;
@@ -156,7 +154,7 @@ zeros_on link (x ∷ xs) = by (x.link == link) (zeros_on link xs)
     by false rest = rest
 
 zeros_of : (number link : ℕ) (ps : List InterfacePlan)
-    → map first_floor (sites_on number link ps) ≡ replicate (length ps) 0
+    → map first_floor (sites_of_plans number link ps) ≡ replicate (length ps) 0
 zeros_of number link [] = refl
 zeros_of number link (p ∷ ps) = ap (λ (ns : List ℕ). 0 ∷ ns) (zeros_of (number + 1) link ps)
 

@@ -25,31 +25,24 @@ use Rattle.spec_keys.specs.Operations.{StreamStage, Idle, work_of, reach_of}
 use Rattle.spec_keys.specs.History.{begins_keyed}
 use Rattle.spec_interfaces.specs.Sites.{Site}
 use Rattle.spec_interfaces.specs.Views.{Managed, managed_after, peer_of, stop_begins, view_broken}
-use Rattle.tsm_host.specs.Managers.{ManagerView, Named, named, op_named}
-use Rattle.interface_host.specs.Views.{HostTdi, broken, left_by_peer_stop, left_by_stop, keyed_by}
+use Rattle.tsm_host.specs.Managers.{ManagerView, Named, named_stream, op_named}
+use Rattle.interface_host.specs.Views.{HostTdi, broken_view, left_by_peer_stop, left_by_stop, keyed_by}
 use Rattle.interface_host.specs.Managers.{all_interfaces, peer_stop}
 use Rattle.trusted_memory.specs.{MemoryContents, IsLeftBy}
 use Rattle.join_interfaces.specs.Faces.{IsManaged}
 use Rattle.machine_ports.specs.Machine.{LinkState, Stepped, find_op, ports_of, step_of}
-use Rattle.machine_whole.specs.Machine.{Whole, whole_streams, op_or_idle, draw_after, written_after}
-use Rattle.machine_whole.specs.Machine.{beside_of}
+use Rattle.machine_whole.specs.Machine.{Whole, whole_streams, op_or_idle, draw_after, written_after, beside_of}
 use Rattle.machine_whole.specs.Machine.{whole_after, arrival_of}
 use Rattle.join_accesses.specs.{EndsView, InterfacesView, keyed_if, Links, links_state, peers_drawn, port_on}
-use Rattle.join_accesses.specs.{SidesOperate, stopped_if, told_on_line}
-use Rattle.join_accesses.specs.{told_by_link, told_by_peer}
-use Rattle.join_accesses.specs.{stream_named}
-use Rattle.join_accesses.proofs.{op_is, unnamed}
+use Rattle.join_accesses.specs.{SidesOperate, stopped_if, told_on_line, told_by_link, told_by_peer, stream_named}
 use Rattle.join_accesses.specs.{AreDrawn, IsBeside}
-use Rattle.join_accesses.proofs.{is_of_ports}
-use Rattle.join_accesses.proofs.{beside_led, link_few}
-use Rattle.join_accesses.proofs.{AreBoth, written_kept}
+use Rattle.join_accesses.proofs.{op_is, unnamed, is_of_ports, beside_led, link_few, AreBoth, written_kept}
 use Rattle.world.proofs.Arrives.{each_led, only_leaves}
 use Rattle.world.proofs.Told.{keyed_managed, link_stop, none_breaks, one_drawn, peer_stop_breaks, peer_stopped}
-use Rattle.world.proofs.Told.{peer_stream_id, set_managed, stopped_managed, early_line}
+use Rattle.world.proofs.Told.{peer_stream_id, set_managed, stopped_managed, early_line, same_link}
 use Rattle.world.proofs.Begins.{establish_done, establish_nothing, refresh_nothing, none_refreshed, stop_nothing}
 use Rattle.world.proofs.Begins.{stop_verdict, drew_is, and_never, and_always, begins_stop, stop_reaches}
 use Rattle.world.proofs.Calls.{same_number}
-use Rattle.world.proofs.Told.{same_link}
 
 -- ---- what the manager is told
 
@@ -85,10 +78,9 @@ is_bound_there link stream draw x h g is =
 record IsNamed (m : ManagerView) (ends : EndsView) (line stream : ℕ) : Type 0 where
   it : Named
   here : stream_named m ends line stream ≡ Some (line, stream)
-  found : named m line stream ≡ Some it
+  found : named_stream m line stream ≡ Some it
 
-name_by : (a b c : Bool) (o : Option Named) (at : ℕ × ℕ)
-    → ((if a && b && c && is_some o then Some at else None) ≡ None)
+name_by : (a b c : Bool) (o : Option Named) (at : ℕ × ℕ) → ((if a && b && c && is_some o then Some at else None) ≡ None)
     ⊎ ((n : Named) × ((if a && b && c && is_some o then Some at else None) ≡ Some at) × (o ≡ Some n))
 name_by false b c o at = inl refl
 name_by true false c o at = inl refl
@@ -100,7 +92,7 @@ name_cases : (m : ManagerView) (ends : EndsView) (line stream : ℕ)
     → (stream_named m ends line stream ≡ None) ⊎ IsNamed m ends line stream
 name_cases m ends line stream =
     ⊎_elim (λ none. inl none) (λ n. inr (record { it = n.0; here = n.1; found = n.2 }))
-    (name_by (nat_lt line 32) (nat_le stream 255) (is_some (port_on ends (host_port line))) (named m line stream)
+    (name_by (nat_lt line 32) (nat_le stream 255) (is_some (port_on ends (host_port line))) (named_stream m line stream)
     (line, stream))
 
 -- ---- what it makes of what stands beside the ports
@@ -445,12 +437,12 @@ module _ (plan : Plan) (old new : Links) (w : Whole) (verdict : Verdict) (both :
       subst (IsManaged (w.draw x.link x.plan.stream) x (if b then left_by_stop line stream h else h))
       (sym (link_stop (whole_streams plan w).op w.links.draws x line stream loss verdict g early))
       (subst (λ (c : Bool). IsManaged (w.draw x.link x.plan.stream) x
-      (if b then (if c then record h { seen = broken h.seen } else h) else h)
+      (if b then (if c then record h { seen = broken_view h.seen } else h) else h)
       (if (line == x.link) && (stream == x.plan.stream)
       && stop_begins ((whole_streams plan w).op line stream) w.links.draws verdict
       then record g { view = view_broken g.view } else g)) (sym bound)
       (subst (λ (c : Bool). IsManaged (w.draw x.link x.plan.stream) x
-      (if b then (if (line == x.link) && (stream == x.plan.stream) then record h { seen = broken h.seen } else h)
+      (if b then (if (line == x.link) && (stream == x.plan.stream) then record h { seen = broken_view h.seen } else h)
       else h)
       (if (line == x.link) && (stream == x.plan.stream) && c then record g { view = view_broken g.view } else g))
       (sym begins)

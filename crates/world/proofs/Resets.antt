@@ -15,29 +15,23 @@ use Rattle.link_events.specs.declared.event.Event.TheVariants as event
 use Rattle.link_verdicts.specs.declared.verdict.Verdict.{Verdict}
 use Rattle.link_verdicts.specs.declared.verdict.Verdict.TheVariants as v
 use Rattle.interface_state.specs.Machine.{Tdi, LinkReset, tdi_after}
-use Rattle.interface_device.specs.Replies.{DeviceTdis, reset_tdis, settled_interface, settled_interfaces}
+use Rattle.interface_ends.specs.Replies.{DeviceTdis, reset_tdis, settled_interface, settled_interfaces}
 use Rattle.spec_interfaces.specs.Sites.{Site, sites}
 use Rattle.spec_interfaces.specs.Views.{view_broken}
 use Rattle.spec_interfaces.specs.Devices.{reset_call, interface_if_called}
-use Rattle.machine_interfaces.specs.Machine.{Face, face_after, left_by}
-use Rattle.interface_host.specs.Views.{HostTdi, broken, left_by_reset}
+use Rattle.machine_whole.specs.Interfaces.{Face, face_after, left_by}
+use Rattle.interface_host.specs.Views.{HostTdi, broken_view, left_by_reset}
 use Rattle.trusted_memory.specs.{MemoryContents, IsLeftBy}
 use Rattle.join_interfaces.specs.Faces.{IsManaged}
 use Rattle.link_ends.specs.DeviceEnds.{secure_with}
-use Rattle.join_accesses.specs.{says_in}
-use Rattle.join_accesses.proofs.{keeps_free}
+use Rattle.join_accesses.specs.{says_in, reset_if, InterfacesView, LinkEnds, Links, links_state, peer_live}
+use Rattle.join_accesses.specs.{place_on_links, SidesReset, IsPlaced, IsDevice, IsBeside}
+use Rattle.join_accesses.proofs.{keeps_free, get_there, located_kept, each_at, each_many, used_kept, IsLed}
+use Rattle.join_accesses.proofs.{IsManagedAfter, OnlyLeaves, SameDevice, led_follows, placed_led, shows_state, AreBoth}
+use Rattle.join_accesses.proofs.{absent_beside}
 use Rattle.machine_ports.specs.Machine.{BesidePorts, LinkState, Stepped, reset_state}
 unfoldable use Rattle.machine_ports.specs.Machine.{step_of}
-use Rattle.join_accesses.specs.{reset_if}
-use Rattle.join_accesses.specs.{InterfacesView, LinkEnds, Links, links_state, peer_live, place_on_links, SidesReset}
 use Rattle.machine_whole.specs.Machine.{Whole, ends_in, whole_streams, beside_of, whole_after}
-use Rattle.join_accesses.specs.{IsPlaced, IsDevice, IsBeside}
-use Rattle.join_accesses.proofs.{get_there}
-use Rattle.join_accesses.proofs.{located_kept}
-use Rattle.join_accesses.proofs.{each_at, each_many, used_kept}
-use Rattle.join_accesses.proofs.{IsLed, IsManagedAfter, OnlyLeaves, SameDevice, led_follows, placed_led}
-use Rattle.join_accesses.proofs.{shows_state}
-use Rattle.join_accesses.proofs.{AreBoth, absent_beside}
 use Rattle.world.proofs.Told.{broken_managed, same_link}
 
 -- ---- a device
@@ -158,7 +152,7 @@ module _ (plan : Plan) (old new : Links) (w : Whole) (both : AreBoth plan old ne
           ∙ ap (option_map (left_by_reset link)) p.interface_is);
       managed = subst
           (λ (b : Bool). IsManaged (w.draw x.link x.plan.stream) x
-          (if b then record p.interface { seen = broken p.interface.seen } else p.interface)
+          (if b then record p.interface { seen = broken_view p.interface.seen } else p.interface)
           (if link == x.link then record p.face.managed { view = view_broken p.face.managed.view }
           else p.face.managed))
           (sym (same_link p.interface.link x.link link p.keeps.managed.laid_out.link))

@@ -23,8 +23,7 @@ use Rattle.spec_keys.specs.Operations.{StreamStage, reach_of, work_of}
 use Rattle.spec_interfaces.specs.Sites.{Site}
 use Rattle.spec_interfaces.specs.Views.{Managed, managed_after, stop_begins, view_broken, peer_of, is_bind_asked}
 use Rattle.interface_host.specs.Views.{HostTdi, Seen, IsUnlocked, IsLocked, IsRunning, IsDoubt, IsBroken, nonce_of}
-use Rattle.interface_host.specs.Views.{broken}
-use Rattle.interface_host.specs.Views.{left_by_peer_stop, is_asked}
+use Rattle.interface_host.specs.Views.{broken_view, left_by_peer_stop, is_asked}
 use Rattle.join_interfaces.specs.Faces.{SeenAs, IsManaged}
 use Rattle.spec_links.specs.Plan.{streams_by_link, hop_by_link, peer_streams, behind_near, behind_links, lone_stream}
 use Rattle.spec_links.specs.Plan.{streams_of}
@@ -38,14 +37,14 @@ unfoldable use Rattle.machine_ports.specs.Machine.{find_op}
 zero_key : IsKey (replicate 32 0)
 zero_key = (refl, All-replicate (λ b. b < 256) 32 0 (omega arith))
 
-broken_nonce : (s : Seen) → IsKey (nonce_of s) → IsKey (nonce_of (broken s))
+broken_nonce : (s : Seen) → IsKey (nonce_of s) → IsKey (nonce_of (broken_view s))
 broken_nonce IsUnlocked is = is
 broken_nonce (IsLocked nonce is_reported) is = zero_key
 broken_nonce (IsRunning floor) is = zero_key
 broken_nonce IsDoubt is = zero_key
 broken_nonce IsBroken is = zero_key
 
-broken_seen : (s : Seen) (g : Managed) → SeenAs s g → SeenAs (broken s) (record g { view = view_broken g.view })
+broken_seen : (s : Seen) (g : Managed) → SeenAs s g → SeenAs (broken_view s) (record g { view = view_broken g.view })
 broken_seen IsUnlocked g is = ap view_broken is
 broken_seen (IsLocked nonce is_reported) g is = ap view_broken is.0
 broken_seen (IsRunning floor) g is = ap view_broken is.0
@@ -53,7 +52,7 @@ broken_seen IsDoubt g is = ap view_broken is
 broken_seen IsBroken g is = ap view_broken is
 
 pub broken_managed : (b : Bool) (draw : ℕ) (x : Site) (h : HostTdi) (g : Managed) → IsManaged draw x h g
-    → IsManaged draw x (if b then record h { seen = broken h.seen } else h)
+    → IsManaged draw x (if b then record h { seen = broken_view h.seen } else h)
     (if b then record g { view = view_broken g.view } else g)
 broken_managed true draw x h g is = record {
   laid_out = record {
@@ -109,7 +108,7 @@ keyed_managed false true false drawn draw x h g is = is
 keyed_managed false false two drawn draw x h g is = is
 
 pub stopped_managed : (b one two : Bool) (draw : ℕ) (x : Site) (h : HostTdi) (g : Managed) → IsManaged draw x h g
-    → IsManaged draw x (if b then (if one && two then record h { seen = broken h.seen } else h) else h)
+    → IsManaged draw x (if b then (if one && two then record h { seen = broken_view h.seen } else h) else h)
     (if one && two && b then record g { view = view_broken g.view } else g)
 stopped_managed true true true draw x h g is = broken_managed true draw x h g is
 stopped_managed true true false draw x h g is = is
@@ -123,7 +122,8 @@ pub peer_stopped : (number draw : ℕ) (x : Site) (h : HostTdi) (g : Managed) �
     → IsManaged draw x (left_by_peer_stop number h)
     (if is_asked number g.asked then record g { view = view_broken g.view } else g)
 peer_stopped number draw x h g is =
-    subst (λ (bs : List Bool). IsManaged draw x (if is_asked number bs then record h { seen = broken h.seen } else h)
+    subst (λ (bs : List Bool). IsManaged draw x
+    (if is_asked number bs then record h { seen = broken_view h.seen } else h)
     (if is_asked number g.asked then record g { view = view_broken g.view } else g)) (sym is.asked)
     (broken_managed (is_asked number g.asked) draw x h g is)
 

@@ -16,14 +16,12 @@ use Rattle.machine_whole.specs.Machine.{Whole, beside_of, draw_after, whole_afte
 use Rattle.join_interfaces.specs.Joined.{InterfaceOperationsJoin}
 use Rattle.interface_host.specs.declared.operation.InterfaceOperation.TheVariants as op
 use Rattle.join_accesses.specs.{grants_in, has_peer_in, Links, links_state, managed_peer_stream, Sides, SidesInterface}
-use Rattle.join_accesses.specs.{SidesPeer}
-use Rattle.join_accesses.specs.{AreDrawn, IsBeside}
+use Rattle.join_accesses.specs.{SidesPeer, AreDrawn, IsBeside}
 use Rattle.interface_host.specs.declared.operation.InterfaceOperation.{InterfaceOperation}
 use Rattle.link_events.specs.declared.event.Loss.{Loss}
 use Rattle.std.specs.Prelude.{Option}
-use Rattle.machine_interfaces.specs.Machine.{grant_of}
-use Rattle.join_accesses.proofs.{grant_is}
-use Rattle.join_accesses.proofs.{AreBoth, answer_beside, mmio_beside, send_beside, dump_beside, status_beside}
+use Rattle.machine_whole.specs.Interfaces.{grant_of}
+use Rattle.join_accesses.proofs.{grant_is, AreBoth, answer_beside, mmio_beside, send_beside, dump_beside, status_beside}
 use Rattle.join_accesses.proofs.{view_beside, memory_beside, forward_beside, nothing_beside}
 use Rattle.world.proofs.Arrives.{arrives_beside}
 use Rattle.world.proofs.Calls.{write_beside, flr_beside, firmware_beside}

@@ -17,10 +17,9 @@ use Rattle.machine_whole.specs.Stands.{StandsFor, WholeSteps}
 use Rattle.join_interfaces.specs.Joined.{InterfaceOperationsJoin}
 use Rattle.join_accesses.specs.{AreLinks, Ends, EndsView, HasNoVerdict, HostKeeper, IsBounded, links_state, Sides}
 use Rattle.join_accesses.specs.{StandsForSome, state_of, WholeLinks, AccessesAfter, beside_whole, WholeEnds}
-use Rattle.join_accesses.specs.{WholeEndsAs, WholeStays, IsWhole as EachHasAccesses}
-use Rattle.join_accesses.specs.{AreAccesses, LinkSeen, link_seen}
-use Rattle.join_accesses.specs.{AreDrawn, IsBeside}
-use Rattle.join_accesses.specs.{WorldView, IsAsBefore, WorldStandsFor, HasStood, IsStep, world_of, IsWorld}
+use Rattle.join_accesses.specs.{WholeEndsAs, WholeStays, HasAllAccesses as EachHasAccesses, AreAccesses, LinkSeen}
+use Rattle.join_accesses.specs.{link_seen, AreDrawn, IsBeside, WorldView, IsAsBefore, WorldStandsFor, HasStood, IsStep}
+use Rattle.join_accesses.specs.{world_of, IsWorld}
 use Rattle.join_accesses.proofs.{IsState}
 use Rattle.join_accesses.proofs.Said.{answers_are, beside_is, is_answered}
 use Rattle.join_accesses.proofs.Turned.{accesses_are}
@@ -210,8 +209,7 @@ module _ (plan : Plan) (old new : WholeLinks) (w : IsWorld plan old) (stays : Wh
   }
 
 pub as_before : {A E : Type 0} (plan : Plan) (old new : WholeLinks) → IsWorld plan old → WholeStays old new
-    → (view : WorldView) → world_of plan old ≡ view → (r : Result A E)
-    → OnErr r (IsAsBefore view (world_of plan new))
+    → (view : WorldView) → world_of plan old ≡ view → (r : Result A E) → OnErr r (IsAsBefore view (world_of plan new))
 as_before plan old new w stays view is (Ok x) = tt
 as_before plan old new w stays view is (Err e) =
     subst (λ (v : WorldView). IsAsBefore v (world_of plan new)) is (world_stays plan old new w stays)

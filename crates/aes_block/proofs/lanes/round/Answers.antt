@@ -1,6 +1,5 @@
-use Rattle.std.proofs.Common.{ap, ◌∙◌}
+use Rattle.std.proofs.Common.{ap, ◌∙◌, map}
 use Rattle.aes_block.specs.Nibbles.{once_of, twice_of}
-use Rattle.std.proofs.Common.{map}
 use Rattle.aes_block.proofs.Codes.{round_of, round-lanes, after-vector}
 use Rattle.aes_block.proofs.lanes.round.Goals as goal
 

@@ -1,6 +1,14 @@
 use Rattle.all_ends.proofs.Terms.{ℕ, sym, subst, port_in, Side, LinkEnds}
-use Rattle.ide_port.specs.{IsSentAtPort}
+use Rattle.std.specs.Prelude.{◌^◌}
+use Rattle.ide_port.specs.{IsSentAtPort, PortUnitsAtMost}
 use Rattle.all_ends.proofs.sending.send_near.Goals as goal
+
+pub send-requires : goal.send-requires
+send-requires c = subst (λ (s : Side). PortUnitsAtMost (2 ^ 40) (port_in s c.args.ends.now)) c.in-Host.is c.requires
+
+pub send-requires-in-Device : goal.send-requires-in-Device
+send-requires-in-Device c =
+    subst (λ (s : Side). PortUnitsAtMost (2 ^ 40) (port_in s c.args.ends.now)) c.in-Device.is c.requires
 
 pub returns-in-Host-clause-sent : goal.returns-in-Host-clause-sent
 returns-in-Host-clause-sent c =

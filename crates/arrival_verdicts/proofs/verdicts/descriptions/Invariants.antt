@@ -1,5 +1,5 @@
 use Rattle.std.proofs.Common.{◌≡◌, ◌+◌, ◌++◌, length, drop}
-use Rattle.ide_stream.specs.{numbered_from}
+use Rattle.ide_port.specs.{numbered_from}
 use Rattle.arrival_verdicts.proofs.verdicts.descriptions.Given as goal
 
 abbrev pub invariant-loop-packet : goal.invariant-loop-packet

@@ -1,17 +1,15 @@
 use Rattle.std.proofs.Common.{◌≡◌, ◌∙◌, ap, sym, subst, List, ◌+◌, ◌++◌, [], ◌∷◌, arith, drop, add-one, ℕ, length}
 use Rattle.std.proofs.Common.{length-append}
-use Rattle.std.proofs.lemmas.List.{append-nil}
+use Rattle.std.proofs.lemmas.List.{append-nil, append_assoc}
 use Rattle.ide_types.specs.declared.plan.Region.{Region}
 use Rattle.ide_prefix.specs.Packet.{Packet}
 use Rattle.link_verdicts.specs.declared.verdict.Effect.{Effect}
 use Rattle.sub_stream.specs.{mark_of}
-use Rattle.std.proofs.lemmas.List.{append_assoc}
 use Rattle.std.proofs.Math.Seq.{drop-length}
 use Rattle.guarded_memory.specs.declared.standing.InterfaceStatus.{InterfaceStatus}
-use Rattle.link_stores.specs.{device_standings}
+use Rattle.link_stores.specs.{device_statuses}
 use Rattle.sub_stream.specs.declared.answer.PacketMark.{PacketMark}
-use Rattle.arrival_verdicts.specs.Verdicts.{grants_in}
-use Rattle.arrival_verdicts.specs.Verdicts.{UnitCame, PacketCame}
+use Rattle.arrival_verdicts.specs.Verdicts.{grants_in, UnitCame, PacketCame}
 use Rattle.arrival_verdicts.proofs.Effects.{none_came, more_came, packet_there, IsThere}
 use Rattle.arrival_verdicts.proofs.verdicts.effects.Goals as goal
 
@@ -22,7 +20,7 @@ loop-i-preserved c =
     let unit = c.args.unit in
     let regions : List Region = c.args.memory.now.contents.regions in
     let grants = grants_in c.args.at.now.keeper.now in
-    let xs : List InterfaceStatus = device_standings c.args.access.now.floors c.args.at.now.interfaces.now in
+    let xs : List InterfaceStatus = device_statuses c.args.access.now.floors c.args.at.now.interfaces.now in
     let same : c.loop-i.memory.contents.regions ≡ regions = c.loop-i.invariant.2 in
     let floors : c.loop-i.access.floors ≡ c.args.access.now.floors = c.loop-i.invariant.3 in
     let ws = c.loop-i.access.reads in
@@ -37,9 +35,9 @@ loop-i-preserved c =
     let p : Packet = t.packet in
     let here : drop c.loop-i.i ps ≡ p ∷ drop (c.loop-i.i + 1) ps = rw add-one t.here in
     let first = subst (λ (rs : List Region). PacketCame rs grants
-    (device_standings c.loop-i.access.floors c.args.at.now.interfaces.now) port unit c.mark-mark.result
+    (device_statuses c.loop-i.access.floors c.args.at.now.interfaces.now) port unit c.mark-mark.result
     c.packet.result.0.now c.packet.result.1.now ws m g e ws1 m1 g1) same c.effect.ensures.came in
-    let second = subst (λ (fs : List ℕ). PacketCame regions grants (device_standings fs c.args.at.now.interfaces.now)
+    let second = subst (λ (fs : List ℕ). PacketCame regions grants (device_statuses fs c.args.at.now.interfaces.now)
     port
     unit c.mark-mark.result c.packet.result.0.now c.packet.result.1.now ws m g e ws1 m1 g1) floors first in
     let third = subst (λ (k : PacketMark). PacketCame regions grants xs port unit k c.packet.result.0.now
@@ -74,7 +72,7 @@ returns-clause-came c =
     let unit = c.args.unit in
     let regions : List Region = c.args.memory.now.contents.regions in
     let grants = grants_in c.args.at.now.keeper.now in
-    let xs : List InterfaceStatus = device_standings c.args.access.now.floors c.args.at.now.interfaces.now in
+    let xs : List InterfaceStatus = device_statuses c.args.access.now.floors c.args.at.now.interfaces.now in
     let ws = c.loop-i.access.reads in
     let m = c.loop-i.memory.contents in
     let g = c.loop-i.access.guarded in

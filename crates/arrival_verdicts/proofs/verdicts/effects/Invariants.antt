@@ -3,9 +3,8 @@ use Rattle.link_verdicts.specs.declared.verdict.Effect.{Effect}
 use Rattle.trusted_memory.specs.{MemoryContents}
 use Rattle.trusted_memory.specs.declared.queue.WaitingRead.{WaitingRead}
 use Rattle.guarded_memory.specs.{GuardedMemory}
-use Rattle.link_stores.specs.{device_standings}
-use Rattle.arrival_verdicts.specs.Verdicts.{grants_in}
-use Rattle.arrival_verdicts.specs.Verdicts.{UnitCame}
+use Rattle.link_stores.specs.{device_statuses}
+use Rattle.arrival_verdicts.specs.Verdicts.{grants_in, UnitCame}
 use Rattle.arrival_verdicts.proofs.verdicts.effects.Given as goal
 
 -- what the packets behind these make of what stands now, the whole unit makes of what stood
@@ -13,7 +12,7 @@ abbrev pub invariant-loop-i : goal.invariant-loop-i
 invariant-loop-i l =
     let regions = l.initial.memory.contents.regions in
     let grants = grants_in l.at.keeper.now in
-    let xs = device_standings l.initial.access.floors l.at.interfaces.now in
+    let xs = device_statuses l.initial.access.floors l.at.interfaces.now in
     ((es : List Effect) (ws : List WaitingRead) (m : MemoryContents) (g : GuardedMemory)
     → UnitCame regions grants xs l.at.port l.unit (drop l.i l.packets) l.access.reads l.memory.contents
     l.access.guarded es ws m g

@@ -12,7 +12,7 @@ use Rattle.ide_cli.proofs.Requests.{answered_without_memory, asks_alone, asks_fo
 use Rattle.ide_cli.proofs.Requests.{never_ends, ran_without_memory, said}
 use Rattle.line_runs.proofs.FileNames.{asks_none}
 use Rattle.ide_cli.specs.Reads.{AsksToJudge, AsksToTell, Names}
-use Rattle.cli_words.specs.Words.{asked}
+use Rattle.cli_words.specs.Words.{command_asked}
 use Rattle.ide_cli.proofs.Furthers.{asked_far, asked_names, nothing_read}
 use Rattle.ide_cli.proofs.Stops.{asked_wrote, wrote_no_line}
 use Rattle.ide_cli.proofs.top.perform.Given.{Over}
@@ -217,7 +217,7 @@ returns-in-Err-Usage-clause-generated g c =
 
 pub returns-in-Err-Memory-clause-generated : goal.returns-in-Err-Memory-clause-generated
 returns-in-Err-Memory-clause-generated g c =
-    alone_without_memory (asked (map string_bytes c.args.words.now)) (g.O.Sink.seen c.args.out.now)
+    alone_without_memory (command_asked (map string_bytes c.args.words.now)) (g.O.Sink.seen c.args.out.now)
 
 pub returns-in-Ok-Run-clause-generated : goal.returns-in-Ok-Run-clause-generated
 returns-in-Ok-Run-clause-generated g c =
@@ -260,152 +260,153 @@ returns-in-Ok-GenerateTopology-clause-generated g c =
 
 pub returns-in-Err-Usage-clause-other : goal.returns-in-Err-Usage-clause-other
 returns-in-Err-Usage-clause-other g c =
-    never_ends AsksToJudge end.Differs (asked (map string_bytes c.args.words.now)) c.finish.result _ _
+    never_ends AsksToJudge end.Differs (command_asked (map string_bytes c.args.words.now)) c.finish.result _ _
     (ends_as end.Differs c.finish.result end.Usage c.finish.ensures.end (λ is. cc))
 
 pub returns-in-Ok-Run-clause-other : goal.returns-in-Ok-Run-clause-other
 returns-in-Ok-Run-clause-other g c =
-    never_ends AsksToJudge end.Differs (asked (map string_bytes c.args.words.now)) c.run_files.result _ _
+    never_ends AsksToJudge end.Differs (command_asked (map string_bytes c.args.words.now)) c.run_files.result _ _
     c.run_files.ensures.unjudged
 
 pub returns-in-Ok-Judge-clause-other : goal.returns-in-Ok-Judge-clause-other
 returns-in-Ok-Judge-clause-other g c =
-    ends_asked AsksToJudge end.Differs (asked (map string_bytes c.args.words.now)) _ c.judge.result _ _
+    ends_asked AsksToJudge end.Differs (command_asked (map string_bytes c.args.words.now)) _ c.judge.result _ _
     (rw c.in-Ok-Judge.field-0-is at c.in-Ok-Judge.ensures.ok)
     (said end.Differs c.judge.result _ c.judge.ensures.other)
 
 pub returns-in-Ok-Why-clause-other : goal.returns-in-Ok-Why-clause-other
 returns-in-Ok-Why-clause-other g c =
-    never_ends AsksToJudge end.Differs (asked (map string_bytes c.args.words.now)) c.why.result _ _
+    never_ends AsksToJudge end.Differs (command_asked (map string_bytes c.args.words.now)) c.why.result _ _
     c.why.ensures.unjudged
 
 pub returns-in-Ok-Check-clause-other : goal.returns-in-Ok-Check-clause-other
 returns-in-Ok-Check-clause-other g c =
-    never_ends AsksToJudge end.Differs (asked (map string_bytes c.args.words.now)) c.check_topology.result _ _
+    never_ends AsksToJudge end.Differs (command_asked (map string_bytes c.args.words.now)) c.check_topology.result _ _
     c.check_topology.ensures.unjudged
 
 pub returns-in-Ok-Migrate-clause-other : goal.returns-in-Ok-Migrate-clause-other
 returns-in-Ok-Migrate-clause-other g c =
-    never_ends AsksToJudge end.Differs (asked (map string_bytes c.args.words.now)) c.migrate_topology.result _ _
+    never_ends AsksToJudge end.Differs (command_asked (map string_bytes c.args.words.now)) c.migrate_topology.result _ _
     c.migrate_topology.ensures.unjudged
 
 pub returns-in-Ok-Show-clause-other : goal.returns-in-Ok-Show-clause-other
 returns-in-Ok-Show-clause-other g c =
-    never_ends AsksToJudge end.Differs (asked (map string_bytes c.args.words.now)) c.show_packets.result _ _
+    never_ends AsksToJudge end.Differs (command_asked (map string_bytes c.args.words.now)) c.show_packets.result _ _
     c.show_packets.ensures.unjudged
 
 pub returns-in-Ok-Generate-clause-other : goal.returns-in-Ok-Generate-clause-other
 returns-in-Ok-Generate-clause-other g c =
-    never_ends AsksToJudge end.Differs (asked (map string_bytes c.args.words.now)) c.generate.result _ _
+    never_ends AsksToJudge end.Differs (command_asked (map string_bytes c.args.words.now)) c.generate.result _ _
     (ends_as end.Differs c.generate.result end.Done c.generate.ensures.end (λ is. cc))
 
 pub returns-in-Ok-GenerateScript-clause-other : goal.returns-in-Ok-GenerateScript-clause-other
 returns-in-Ok-GenerateScript-clause-other g c =
-    never_ends AsksToJudge end.Differs (asked (map string_bytes c.args.words.now)) c.generate_script.result _ _
+    never_ends AsksToJudge end.Differs (command_asked (map string_bytes c.args.words.now)) c.generate_script.result _ _
     (ends_as end.Differs c.generate_script.result end.Done c.generate_script.ensures.end (λ is. cc))
 
 pub returns-in-Ok-GenerateTopology-clause-other : goal.returns-in-Ok-GenerateTopology-clause-other
 returns-in-Ok-GenerateTopology-clause-other g c =
-    never_ends AsksToJudge end.Differs (asked (map string_bytes c.args.words.now)) c.generate_topology.result _ _
+    never_ends AsksToJudge end.Differs (command_asked (map string_bytes c.args.words.now)) c.generate_topology.result _
+    _
     (ends_as end.Differs c.generate_topology.result end.Done c.generate_topology.ensures.end (λ is. cc))
 
 pub returns-in-Err-Usage-clause-absent : goal.returns-in-Err-Usage-clause-absent
 returns-in-Err-Usage-clause-absent g c =
-    never_ends AsksToTell end.NoEvent (asked (map string_bytes c.args.words.now)) c.finish.result _ _
+    never_ends AsksToTell end.NoEvent (command_asked (map string_bytes c.args.words.now)) c.finish.result _ _
     (ends_as end.NoEvent c.finish.result end.Usage c.finish.ensures.end (λ is. cc))
 
 pub returns-in-Ok-Run-clause-absent : goal.returns-in-Ok-Run-clause-absent
 returns-in-Ok-Run-clause-absent g c =
-    never_ends AsksToTell end.NoEvent (asked (map string_bytes c.args.words.now)) c.run_files.result _ _
+    never_ends AsksToTell end.NoEvent (command_asked (map string_bytes c.args.words.now)) c.run_files.result _ _
     c.run_files.ensures.present
 
 pub returns-in-Ok-Judge-clause-absent : goal.returns-in-Ok-Judge-clause-absent
 returns-in-Ok-Judge-clause-absent g c =
-    never_ends AsksToTell end.NoEvent (asked (map string_bytes c.args.words.now)) c.judge.result _ _
+    never_ends AsksToTell end.NoEvent (command_asked (map string_bytes c.args.words.now)) c.judge.result _ _
     c.judge.ensures.present
 
 pub returns-in-Ok-Why-clause-absent : goal.returns-in-Ok-Why-clause-absent
 returns-in-Ok-Why-clause-absent g c =
-    ends_asked AsksToTell end.NoEvent (asked (map string_bytes c.args.words.now)) _ c.why.result _ _
+    ends_asked AsksToTell end.NoEvent (command_asked (map string_bytes c.args.words.now)) _ c.why.result _ _
     (rw c.in-Ok-Why.field-0-is at c.in-Ok-Why.ensures.ok)
     (said end.NoEvent c.why.result _ c.why.ensures.all)
 
 pub returns-in-Ok-Check-clause-absent : goal.returns-in-Ok-Check-clause-absent
 returns-in-Ok-Check-clause-absent g c =
-    never_ends AsksToTell end.NoEvent (asked (map string_bytes c.args.words.now)) c.check_topology.result _ _
+    never_ends AsksToTell end.NoEvent (command_asked (map string_bytes c.args.words.now)) c.check_topology.result _ _
     c.check_topology.ensures.present
 
 pub returns-in-Ok-Migrate-clause-absent : goal.returns-in-Ok-Migrate-clause-absent
 returns-in-Ok-Migrate-clause-absent g c =
-    never_ends AsksToTell end.NoEvent (asked (map string_bytes c.args.words.now)) c.migrate_topology.result _ _
+    never_ends AsksToTell end.NoEvent (command_asked (map string_bytes c.args.words.now)) c.migrate_topology.result _ _
     c.migrate_topology.ensures.present
 
 pub returns-in-Ok-Show-clause-absent : goal.returns-in-Ok-Show-clause-absent
 returns-in-Ok-Show-clause-absent g c =
-    never_ends AsksToTell end.NoEvent (asked (map string_bytes c.args.words.now)) c.show_packets.result _ _
+    never_ends AsksToTell end.NoEvent (command_asked (map string_bytes c.args.words.now)) c.show_packets.result _ _
     c.show_packets.ensures.present
 
 pub returns-in-Ok-Generate-clause-absent : goal.returns-in-Ok-Generate-clause-absent
 returns-in-Ok-Generate-clause-absent g c =
-    never_ends AsksToTell end.NoEvent (asked (map string_bytes c.args.words.now)) c.generate.result _ _
+    never_ends AsksToTell end.NoEvent (command_asked (map string_bytes c.args.words.now)) c.generate.result _ _
     (ends_as end.NoEvent c.generate.result end.Done c.generate.ensures.end (λ is. cc))
 
 pub returns-in-Ok-GenerateScript-clause-absent : goal.returns-in-Ok-GenerateScript-clause-absent
 returns-in-Ok-GenerateScript-clause-absent g c =
-    never_ends AsksToTell end.NoEvent (asked (map string_bytes c.args.words.now)) c.generate_script.result _ _
+    never_ends AsksToTell end.NoEvent (command_asked (map string_bytes c.args.words.now)) c.generate_script.result _ _
     (ends_as end.NoEvent c.generate_script.result end.Done c.generate_script.ensures.end (λ is. cc))
 
 pub returns-in-Ok-GenerateTopology-clause-absent : goal.returns-in-Ok-GenerateTopology-clause-absent
 returns-in-Ok-GenerateTopology-clause-absent g c =
-    never_ends AsksToTell end.NoEvent (asked (map string_bytes c.args.words.now)) c.generate_topology.result _ _
+    never_ends AsksToTell end.NoEvent (command_asked (map string_bytes c.args.words.now)) c.generate_topology.result _ _
     (ends_as end.NoEvent c.generate_topology.result end.Done c.generate_topology.ensures.end (λ is. cc))
 
 pub returns-in-Err-Usage-clause-names : goal.returns-in-Err-Usage-clause-names
 returns-in-Err-Usage-clause-names g c =
-    asks_none (Names (asked (map string_bytes c.args.words.now))) (g.S.Shelf.seen c.args.shelf.now).asked
+    asks_none (Names (command_asked (map string_bytes c.args.words.now))) (g.S.Shelf.seen c.args.shelf.now).asked
 
 pub returns-in-Err-Memory-clause-names : goal.returns-in-Err-Memory-clause-names
 returns-in-Err-Memory-clause-names g c =
-    asks_none (Names (asked (map string_bytes c.args.words.now))) (g.S.Shelf.seen c.args.shelf.now).asked
+    asks_none (Names (command_asked (map string_bytes c.args.words.now))) (g.S.Shelf.seen c.args.shelf.now).asked
 
 pub returns-in-Ok-Generate-clause-names : goal.returns-in-Ok-Generate-clause-names
 returns-in-Ok-Generate-clause-names g c =
-    asks_none (Names (asked (map string_bytes c.args.words.now))) (g.S.Shelf.seen c.args.shelf.now).asked
+    asks_none (Names (command_asked (map string_bytes c.args.words.now))) (g.S.Shelf.seen c.args.shelf.now).asked
 
 pub returns-in-Ok-GenerateScript-clause-names : goal.returns-in-Ok-GenerateScript-clause-names
 returns-in-Ok-GenerateScript-clause-names g c =
-    asks_none (Names (asked (map string_bytes c.args.words.now))) (g.S.Shelf.seen c.args.shelf.now).asked
+    asks_none (Names (command_asked (map string_bytes c.args.words.now))) (g.S.Shelf.seen c.args.shelf.now).asked
 
 pub returns-in-Ok-GenerateTopology-clause-names : goal.returns-in-Ok-GenerateTopology-clause-names
 returns-in-Ok-GenerateTopology-clause-names g c =
-    asks_none (Names (asked (map string_bytes c.args.words.now))) (g.S.Shelf.seen c.args.shelf.now).asked
+    asks_none (Names (command_asked (map string_bytes c.args.words.now))) (g.S.Shelf.seen c.args.shelf.now).asked
 
 pub returns-in-Ok-Judge-clause-names : goal.returns-in-Ok-Judge-clause-names
 returns-in-Ok-Judge-clause-names g c =
-    asked_names (asked (map string_bytes c.args.words.now)) _ _ _
+    asked_names (command_asked (map string_bytes c.args.words.now)) _ _ _
     (rw c.in-Ok-Judge.field-0-is at c.in-Ok-Judge.ensures.ok) c.judge.ensures.names
 
 pub returns-in-Ok-Run-clause-names : goal.returns-in-Ok-Run-clause-names
 returns-in-Ok-Run-clause-names g c =
-    asked_names (asked (map string_bytes c.args.words.now)) _ _ _
+    asked_names (command_asked (map string_bytes c.args.words.now)) _ _ _
     (rw c.in-Ok-Run.field-0-is at c.in-Ok-Run.ensures.ok) c.run_files.ensures.names
 
 pub returns-in-Ok-Why-clause-names : goal.returns-in-Ok-Why-clause-names
 returns-in-Ok-Why-clause-names g c =
-    asked_names (asked (map string_bytes c.args.words.now)) _ _ _
+    asked_names (command_asked (map string_bytes c.args.words.now)) _ _ _
     (rw c.in-Ok-Why.field-0-is at c.in-Ok-Why.ensures.ok) c.why.ensures.names
 
 pub returns-in-Ok-Check-clause-names : goal.returns-in-Ok-Check-clause-names
 returns-in-Ok-Check-clause-names g c =
-    asked_names (asked (map string_bytes c.args.words.now)) _ _ _
+    asked_names (command_asked (map string_bytes c.args.words.now)) _ _ _
     (rw c.in-Ok-Check.field-0-is at c.in-Ok-Check.ensures.ok) c.check_topology.ensures.names
 
 pub returns-in-Ok-Migrate-clause-names : goal.returns-in-Ok-Migrate-clause-names
 returns-in-Ok-Migrate-clause-names g c =
-    asked_names (asked (map string_bytes c.args.words.now)) _ _ _
+    asked_names (command_asked (map string_bytes c.args.words.now)) _ _ _
     (rw c.in-Ok-Migrate.field-0-is at c.in-Ok-Migrate.ensures.ok) c.migrate_topology.ensures.names
 
 pub returns-in-Ok-Show-clause-names : goal.returns-in-Ok-Show-clause-names
 returns-in-Ok-Show-clause-names g c =
-    asked_names (asked (map string_bytes c.args.words.now)) _ _ _
+    asked_names (command_asked (map string_bytes c.args.words.now)) _ _ _
     (rw c.in-Ok-Show.field-0-is at c.in-Ok-Show.ensures.ok) c.show_packets.ensures.names

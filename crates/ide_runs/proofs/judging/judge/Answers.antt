@@ -5,13 +5,12 @@ use Rattle.line_runs.specs.Gain.{Text}
 use Rattle.line_runs.specs.Outcome.{Ran}
 use Rattle.line_runs.proofs.Joins.{later}
 use Rattle.line_runs.proofs.WholeFiles.{IsDue, ran_after, redue}
-use Rattle.line_runs.specs.Judging.{judged}
+use Rattle.line_runs.specs.Judging.{judgement_due}
 use Rattle.ide_runs.specs.Judge.{text_left}
 use Rattle.ide_runs.specs.Reads.{RunNoFurther}
 use Rattle.ide_runs.proofs.Judges.{asks_three, asks_two, cut_run, far_judged, far_left, given_both, given_cut}
-use Rattle.ide_runs.proofs.Judges.{given_run}
-use Rattle.ide_runs.proofs.Judges.{judge_on, judged_same, left_is_due, never_rose, ran_to}
-use Rattle.ide_runs.proofs.Judges.{run_on, wrote_nothing}
+use Rattle.ide_runs.proofs.Judges.{given_run, judge_on, judged_same, left_is_due, never_rose, ran_to, run_on}
+use Rattle.ide_runs.proofs.Judges.{wrote_nothing}
 use Rattle.ide_runs.proofs.Loads.{no_line_wrote, nothing_yet}
 use Rattle.ide_runs.proofs.judging.judge.Goals as goal
 
@@ -41,11 +40,11 @@ returns-in-None-clause-answers g c =
     let came = ran_to told run _ _ _ _ _ _ _ c.in-Ok.end text c.new-ran.ensures (sym c.bytes-text.ensures)
     c.in-Ok.ensures.answers in
     let is = subst (λ (e : End). IsDue told run (e, text)) c.in-None.ensures came.1 in
-    redue told (λ contents. option_map (judged text) (contents c.args.verdicts.now))
+    redue told (λ contents. option_map (judgement_due text) (contents c.args.verdicts.now))
     (judge_on c.args.topology.now c.args.script.now c.args.verdicts.now) _ _ _ _ c.judge_file.result
     (judged_same told c.args.topology.now c.args.script.now c.args.verdicts.now text is)
     (later told (g.S.Shelf.seen c.run_files.new.shelf).contents
-    (λ contents. option_map (judged text) (contents c.args.verdicts.now)) _ _ _ _ _ _ c.judge_file.result
+    (λ contents. option_map (judgement_due text) (contents c.args.verdicts.now)) _ _ _ _ _ _ c.judge_file.result
     c.in-Ok.ensures.same came.0 c.judge_file.ensures.answers)
 
 pub returns-in-None-clause-so_far : goal.returns-in-None-clause-so_far

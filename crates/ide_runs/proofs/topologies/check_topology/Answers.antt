@@ -1,7 +1,7 @@
 use Rattle.std.proofs.Common.{[], option_map, ap, refl}
 use Rattle.line_runs.proofs.WholeFiles.{ran_after}
 use Rattle.ide_runs.specs.declared.topologies.Loaded.TheVariants.{Long}
-use Rattle.ide_runs.specs.Topologies.{check_due, loaded, report}
+use Rattle.ide_runs.specs.Topologies.{check_due, loaded_topology, report}
 use Rattle.ide_runs.proofs.Furthers.{within_file}
 use Rattle.ide_runs.proofs.Loads.{checked_whole, cut_by_load, due_loaded, no_line_in_file, no_line_wrote, nothing_yet}
 use Rattle.ide_runs.proofs.topologies.check_topology.Goals as goal
@@ -15,7 +15,7 @@ returns-in-Err-clause-answers g c =
 pub returns-in-Ok-clause-answers : goal.returns-in-Ok-clause-answers
 returns-in-Ok-clause-answers g c =
     let told = (g.S.Shelf.seen c.args.shelf.now).contents in
-    let is = due_loaded loaded report told c.args.topology.now c.in-Ok.loaded c.in-Ok.ensures.loads in
+    let is = due_loaded loaded_topology report told c.args.topology.now c.in-Ok.loaded c.in-Ok.ensures.loads in
     ran_after told (λ contents. option_map check_due (contents c.args.topology.now)) (report c.in-Ok.loaded) _ _ _ _ _
     c.report.result is c.in-Ok.ensures.cause c.report.ensures.ran
 

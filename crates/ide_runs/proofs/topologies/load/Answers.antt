@@ -4,13 +4,13 @@ use Rattle.topology.specs.Meaning.{plan_of}
 use Rattle.line_runs.specs.Gain.{Text}
 use Rattle.line_runs.proofs.Joins.{given_within}
 use Rattle.ide_runs.specs.declared.topologies.Loaded.TheVariants.{Long}
-use Rattle.ide_runs.specs.Topologies.{by_plan, loaded}
+use Rattle.ide_runs.specs.Topologies.{by_plan, loaded_topology}
 use Rattle.ide_runs.proofs.Loads.{gave_all, gave_few, gave_long, loads_front}
 use Rattle.ide_runs.proofs.topologies.load.Goals as goal
 
 pub returns-in-Ok-clause-loads : goal.returns-in-Ok-clause-loads
 returns-in-Ok-clause-loads g c =
-    let P : Text → Type 0 = λ t. IfOk c.load_bytes.result (λ l. l ≡ loaded t) in
+    let P : Text → Type 0 = λ t. IfOk c.load_bytes.result (λ l. l ≡ loaded_topology t) in
     loads_front Long (λ b. by_plan (plan_of b)) (g.S.Shelf.seen c.args.shelf.now).contents c.args.name.now
     c.in-Ok.front.items c.load_bytes.result c.in-Ok.ensures.bytes
     (subst P c.deref.ensures.value c.load_bytes.ensures.loaded)

@@ -1,7 +1,7 @@
 use Rattle.std.proofs.Common.{◌++◌, ap, ◌∙◌}
 use Rattle.tdisp_codec.specs.Requests.{request_spelling}
 use Rattle.interface_host.specs.Managers.{current_interface, interface_request}
-use Rattle.interface_device.specs.Replies.{answer_bytes}
+use Rattle.interface_ends.specs.Replies.{answer_bytes}
 use Rattle.interface_ends.proofs.Carried.{some_map}
 use Rattle.interface_ends.proofs.keeper.deliver.Goals as goal
 

@@ -1,6 +1,13 @@
 use Rattle.std.proofs.Common.{arith}
-use Rattle.line_arrivals.proofs.Landing.{land_gone, land_off_way, land_off_port, land_wait, land_take}
+use Rattle.line_arrivals.proofs.Landing.{land_through, land_gone, land_off_way, land_off_port, land_wait}
+use Rattle.line_arrivals.proofs.Landing.{land_take}
 use Rattle.line_arrivals.proofs.arriving.land.Goals as goal
+
+pub returns-then-goes_through-clause-lands : goal.returns-then-goes_through-clause-lands
+returns-then-goes_through-clause-lands c =
+    land_through c.args.arriving.now.plan.now c.args.arriving.now.keeper.now c.args.arriving.now.end
+    c.args.arriving.now.bytes.now c.args.ends.now c.args.trusted.now.contents c.args.accesses.now c.reached-end.result
+    c.reached-end.ensures c.port_of-port.result c.if-goes_through.ensures c.port_of-port.ensures
 
 pub returns-then-not-has_end-clause-lands : goal.returns-then-not-has_end-clause-lands
 returns-then-not-has_end-clause-lands c =

@@ -1,5 +1,5 @@
 use Rattle.std.proofs.Common.{◌≡◌, ◌≤◌, ◌-◌, ◌+◌, []}
-use Rattle.cli_files.specs.Outside.{AsksFor, counted}
+use Rattle.cli_files.specs.Outside.{AsksFor, capped_count}
 use Rattle.line_runs.specs.Front.{AskedPieces}
 use Rattle.line_runs.proofs.FileFronts.{FileSoFarBy}
 use Rattle.line_runs.proofs.files.run_file.Given as goal
@@ -8,7 +8,7 @@ abbrev pub invariant-loop-n : goal.invariant-loop-n
 invariant-loop-n g l = record {
   same : (g.S.Shelf.seen l.shelf).contents ≡ (g.S.Shelf.seen l.initial.shelf).contents;
   faults : (g.S.Shelf.seen l.shelf).faults ≡ (g.S.Shelf.seen l.initial.shelf).faults;
-  given : counted (g.S.Shelf.seen l.initial.shelf).given l.at ≤ (g.S.Shelf.seen l.shelf).given;
+  given : capped_count (g.S.Shelf.seen l.initial.shelf).given l.at ≤ (g.S.Shelf.seen l.shelf).given;
   cap : (g.S.Shelf.seen l.shelf).given ≤ (g.S.Shelf.seen l.initial.shelf).given + l.at;
   names : AsksFor l.name (g.S.Shelf.seen l.initial.shelf).asked (g.S.Shelf.seen l.shelf).asked;
   pieces : AskedPieces (g.S.Shelf.seen l.initial.shelf).longest (g.S.Shelf.seen l.shelf).longest;

@@ -1,5 +1,5 @@
 use Rattle.std.proofs.Common.{◌≡◌, ◌≤◌, ◌-◌, ◌+◌, length}
-use Rattle.cli_files.specs.Outside.{AsksFor, counted}
+use Rattle.cli_files.specs.Outside.{AsksFor, capped_count}
 use Rattle.line_runs.specs.Front.{AskedPieces, IsReadOf}
 use Rattle.line_runs.proofs.front.read_front.Given as goal
 
@@ -7,7 +7,7 @@ abbrev pub invariant-loop-buf : goal.invariant-loop-buf
 invariant-loop-buf g l = record {
   same : (g.S.Shelf.seen l.shelf).contents ≡ (g.S.Shelf.seen l.initial.shelf).contents;
   faults : (g.S.Shelf.seen l.shelf).faults ≡ (g.S.Shelf.seen l.initial.shelf).faults;
-  given : counted (g.S.Shelf.seen l.initial.shelf).given (length l.bytes.items) ≤ (g.S.Shelf.seen l.shelf).given;
+  given : capped_count (g.S.Shelf.seen l.initial.shelf).given (length l.bytes.items) ≤ (g.S.Shelf.seen l.shelf).given;
   cap : (g.S.Shelf.seen l.shelf).given ≤ (g.S.Shelf.seen l.initial.shelf).given + length l.bytes.items;
   names : AsksFor l.name (g.S.Shelf.seen l.initial.shelf).asked (g.S.Shelf.seen l.shelf).asked;
   pieces : AskedPieces (g.S.Shelf.seen l.initial.shelf).longest (g.S.Shelf.seen l.shelf).longest;

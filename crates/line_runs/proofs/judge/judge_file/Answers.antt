@@ -7,31 +7,33 @@ use Rattle.line_runs.specs.Gain.{Text}
 use Rattle.line_runs.specs.Outcome.{Ran}
 use Rattle.line_runs.proofs.Joins.{gained_none}
 use Rattle.line_runs.proofs.WholeFiles.{ran_after, stopped}
-use Rattle.line_runs.specs.Judging.{judged}
+use Rattle.line_runs.specs.Judging.{judgement_due}
 use Rattle.line_runs.proofs.JudgedFiles.{gave_few, gave_long, judged_front, some_wrote}
 use Rattle.line_runs.proofs.judge.judge_file.Goals as goal
 
 pub returns-in-Err-Fault-clause-answers : goal.returns-in-Err-Fault-clause-answers
 returns-in-Err-Fault-clause-answers g c =
     stopped (g.S.Shelf.seen c.args.shelf.now).contents
-    (λ contents. option_map (judged c.args.due.now) (contents c.args.name.now)) c.args.name.now _ _ _ _ _ stop.Fault
-    (λ contents lacks. ap (option_map (judged c.args.due.now)) lacks)
+    (λ contents. option_map (judgement_due c.args.due.now) (contents c.args.name.now)) c.args.name.now _ _ _ _ _
+    stop.Fault
+    (λ contents lacks. ap (option_map (judgement_due c.args.due.now)) lacks)
     (rw c.in-Err-Fault.field-0-is at c.in-Err-Fault.ensures.cause)
 
 pub returns-in-Err-Memory-clause-answers : goal.returns-in-Err-Memory-clause-answers
 returns-in-Err-Memory-clause-answers g c =
     stopped (g.S.Shelf.seen c.args.shelf.now).contents
-    (λ contents. option_map (judged c.args.due.now) (contents c.args.name.now)) c.args.name.now _ _ _ _ _ stop.Memory
-    (λ contents lacks. ap (option_map (judged c.args.due.now)) lacks)
+    (λ contents. option_map (judgement_due c.args.due.now) (contents c.args.name.now)) c.args.name.now _ _ _ _ _
+    stop.Memory
+    (λ contents lacks. ap (option_map (judgement_due c.args.due.now)) lacks)
     (rw c.in-Err-Memory.field-0-is at c.in-Err-Memory.ensures.cause)
 
 pub returns-in-Ok-clause-answers : goal.returns-in-Ok-clause-answers
 returns-in-Ok-clause-answers g c =
     let told = (g.S.Shelf.seen c.args.shelf.now).contents in
-    let P : Text → Type 0 = λ t. Ran (judged c.args.due.now t) (g.O.Sink.seen c.args.out.now)
+    let P : Text → Type 0 = λ t. Ran (judgement_due c.args.due.now t) (g.O.Sink.seen c.args.out.now)
     (g.O.Sink.seen c.judge_front.new.out) c.judge_front.result in
-    ran_after told (λ contents. option_map (judged c.args.due.now) (contents c.args.name.now))
-    (judged c.args.due.now c.in-Ok.front.items) _ _ _ _ _ c.judge_front.result
+    ran_after told (λ contents. option_map (judgement_due c.args.due.now) (contents c.args.name.now))
+    (judgement_due c.args.due.now c.in-Ok.front.items) _ _ _ _ _ c.judge_front.result
     (judged_front c.args.due.now told c.args.name.now c.in-Ok.front.items c.in-Ok.ensures.bytes) c.in-Ok.ensures.cause
     (subst P c.deref.ensures.value c.judge_front.ensures.ran)
 

@@ -1,8 +1,7 @@
-use Rattle.std.proofs.Common.{rules, ◌≡◌, ◌+◌, ◌==◌, ◌∷◌, List, ℕ, take, drop, Some, None, sym, ◌∙◌, subst}
-use Rattle.std.specs.List.{slice_split}
-use Rattle.memchr.specs.Find.{IsFirstByte, is_byte}
+use Rattle.std.proofs.Common.{rules, ◌≡◌, ◌+◌, ◌==◌, ◌∷◌, ℕ, take, drop, Some, None, ◌∙◌, List}
 use Rattle.link_events.proofs.Cuts.{cut_at, uncut}
 use Rattle.link_events.proofs.words.split_at_byte.Goals as goal
+use Rattle.memchr.specs.Find.{IsFirstByte}
 
 pub returns-in-Some-clause-parts : goal.returns-in-Some-clause-parts
 returns-in-Some-clause-parts c =

@@ -1,4 +1,4 @@
-use Rattle.std.proofs.Common.{rules, ◌≡◌, ◌==◌, ◌∷◌, ◌∙◌, [], map, sym}
+use Rattle.std.proofs.Common.{◌≡◌, ◌==◌, ◌∷◌, ◌∙◌, [], map}
 use Rattle.std.specs.List.{slice_split}
 use Rattle.link_events.proofs.FirstWords.{more_words, last_word}
 use Rattle.link_events.proofs.words.words_of.Goals as goal

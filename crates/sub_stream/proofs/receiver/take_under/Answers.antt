@@ -9,8 +9,7 @@ use Rattle.sub_stream.specs.Receivers.{is_tagged_behind, BufferAfter}
 use Rattle.sub_stream.specs.Seen.{live_key_seen}
 use Rattle.sub_stream.specs.Senders.{begun_where_empty}
 use Rattle.sub_stream.proofs.Judging.{tagged-in, posted-in, opened_packets-in, length-opened_packets, judged-tag}
-use Rattle.sub_stream.proofs.Judging.{judged-order}
-use Rattle.sub_stream.proofs.Judging.{judged-accepted, le-false, le-true}
+use Rattle.sub_stream.proofs.Judging.{judged-order, judged-accepted, le-false, le-true}
 use Rattle.sub_stream.proofs.receiver.take_under.Goals as goal
 
 pub returns-then-not-is_tagged-clause-answer : goal.returns-then-not-is_tagged-clause-answer

@@ -1,5 +1,5 @@
-use Rattle.std.proofs.Common.{◌≡◌, ◌≤◌, arith}
-use Rattle.std.proofs.lemmas.Bool.{eqb-true, eqb-false}
+use Rattle.std.proofs.Common.{◌≤◌, arith}
+use Rattle.std.proofs.lemmas.Bool.{eqb-true}
 use Rattle.trusted_memory.proofs.Full.{all_enabled}
 use Rattle.trusted_memory.proofs.completion.enables_all.Goals as goal
 

@@ -3,4 +3,4 @@ use Rattle.tsm_host.specs.Managers.{new_streams}
 use Rattle.tsm_host.proofs.manager.add_streams.Given as goal
 
 abbrev pub invariant-loop-plan : goal.invariant-loop-plan
-invariant-loop-plan l = l.streams.items ≡ l.initial.streams.items ++ new_streams l.link (take l.plan-index l.plans)
+invariant-loop-plan l = l.streams.items ≡ l.initial.streams.items ++ new_streams l.line (take l.plan-index l.plans)

@@ -1,5 +1,4 @@
-use Rattle.all_ends.proofs.Terms.{◌≡◌, ◌∙◌, ap, sym, Some, option_map, same_Some, EndsView, PortEnd, port_on}
-use Rattle.all_ends.proofs.Terms.{take_step}
+use Rattle.all_ends.proofs.Terms.{◌≡◌, ◌∙◌, ap, sym, Some, option_map, same_Some, EndsView, PortEnd, port_on, take_step}
 use Rattle.ide_prefix.specs.Reading.{cut_of}
 use Rattle.arrival_verdicts.specs.Verdicts.{arrival_verdict, of_unit}
 use Rattle.arrival_verdicts.specs.Switches.{switched_each, unit_waits, all_offered}

@@ -4,9 +4,8 @@ use Rattle.guarded_memory.specs.{Happened, MmioLeads}
 use Rattle.trusted_memory.specs.{Leads, Write}
 use Rattle.arrival_verdicts.specs.{reads_by}
 use Rattle.arrival_verdicts.specs.Verdicts.{arrival_verdict, effects_from, grants_in, packet_stored, packet_write}
-use Rattle.arrival_verdicts.specs.Verdicts.{of_unit}
-use Rattle.arrival_verdicts.specs.Verdicts.{unit_writes}
-use Rattle.all_ends.specs.AllEnds.{link_standings}
+use Rattle.arrival_verdicts.specs.Verdicts.{of_unit, unit_writes}
+use Rattle.all_ends.specs.AllEnds.{link_statuses}
 use Rattle.all_ends.proofs.Lent.{read_there}
 use Rattle.all_ends.proofs.all_ends.AllEnds.arrived.Goals as goal
 
@@ -25,7 +24,7 @@ returns-clause-comes c = λ e l is at.
     (sym (ap (λ o. option_map (λ d. d.now) o) c.unwrap.ensures) ∙ (c.port.ensures ∙ is)) in
     let seen : c.delivered-packets.result ≡ e.delivered =
     c.delivered-packets.ensures ∙ ap (λ (q : PortEnd). q.delivered) got in
-    let stand : link_standings x a ≡ link_standings l a = ap (λ (z : LinkEnds). link_standings z a) same in
+    let stand : link_statuses x a ≡ link_statuses l a = ap (λ (z : LinkEnds). link_statuses z a) same in
     record {
       verdict_is = c.taken_verdict.ensures.verdict ∙ (λ j. arrival_verdict end port answer
           (λ unit. effects_from regions grants (stand j) (length a.reads) port unit (seen j)));

@@ -1,7 +1,7 @@
 use Rattle.all_ends.proofs.Terms.{◌∙◌, subst, slice_set, EndsView, LinkEnds, PairEnds, peer_live}
 use Rattle.link_ends.specs.DeviceEnds.{secure_with}
 use Rattle.spec_interfaces.specs.Peers.{live_by_id}
-use Rattle.interface_device.specs.Replies.{settled_interfaces}
+use Rattle.interface_ends.specs.Replies.{settled_interfaces}
 use Rattle.all_ends.specs.Ends.{live_of}
 use Rattle.all_ends.specs.AllEnds.{OperatesAt, Settles}
 use Rattle.all_ends.proofs.Lent.{operate_link, operate_near, operate_pair}
@@ -25,7 +25,7 @@ returns-in-Link-clause-operates c =
     (record old { links = slice_set old.links i y }) c.operate.new.self.keys) c.self.view_is
     (operate_link old c.args.line i c.args.keeper.now.keys c.operate.new.self.keys c.args.op c.args.loss
     c.operate.result x y c.in-Link.ensures c.index_mut.ensures.value c.operate.ensures.operates
-    c.operate.ensures.calls settles)
+    c.operate.ensures.units settles)
 
 pub returns-in-Near-clause-operates : goal.returns-in-Near-clause-operates
 returns-in-Near-clause-operates c =
@@ -42,7 +42,7 @@ returns-in-Near-clause-operates c =
     c.self-in-Near.view_is
     (operate_near old c.args.line i c.args.keeper.now.keys c.operate_near.new.self.keys c.args.op c.args.loss
     c.operate_near.result c.index_mut-in-Near.result.now y c.in-Near.ensures c.index_mut-in-Near.ensures.value
-    c.operate_near.ensures.operates c.operate_near.ensures.calls)
+    c.operate_near.ensures.operates c.operate_near.ensures.units)
 
 pub returns-in-Pair-clause-operates : goal.returns-in-Pair-clause-operates
 returns-in-Pair-clause-operates c =
@@ -59,5 +59,5 @@ returns-in-Pair-clause-operates c =
     c.self-in-Pair.view_is
     (operate_pair old c.args.line i c.args.keeper.now.keys c.operate_pair-outcome.new.self.keys c.args.op c.args.loss
     c.operate_pair-outcome.result c.index_mut-in-Pair.result.now y c.settle_pair.new.self c.in-Pair.ensures
-    c.index_mut-in-Pair.ensures.value c.operate_pair-outcome.ensures.operates c.operate_pair-outcome.ensures.calls
+    c.index_mut-in-Pair.ensures.value c.operate_pair-outcome.ensures.operates c.operate_pair-outcome.ensures.units
     c.settle_pair.ensures)

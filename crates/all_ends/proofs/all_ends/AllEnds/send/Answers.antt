@@ -1,7 +1,27 @@
-use Rattle.all_ends.proofs.Terms.{subst, slice_set, EndsView}
+use Rattle.all_ends.proofs.Terms.{arith, subst, slice_set, EndsView}
 use Rattle.all_ends.specs.AllEnds.{SendsAt}
-use Rattle.all_ends.proofs.Lent.{send_link, send_near}
+use Rattle.std.specs.Prelude.{◌^◌}
+use Rattle.all_ends.proofs.Lent.{send_link, send_near, link_few, near_few, near_within}
 use Rattle.all_ends.proofs.all_ends.AllEnds.send.Goals as goal
+
+pub send-requires : goal.send-requires
+send-requires c = record {
+  few =
+      link_few c.args.end (2 ^ 40) c.in-Link.i c.self.view_is c.requires.here c.index_mut.result.now c.requires.few
+      c.in-Link.ensures c.index_mut.ensures.value;
+}
+
+pub index_mut-requires-in-Near : goal.index_mut-requires-in-Near
+index_mut-requires-in-Near c = omega (
+  arith,
+  near_within c.args.end (2 ^ 40) c.in-Near.i c.self-in-Near.view_is c.requires.here c.in-Near.ensures,
+  c.self-in-Near.inside.near.ok.0,
+)
+
+pub send_near-requires : goal.send_near-requires
+send_near-requires c =
+    near_few c.args.end (2 ^ 40) c.in-Near.i c.self-in-Near.view_is c.requires.here c.index_mut-in-Near.result.now
+    c.requires.few c.in-Near.ensures c.index_mut-in-Near.ensures.value
 
 pub returns-in-Link : goal.returns-in-Link
 returns-in-Link c =

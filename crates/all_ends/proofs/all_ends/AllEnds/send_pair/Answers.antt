@@ -1,11 +1,28 @@
 use Rattle.all_ends.proofs.Terms.{◌≡◌, ◌∙◌, ◌-◌, ap, sym, subst, arith, nat_tests, nat_lt, Bool, true, false}
-use Rattle.all_ends.proofs.Terms.{option_map}
-use Rattle.all_ends.proofs.Terms.{if◌then◌else◌, slice_set, EndsView}
+use Rattle.all_ends.proofs.Terms.{option_map, if◌then◌else◌, slice_set, EndsView}
 use Rattle.ide_port.specs.{Trusting}
 use Rattle.all_ends.specs.Ends.{far_hop_trust, bound_trust, bound_on, pair_trust}
 use Rattle.all_ends.specs.AllEnds.{SendsAt}
-use Rattle.all_ends.proofs.Lent.{send_pair}
+use Rattle.std.specs.Prelude.{◌^◌}
+use Rattle.all_ends.proofs.Lent.{send_pair, pair_few, pair_within}
 use Rattle.all_ends.proofs.all_ends.AllEnds.send_pair.Goals as goal
+
+pub send_far-requires : goal.send_far-requires
+send_far-requires c =
+    pair_few c.args.end (2 ^ 40) c.args.i c.self.view_is c.requires.here c.index_mut.result.now c.requires.few
+    c.requires.place c.index_mut.ensures.value
+
+pub index_mut-requires-else-i-lt-HOPS : goal.index_mut-requires-else-i-lt-HOPS
+index_mut-requires-else-i-lt-HOPS c = omega (
+  arith,
+  pair_within c.args.end (2 ^ 40) c.args.i c.self.view_is c.requires.here c.requires.place,
+  c.self.inside.pairs.ok.0,
+)
+
+pub send_between-requires : goal.send_between-requires
+send_between-requires c =
+    pair_few c.args.end (2 ^ 40) c.args.i c.self.view_is c.requires.here c.index_mut-else-i-lt-HOPS.result.now
+    c.requires.few c.requires.place c.index_mut-else-i-lt-HOPS.ensures.value
 
 pub returns-then-i-lt-HOPS : goal.returns-then-i-lt-HOPS
 returns-then-i-lt-HOPS c =

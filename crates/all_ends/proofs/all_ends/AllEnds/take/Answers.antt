@@ -1,7 +1,38 @@
-use Rattle.all_ends.proofs.Terms.{subst, slice_set, EndsView}
+use Rattle.all_ends.proofs.Terms.{arith, subst, slice_set, EndsView}
 use Rattle.all_ends.specs.AllEnds.{TakesAt}
-use Rattle.all_ends.proofs.Lent.{take_link, take_near, take_pair}
+use Rattle.std.specs.Prelude.{◌^◌}
+use Rattle.all_ends.proofs.Lent.{take_link, take_near, take_pair, link_few, near_few, near_within, pair_few}
+use Rattle.all_ends.proofs.Lent.{pair_within}
 use Rattle.all_ends.proofs.all_ends.AllEnds.take.Goals as goal
+
+pub take-requires : goal.take-requires
+take-requires c =
+    link_few c.args.end (2 ^ 40) c.in-Link.i c.self.view_is c.requires.here c.index_mut.result.now c.requires.few
+    c.in-Link.ensures c.index_mut.ensures.value
+
+pub index_mut-requires-in-Near : goal.index_mut-requires-in-Near
+index_mut-requires-in-Near c = omega (
+  arith,
+  near_within c.args.end (2 ^ 40) c.in-Near.i c.self.view_is c.requires.here c.in-Near.ensures,
+  c.self.inside.near.ok.0,
+)
+
+pub take-requires-in-Near : goal.take-requires-in-Near
+take-requires-in-Near c =
+    near_few c.args.end (2 ^ 40) c.in-Near.i c.self.view_is c.requires.here c.index_mut-in-Near.result.now
+    c.requires.few c.in-Near.ensures c.index_mut-in-Near.ensures.value
+
+pub index_mut-requires-in-Pair : goal.index_mut-requires-in-Pair
+index_mut-requires-in-Pair c = omega (
+  arith,
+  pair_within c.args.end (2 ^ 40) c.in-Pair.i c.self.view_is c.requires.here c.in-Pair.ensures,
+  c.self.inside.pairs.ok.0,
+)
+
+pub take_pair-requires : goal.take_pair-requires
+take_pair-requires c =
+    pair_few c.args.end (2 ^ 40) c.in-Pair.i c.self.view_is c.requires.here c.index_mut-in-Pair.result.now
+    c.requires.few c.in-Pair.ensures c.index_mut-in-Pair.ensures.value
 
 pub returns-in-Link : goal.returns-in-Link
 returns-in-Link c =

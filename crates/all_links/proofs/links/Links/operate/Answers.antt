@@ -1,4 +1,5 @@
-use Rattle.all_links.proofs.Terms.{ℕ, ◌+◌, ap, sym, ◌∙◌, subst, true, IfSome, IsSome, Verdict, EndsAs, EndsWith, named}
+use Rattle.all_links.proofs.Terms.{ℕ, ◌+◌, ap, sym, ◌∙◌, subst, true, IfSome, IsSome, Verdict, EndsAs, EndsWith}
+use Rattle.all_links.proofs.Terms.{named_stream}
 use Rattle.all_links.proofs.Terms.{◌≡◌, Links, OperatesAt, operation_event, links_state, beside_in, port_on}
 use Rattle.ide_types.specs.Ports.{host_port}
 use Rattle.tsm_host.specs.Operations.{OpName}
@@ -20,7 +21,7 @@ pub carry_stream-outcome-requires-clause-stream : goal.carry_stream-outcome-requ
 carry_stream-outcome-requires-clause-stream c =
     let n = found_is c.args.self.now.keeper.keys.manager c.args.self.now.ends c.args.line c.args.stream
     c.in-Some.line c.in-Some.stream c.in-Some.ensures in
-    subst (λ (a : OpName). IsSome (named c.args.self.now.keeper.keys.manager a.line a.stream))
+    subst (λ (a : OpName). IsSome (named_stream c.args.self.now.keeper.keys.manager a.line a.stream))
     (sym c.named_op-op.ensures) n.there
 
 pub returns-in-None-clause-ends : goal.returns-in-None-clause-ends

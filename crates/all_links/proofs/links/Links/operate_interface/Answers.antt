@@ -1,5 +1,5 @@
-use Rattle.all_links.proofs.Terms.{ap, refl, sym, subst, ◌∙◌, ◌+◌, List, ℕ, option_map, Links, Interface, Option}
-use Rattle.all_links.proofs.Terms.{IsSome, Verdict}
+use Rattle.all_links.proofs.Terms.{ap, refl, sym, subst, ◌∙◌, ◌+◌, List, Links, Interface, Option}
+use Rattle.all_links.proofs.Terms.{IsSome, Verdict, ℕ}
 use Rattle.interface_ends.specs.Keepers.{Ended}
 use Rattle.all_links.proofs.Asked.{asked_nowhere, operated_as}
 use Rattle.all_links.proofs.Finds.{ends_as, if_some, some_none}
@@ -7,20 +7,21 @@ use Rattle.all_links.proofs.Sides.{nothing_asked, asked_beside}
 use Rattle.all_links.proofs.links.Links.operate_interface.Goals as goal
 
 pub carry_interface-outcome-requires : goal.carry_interface-outcome-requires
-carry_interface-outcome-requires c = record { here = ap (option_map (λ (at : ℕ × ℕ). at.0)) (sym c.in-Some.ensures) }
+carry_interface-outcome-requires c = record { here = sym c.in-Some.is ∙ c.requires.here }
 
 pub returns-in-None-clause-ends : goal.returns-in-None-clause-ends
 returns-in-None-clause-ends c plan event same =
-    asked_nowhere plan c.args.number c.args.op c.args.loss event same c.in-None.ensures c.only.ensures.value
+    asked_nowhere plan c.args.number c.args.op c.args.loss event same (sym c.in-None.is ∙ c.requires.here)
+    c.only.ensures.value
     c.only.ensures.links c.requires.bounded
 
 pub returns-in-Some-clause-ends : goal.returns-in-Some-clause-ends
 returns-in-Some-clause-ends c plan event same =
     let after : Links = c.carry_interface-outcome.new.self in
     ends_as plan c.asked_verdict.result c.args.self.now (record after { steps = after.steps + 1 }) (Interface event)
-    (λ verdict is. operated_as plan c.args.self.now c.args.number (c.in-Some.link, c.in-Some.field-0-1) c.args.op
+    (λ verdict is. operated_as plan c.args.self.now c.args.number c.in-Some.at c.args.op
     c.args.loss c.carry_interface-outcome.result after.ends after.keeper (record after { steps = after.steps + 1 })
-    verdict c.new-none.result event same c.in-Some.ensures c.carry_interface-outcome.ensures.asks
+    verdict c.new-none.result event same (sym c.in-Some.is ∙ c.requires.here) c.carry_interface-outcome.ensures.asks
     (sym c.asked_verdict.ensures ∙ is)
     (λ e same. c.new-none.ensures ∙ c.new.ensures.items ∙ sym (ap (λ (f : Ended → List ℕ). f e) c.requires.short))
     (ap (λ (s : Links). record s { steps = s.steps + 1 }) c.carry_interface-outcome.ensures.links) c.requires.bounded)
@@ -31,13 +32,13 @@ returns-in-Some-clause-ends c plan event same =
 
 pub returns-in-None-clause-sides : goal.returns-in-None-clause-sides
 returns-in-None-clause-sides c =
-    nothing_asked c.args.number c.args.op c.args.loss c.in-None.ensures c.only.ensures.links
+    nothing_asked c.args.number c.args.op c.args.loss (sym c.in-None.is ∙ c.requires.here) c.only.ensures.links
 
 pub returns-in-Some-clause-sides : goal.returns-in-Some-clause-sides
 returns-in-Some-clause-sides c =
     let after : Links = c.carry_interface-outcome.new.self in
     if_some c.asked_verdict.result _
     (λ verdict is. asked_beside c.args.self.now (record after { steps = after.steps + 1 }) c.args.number
-    (c.in-Some.link, c.in-Some.field-0-1) c.args.op c.args.loss c.carry_interface-outcome.result after.ends after.keeper
-    c.in-Some.ensures c.carry_interface-outcome.ensures.asks
+    c.in-Some.at c.args.op c.args.loss c.carry_interface-outcome.result after.ends after.keeper
+    (sym c.in-Some.is ∙ c.requires.here) c.carry_interface-outcome.ensures.asks
     (ap (λ (s : Links). record s { steps = s.steps + 1 }) c.carry_interface-outcome.ensures.links))

@@ -17,12 +17,12 @@ returns-in-None c =
     let s = c.args.self.now in
     none_of _ (managed_peer_stream s.keeper c.args.line c.args.stream)
     (no_more (nat_lt c.args.stream 256) _
-    (sym (ap (λ (o : Option (ℕ × ℕ)). has_peer_at s.ends c.args.line c.args.stream o) c.in-None.ensures)))
+    (ap (λ (o : Option (ℕ × ℕ)). has_peer_at s.ends c.args.line c.args.stream o) c.in-None.is))
 
 pub returns-else-has_peer : goal.returns-else-has_peer
 returns-else-has_peer c =
     let s = c.args.self.now in
     none_of _ (managed_peer_stream s.keeper c.args.line c.args.stream)
     (no_more (nat_lt c.args.stream 256) _
-    (sym (ap (λ (o : Option (ℕ × ℕ)). has_peer_at s.ends c.args.line c.args.stream o) c.in-Some.ensures)
+    (ap (λ (o : Option (ℕ × ℕ)). has_peer_at s.ends c.args.line c.args.stream o) c.in-Some.is
     ∙ sym c.has_peer.ensures ∙ c.if-has_peer.false))

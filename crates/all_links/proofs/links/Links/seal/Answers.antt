@@ -4,9 +4,15 @@ use Rattle.ide_port.specs.{PortEnd}
 use Rattle.line_arrivals.specs.{cut_packets, end_sent_verdict}
 use Rattle.ide_types.specs.declared.port.PortName.{PortName}
 use Rattle.spec_links.specs.Ports.{port_of}
+use Rattle.all_links.proofs.Finds.{few_units}
 use Rattle.all_links.proofs.Sends.{not_sealed, seals, sealed_length, sent_keeps}
 use Rattle.all_links.proofs.links.Links.seal.Goals.{in-Sealed, in_default}
 use Rattle.all_links.proofs.links.Links.seal.Goals as goal
+
+pub send-sent-requires-clause-few : goal.send-sent-requires-clause-few
+send-sent-requires-clause-few c =
+    few_units c.args.self.now.ends c.args.self.now.packets.packets c.args.self.now.steps c.requires.steps
+    c.requires.bounded
 
 pub keep-requires-clause-lengths : goal.keep-requires-clause-lengths
 keep-requires-clause-lengths c =

@@ -15,7 +15,7 @@ returns-in-None-clause-ends c plan =
 
 pub returns-in-None-status-clause-ends : goal.returns-in-None-status-clause-ends
 returns-in-None-status-clause-ends c plan =
-    let n = name_is _ _ c.args.line c.args.stream c.in-Some.link c.in-Some.stream c.in-Some.ensures in
+    let n = name_is _ _ c.args.line c.args.stream c.in-Some.line c.in-Some.stream c.in-Some.ensures in
     nothing_changes plan (Status c.args.line c.args.stream)
     c.only-in-None-status.ensures.value c.only-in-None-status.ensures.links c.requires.bounded
     (λ b by h links stands. absurd
@@ -25,7 +25,7 @@ returns-in-None-status-clause-ends c plan =
 pub returns-in-Some-status-clause-ends : goal.returns-in-Some-status-clause-ends
 returns-in-Some-status-clause-ends c plan =
     let old : Links = c.args.self.now in
-    let n = name_is _ _ c.args.line c.args.stream c.in-Some.link c.in-Some.stream c.in-Some.ensures in
+    let n = name_is _ _ c.args.line c.args.stream c.in-Some.line c.in-Some.stream c.in-Some.ensures in
     nothing_changes plan (Status c.args.line c.args.stream)
     c.only-in-Some-status.ensures.value c.only-in-Some-status.ensures.links c.requires.bounded
     (λ b by h links stands.

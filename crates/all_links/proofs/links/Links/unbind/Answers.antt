@@ -1,12 +1,11 @@
-use Rattle.std.proofs.Common.{◌&&◌}
-use Rattle.all_links.proofs.Terms.{nat_lt, refl, subst, Verdict}
+use Rattle.all_links.proofs.Terms.{refl, subst, Verdict}
 use Rattle.link_events.specs.declared.event.InterfaceEvent.TheVariants as ie
 use Rattle.interface_host.specs.declared.operation.InterfaceOperation.TheVariants as op
 use Rattle.interface_host.specs.declared.operation.PeerStream.{PeerStream}
-use Rattle.all_links.specs.Interfaces.{has_peer_in, managed_peer_stream}
+use Rattle.all_links.specs.Interfaces.{managed_peer_stream}
 use Rattle.all_links.specs.Sides.{SidesAsk}
 use Rattle.all_links.proofs.Finds.{if_some}
-use Rattle.all_links.proofs.Asked.{if_some as some_is, is_peer, no_peer, none_if, peer_verdict}
+use Rattle.all_links.proofs.Asked.{if_some as some_is, is_peer, no_peer, none_peer, peer_verdict}
 use Rattle.all_links.proofs.Sides.{no_peer_beside, peer_beside}
 use Rattle.all_links.proofs.links.Links.unbind.Goals as goal
 
@@ -19,8 +18,8 @@ returns-in-None-clause-ends c plan =
     no_peer plan c.args.number c.args.line c.args.stream
     (op.Unbind (managed_peer_stream s.keeper c.args.line c.args.stream))
     c.args.loss (ie.Unbind c.args.number c.args.line c.args.stream c.args.loss) refl
-    (none_if (nat_lt c.args.stream 256 && has_peer_in s.keeper s.ends c.args.number c.args.line c.args.stream)
-    (managed_peer_stream s.keeper c.args.line c.args.stream) c.in-None.ensures)
+    (none_peer s.keeper s.ends c.args.number c.args.line c.args.stream c.interface-at.result
+    c.interface-at.ensures.place c.in-None.ensures)
     c.only.ensures.value c.only.ensures.links c.requires.bounded
 
 pub returns-in-Some-clause-ends : goal.returns-in-Some-clause-ends
@@ -29,23 +28,22 @@ returns-in-Some-clause-ends c plan =
     c.operate_interface.ensures.ends plan (ie.Unbind c.args.number c.args.line c.args.stream c.args.loss)
     (peer_verdict s.keeper s.ends c.args.number c.args.line c.args.stream c.in-Some.peer
     (λ (p : PeerStream). op.Unbind p) c.args.loss
-    (is_peer s.keeper s.ends c.args.number c.args.line c.args.stream c.in-Some.peer
-    c.in-Some.ensures))
+    (is_peer s.keeper s.ends c.args.number c.args.line c.args.stream c.in-Some.peer c.interface-at.result
+    c.interface-at.ensures.place c.in-Some.ensures))
 
 pub returns-in-None-clause-sides : goal.returns-in-None-clause-sides
 returns-in-None-clause-sides c =
     let s = c.args.self.now in
     no_peer_beside c.args.number c.args.line c.args.stream
     (op.Unbind (managed_peer_stream s.keeper c.args.line c.args.stream))
-    c.args.loss (none_if (nat_lt c.args.stream 256 && has_peer_in s.keeper s.ends c.args.number c.args.line
-    c.args.stream)
-    (managed_peer_stream s.keeper c.args.line c.args.stream) c.in-None.ensures) c.only.ensures.links
+    c.args.loss (none_peer s.keeper s.ends c.args.number c.args.line c.args.stream c.interface-at.result
+    c.interface-at.ensures.place c.in-None.ensures) c.only.ensures.links
 
 pub returns-in-Some-clause-sides : goal.returns-in-Some-clause-sides
 returns-in-Some-clause-sides c =
     let s = c.args.self.now in
-    let p = is_peer s.keeper s.ends c.args.number c.args.line c.args.stream c.in-Some.peer
-    c.in-Some.ensures in
+    let p = is_peer s.keeper s.ends c.args.number c.args.line c.args.stream c.in-Some.peer c.interface-at.result
+    c.interface-at.ensures.place c.in-Some.ensures in
     if_some c.operate_interface.result _
     (λ verdict is. peer_beside s c.operate_interface.new.self c.args.number c.args.line c.args.stream
     (op.Unbind (managed_peer_stream s.keeper c.args.line c.args.stream)) c.args.loss p.small

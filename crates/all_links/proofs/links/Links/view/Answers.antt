@@ -15,14 +15,14 @@ pub returns-in-None-clause-ends : goal.returns-in-None-clause-ends
 returns-in-None-clause-ends c plan =
     only_says plan (ie.View c.args.number)
     (ap (λ (o : Option (ℕ × ℕ)). Some (viewed_as c.args.number
-    (interface_seen_at c.args.self.now.keeper.interfaces c.args.number o))) c.in-None.ensures)
+    (interface_seen_at c.args.self.now.keeper.interfaces c.args.number o))) c.in-None.ensures.place)
     c.only.ensures.value c.only.ensures.links c.requires.bounded
 
 pub returns-in-Some-clause-ends : goal.returns-in-Some-clause-ends
 returns-in-Some-clause-ends c plan =
     let m = c.args.self.now.keeper.interfaces in
     let n : ℕ = c.args.number in
-    let x = is_found m c.args.self.now.ends n c.in-Some.field-0 c.in-Some.ensures in
+    let x = is_found m c.args.self.now.ends n c.in-Some.field-0 c.in-Some.ensures.place in
     let seen : c.view-view.result ≡ view_of x.kept.seen =
     if_some (λ (k : HostTdi). c.view-view.result ≡ view_of k.seen) (slice_get m.interfaces n) x.kept x.kept_there
     (subst
@@ -32,7 +32,7 @@ returns-in-Some-clause-ends c plan =
     ≡ viewed_as n (interface_seen_at m n (interface_named m c.args.self.now.ends.links n)) =
     ap (λ (y : View). v.Interface (iv.View n y)) seen
     ∙ sym (ap (λ (o : Option HostTdi). viewed_as n o)
-    (ap (λ (o : Option (ℕ × ℕ)). interface_seen_at m n o) (sym c.in-Some.ensures) ∙ x.kept_there)) in
+    (ap (λ (o : Option (ℕ × ℕ)). interface_seen_at m n o) (sym c.in-Some.ensures.place) ∙ x.kept_there)) in
     only_says plan (ie.View n) (ap Some due) c.shows.ensures.value c.shows.ensures.links c.requires.bounded
 
 pub returns-in-None-clause-sides : goal.returns-in-None-clause-sides

@@ -10,27 +10,15 @@ use Rattle.link_events.specs.declared.event.InterfaceEvent.TheVariants as ie
 use Rattle.all_links.specs.Interfaces.{written_as, interface_of_ends}
 use Rattle.line_arrivals.specs.{code_behind}
 use Rattle.all_links.proofs.Finds.{only_says}
-use Rattle.all_links.proofs.Asked.{if_some, is_found, is_there, called}
+use Rattle.all_links.proofs.Asked.{if_some, is_found, called}
 use Rattle.all_links.proofs.Sides.{nothing_called, called_beside, not_called}
 use Rattle.all_links.proofs.links.Links.write.Goals as goal
-
-pub has_register-requires : goal.has_register-requires
-has_register-requires c =
-    record {
-      here = is_there c.args.self.now.keeper.interfaces c.args.self.now.ends c.args.number
-          (c.in-Some.link, c.in-Some.place) c.in-Some.ensures;
-    }
-
-pub write_register-state-requires-clause-here : goal.write_register-state-requires-clause-here
-write_register-state-requires-clause-here c =
-    is_there c.args.self.now.keeper.interfaces c.args.self.now.ends c.args.number (c.in-Some.link, c.in-Some.place)
-    c.in-Some.ensures
 
 pub returns-in-None-clause-ends : goal.returns-in-None-clause-ends
 returns-in-None-clause-ends c plan =
     only_says plan (ie.Write c.args.number c.args.register c.args.value)
     (ap (λ (o : Option (ℕ × ℕ)). Some (written_as c.args.number c.args.register c.args.value
-    (option_and_then (interface_of_ends c.args.self.now.ends.links) o))) c.in-None.ensures)
+    (option_and_then (interface_of_ends c.args.self.now.ends.links) o))) c.in-None.ensures.place)
     c.only.ensures.value c.only.ensures.links c.requires.bounded
 
 -- whether it has the register
@@ -60,13 +48,13 @@ pub returns-then-has_register-clause-ends : goal.returns-then-has_register-claus
 returns-then-has_register-clause-ends c plan =
     let n : ℕ = c.args.number in
     let at : ℕ × ℕ = (c.in-Some.link, c.in-Some.place) in
-    let x = is_found c.args.self.now.keeper.interfaces c.args.self.now.ends n at c.in-Some.ensures in
+    let x = is_found c.args.self.now.keeper.interfaces c.args.self.now.ends n at c.in-Some.ensures.place in
     let has : c.has_register.result ≡ has_register x.tdi.plan c.args.register =
     has_it c.args.self.now.ends.links at c.args.register c.has_register.result x.ends_at x.tdi x.link_there x.tdi_there
     c.has_register.ensures in
     called plan c.args.self.now n at (WriteRegister c.args.register c.args.value) c.write_register-state.result
     c.write_register-state.new.self c.shows.new.self c.shows.result (ie.Write n c.args.register c.args.value)
-    (λ code. v.Interface (iv.Written n code)) c.in-Some.ensures c.write_register-state.ensures
+    (λ code. v.Interface (iv.Written n code)) c.in-Some.ensures.place c.write_register-state.ensures
     (λ tdi is. ap Some (written_is n c.args.register c.args.value tdi _ true is
     (ap (λ (t : Tdi). has_register t.plan c.args.register) (same_Some tdi x.tdi (sym is ∙ x.named_is))
     ∙ sym has ∙ c.if-has_register.true))) c.shows.ensures.value c.shows.ensures.links c.requires.bounded
@@ -75,7 +63,7 @@ pub returns-else-has_register-clause-ends : goal.returns-else-has_register-claus
 returns-else-has_register-clause-ends c plan =
     let n : ℕ = c.args.number in
     let at : ℕ × ℕ = (c.in-Some.link, c.in-Some.place) in
-    let x = is_found c.args.self.now.keeper.interfaces c.args.self.now.ends n at c.in-Some.ensures in
+    let x = is_found c.args.self.now.keeper.interfaces c.args.self.now.ends n at c.in-Some.ensures.place in
     let has : c.has_register.result ≡ has_register x.tdi.plan c.args.register =
     has_it c.args.self.now.ends.links at c.args.register c.has_register.result x.ends_at x.tdi x.link_there x.tdi_there
     c.has_register.ensures in
@@ -86,14 +74,14 @@ returns-else-has_register-clause-ends c plan =
 pub returns-in-None-clause-sides : goal.returns-in-None-clause-sides
 returns-in-None-clause-sides c =
     nothing_called c.args.number (λ tdi. has_register tdi.plan c.args.register)
-    (WriteRegister c.args.register c.args.value) c.in-None.ensures c.only.ensures.links
+    (WriteRegister c.args.register c.args.value) c.in-None.ensures.place c.only.ensures.links
 
 pub returns-then-has_register-clause-sides : goal.returns-then-has_register-clause-sides
 returns-then-has_register-clause-sides c =
     let at : ℕ × ℕ = (c.in-Some.link, c.in-Some.place) in
     called_beside c.args.self.now c.shows.new.self c.args.number at (λ tdi. has_register tdi.plan c.args.register)
     (WriteRegister c.args.register c.args.value) c.write_register-state.result c.write_register-state.new.self
-    c.in-Some.ensures
+    c.in-Some.ensures.place
     (λ l tdi link_there tdi_there. sym (has_it c.args.self.now.ends.links at c.args.register c.has_register.result l tdi
     link_there tdi_there c.has_register.ensures) ∙ c.if-has_register.true)
     c.write_register-state.ensures c.shows.ensures.links
@@ -102,7 +90,7 @@ pub returns-else-has_register-clause-sides : goal.returns-else-has_register-clau
 returns-else-has_register-clause-sides c =
     let at : ℕ × ℕ = (c.in-Some.link, c.in-Some.place) in
     not_called c.args.self.now c.only-else-has_register.new.self c.args.number at
-    (λ tdi. has_register tdi.plan c.args.register) (WriteRegister c.args.register c.args.value) c.in-Some.ensures
+    (λ tdi. has_register tdi.plan c.args.register) (WriteRegister c.args.register c.args.value) c.in-Some.ensures.place
     (λ l tdi link_there tdi_there. sym (has_it c.args.self.now.ends.links at c.args.register c.has_register.result l tdi
     link_there tdi_there c.has_register.ensures) ∙ c.if-has_register.false)
     c.only-else-has_register.ensures.links

@@ -3,7 +3,7 @@ use Rattle.ide_port.proofs.Keeping.{inside, there}
 use Rattle.ide_port.proofs.Steps.{gone, reads}
 use Rattle.ide_port.proofs.port.Port.facts.Goals as goal
 use Rattle.ide_port.specs.Facts.{found_facts}
-use Rattle.ide_stream.specs.{StreamEnd}
+use Rattle.ide_port.specs.StreamEnds.{StreamEnd}
 use Rattle.sub_stream.specs.Facts.{stream_facts}
 
 pub index-requires : goal.index-requires

@@ -22,5 +22,4 @@ returns c =
           i;
       sealed = c.in_ok-sealed.ensures.items i;
       delivered = [];
-      calls = 0;
     })

@@ -1,4 +1,4 @@
-use Rattle.ide_port.proofs.Terms.{true, sym, ap, ◌∙◌, arith, option_and_then, at_sub, Found}
+use Rattle.ide_port.proofs.Terms.{sym, ap, ◌∙◌, arith, option_and_then, at_sub, Found}
 use Rattle.spec_stream.specs.Slots.{receiving_draw}
 use Rattle.ide_port.proofs.Keeping.{inside}
 use Rattle.ide_port.proofs.Steps.{gone, reads}

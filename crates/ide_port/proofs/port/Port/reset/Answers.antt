@@ -5,7 +5,7 @@ use Rattle.ide_port.proofs.port.Port.reset.Goals as goal
 
 pub invariant_of-self : goal.invariant_of-self
 invariant_of-self c = record {
-  each = rw c.reset_streams.ensures (resets _ _ _ _ _ c.self.invariant.each).each;
+  each = rw c.reset_streams.ensures (resets _ _ _ _ c.self.invariant.each).each;
   lends = lends-none _;
   short = c.self.invariant.short;
   room = c.self.invariant.room;
@@ -18,9 +18,8 @@ returns c =
       plans = c.self.inside.plans;
       limit = c.self.inside.limit;
       states = (ap (map state_of) c.reset_streams.ensures ∙
-          (resets _ _ _ c.self.inside.plans c.self.inside.streams.items c.self.invariant.each).states) i;
+          (resets _ _ c.self.inside.plans c.self.inside.streams.items c.self.invariant.each).states) i;
       sealed = c.self.inside.sealed.items;
       delivered = [];
-      calls = c.self.inside.calls;
     })
     ∙ ap reset_port c.self.view_is

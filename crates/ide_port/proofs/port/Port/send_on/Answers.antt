@@ -1,36 +1,44 @@
 use Rattle.ide_port.proofs.Terms.{◌≡◌, ℕ, refl, sym, ap, ◌∙◌, arith, viewed_tlp, header, body, head_bytes, class_of}
-use Rattle.ide_port.proofs.Terms.{StreamEnd, sending, PortEnd}
-use Rattle.ide_stream.specs.Sends.{IsSent}
+use Rattle.ide_port.proofs.Terms.{Some, StreamEnd, new_sending, PortEnd}
+use Rattle.std.proofs.Common.{◌^◌}
+use Rattle.ide_port.specs.Units.{UnitsAtMost}
+use Rattle.ide_port.specs.StreamSends.{IsSent}
 use Rattle.ide_port.proofs.Keeping.{inside, there, kept-sent}
-use Rattle.ide_port.proofs.Steps.{sent_as, sent-step, plain-step}
+use Rattle.tlp_layout.specs.Choice.{plan_place}
+use Rattle.ide_port.proofs.Steps.{sent_as, sent-step, reads}
+use Rattle.ide_port.proofs.Units.{found-has}
 use Rattle.ide_port.proofs.port.Port.send_on.Goals as goal
 use Rattle.ide_port.proofs.port.Port.send_on.Goals.{in-Ok, in-Err}
 
-pub returns-in_default : goal.returns-in_default
-returns-in_default c = λ number.
-    plain-step c.self.inside c.args.self.now c.self.view_is c.args.id (cc) c.unsealed.new.self
-    (viewed_tlp c.args.tlp.now)
-    c.args.more c.args.trusted number
-    c.unsealed.ensures
-
 pub index_mut-stream-requires : goal.index_mut-stream-requires
-index_mut-stream-requires c = omega
-    (arith, inside c.self.inside c.args.id c.in-Some.place c.self.invariant (cc), c.self.inside.streams.ok.0)
+index_mut-stream-requires c =
+    let stands : plan_place c.self.inside.plans c.args.chosen.id ≡ Some c.args.chosen.place =
+    ap (λ (e : PortEnd). plan_place e.plans c.args.chosen.id) c.self.view_is ∙ c.requires.place in
+    omega (
+      arith,
+      inside c.self.inside c.args.chosen.id c.args.chosen.place c.self.invariant stands,
+      c.self.inside.streams.ok.0,
+    )
 
 pub send-requires-clause-few : goal.send-requires-clause-few
 send-requires-clause-few c =
-    let k = there c.self.inside c.self.invariant c.args.id c.in-Some.place c.index_mut-stream.result.now (cc)
-    c.index_mut-stream.ensures.value in
-    omega (arith, k.of_plan.few, ap (λ (e : PortEnd). e.calls) c.self.view_is, c.requires.few)
+    let stands : plan_place c.self.inside.plans c.args.chosen.id ≡ Some c.args.chosen.place =
+    ap (λ (e : PortEnd). plan_place e.plans c.args.chosen.id) c.self.view_is ∙ c.requires.place in
+    (found-has (UnitsAtMost (2 ^ 40)) _ _ c.args.chosen.id _ c.requires.few
+    (reads c.self.inside c.args.self.now c.self.view_is c.self.invariant c.args.chosen.id c.args.chosen.place
+    c.index_mut-stream.result.now stands c.index_mut-stream.ensures.value (λ f. f))).0
 
 -- what the stream sealed, at a number
 sent : (c : goal.Joined-send) (number : ℕ) → IsSent c.index_mut-stream.result.now
     (head_bytes (header (viewed_tlp c.args.tlp.now))) (body (viewed_tlp c.args.tlp.now))
-    (sending c.self.inside.name c.index_mut-stream.result.now.id (class_of (header (viewed_tlp c.args.tlp.now)))
+    (new_sending c.self.inside.name c.index_mut-stream.result.now.id (class_of (header (viewed_tlp c.args.tlp.now)))
     c.args.more c.args.trusted) number
     c.send.result c.clear.new.self.items c.send.new.out.items c.send.new.self
 sent c number =
-    let k = there c.self.inside c.self.invariant c.args.id c.in-Some.place c.index_mut-stream.result.now (cc)
+    let stands : plan_place c.self.inside.plans c.args.chosen.id ≡ Some c.args.chosen.place =
+    ap (λ (e : PortEnd). plan_place e.plans c.args.chosen.id) c.self.view_is ∙ c.requires.place in
+    let k = there c.self.inside c.self.invariant c.args.chosen.id c.args.chosen.place c.index_mut-stream.result.now
+    stands
     c.index_mut-stream.ensures.value in
     let side : c.index_mut-stream.result.now.side ≡ c.self.inside.name.side = ap (λ (x : StreamEnd). x.side)
     k.of_plan.plan in
@@ -39,7 +47,9 @@ sent c number =
 
 pub invariant_of-self : goal.invariant_of-self
 invariant_of-self c =
-    kept-sent c.self.inside c.self.invariant c.args.id c.in-Some.place c.index_mut-stream.result.now (cc)
+    let stands : plan_place c.self.inside.plans c.args.chosen.id ≡ Some c.args.chosen.place =
+    ap (λ (e : PortEnd). plan_place e.plans c.args.chosen.id) c.self.view_is ∙ c.requires.place in
+    kept-sent c.self.inside c.self.invariant c.args.chosen.id c.args.chosen.place c.index_mut-stream.result.now stands
     c.index_mut-stream.ensures.value _ _ _ _ 0 _ _ _ _
     (sent c 0) c.clear.ensures.items
     (rw c.parts.ensures.head at c.parts.ensures.head_short)
@@ -48,12 +58,14 @@ invariant_of-self c =
 
 pub returns : goal.returns
 returns c = λ number.
+    let stands : plan_place c.self.inside.plans c.args.chosen.id ≡ Some c.args.chosen.place =
+    ap (λ (e : PortEnd). plan_place e.plans c.args.chosen.id) c.self.view_is ∙ c.requires.place in
     let said : c.match-send.result ≡ sent_as c.send.result =
     elim c.match-send.branch
     [ in-Ok w ↦ w.result-is ∙ ap sent_as (sym w.in-Ok.is) | in-Err w ↦ w.result-is ∙ ap sent_as (sym w.in-Err.is) ]
     in
-    sent-step c.self.inside c.args.self.now c.self.view_is c.self.invariant c.args.id c.in-Some.place
-    c.index_mut-stream.result.now (cc)
+    sent-step c.self.inside c.args.self.now c.self.view_is c.self.invariant c.args.chosen.id c.args.chosen.place
+    c.index_mut-stream.result.now stands
     c.index_mut-stream.ensures.value
     c.send.new.self (viewed_tlp c.args.tlp.now) c.args.more c.args.trusted number c.send.result c.match-send.result
     c.clear.new.self.items c.send.new.out.items

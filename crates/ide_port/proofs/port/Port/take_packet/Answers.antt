@@ -1,7 +1,10 @@
-use Rattle.ide_port.proofs.Terms.{ap, arith, PortEnd}
+use Rattle.ide_port.proofs.Terms.{arith}
+use Rattle.std.proofs.Common.{◌^◌}
+use Rattle.ide_port.specs.Units.{UnitsAtMost}
 use Rattle.ide_prefix.specs.Cut.{packet_of_view}
-use Rattle.ide_port.proofs.Keeping.{inside, there, kept-taken}
-use Rattle.ide_port.proofs.Steps.{taken-step, unknown-step}
+use Rattle.ide_port.proofs.Keeping.{inside, kept-taken}
+use Rattle.ide_port.proofs.Steps.{taken-step, unknown-step, reads}
+use Rattle.ide_port.proofs.Units.{found-has}
 use Rattle.ide_port.proofs.port.Port.take_packet.Goals as goal
 
 pub returns-in_default : goal.returns-in_default
@@ -20,10 +23,9 @@ index_mut-stream-requires c =
 
 pub take-requires-clause-few : goal.take-requires-clause-few
 take-requires-clause-few c =
-    let k = there c.self.inside c.self.invariant c.args.packet.now.prefix.stream c.in-Some.place
-    c.index_mut-stream.result.now (cc)
-    c.index_mut-stream.ensures.value in
-    omega (arith, k.of_plan.few, ap (λ (e : PortEnd). e.calls) c.self.view_is, c.requires.few)
+    (found-has (UnitsAtMost (2 ^ 40)) _ _ c.args.packet.now.prefix.stream _ c.requires.few
+    (reads c.self.inside c.args.self.now c.self.view_is c.self.invariant c.args.packet.now.prefix.stream c.in-Some.place
+    c.index_mut-stream.result.now (cc) c.index_mut-stream.ensures.value (λ f. f))).1
 
 pub invariant_of-self : goal.invariant_of-self
 invariant_of-self c =

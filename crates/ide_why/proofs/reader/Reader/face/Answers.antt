@@ -1,21 +1,16 @@
-use Rattle.std.proofs.Common.{◌<◌, length, subst, sym, ◌∙◌}
-use Rattle.std.proofs.lemmas.Option.{same_Some, slice_get_within}
-use Rattle.world.specs.{LinkEnds}
-use Rattle.ide_why.proofs.Reading.{face_made, named_face}
+use Rattle.std.proofs.Common.{sym}
+use Rattle.ide_why.proofs.Reading.{face_made}
 use Rattle.ide_why.proofs.reader.Reader.face.Goals as goal
 
 pub link-requires : goal.link-requires
-link-requires c =
-    let n = named_face c.args.self.now.links.now c.args.number c.in-Some.link c.in-Some.place (sym c.in-Some.ensures) in
-    slice_get_within c.args.self.now.links.now.links.ends.links c.in-Some.link n.there n.ends_are
+link-requires c = c.in-Some.ensures.there.link_there
 
 pub state-requires : goal.state-requires
 state-requires c =
-    let n = named_face c.args.self.now.links.now c.args.number c.in-Some.link c.in-Some.place (sym c.in-Some.ensures) in
-    subst (λ (y : LinkEnds). c.in-Some.place < length y.device.interfaces.interfaces)
-    (same_Some n.there c.link.result.now (sym n.ends_are ∙ c.link.ensures)) n.within
+    c.in-Some.ensures.there.place_there c.link.result.now c.link.ensures
 
 pub returns-in-Some : goal.returns-in-Some
 returns-in-Some c =
     face_made c.args.self.now.links.now c.args.number c.in-Some.link c.in-Some.place c.state.result c.link.result.now
-    c.facts.result (sym c.in-Some.ensures) c.link.ensures c.state.ensures (rw c.manager.ensures at c.facts.ensures)
+    c.facts.result (sym c.in-Some.ensures.place) c.link.ensures c.state.ensures
+    (rw c.manager.ensures at c.facts.ensures)

@@ -5,7 +5,7 @@ use Rattle.std.specs.Prelude.{if◌then◌else◌}
 use Rattle.ide_types.specs.Fits.{FitsPlan}
 use Rattle.ide_types.specs.declared.plan.Plan.{Plan}
 use Rattle.spec_interfaces.specs.Peers.{has_peer}
-use Rattle.why_lines.specs.declared.fact.Fact.{Fact}
+use Rattle.why_facts.specs.declared.fact.Fact.{Fact}
 use Rattle.world.proofs.{peer_line_is}
 use Rattle.ide_why.specs.Facts.{bind_read}
 use Rattle.ide_why.proofs.reader.Reader.push_bind.Goals as goal

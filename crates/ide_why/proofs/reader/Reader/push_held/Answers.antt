@@ -3,7 +3,7 @@ use Rattle.std.proofs.lemmas.List.{append_assoc}
 use Rattle.ide_prefix.specs.Packet.{Packet}
 use Rattle.sub_stream.specs.Gathered.{mark_of}
 use Rattle.sub_stream.specs.declared.answer.PacketMark.{PacketMark}
-use Rattle.why_lines.specs.declared.fact.Fact.{Fact}
+use Rattle.why_facts.specs.declared.fact.Fact.{Fact}
 use Rattle.why_facts.specs.Forms.{asks_facts, requests_facts}
 use Rattle.ide_why.specs.Facts.{readings_read}
 use Rattle.ide_why.proofs.Held.{packet_held}

@@ -1,5 +1,5 @@
 use Rattle.std.proofs.Common.{sym, subst, List}
-use Rattle.interface_state.specs.declared.bindings.Binding.{Binding}
+use Rattle.ide_types.specs.declared.binding.Binding.{Binding}
 use Rattle.interface_state.specs.Held.{IsBound}
 use Rattle.interface_state.proofs.Bound.{bound_without}
 use Rattle.interface_state.proofs.device_interface.Interface.unbind.Goals as goal

@@ -1,7 +1,13 @@
 use Rattle.link_ends.proofs.Terms.{◌≡◌, ◌-◌, suc, ◌∙◌, sym, arith, true, is_some, current, Walks, subst}
-use Rattle.link_ends.proofs.Calls.{calls_on}
+use Rattle.link_ends.proofs.Calls.{units_on, units_same}
 use Rattle.link_ends.proofs.Walks.{idle_walks, walks_on, walks_out}
 use Rattle.link_ends.proofs.keeper.KeyKeeper.+walk.Goals as goal
+
+pub returns-then-more-eq0-clause-units : goal.returns-then-more-eq0-clause-units
+returns-then-more-eq0-clause-units t c = units_same c.args.ends.now
+
+pub returns-then-not-is_asking-clause-units : goal.returns-then-not-is_asking-clause-units
+returns-then-not-is_asking-clause-units t c = units_same c.args.ends.now
 
 pub returns-then-not-is_asking-clause-walk : goal.returns-then-not-is_asking-clause-walk
 returns-then-not-is_asking-clause-walk t c =
@@ -18,9 +24,9 @@ returns-in-Next-clause-walk t c =
     c.walk.new.ends) next
     (walks_on _ _ _ _ _ _ _ asks c.exchange.ensures.exchange _ _ _ c.in-Next.is c.walk.ensures.walk)
 
-pub returns-in-Next-clause-calls : goal.returns-in-Next-clause-calls
-returns-in-Next-clause-calls t c = calls_on c.args.ends.now c.exchange.new.ends c.walk.new.ends c.exchange.ensures.calls
-    c.walk.ensures.calls
+pub returns-in-Next-clause-units : goal.returns-in-Next-clause-units
+returns-in-Next-clause-units t c = units_on c.args.ends.now c.exchange.new.ends c.walk.new.ends c.exchange.ensures.units
+    c.walk.ensures.units
 
 pub returns-in_default : goal.returns-in_default
 returns-in_default t c =
@@ -28,7 +34,7 @@ returns-in_default t c =
     let asks : is_some (current c.args.self.now.manager) ≡ true = rw (← c.self.view_is)
     (sym c.is_asking.ensures ∙ c.if-not-is_asking.false) in
     record {
-      calls = c.exchange.ensures.calls;
+      units = c.exchange.ensures.units;
       walk = subst (λ n. Walks n c.args.loss c.args.self.now.manager c.args.ends.now c.exchange.result
           c.exchange.new.self.manager c.exchange.new.ends) next
           (walks_out _ _ _ _ _ _ _ asks c.exchange.ensures.exchange c.in_default.not-Next);

@@ -1,6 +1,6 @@
-use Rattle.link_ends.proofs.Terms.{true, ◌≡◌, ◌∙◌, sym, refl, spelling, Some, None, IsSome, slice_set, request_asked}
-use Rattle.link_ends.proofs.Terms.{outcome_of, taken_stream, taken_calls, Current, current, asking_after, calls_taken}
-use Rattle.link_ends.proofs.Terms.{Exchanged, judged_bytes, lost_message}
+use Rattle.link_ends.proofs.Terms.{true, ◌≡◌, ◌∙◌, sym, refl, object_spelling, Some, None, IsSome, slice_set}
+use Rattle.link_ends.proofs.Terms.{request_asked, outcome_of, taken_stream, taken_calls, Current, current, asking_after}
+use Rattle.link_ends.proofs.Terms.{calls_taken, Exchanged, judged_bytes, lost_message}
 use Rattle.std.proofs.Common.{ap, subst}
 use Rattle.tsm_host.specs.Streams.{has_host}
 use Rattle.tsm_host.specs.declared.operation.ExchangeReply.TheVariants as carried
@@ -8,7 +8,8 @@ use Rattle.link_events.specs.declared.event.Lost.TheVariants.{Request, Reply}
 use Rattle.tsm_host.specs.declared.judge.Judged.TheVariants.{Lost as NotCarried}
 use Rattle.link_ends.proofs.Carried.{IsAsking, is_asking, not_lost, is_lost, IsDelivered, is_delivered, exchange_ends}
 use Rattle.link_ends.proofs.Ports.{PortMoves}
-use Rattle.link_ends.proofs.Calls.{host_calls, device_calls, device_interfaces}
+use Rattle.link_ends.proofs.Calls.{host_units, device_units, device_interfaces}
+use Rattle.ide_port.proofs.Units.{stays}
 use Rattle.link_ends.proofs.keeper.KeyKeeper.exchange.Goals as goal
 
 pub returns-in-None-clause-exchange : goal.returns-in-None-clause-exchange
@@ -70,36 +71,38 @@ returns-in-Some-Reply-clause-exchange c = λ m0 l0 place id host device e a on s
     (rw (k.current_is, k.stands.hosted) at c.take-in-Some-Reply.ensures.calls)
     d.port d.requester
 
-pub returns-in-None-clause-calls : goal.returns-in-None-clause-calls
-returns-in-None-clause-calls c =
+pub returns-in-None-clause-units : goal.returns-in-None-clause-units
+returns-in-None-clause-units c =
     let there : IsSome (current c.self.inside.manager) = rw (← c.self.view_is) at c.requires in
     record {
-      host = host_calls _ (λ (a : Current). calls_taken a c.carried.result) _ _ there c.take.ensures.calls;
-      device = device_calls _ (λ (a : Current). spelling (request_asked (has_host a.stream) a.asked a.stream))
+      host = host_units _ (λ (a : Current). calls_taken a c.carried.result) _ _ there c.take.ensures.calls;
+      device = device_units _ (λ (a : Current). object_spelling (request_asked (has_host a.stream) a.asked a.stream))
           (λ (a : Current). a.asked.draw) _ _ there c.deliver.ensures.device;
-      interfaces = device_interfaces _ (λ (a : Current). spelling (request_asked (has_host a.stream) a.asked a.stream))
+      interfaces = device_interfaces _ (λ (a : Current). object_spelling
+          (request_asked (has_host a.stream) a.asked a.stream))
           (λ (a : Current). a.asked.draw) _ _ there c.deliver.ensures.device;
     }
 
-pub returns-in-Some-Request-clause-calls : goal.returns-in-Some-Request-clause-calls
-returns-in-Some-Request-clause-calls c =
+pub returns-in-Some-Request-clause-units : goal.returns-in-Some-Request-clause-units
+returns-in-Some-Request-clause-units c =
     let there : IsSome (current c.self.inside.manager) = rw (← c.self.view_is) at c.requires in
     record {
-      host = host_calls _ (λ (a : Current). calls_taken a carried.Lost) _ _ there
+      host = host_units _ (λ (a : Current). calls_taken a carried.Lost) _ _ there
           c.take-in-Some-Request.ensures.calls;
-      device = refl;
+      device = stays 0 c.args.ends.now.device.port;
       interfaces = refl;
     }
 
-pub returns-in-Some-Reply-clause-calls : goal.returns-in-Some-Reply-clause-calls
-returns-in-Some-Reply-clause-calls c =
+pub returns-in-Some-Reply-clause-units : goal.returns-in-Some-Reply-clause-units
+returns-in-Some-Reply-clause-units c =
     let there : IsSome (current c.self.inside.manager) = rw (← c.self.view_is) at c.requires in
     record {
-      host = host_calls _ (λ (a : Current). calls_taken a carried.Lost) _ _ there c.take-in-Some-Reply.ensures.calls;
-      device = device_calls _ (λ (a : Current). spelling (request_asked (has_host a.stream) a.asked a.stream))
+      host = host_units _ (λ (a : Current). calls_taken a carried.Lost) _ _ there c.take-in-Some-Reply.ensures.calls;
+      device = device_units _ (λ (a : Current). object_spelling (request_asked (has_host a.stream) a.asked a.stream))
           (λ (a : Current). a.asked.draw) _ _ there
           c.deliver-in-Some-Reply.ensures.device;
-      interfaces = device_interfaces _ (λ (a : Current). spelling (request_asked (has_host a.stream) a.asked a.stream))
+      interfaces = device_interfaces _ (λ (a : Current). object_spelling
+          (request_asked (has_host a.stream) a.asked a.stream))
           (λ (a : Current). a.asked.draw) _ _ there
           c.deliver-in-Some-Reply.ensures.device;
     }

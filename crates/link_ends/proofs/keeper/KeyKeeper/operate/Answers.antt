@@ -1,6 +1,7 @@
-use Rattle.link_ends.proofs.Terms.{◌∙◌, sym, refl, IsSome, op_name, Named, named, calls_begun}
-use Rattle.link_ends.proofs.Calls.{host_calls}
-use Rattle.link_ends.proofs.Operates.{seen, operate_refused, operate_goes}
+use Rattle.link_ends.proofs.Terms.{◌∙◌, sym, refl, IsSome, op_name, Named, named_stream, calls_begun}
+use Rattle.link_ends.proofs.Calls.{host_units}
+use Rattle.ide_port.proofs.Units.{stays, grow-on}
+use Rattle.link_ends.proofs.Operates.{host_port_view, operate_refused, operate_goes}
 use Rattle.link_ends.proofs.keeper.KeyKeeper.operate.Goals as goal
 
 pub returns-in-Err-clause-operates : goal.returns-in-Err-clause-operates
@@ -23,27 +24,26 @@ returns-in-Ok-clause-operates c = rw (← c.self.view_is)
     (sym c.in-Ok.is ∙ (rw is at c.begin.ensures.answer))
     c.walk.ensures.walk c.walk.ensures.pool)
 
-pub returns-in-Err-clause-calls : goal.returns-in-Err-clause-calls
-returns-in-Err-clause-calls c =
-    let there : IsSome (named c.self.inside.manager (op_name c.args.op).line (op_name c.args.op).stream) = rw
+pub returns-in-Err-clause-units : goal.returns-in-Err-clause-units
+returns-in-Err-clause-units c =
+    let there : IsSome (named_stream c.self.inside.manager (op_name c.args.op).line (op_name c.args.op).stream) = rw
     (← c.self.view_is) at c.requires in
-    let begins = host_calls _
-    (λ (n : Named). calls_begun (op_name c.args.op).operation (seen c.args.ends.now.host n.stream.id)
+    let begins = host_units _
+    (λ (n : Named). calls_begun (op_name c.args.op).operation (host_port_view c.args.ends.now.host n.stream.id)
     c.self.inside.pool n)
     c.args.ends.now.host c.begin.new.port there c.begin.ensures.calls in
-    record { host = begins; device = refl; interfaces = refl }
+    record { host = begins; device = stays 0 c.args.ends.now.device.port; interfaces = refl }
 
-pub returns-in-Ok-clause-calls : goal.returns-in-Ok-clause-calls
-returns-in-Ok-clause-calls c =
-    let there : IsSome (named c.self.inside.manager (op_name c.args.op).line (op_name c.args.op).stream) = rw
+pub returns-in-Ok-clause-units : goal.returns-in-Ok-clause-units
+returns-in-Ok-clause-units c =
+    let there : IsSome (named_stream c.self.inside.manager (op_name c.args.op).line (op_name c.args.op).stream) = rw
     (← c.self.view_is) at c.requires in
-    let begins = host_calls _
-    (λ (n : Named). calls_begun (op_name c.args.op).operation (seen c.args.ends.now.host n.stream.id)
+    let begins = host_units _
+    (λ (n : Named). calls_begun (op_name c.args.op).operation (host_port_view c.args.ends.now.host n.stream.id)
     c.self.inside.pool n)
     c.args.ends.now.host c.begin.new.port there c.begin.ensures.calls in
     record {
-      host = c.walk.ensures.calls.host ∙ begins;
-      device = c.walk.ensures.calls.device;
-      interfaces =
-          c.walk.ensures.calls.interfaces;
+      host = grow-on 0 0 c.args.ends.now.host c.begin.new.port c.walk.new.ends.host begins c.walk.ensures.units.host;
+      device = c.walk.ensures.units.device;
+      interfaces = c.walk.ensures.units.interfaces;
     }

@@ -1,6 +1,8 @@
-use Rattle.link_ends.proofs.Terms.{◌∙◌, ◌≡◌, sym, refl, IsSome, op_name, Named, named, calls_begun}
-use Rattle.link_ends.proofs.Calls.{host_calls}
-use Rattle.link_ends.proofs.Operates.{seen}
+use Rattle.link_ends.proofs.Terms.{◌∙◌, ◌≡◌, sym, IsSome, op_name, Named, named_stream, calls_begun}
+use Rattle.link_ends.proofs.Calls.{host_units}
+use Rattle.ide_port.specs.{UnitsGrow}
+use Rattle.ide_port.proofs.Units.{stays, grow-on}
+use Rattle.link_ends.proofs.Operates.{host_port_view}
 use Rattle.link_ends.proofs.PairOperates.{pair_refused, pair_goes_on_with}
 use Rattle.link_ends.proofs.keeper.KeyKeeper.operate_pair.Goals as goal
 
@@ -22,22 +24,26 @@ returns-in-Ok-clause-operates c = rw (← c.self.view_is)
     (sym c.in-Ok.is ∙ (rw is at c.begin.ensures.answer))
     c.pair_walk.ensures.walk c.pair_walk.ensures.pool)
 
-pub returns-in-Err-clause-calls : goal.returns-in-Err-clause-calls
-returns-in-Err-clause-calls c =
-    let there : IsSome (named c.self.inside.manager (op_name c.args.op).line (op_name c.args.op).stream) =
+pub returns-in-Err-clause-units : goal.returns-in-Err-clause-units
+returns-in-Err-clause-units c =
+    let there : IsSome (named_stream c.self.inside.manager (op_name c.args.op).line (op_name c.args.op).stream) =
     rw (← c.self.view_is) at c.requires in
-    let begins : c.begin.new.port.calls ≡ c.args.ends.now.near.port.calls = host_calls _
-    (λ (n : Named). calls_begun (op_name c.args.op).operation (seen c.args.ends.now.near.port n.stream.id)
+    let begins : UnitsGrow 0 c.args.ends.now.near.port c.begin.new.port = host_units _
+    (λ (n : Named). calls_begun (op_name c.args.op).operation (host_port_view c.args.ends.now.near.port n.stream.id)
     c.self.inside.pool n)
     c.args.ends.now.near.port c.begin.new.port there c.begin.ensures.calls in
-    record { near = begins; far = refl }
+    record { near = begins; far = stays 0 c.args.ends.now.far.port }
 
-pub returns-in-Ok-clause-calls : goal.returns-in-Ok-clause-calls
-returns-in-Ok-clause-calls c =
-    let there : IsSome (named c.self.inside.manager (op_name c.args.op).line (op_name c.args.op).stream) =
+pub returns-in-Ok-clause-units : goal.returns-in-Ok-clause-units
+returns-in-Ok-clause-units c =
+    let there : IsSome (named_stream c.self.inside.manager (op_name c.args.op).line (op_name c.args.op).stream) =
     rw (← c.self.view_is) at c.requires in
-    let begins : c.begin.new.port.calls ≡ c.args.ends.now.near.port.calls = host_calls _
-    (λ (n : Named). calls_begun (op_name c.args.op).operation (seen c.args.ends.now.near.port n.stream.id)
+    let begins : UnitsGrow 0 c.args.ends.now.near.port c.begin.new.port = host_units _
+    (λ (n : Named). calls_begun (op_name c.args.op).operation (host_port_view c.args.ends.now.near.port n.stream.id)
     c.self.inside.pool n)
     c.args.ends.now.near.port c.begin.new.port there c.begin.ensures.calls in
-    record { near = c.pair_walk.ensures.calls.near ∙ begins; far = c.pair_walk.ensures.calls.far }
+    record {
+      near = grow-on 0 0 c.args.ends.now.near.port c.begin.new.port c.pair_walk.new.ends.near.port begins
+          c.pair_walk.ensures.units.near;
+      far = c.pair_walk.ensures.units.far;
+    }

@@ -1,18 +1,17 @@
 use Rattle.link_ends.proofs.Terms.{false, ◌≡◌, ◌∙◌, sym, refl, Some, None, slice_set, request_asked, outcome_of}
-use Rattle.link_ends.proofs.Terms.{taken_stream}
-use Rattle.link_ends.proofs.Terms.{taken_calls, asking_after, judged_bytes, lost_message, HasStream, PortEnd, ap, subst}
+use Rattle.link_ends.proofs.Terms.{taken_stream, taken_calls, asking_after, judged_bytes, lost_message, HasStream}
+use Rattle.link_ends.proofs.Terms.{PortEnd, ap, subst, IsSome, Current, current, calls_taken, object_spelling}
 use Rattle.link_events.specs.declared.event.Lost.TheVariants.{Request, Reply}
-use Rattle.tsm_host.specs.Streams.{end_asked}
+use Rattle.tsm_host.specs.Streams.{end_asked, has_host}
 use Rattle.tsm_host.specs.declared.judge.Judged.TheVariants.{Lost as NotCarried}
 use Rattle.join_keys.specs.Paired.{PairExchanged}
 use Rattle.link_ends.proofs.Ports.{PortMoves}
 use Rattle.link_ends.proofs.PairCarried.{IsPairAsking, pair_is_asking, IsPairDelivered, is_pair_delivered}
 use Rattle.link_ends.proofs.PairCarried.{pair_exchange_ends, near_same, pair_lost}
-use Rattle.link_ends.proofs.Terms.{IsSome, Current, current, calls_taken, spelling}
-use Rattle.tsm_host.specs.Streams.{has_host}
 use Rattle.tsm_host.specs.declared.operation.ExchangeReply.TheVariants as carried
-use Rattle.link_ends.specs.PairKeepers.{HasPairCalls}
-use Rattle.link_ends.proofs.Calls.{host_calls, pair_calls}
+use Rattle.link_ends.specs.PairKeepers.{NoMorePairUnits}
+use Rattle.link_ends.proofs.Calls.{host_units, pair_units}
+use Rattle.ide_port.proofs.Units.{stays, grow-on}
 use Rattle.link_ends.proofs.keeper.KeyKeeper.pair_exchange.Goals as goal
 
 pub returns-in-None-clause-exchange : goal.returns-in-None-clause-exchange
@@ -89,36 +88,40 @@ returns-in-Some-Reply-clause-exchange c = λ m0 l0 place id near far e a on st a
     e.keeper.id (rw (k.current_is, k.stands.paired) at c.take-in-Some-Reply.ensures.calls))) d.near_is)
     d.far_is d.near_stays d.far_stays
 
-pub returns-in-None-clause-calls : goal.returns-in-None-clause-calls
-returns-in-None-clause-calls c =
+pub returns-in-None-clause-units : goal.returns-in-None-clause-units
+returns-in-None-clause-units c =
     let there : IsSome (current c.self.inside.manager) = rw (← c.self.view_is) at c.requires in
-    let d : HasPairCalls c.args.ends.now c.deliver_to_end.new.ends =
-    pair_calls _ (λ (a : Current). end_asked (has_host a.stream) a.asked)
-    (λ (a : Current). spelling (request_asked (has_host a.stream) a.asked a.stream)) (λ (a : Current). a.asked.draw) _ _
+    let d : NoMorePairUnits c.args.ends.now c.deliver_to_end.new.ends =
+    pair_units _ (λ (a : Current). end_asked (has_host a.stream) a.asked)
+    (λ (a : Current). object_spelling (request_asked (has_host a.stream) a.asked a.stream))
+    (λ (a : Current). a.asked.draw) _ _
     there c.deliver_to_end.ensures.ends in
     record {
-      near = host_calls _ (λ (a : Current). calls_taken a c.carried.result) _ _ there c.take.ensures.calls ∙ d.near;
+      near = grow-on 0 0 c.args.ends.now.near.port c.deliver_to_end.new.ends.near.port c.take.new.port d.near
+          (host_units _ (λ (a : Current). calls_taken a c.carried.result) _ _ there c.take.ensures.calls);
       far = d.far;
     }
 
-pub returns-in-Some-Request-clause-calls : goal.returns-in-Some-Request-clause-calls
-returns-in-Some-Request-clause-calls c =
+pub returns-in-Some-Request-clause-units : goal.returns-in-Some-Request-clause-units
+returns-in-Some-Request-clause-units c =
     let there : IsSome (current c.self.inside.manager) = rw (← c.self.view_is) at c.requires in
     record {
-      near = host_calls _ (λ (a : Current). calls_taken a carried.Lost) _ _ there
+      near = host_units _ (λ (a : Current). calls_taken a carried.Lost) _ _ there
           c.take-in-Some-Request.ensures.calls;
-      far = refl;
+      far = stays 0 c.args.ends.now.far.port;
     }
 
-pub returns-in-Some-Reply-clause-calls : goal.returns-in-Some-Reply-clause-calls
-returns-in-Some-Reply-clause-calls c =
+pub returns-in-Some-Reply-clause-units : goal.returns-in-Some-Reply-clause-units
+returns-in-Some-Reply-clause-units c =
     let there : IsSome (current c.self.inside.manager) = rw (← c.self.view_is) at c.requires in
-    let d : HasPairCalls c.args.ends.now c.deliver_to_end-in-Some-Reply.new.ends =
-    pair_calls _ (λ (a : Current). end_asked (has_host a.stream) a.asked)
-    (λ (a : Current). spelling (request_asked (has_host a.stream) a.asked a.stream)) (λ (a : Current). a.asked.draw) _ _
+    let d : NoMorePairUnits c.args.ends.now c.deliver_to_end-in-Some-Reply.new.ends =
+    pair_units _ (λ (a : Current). end_asked (has_host a.stream) a.asked)
+    (λ (a : Current). object_spelling (request_asked (has_host a.stream) a.asked a.stream))
+    (λ (a : Current). a.asked.draw) _ _
     there c.deliver_to_end-in-Some-Reply.ensures.ends in
     record {
-      near = host_calls _ (λ (a : Current). calls_taken a carried.Lost) _ _ there
-          c.take-in-Some-Reply.ensures.calls ∙ d.near;
+      near = grow-on 0 0 c.args.ends.now.near.port c.deliver_to_end-in-Some-Reply.new.ends.near.port
+          c.take-in-Some-Reply.new.port d.near
+          (host_units _ (λ (a : Current). calls_taken a carried.Lost) _ _ there c.take-in-Some-Reply.ensures.calls);
       far = d.far;
     }

@@ -1,5 +1,5 @@
 use Rattle.std.proofs.Common.{ℕ, ◌<◌, Some, ap, sym, subst, ◌∙◌}
-use Rattle.guarded_memory.specs.Standings.{standing_of}
+use Rattle.guarded_memory.specs.Standings.{interface_status}
 use Rattle.link_stores.proofs.Standings.{as_many, stands_at}
 use Rattle.link_stores.proofs.link.FlooredStandings.standing.Goals as goal
 
@@ -12,5 +12,5 @@ pub returns : goal.returns
 returns c =
     stands_at c.args.self.now.floors.now c.args.self.now.interfaces.now.interfaces c.args.place c.interface.result.now
     c.interface.ensures
-    ∙ ap (λ (n : ℕ). Some (standing_of c.interface.result.now n)) (sym c.floor.ensures)
+    ∙ ap (λ (n : ℕ). Some (interface_status c.interface.result.now n)) (sym c.floor.ensures)
     ∙ ap Some (sym c.of.ensures)

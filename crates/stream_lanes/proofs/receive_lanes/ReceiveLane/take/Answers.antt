@@ -47,15 +47,14 @@ returns-clause-answer c = answered c ∙ ap (λ (e : ReceiveEnd). answer_taken (
 
 -- the receiver after it
 new : goal.After-count → Receiver
-new c = record (after_answer c.self.inside.rx (lent_totals c.lent_total-lent.result) (packet c)
-    (lane_outcome (end c) c.args.got (packet c))) { takes = c.self.inside.rx.takes + 1 }
+new c = after_answer c.self.inside.rx (lent_totals c.lent_total-lent.result) (packet c)
+    (lane_outcome (end c) c.args.got (packet c))
 
 new_is : (c : goal.After-count) → c.take-taken.new.self ≡ new c
 unfolding packet new
 new_is c =
     c.take-taken.ensures.receiver
-    ∙ ap (λ (t : Taken). record (after_answer c.self.inside.rx (lent_totals c.lent_total-lent.result) (packet c) t)
-    { takes = c.self.inside.rx.takes + 1 }) (taken_is c)
+    ∙ ap (λ (t : Taken). after_answer c.self.inside.rx (lent_totals c.lent_total-lent.result) (packet c) t) (taken_is c)
 
 posted_is : (c : goal.After-count) → c.posted-posted.result ≡ posted_sum (new c).delivered
 posted_is c = c.posted-posted.ensures.value ∙ ap (λ (rx : Receiver). posted_sum rx.delivered) (new_is c)
@@ -73,7 +72,8 @@ returns-clause-lane c =
     (answered c)
     ∙ ap (λ (e : ReceiveEnd). end_after e (packet c) (lane_outcome e c.args.got (packet c))) c.self.view_is
 
-small_sum : (b : Bool) (old n new : ℕ) → n ≤ 2040 → new ≡ (if b then old + n else old) → new ≤ old + 2040
+small_sum : (b : Bool) (old n new : ℕ) → n ≤ 2040 → new ≡ (if b then old + n else old)
+    → new ≤ (if b then old + 2040 else old)
 small_sum true old n new few e = omega (arith, e)
 small_sum false old n new few e = omega (arith, e)
 
@@ -84,9 +84,8 @@ invariant_of-self c =
     (sym (new_is c))
     (taken-kept c.self.inside.rx c.self.inside.sub c.self.inside.closed c.self.inside.sum c.self.inside.got
     c.self.inside.total c.args.got (lent_totals c.lent_total-lent.result) (packet c) _ c.take-taken.result
-    c.count.new.sum c.count.new.got c.count.new.total c.self.invariant c.requires.view.0.prefix.posted
-    (subst (λ (x : ReceiveEnd). x.takes < 2 ^ 40) (sym c.self.view_is) c.requires.few)
-    (lent_is c) refl (answered c)
+    c.count.new.sum c.count.new.got c.count.new.total c.self.invariant c.requires.view.0.prefix.posted (lent_is c) refl
+    (answered c)
     (small_sum (is_accepted c.take-taken.result) c.self.inside.sum c.posted-posted.result c.count.new.sum
     c.posted-posted.ensures.few c.count.ensures.sum)
     c.count.ensures.few c.count.ensures.total)

@@ -1,4 +1,4 @@
-use Rattle.std.proofs.Common.{◌≡◌, ◌+◌, ◌<◌, ◌^◌, sym, ap, ◌∙◌, subst, refl, Option}
+use Rattle.std.proofs.Common.{◌≡◌, ◌≤◌, ◌^◌, sym, ap, ◌∙◌, subst, refl, Option}
 use Rattle.ide_types.specs.declared.sub.SubKind.{SubKind}
 use Rattle.ide_types.specs.declared.sub.SubKind.TheVariants.{Pr, Npr, Cpl}
 use Rattle.ide_prefix.specs.Cut.{packet_of_view}
@@ -8,14 +8,26 @@ use Rattle.stream_lanes.specs.Arrivals.{ReceiveEnds, value_of_kind, lane_outcome
 use Rattle.stream_lanes.proofs.Arriving.{view, AreAfter, among-here, own-after, ends-after, lanes-kept}
 use Rattle.stream_lanes.proofs.receive_lanes.ReceiveLanes.take.Goals as goal
 
-packet : goal.After-self-2-1 → Packet
+pub take_in-taken-requires-clause-few_pr : goal.take_in-taken-requires-clause-few_pr
+take_in-taken-requires-clause-few_pr c =
+    subst (λ (x : ReceiveEnds). x.rx.pr.total ≤ 2 ^ 40) (sym c.self.view_is) (c.requires.few Pr)
+
+pub take_in-taken-requires-clause-few_npr : goal.take_in-taken-requires-clause-few_npr
+take_in-taken-requires-clause-few_npr c =
+    subst (λ (x : ReceiveEnds). x.rx.npr.total ≤ 2 ^ 40) (sym c.self.view_is) (c.requires.few Npr)
+
+pub take_in-taken-requires-clause-few_cpl : goal.take_in-taken-requires-clause-few_cpl
+take_in-taken-requires-clause-few_cpl c =
+    subst (λ (x : ReceiveEnds). x.rx.cpl.total ≤ 2 ^ 40) (sym c.self.view_is) (c.requires.few Cpl)
+
+packet : goal.After-self-1 → Packet
 packet c = packet_of_view c.args.packet.now
 
-here : goal.After-self-2-1 → Taken
+here : goal.After-self-1 → Taken
 here c = lane_outcome (value_of_kind (packet c).prefix.sub c.self.inside.pr c.self.inside.npr c.self.inside.cpl)
     c.self.inside.pr.kept.got (packet c)
 
-after : (c : goal.After-self-2-1) → AreAfter (packet c) (here c) c.take_in-taken.result c.self.inside.pr
+after : (c : goal.After-self-1) → AreAfter (packet c) (here c) c.take_in-taken.result c.self.inside.pr
     c.self.inside.npr c.self.inside.cpl c.drop_failed.new.lane c.drop_failed-2.new.lane c.drop_failed-3.new.lane
 unfolding packet here
 after c =
@@ -33,22 +45,22 @@ after c =
           c.drop_failed-3.ensures.delivered c.drop_failed-3.ensures.rest;
     }
 
-among : (c : goal.After-self-2-1) → here c ≡ lanes_outcome
-    (view c.self.inside.pr c.self.inside.npr c.self.inside.cpl c.self.inside.lent c.self.inside.takes) (packet c)
+among : (c : goal.After-self-1) → here c ≡ lanes_outcome
+    (view c.self.inside.pr c.self.inside.npr c.self.inside.cpl c.self.inside.lent) (packet c)
 unfolding here
-among c = among-here c.self.inside.pr c.self.inside.npr c.self.inside.cpl c.self.inside.lent c.self.inside.takes
-    (packet c) c.self.invariant
+among c = among-here c.self.inside.pr c.self.inside.npr c.self.inside.cpl c.self.inside.lent (packet c)
+    c.self.invariant
 
 pub returns-clause-lanes : goal.returns-clause-lanes
 unfolding packet here
 returns-clause-lanes c =
     let inside = c.self.inside in
-    ap (λ (o : Option SubKind). view c.drop_failed.new.lane c.drop_failed-2.new.lane c.drop_failed-3.new.lane o
-    (inside.takes + 1)) c.lends-self-inside.ensures
+    ap (λ (o : Option SubKind). view c.drop_failed.new.lane c.drop_failed-2.new.lane c.drop_failed-3.new.lane o)
+    c.lends-self-inside.ensures
     ∙ ends-after (packet c) (here c) c.take_in-taken.result inside.pr inside.npr inside.cpl c.drop_failed.new.lane
-    c.drop_failed-2.new.lane c.drop_failed-3.new.lane inside.lent inside.takes c.take_in-taken.ensures.answer
+    c.drop_failed-2.new.lane c.drop_failed-3.new.lane inside.lent c.take_in-taken.ensures.answer
     (after c)
-    ∙ ap (receive_ends_after (view inside.pr inside.npr inside.cpl inside.lent inside.takes) (packet c)) (among c)
+    ∙ ap (receive_ends_after (view inside.pr inside.npr inside.cpl inside.lent) (packet c)) (among c)
     ∙ ap (λ (x : ReceiveEnds). receive_ends_after x (packet c) (lanes_outcome x (packet c))) c.self.view_is
 
 pub invariant_of-self : goal.invariant_of-self
@@ -56,5 +68,4 @@ unfolding packet here
 invariant_of-self c =
     let inside = c.self.inside in
     lanes-kept (packet c) (here c) c.take_in-taken.result inside.pr inside.npr inside.cpl c.drop_failed.new.lane
-    c.drop_failed-2.new.lane c.drop_failed-3.new.lane inside.takes
-    (subst (λ (x : ReceiveEnds). x.takes < 2 ^ 40) (sym c.self.view_is) c.requires.few) c.self.invariant refl (after c)
+    c.drop_failed-2.new.lane c.drop_failed-3.new.lane c.self.invariant refl (after c)

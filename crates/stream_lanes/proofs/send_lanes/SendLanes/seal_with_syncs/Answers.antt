@@ -8,8 +8,7 @@ use Rattle.stream_lanes.specs.Sends.{IsSealed}
 use Rattle.stream_lanes.specs.Lanes.{SendEnd, SendEnds, send_end_at, is_spent, tlp_said, packet_said_at, sealed_ends}
 use Rattle.stream_lanes.specs.Lanes.{measured_packet, ends_after_sync, sync_packets, sync_bytes}
 use Rattle.stream_lanes.proofs.Sent.{clear-facts, keyed-live, when-needed, ends_after_sync-cpl, end-cpl, end-kept}
-use Rattle.stream_lanes.proofs.Sent.{all_said}
-use Rattle.stream_lanes.proofs.Sent.{all_bytes, all_ends, sent-right, totals-after}
+use Rattle.stream_lanes.proofs.Sent.{all_said, all_bytes, all_ends, sent-right}
 use Rattle.stream_lanes.proofs.send_lanes.SendLanes.seal_with_syncs.Goals as goal
 
 pub sync_cpl-requires-clause-live : goal.sync_cpl-requires-clause-live
@@ -47,7 +46,7 @@ sync_cpl-requires-clause-unworn c e =
 
 pub sync_cpl-requires-clause-few : goal.sync_cpl-requires-clause-few
 sync_cpl-requires-clause-few c =
-    subst (λ (tx : TxSub). tx.total < 2 ^ 40)
+    subst (λ (tx : TxSub). tx.total ≤ 2 ^ 40)
     (sym (ap (λ (x : SendEnds). x.tx.cpl) c.sync_npr.ensures.lanes ∙ ends_after_sync-cpl c.args.npr
     c.args.self.now)) (c.requires.few Cpl)
 
@@ -101,17 +100,3 @@ returns-clause-sent c s number stream class goes trusted =
     c.args.out.now.items y.1 y.2) (λ i. (sym described_packet i, sym bytes i, sym ends i))
     (sent-right x c.args.head.now c.args.payload.now s number c.args.sub b d c.args.more c.args.t c.args.out.now.items
     c.requires.npr c.requires.cpl stream class goes trusted)
-
-pub returns-clause-totals : goal.returns-clause-totals
-returns-clause-totals c u =
-    let second : c.sync_cpl.new.self ≡ ends_after_sync c.args.cpl Cpl
-    (ends_after_sync c.args.npr Npr c.args.self.now) = c.sync_cpl.ensures.lanes ∙ ap
-    (ends_after_sync c.args.cpl Cpl) c.sync_npr.ensures.lanes in
-    let ends : c.seal-packet.new.self ≡ all_ends c.args.self.now c.args.sub c.args.npr
-    c.args.cpl c.args.head.now c.args.payload.now c.args.more c.args.t =
-    c.seal-packet.ensures.lanes
-    ∙ (λ i. sealed_ends (second i) c.args.head.now c.args.payload.now
-    (tlp_said (send_end_at (second i) c.args.sub) c.args.more c.args.t)) in
-    subst (λ (y : SendEnds). (at_sub y.tx u).total ≤ (at_sub c.args.self.now.tx u).total + 1) (sym ends)
-    (totals-after c.args.self.now c.args.head.now c.args.payload.now c.args.sub c.args.npr
-    c.args.cpl c.args.more c.args.t u c.requires.npr c.requires.cpl)

@@ -6,14 +6,13 @@ use Rattle.key_slots.specs.declared.slot.Slot.{Slot as KeySlot}
 use Rattle.key_slots.specs.declared.slot.Slot.TheVariants.{Empty, Programmed, Armed, Live}
 use Rattle.key_slots.specs.declared.slots.OnlyLive.{OnlyLive}
 use Rattle.key_slots.specs.{DrawnKey, is_one, SlotPair, slot_in, with_both, is_only_live, program_answer}
-use Rattle.key_slots.specs.{programmed}
+use Rattle.key_slots.specs.{programmed_pair}
 use Rattle.sub_stream.specs.declared.receiver.Holds.{Holds}
 use Rattle.sub_stream.specs.declared.receiver.Holds.TheVariants.{Nothing, HeldZero, HeldOne, Delivered}
 use Rattle.sub_stream.specs.Gathered.{Gathered}
 use Rattle.sub_stream.specs.Seen.{slot_as_seen, key_slot, slot_pair}
 use Rattle.sub_stream.specs.Receivers.{Receiver, held_zero, held_one, receiver_slots_seen, holds_without, HoldsFew}
-use Rattle.sub_stream.specs.Receivers.{with_slots}
-use Rattle.sub_stream.specs.Receivers.{programmed_receiver}
+use Rattle.sub_stream.specs.Receivers.{with_slots, programmed_receiver}
 use Rattle.sub_stream.proofs.Receiving.{other_holds}
 use Rattle.sub_stream.proofs.Answering.{view}
 use Rattle.sub_stream.proofs.receiver.Rx.program.Goals as goal
@@ -42,44 +41,43 @@ pair_as_seen pair u0 u1 h ps s = λ i. record {
 }
 
 placed : (k : Bool) (stream : ℕ) (sub : SubKind) (aggregation u0 u1 : ℕ) (pair : SlotPair) (h : Holds) (unit : Gathered)
-    (takes : ℕ) (key : List ℕ) (draw : ℕ) → HoldsFew pair aggregation h unit.packets
+    (key : List ℕ) (draw : ℕ) → HoldsFew pair aggregation h unit.packets
     → view stream sub aggregation u0 u1
     (with_both pair.sender k (Programmed (record { key = key; draw = draw }), slot_in pair (not k)))
-    (holds_without k h) unit takes
-    ≡ with_slots (view stream sub aggregation u0 u1 pair h unit takes)
+    (holds_without k h) unit
+    ≡ with_slots (view stream sub aggregation u0 u1 pair h unit)
     (with_slot (receiver_slots_seen pair u0 u1 h unit.packets) k (ProgrammedSlot draw key))
-placed true stream sub aggregation u0 u1 pair HeldZero unit takes key draw few =
+placed true stream sub aggregation u0 u1 pair HeldZero unit key draw few =
     rw (other_holds true pair u0 u1 HeldZero aggregation unit.packets few) refl
-placed true stream sub aggregation u0 u1 pair HeldOne unit takes key draw few =
+placed true stream sub aggregation u0 u1 pair HeldOne unit key draw few =
     rw (other_holds true pair u0 u1 HeldOne aggregation unit.packets few) refl
-placed true stream sub aggregation u0 u1 pair Nothing unit takes key draw few =
+placed true stream sub aggregation u0 u1 pair Nothing unit key draw few =
     rw (other_holds true pair u0 u1 Nothing aggregation unit.packets few) refl
-placed true stream sub aggregation u0 u1 pair Delivered unit takes key draw few =
+placed true stream sub aggregation u0 u1 pair Delivered unit key draw few =
     rw (other_holds true pair u0 u1 Delivered aggregation unit.packets few) refl
-placed false stream sub aggregation u0 u1 pair HeldZero unit takes key draw few =
+placed false stream sub aggregation u0 u1 pair HeldZero unit key draw few =
     rw (other_holds false pair u0 u1 HeldZero aggregation unit.packets few) refl
-placed false stream sub aggregation u0 u1 pair HeldOne unit takes key draw few =
+placed false stream sub aggregation u0 u1 pair HeldOne unit key draw few =
     rw (other_holds false pair u0 u1 HeldOne aggregation unit.packets few) refl
-placed false stream sub aggregation u0 u1 pair Nothing unit takes key draw few =
+placed false stream sub aggregation u0 u1 pair Nothing unit key draw few =
     rw (other_holds false pair u0 u1 Nothing aggregation unit.packets few) refl
-placed false stream sub aggregation u0 u1 pair Delivered unit takes key draw few =
+placed false stream sub aggregation u0 u1 pair Delivered unit key draw few =
     rw (other_holds false pair u0 u1 Delivered aggregation unit.packets few) refl
 
 view-programmed : (k : Bool) (stream : ℕ) (sub : SubKind) (aggregation u0 u1 : ℕ) (pair : SlotPair) (h : Holds)
-    (unit : Gathered) (takes : ℕ) (key : List ℕ) (draw : ℕ) → pair.sender ≡ false
-    → HoldsFew pair aggregation h unit.packets
-    → is_only_live pair k ≡ false
-    → view stream sub aggregation u0 u1 (programmed pair k (record { key = key; draw = draw })) (holds_without k h) unit
-    takes
-    ≡ programmed_receiver (view stream sub aggregation u0 u1 pair h unit takes) k key draw
-view-programmed k stream sub aggregation u0 u1 pair h unit takes key draw s few only =
-    let rx : Receiver = view stream sub aggregation u0 u1 pair h unit takes in
+    (unit : Gathered) (key : List ℕ) (draw : ℕ) → pair.sender ≡ false
+    → HoldsFew pair aggregation h unit.packets → is_only_live pair k ≡ false
+    → view stream sub aggregation u0 u1 (programmed_pair pair k (record { key = key; draw = draw })) (holds_without k h)
+    unit
+    ≡ programmed_receiver (view stream sub aggregation u0 u1 pair h unit) k key draw
+view-programmed k stream sub aggregation u0 u1 pair h unit key draw s few only =
+    let rx : Receiver = view stream sub aggregation u0 u1 pair h unit in
     let held : DrawnKey = record { key = key; draw = draw } in
     let new : SlotPair = with_both pair.sender k (Programmed held, slot_in pair (not k)) in
     let seen : is_only_live (slot_pair false rx.slots) k ≡ false =
     ap (λ p. is_only_live p k) (pair_as_seen pair u0 u1 h unit.packets s) ∙ only in
-    ap (λ b. view stream sub aggregation u0 u1 (if b then pair else new) (holds_without k h) unit takes) only
-    ∙ placed k stream sub aggregation u0 u1 pair h unit takes key draw few
+    ap (λ b. view stream sub aggregation u0 u1 (if b then pair else new) (holds_without k h) unit) only
+    ∙ placed k stream sub aggregation u0 u1 pair h unit key draw few
     ∙ sym (ap (λ b. if b then rx else with_slots rx (with_slot rx.slots k (ProgrammedSlot draw key))) seen)
 
 pub returns-in-Ok-clause-receiver : goal.returns-in-Ok-clause-receiver
@@ -87,10 +85,10 @@ returns-in-Ok-clause-receiver c =
     let k : Bool = is_one c.args.set in
     let left = c.without-self-inside.ensures ∙ ap (λ b. holds_without b c.self.inside.holds) c.is_one.ensures in
     (λ i. view c.self.inside.stream c.self.inside.sub c.self.inside.aggregation c.self.inside.zero c.self.inside.one
-    (c.program.ensures.slots i) (left i) c.self.inside.unit c.self.inside.takes)
+    (c.program.ensures.slots i) (left i) c.self.inside.unit)
     ∙ view-programmed k c.self.inside.stream c.self.inside.sub c.self.inside.aggregation c.self.inside.zero
     c.self.inside.one
-    c.self.inside.slots c.self.inside.holds c.self.inside.unit c.self.inside.takes c.args.key c.args.draw
+    c.self.inside.slots c.self.inside.holds c.self.inside.unit c.args.key c.args.draw
     c.self.invariant.sender c.self.invariant.few
     (allowed c.self.inside.slots k c.args.key c.in-Ok.field-0 c.in-Ok.ensures.answer)
     ∙ ap (λ (rx : Receiver). programmed_receiver rx k c.args.key c.args.draw) c.self.view_is

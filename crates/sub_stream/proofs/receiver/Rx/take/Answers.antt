@@ -1,4 +1,4 @@
-use Rattle.std.proofs.Common.{◌≡◌, ◌+◌, Some, sym, ap, ◌∙◌}
+use Rattle.std.proofs.Common.{◌≡◌, Some, sym, ap, ◌∙◌}
 use Rattle.ide_prefix.specs.Cut.{packet_of_view}
 use Rattle.sub_stream.specs.declared.receiver.Holds.{Holds}
 use Rattle.sub_stream.specs.Gathered.{lent_totals}
@@ -14,13 +14,11 @@ returns-in-Some c =
       answer = early-taken c.args.self.now c.args.allowed (lent_totals c.args.total) p c.in-Some.taken early;
       receiver =
           ap (λ (h : Holds). view c.self.inside.stream c.self.inside.sub c.self.inside.aggregation c.self.inside.zero
-          c.self.inside.one c.self.inside.slots h c.self.inside.unit (c.self.inside.takes + 1))
+          c.self.inside.one c.self.inside.slots h c.self.inside.unit)
           c.unless_failed-self-inside.ensures
           ∙ view-early c.self.inside.stream c.self.inside.sub c.self.inside.aggregation c.self.inside.zero
           c.self.inside.one
-          c.self.inside.slots c.self.inside.holds c.self.inside.unit c.self.inside.takes (c.self.inside.takes + 1)
-          c.in-Some.taken
-          ∙ ap (λ (rx : Receiver). record (after_early rx c.in-Some.taken) { takes = rx.takes + 1 }) c.self.view_is
-          ∙ ap (λ (rx : Receiver). record rx { takes = c.args.self.now.takes + 1 })
-          (sym (early-after c.args.self.now c.args.allowed (lent_totals c.args.total) p c.in-Some.taken early));
+          c.self.inside.slots c.self.inside.holds c.self.inside.unit c.in-Some.taken
+          ∙ ap (λ (rx : Receiver). after_early rx c.in-Some.taken) c.self.view_is
+          ∙ sym (early-after c.args.self.now c.args.allowed (lent_totals c.args.total) p c.in-Some.taken early);
     }

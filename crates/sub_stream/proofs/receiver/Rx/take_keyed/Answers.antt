@@ -10,10 +10,9 @@ use Rattle.sub_stream.specs.Gathered.{Gathered, lent_totals}
 use Rattle.sub_stream.specs.Seen.{live_key_seen}
 use Rattle.sub_stream.specs.Senders.{begun_where_empty}
 use Rattle.sub_stream.specs.Receivers.{Receiver, fits_held, judged_packet, early_of, receiver_outcome, after_answer}
-use Rattle.sub_stream.specs.Receivers.{BufferAfter}
-use Rattle.sub_stream.specs.Receivers.{IsReceiver}
+use Rattle.sub_stream.specs.Receivers.{BufferAfter, IsReceiver}
 use Rattle.sub_stream.proofs.Receiving.{units_of, key_held}
-use Rattle.sub_stream.proofs.Answering.{kept, view, judged-is, not_apart, fits-early, taken-keyed, view-answered}
+use Rattle.sub_stream.proofs.Answering.{unit_kept, view, judged-is, not_apart, fits-early, taken-keyed, view-answered}
 use Rattle.sub_stream.proofs.Answering.{receiver-answered, aggregation_kept, IsJudged}
 use Rattle.sub_stream.proofs.receiver.Rx.take_keyed.Goals as goal
 
@@ -39,10 +38,10 @@ fits c =
 
 answer : goal.After-self-1 → Taken
 answer c =
-    judged_packet (begun_where_empty (kept c.self.inside.holds c.self.inside.unit) (lent_totals c.args.total)
+    judged_packet (begun_where_empty (unit_kept c.self.inside.holds c.self.inside.unit) (lent_totals c.args.total)
     (units_of (packet c).prefix.k c.self.inside.zero c.self.inside.one + 1)).ahead
     c.args.allowed (live_key_seen (units_of (packet c).prefix.k c.self.inside.zero c.self.inside.one)
-    (kept c.self.inside.holds c.self.inside.unit).packets (held c)) (packet c)
+    (unit_kept c.self.inside.holds c.self.inside.unit).packets (held c)) (packet c)
 
 taken_is : (c : goal.After-self-1) → receiver_outcome c.args.self.now c.args.allowed (lent_totals c.args.total)
     (packet c)
@@ -52,8 +51,8 @@ taken_is c =
     ap (λ (rx : Receiver). receiver_outcome rx c.args.allowed (lent_totals c.args.total) (packet c))
     (sym c.self.view_is)
     ∙ taken-keyed c.self.inside.stream c.self.inside.sub c.self.inside.aggregation c.self.inside.zero c.self.inside.one
-    c.self.inside.slots c.self.inside.holds c.self.inside.unit c.self.inside.takes
-    c.args.allowed (lent_totals c.args.total) (packet c) (held c) c.self.invariant.few (key c) (fits c)
+    c.self.inside.slots c.self.inside.holds c.self.inside.unit c.args.allowed (lent_totals c.args.total) (packet c)
+    (held c) c.self.invariant.few (key c) (fits c)
 
 answered : (c : goal.After-self-1) → Some c.take_under-taken.result ≡ answer_taken (answer c)
 unfolding packet held answer
@@ -65,10 +64,10 @@ answered c =
     (held c)) (packet c)))
 
 buffer : (c : goal.After-self-1) → BufferAfter
-    (begun_where_empty (kept c.self.inside.holds c.self.inside.unit) (lent_totals c.args.total)
+    (begun_where_empty (unit_kept c.self.inside.holds c.self.inside.unit) (lent_totals c.args.total)
     (units_of (packet c).prefix.k c.self.inside.zero c.self.inside.one + 1))
     (live_key_seen (units_of (packet c).prefix.k c.self.inside.zero c.self.inside.one)
-    (kept c.self.inside.holds c.self.inside.unit).packets (held c)) (packet c) (answer c)
+    (unit_kept c.self.inside.holds c.self.inside.unit).packets (held c)) (packet c) (answer c)
     c.take_under-taken.new.unit
 unfolding packet held answer
 buffer c =
@@ -102,33 +101,23 @@ unfolding packet
 returns-clause-receiver c =
     (λ i. view c.self.inside.stream c.self.inside.sub c.self.inside.aggregation (c.count_accepted.ensures.zero i)
     (c.count_accepted.ensures.one i) (c.count_accepted.ensures.slots i) (c.after-self-inside.ensures i)
-    c.take_under-taken.new.unit
-    (c.self.inside.takes + 1))
+    c.take_under-taken.new.unit)
     ∙ view-answered c.self.inside.stream c.self.inside.sub c.self.inside.aggregation c.self.inside.zero
     c.self.inside.one
-    c.self.inside.slots c.self.inside.holds c.self.inside.unit c.take_under-taken.new.unit c.self.inside.takes
-    (lent_totals c.args.total) (packet c) (held c) c.take_under-taken.result (answer c) (key c)
+    c.self.inside.slots c.self.inside.holds c.self.inside.unit c.take_under-taken.new.unit (lent_totals c.args.total)
+    (packet c) (held c) c.take_under-taken.result (answer c) (key c)
     (not_apart c.self.inside.holds (length c.self.inside.unit.packets) c.self.inside.aggregation (packet c).prefix.k
     (packet c).prefix.m (fits c)) (tagless c) (judged_so c) (answered c) (buffer c)
-    ∙ ap (λ (rx : Receiver). record (after_answer rx (lent_totals c.args.total) (packet c) (answer c))
-    { takes = rx.takes + 1 }) c.self.view_is
-    ∙ ap (λ (t : Taken). record (after_answer c.args.self.now (lent_totals c.args.total) (packet c) t)
-    { takes = c.args.self.now.takes + 1 }) (sym (taken_is c))
+    ∙ ap (λ (rx : Receiver). after_answer rx (lent_totals c.args.total) (packet c) (answer c)) c.self.view_is
+    ∙ ap (λ (t : Taken). after_answer c.args.self.now (lent_totals c.args.total) (packet c) t) (sym (taken_is c))
 
 pub invariant_of-self : goal.invariant_of-self
 unfolding packet
 invariant_of-self c =
-    let Kept : ℕ × ℕ × SlotPair × Holds → Type 0 = λ y. IsReceiver c.self.inside.aggregation y.0 y.1
-    (c.self.inside.takes + 1)
-    y.2 y.3 c.take_under-taken.new.unit in
-    subst Kept (λ i. (
-      sym c.count_accepted.ensures.zero i,
-      sym c.count_accepted.ensures.one i,
-      sym
-          c.count_accepted.ensures.slots i,
-      sym c.after-self-inside.ensures i,
-    ))
-    (receiver-answered c.self.inside.aggregation c.self.inside.zero c.self.inside.one c.self.inside.takes
+    let Kept : SlotPair × Holds → Type 0 = λ y. IsReceiver c.self.inside.aggregation y.0 y.1 c.take_under-taken.new.unit
+    in
+    subst Kept (λ i. (sym c.count_accepted.ensures.slots i, sym c.after-self-inside.ensures i))
+    (receiver-answered c.self.inside.aggregation c.self.inside.zero c.self.inside.one
     c.self.inside.slots
     c.self.inside.holds c.self.inside.unit c.take_under-taken.new.unit
     (lent_totals c.args.total) (packet c) (held c) c.take_under-taken.result (answer c) c.self.invariant (key c)

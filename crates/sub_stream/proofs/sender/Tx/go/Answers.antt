@@ -14,8 +14,7 @@ none_open true e f = cc
 none_open false e f = cc
 
 kept_at : (k b : Bool) (mine other : KeySlot) (aggregation limit units : ℕ) (unit : Gathered)
-    → not (length unit.packets == 0) ≡ b
-    → IsSender aggregation limit units (with_both true k (mine, other)) unit
+    → not (length unit.packets == 0) ≡ b → IsSender aggregation limit units (with_both true k (mine, other)) unit
     → IsSender aggregation limit (if is_programmed mine && not b then 0 else units)
     (with_both true k (after_go true b mine other)) unit
 kept_at k true Empty other aggregation limit units unit e inv = inv
@@ -71,8 +70,7 @@ kept_at false false (Programmed held) other aggregation limit units unit e inv =
 
 -- a GO keeps what always holds of a sender
 kept : (k : Bool) (aggregation limit units : ℕ) (pair : SlotPair) (unit : Gathered)
-    → IsSender aggregation limit units pair unit
-    → IsSender aggregation limit
+    → IsSender aggregation limit units pair unit → IsSender aggregation limit
     (if is_programmed (slot_in pair k) && not (not (length unit.packets == 0)) then 0 else units)
     (armed_pair pair k (not (length unit.packets == 0))) unit
 kept k aggregation limit units pair unit inv =

@@ -1,8 +1,7 @@
 use Rattle.std.proofs.Common.{◌≡◌, ℕ, ◌+◌, ◌/◌, ◌%◌, ◌<◌, ◌≤◌, true, List, [], get_or, length, Option, unwrap_or, sym}
-use Rattle.std.proofs.Common.{ap, ◌∙◌}
-use Rattle.std.proofs.Common.{subst, arith}
+use Rattle.std.proofs.Common.{ap, ◌∙◌, subst, arith}
 use Rattle.ide_types.specs.declared.plan.Region.{Region}
-use Rattle.trusted_memory.specs.Regions.{in_region, in_one_region}
+use Rattle.trusted_memory.specs.Regions.{in_one_region}
 use Rattle.trusted_memory.specs.Memory.{byte_at, bytes_from}
 use Rattle.trusted_memory.specs.Pages.{page_bytes, paged_byte, contents_seen}
 use Rattle.trusted_memory.proofs.Seen.{is_bytes_from, each_in_region}

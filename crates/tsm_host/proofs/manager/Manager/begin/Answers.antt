@@ -7,7 +7,7 @@ use Rattle.tsm_host.proofs.manager.Manager.begin.Goals as goal
 pub returns-clause-pool : goal.returns-clause-pool
 returns-clause-pool g c =
     let at : stream_place c.args.self.now (op_name c.args.op).line (op_name c.args.op).stream
-    ≡ Some c.in-Some.place = rw (← c.link.ensures, ← c.stream.ensures) (sym c.place.ensures ∙ c.in-Some.is) in
+    ≡ Some c.in-Some.place = rw (← c.line.ensures, ← c.stream.ensures) (sym c.place.ensures ∙ c.in-Some.is) in
     let is : c.index_mut-stream.result.now ≡ get_or c.args.self.now.streams c.in-Some.place
     c.index_mut-stream.result.now = rw (← c.self.view_is) c.index_mut-stream.ensures.value in
     rw (found c.args.self.now _ _ c.in-Some.place c.index_mut-stream.result.now at is, ← c.operation.ensures)
@@ -16,7 +16,7 @@ returns-clause-pool g c =
 pub returns-clause-calls : goal.returns-clause-calls
 returns-clause-calls g c =
     let at : stream_place c.args.self.now (op_name c.args.op).line (op_name c.args.op).stream
-    ≡ Some c.in-Some.place = rw (← c.link.ensures, ← c.stream.ensures) (sym c.place.ensures ∙ c.in-Some.is) in
+    ≡ Some c.in-Some.place = rw (← c.line.ensures, ← c.stream.ensures) (sym c.place.ensures ∙ c.in-Some.is) in
     let is : c.index_mut-stream.result.now ≡ get_or c.args.self.now.streams c.in-Some.place
     c.index_mut-stream.result.now = rw (← c.self.view_is) c.index_mut-stream.ensures.value in
     rw (found c.args.self.now _ _ c.in-Some.place c.index_mut-stream.result.now at is, ← c.operation.ensures)
@@ -25,7 +25,7 @@ returns-clause-calls g c =
 pub returns-clause-manager : goal.returns-clause-manager
 returns-clause-manager g c =
     let at : stream_place c.args.self.now (op_name c.args.op).line (op_name c.args.op).stream
-    ≡ Some c.in-Some.place = rw (← c.link.ensures, ← c.stream.ensures) (sym c.place.ensures ∙ c.in-Some.is) in
+    ≡ Some c.in-Some.place = rw (← c.line.ensures, ← c.stream.ensures) (sym c.place.ensures ∙ c.in-Some.is) in
     let is : c.index_mut-stream.result.now ≡ get_or c.args.self.now.streams c.in-Some.place
     c.index_mut-stream.result.now = rw (← c.self.view_is) c.index_mut-stream.ensures.value in
     rw (found c.args.self.now _ _ c.in-Some.place c.index_mut-stream.result.now at is)

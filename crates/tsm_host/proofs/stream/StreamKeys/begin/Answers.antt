@@ -3,7 +3,7 @@ use Rattle.std.specs.Prelude.{if◌then◌else◌}
 use Rattle.link_verdicts.specs.declared.verdict.Operation.TheVariants as op
 use Rattle.key_slots.specs.{Pool}
 use Rattle.spec_keys.specs.Operations.{StreamStage, Idle, Establishing, Up, Refreshing, Stopping, work_of}
-use Rattle.tsm_host.specs.Local.{halts}
+use Rattle.tsm_host.specs.Local.{stream_stop_calls}
 use Rattle.tsm_host.specs.Streams.{HostView, refusal_of, unless, begun_calls, has_host}
 use Rattle.tsm_host.proofs.stream.StreamKeys.begin.Goals as goal
 
@@ -11,7 +11,7 @@ use Rattle.tsm_host.proofs.stream.StreamKeys.begin.Goals as goal
 stop_calls : (hosted : Bool) (o : StreamStage) (host : HostView) (pool : Pool) (id : ℕ) → (work_of op.Stop o 0).begins
     ≡ true
     → unless (refusal_of op.Stop o host pool) [] (begun_calls hosted (work_of op.Stop o pool.draws) pool id)
-    ≡ (if hosted then halts id else [])
+    ≡ (if hosted then stream_stop_calls id else [])
 stop_calls true Idle host pool id begins = refl
 stop_calls true (Establishing draw next) host pool id begins = refl
 stop_calls true (Up set draw) host pool id begins = refl

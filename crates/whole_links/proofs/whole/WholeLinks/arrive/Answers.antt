@@ -1,9 +1,15 @@
 use Rattle.std.proofs.Common.{refl, sym}
 use Rattle.link_events.specs.declared.event.Event.TheVariants.{Arrive}
 use Rattle.all_links.specs.States.{links_state}
+use Rattle.all_links.proofs.Finds.{few_units}
 use Rattle.whole_links.proofs.Ends.{nothing_ends}
 use Rattle.whole_links.proofs.Arrivals.{arrived, arrived_accesses, arrived_beside, brought_port, no_port}
 use Rattle.whole_links.proofs.whole.WholeLinks.arrive.Goals as goal
+
+pub land-requires-clause-few : goal.land-requires-clause-few
+land-requires-clause-few c =
+    few_units c.args.self.now.links.ends c.args.self.now.links.packets.packets c.args.self.now.links.steps
+    c.requires.steps c.requires.bounded.bounded
 
 pub returns-then-not-has_port-clause-ends : goal.returns-then-not-has_port-clause-ends
 returns-then-not-has_port-clause-ends c =

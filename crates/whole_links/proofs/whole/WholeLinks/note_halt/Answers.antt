@@ -5,7 +5,6 @@ use Rattle.guarded_memory.specs.Contents.{GuardedMemory, MmioLeads}
 use Rattle.guarded_memory.specs.Happenings.{InterfaceStopped}
 use Rattle.spec_interfaces.specs.Exchanges.{carries}
 use Rattle.all_links.specs.Interfaces.{interface_named}
-use Rattle.all_links.proofs.Asked.{is_there}
 use Rattle.whole_links.specs.Accesses.{bars_named}
 use Rattle.whole_links.proofs.Accesses.{bars_at, happens_here}
 use Rattle.whole_links.proofs.whole.WholeLinks.note_halt.Goals as goal
@@ -13,15 +12,12 @@ use Rattle.whole_links.proofs.whole.WholeLinks.note_halt.Goals as goal
 pub bars-bars-requires : goal.bars-bars-requires
 bars-bars-requires c =
     record {
-      here = is_there c.args.self.now.links.keeper.interfaces c.args.self.now.links.ends c.args.interface
-          (c.in-Some.link, c.in-Some.place) c.in-Some.ensures;
+      here = c.in-Some.ensures.there;
     }
 
 pub at_mut-requires : goal.at_mut-requires
 at_mut-requires c =
-    subst (λ (n : ℕ). c.in-Some.link < n) (sym c.requires.bounded.whole)
-    (is_there c.args.self.now.links.keeper.interfaces c.args.self.now.links.ends c.args.interface
-    (c.in-Some.link, c.in-Some.place) c.in-Some.ensures).link_there
+    subst (λ (n : ℕ). c.in-Some.link < n) (sym c.requires.bounded.whole) c.in-Some.ensures.there.link_there
 
 pub returns-in-Some-clause-accesses : goal.returns-in-Some-clause-accesses
 returns-in-Some-clause-accesses c =
@@ -30,9 +26,9 @@ returns-in-Some-clause-accesses c =
     happens_here (carries c.args.verdict.now 1) (interface_named s.keeper.interfaces s.ends.links c.args.interface)
     (λ place. InterfaceStopped place (bars_named s c.args.interface)) (c.in-Some.link, c.in-Some.place)
     c.args.self.now.accesses a (record a { guarded = c.stop_interface.new.self }) (sym c.if-not-reaches.ensures)
-    c.in-Some.ensures
+    c.in-Some.ensures.place
     c.at_mut.ensures.value refl (ap (λ (g : GuardedMemory). g.sizes) c.stop_interface.ensures.kept)
     (subst (λ (bars : List BarPlan). MmioLeads a.guarded (Some (InterfaceStopped c.in-Some.place bars) ∷ [])
     c.stop_interface.new.self)
-    (bars_at s c.args.interface (c.in-Some.link, c.in-Some.place) c.bars-bars.result.now c.in-Some.ensures
+    (bars_at s c.args.interface (c.in-Some.link, c.in-Some.place) c.bars-bars.result.now c.in-Some.ensures.place
     c.bars-bars.ensures) c.stop_interface.ensures.leads)

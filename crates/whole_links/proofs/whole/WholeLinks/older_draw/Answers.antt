@@ -10,7 +10,7 @@ use Rattle.whole_links.proofs.whole.WholeLinks.older_draw.Goals as goal
 pub returns : goal.returns
 returns c = λ l is.
     c.draw_below.ensures
-    ∙ ap (λ (o : Option ℕ). draw_below o c.args.bound.1)
+    ∙ ap (λ (o : Option ℕ). draw_below o c.args.bound.floor)
     (c.sealing_draw-draw.ensures
-    ∙ ap (λ (e : LinkEnds). sealing_draw_in e.host c.args.bound.0 Cpl)
+    ∙ ap (λ (e : LinkEnds). sealing_draw_in e.host c.args.bound.stream Cpl)
     (same_Some c.link.result.now l (sym c.link.ensures ∙ is)))

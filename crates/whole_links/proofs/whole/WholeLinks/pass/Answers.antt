@@ -8,10 +8,16 @@ use Rattle.whole_links.specs.Accesses.{AccessesArriveAt}
 use Rattle.whole_links.specs.Packets.{packet_event}
 use Rattle.whole_links.specs.Whole.{WholeEnds}
 use Rattle.whole_links.specs.declared.whole.WholeLinks.{WholeLinks}
+use Rattle.all_links.proofs.Finds.{few_units}
 use Rattle.whole_links.proofs.Ends.{nothing_ends}
 use Rattle.whole_links.proofs.Arrivals.{arrived, arrived_accesses, arrived_beside, brought_packet, no_packet, too_short}
 use Rattle.whole_links.proofs.whole.WholeLinks.pass.Goals.{in-Borrowed-2, in-Owned-2}
 use Rattle.whole_links.proofs.whole.WholeLinks.pass.Goals as goal
+
+pub land-requires-clause-few : goal.land-requires-clause-few
+land-requires-clause-few c =
+    few_units c.args.self.now.links.ends c.args.self.now.links.packets.packets c.args.self.now.links.steps
+    c.requires.steps c.requires.bounded.bounded
 
 pub returns-in-None-clause-ends : goal.returns-in-None-clause-ends
 returns-in-None-clause-ends c =

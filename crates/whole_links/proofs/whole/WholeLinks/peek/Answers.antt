@@ -6,19 +6,16 @@ use Rattle.trusted_memory.specs.{bytes_from}
 use Rattle.guarded_memory.specs.Contents.{has_bytes, mmio_byte}
 use Rattle.link_stores.specs.declared.link.LinkAccesses.{LinkAccesses}
 use Rattle.all_links.specs.Accesses.{sizes_at, mmio_at}
-use Rattle.all_links.proofs.Asked.{is_there}
 use Rattle.whole_links.proofs.whole.WholeLinks.peek.Goals as goal
 
 pub at-requires : goal.at-requires
 at-requires c =
-    subst (λ (n : ℕ). c.in-Some.link < n) (sym c.requires.bounded.whole)
-    (is_there c.args.self.now.links.keeper.interfaces c.args.self.now.links.ends c.args.interface
-    (c.in-Some.link, c.in-Some.place) c.in-Some.ensures).link_there
+    subst (λ (n : ℕ). c.in-Some.link < n) (sym c.requires.bounded.whole) c.in-Some.ensures.there.link_there
 
 pub returns-in-None-clause-answer : goal.returns-in-None-clause-answer
 returns-in-None-clause-answer c =
     ap (λ (o : Option (ℕ × ℕ)). option_map_or (λ (at : ℕ × ℕ). has_bytes (sizes_at c.args.self.now.accesses at.0) at.1
-    c.args.bar c.args.offset (length c.args.buf.now)) o false) c.in-None.ensures
+    c.args.bar c.args.offset (length c.args.buf.now)) o false) c.in-None.ensures.place
 
 pub returns-in-Some-clause-answer : goal.returns-in-Some-clause-answer
 returns-in-Some-clause-answer c =
@@ -26,7 +23,7 @@ returns-in-Some-clause-answer c =
     ∙ sym (λ i. has_bytes (option_map_or (λ (x : LinkAccesses). x.guarded.sizes) (c.at.ensures i) []) c.in-Some.place
     c.args.bar c.args.offset (length c.args.buf.now))
     ∙ ap (λ (o : Option (ℕ × ℕ)). option_map_or (λ (at : ℕ × ℕ). has_bytes (sizes_at c.args.self.now.accesses at.0) at.1
-    c.args.bar c.args.offset (length c.args.buf.now)) o false) c.in-Some.ensures
+    c.args.bar c.args.offset (length c.args.buf.now)) o false) c.in-Some.ensures.place
 
 pub returns-in-Some-clause-bytes : goal.returns-in-Some-clause-bytes
 returns-in-Some-clause-bytes c =
@@ -34,5 +31,5 @@ returns-in-Some-clause-bytes c =
     sym (λ i. bytes_from (option_map_or (λ (x : LinkAccesses). mmio_byte x.guarded) (c.at.ensures i) (λ j b offset. 0)
     c.in-Some.place c.args.bar) c.args.offset (length c.args.buf.now))
     ∙ ap (λ (o : Option (ℕ × ℕ)). option_map_or (λ (at : ℕ × ℕ). bytes_from (mmio_at c.args.self.now.accesses at.0 at.1
-    c.args.bar) c.args.offset (length c.args.buf.now)) o []) c.in-Some.ensures in
+    c.args.bar) c.args.offset (length c.args.buf.now)) o []) c.in-Some.ensures.place in
     subst (λ (bs : List ℕ). OnTrue c.peek.result (c.peek.new.buf ≡ bs)) same c.peek.ensures.bytes

@@ -1,6 +1,0 @@
-use Rattle.std.proofs.Common.{◌≡◌, map, take}
-use Rattle.interface_state.specs.Machine.{new_tdi}
-use Rattle.interface_device.proofs.device_interfaces.made.Given as goal
-
-abbrev pub invariant-loop-plan : goal.invariant-loop-plan
-invariant-loop-plan l = l.interfaces.items ≡ map new_tdi (take l.plan-index l.plans)

@@ -1,7 +1,0 @@
-use Rattle.std.proofs.Common.{◌≡◌, ◌++◌, map, take, drop}
-use Rattle.interface_state.specs.Machine.{tdi_after, LinkReset}
-use Rattle.interface_device.proofs.device_interfaces.reset_all.Given as goal
-
-abbrev pub invariant-loop-interface : goal.invariant-loop-interface
-invariant-loop-interface l = l.interface-items ≡ map ((λ tdi. tdi_after tdi LinkReset))
-    (take l.interface-index l.initial.interface-items) ++ drop l.interface-index l.initial.interface-items

@@ -1,5 +1,0 @@
-use Rattle.interface_device.proofs.Errors.{errors_change_nothing}
-use Rattle.interface_device.proofs.laws.errors_change_nothing.Goals as goal
-
-pub returns : goal.returns
-returns c = errors_change_nothing

@@ -1,9 +1,0 @@
--- What the answers of a device's interfaces imply.
-use Rattle.std.specs.Prelude.{ℕ, ◌≡◌, List}
-use Rattle.tdisp_codec.specs.Replies as reply
-use Rattle.interface_device.specs.declared.said.StreamSaid.{StreamSaid}
-use Rattle.interface_device.specs.Replies.{DeviceTdis, interfaces_after_answer, tdi_answer}
-
-abbrev pub ErrorsChangeNothing : Type 0
-ErrorsChangeNothing = (d : DeviceTdis) (bytes : List ℕ) (said : StreamSaid) (function code value : ℕ)
-    → tdi_answer d bytes said ≡ reply.Error function code value → interfaces_after_answer d bytes said ≡ d

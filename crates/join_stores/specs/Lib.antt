@@ -1,2 +1,0 @@
-pub mod Turns
-pub use Rattle.law_reads.specs.Waiting.{waiting_next}

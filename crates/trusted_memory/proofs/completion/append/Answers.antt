@@ -1,0 +1,7 @@
+use Rattle.std.proofs.Common.{ℕ, ◌<◌, arith}
+use Rattle.std.proofs.lemmas.List.Elements.{All-from_get_or}
+use Rattle.trusted_memory.proofs.completion.append.Goals as goal
+
+pub returns-clause-bytes : goal.returns-clause-bytes
+returns-clause-bytes c =
+    All-from_get_or (λ (b : ℕ). b < 256) c.args.bytes.now 0 (λ i less. omega (arith, c.type_inv.bytes i))

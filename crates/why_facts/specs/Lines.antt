@@ -1,0 +1,36 @@
+-- The lines of why an event has its verdict: the rule that answers, that of each packet's effect, and the facts.
+use Rattle.std.specs.Prelude.{List, [], ◌∷◌, ◌++◌, codes}
+use Rattle.ide_types.specs.{Text, joined_words}
+use Rattle.ide_types.specs.declared.port.PortName.{PortName}
+use Rattle.ide_types.specs.declared.sub.SubKind.{SubKind}
+use Rattle.link_events.specs.declared.event.Event.{Event}
+use Rattle.link_verdicts.specs.declared.verdict.Verdict.{Verdict}
+use Rattle.link_verdicts.specs.declared.verdict.Effect.{Effect}
+use Rattle.link_verdicts.specs.declared.verdict.Verdict.TheVariants as v
+use Rattle.why_facts.specs.Terms.{Fact}
+use Rattle.why_facts.specs.Words.{fact_word}
+use Rattle.why_facts.specs.Rules.{rule_of, effect_rule_of}
+
+-- a line begins with a space, and ends with a line feed
+abbrev pub fact_line : Fact → Text
+fact_line x = joined_words (fact_word x ∷ [])
+
+abbrev pub rule_line : Text → Text
+rule_line rule = joined_words (codes "rule" ∷ rule ∷ [])
+
+abbrev pub facts_text : List Fact → Text
+facts_text [] = []
+facts_text (x ∷ xs) = fact_line x ++ facts_text xs
+
+-- before the text that follows
+abbrev pub effect_lines : PortName → SubKind → List Effect → Text
+effect_lines port sub [] = []
+effect_lines port sub (e ∷ es) = rule_line (effect_rule_of port sub e) ++ effect_lines port sub es
+
+-- of an accepted unit a rule for each packet
+abbrev pub rules_text : Verdict → Text
+rules_text (v.Accepted port unit effects) = effect_lines port unit.sub effects
+rules_text w = []
+
+abbrev pub why_text_of : Event → Verdict → List Fact → Text
+why_text_of e w xs = rule_line (rule_of e w xs) ++ rules_text w ++ facts_text xs

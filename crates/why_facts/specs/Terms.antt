@@ -1,0 +1,13 @@
+-- The types of this crate with their variants.
+pub use Rattle.why_facts.specs.declared.fact.SetState.{SetState}
+pub use Rattle.why_facts.specs.declared.fact.SetState.TheVariants as set
+pub use Rattle.why_facts.specs.declared.fact.ManagerState.{ManagerState}
+pub use Rattle.why_facts.specs.declared.fact.ManagerState.TheVariants as manager
+pub use Rattle.why_facts.specs.declared.fact.StreamFact.{StreamFact}
+pub use Rattle.why_facts.specs.declared.fact.StreamFact.TheVariants as sf
+pub use Rattle.why_facts.specs.declared.fact.OperationFact.{OperationFact}
+pub use Rattle.why_facts.specs.declared.fact.OperationFact.TheVariants as of
+pub use Rattle.why_facts.specs.declared.fact.InterfaceFact.{InterfaceFact}
+pub use Rattle.why_facts.specs.declared.fact.InterfaceFact.TheVariants as face
+pub use Rattle.why_facts.specs.declared.fact.Fact.{Fact}
+pub use Rattle.why_facts.specs.declared.fact.Fact.TheVariants as fact

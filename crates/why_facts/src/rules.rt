@@ -1,0 +1,313 @@
+//! The rule that answers an event, by the names of docs/RULES.md.
+
+ghost use Rattle.std.specs.Prelude.{◌≡◌, ◌<◌, ◌^◌};
+ghost use Rattle.why_facts.specs.Rules.{access_rule, answer_rule, arriving_rule, asked_rule, cause_rule, class_in};
+ghost use Rattle.why_facts.specs.Rules.{class_behind, class_of_fact};
+ghost use Rattle.why_facts.specs.Rules.{dropped_rule, effect_rule_of, fail_rule, host_cause_rule, interface_rule};
+ghost use Rattle.why_facts.specs.Rules.{is_host_end, key_rule, line_rule, mmio_cause_rule, operation_rule};
+ghost use Rattle.why_facts.specs.Rules.{read_cause_rule, rule_of, rule_of_none, sending_rule, unless_none};
+ghost use Rattle.why_facts.specs.Rules.{unnamed_rule, write_cause_rule};
+
+use crate::fact::{Fact, StreamFact};
+use ide_types::{FailCause, InterfaceVerdict, PortName, Side, SubKind};
+use link_events::{AccessEvent, Event, InterfaceEvent};
+use link_verdicts::{AccessVerdict, BlockCause, Effect, Verdict};
+
+fn key_rule(class: Option<SubKind>, sub: SubKind) -> &'static str
+    ensures { result.now ≡ key_rule class sub }
+{
+    match class {
+        Some(class) if class != sub => "sending.sync",
+        _ => "sending.key",
+    }
+}
+
+fn sending_rule(class: Option<SubKind>, verdict: &Verdict, other: &'static str) -> &'static str
+    ensures { result.now ≡ sending_rule class verdict.now other.now }
+{
+    match verdict {
+        Verdict::Malformed { .. } => "sending.malformed",
+        Verdict::Plain { .. } => "sending.plain",
+        Verdict::RefusedInsecure => "sending.insecure",
+        Verdict::RefusedNoKey { sub } => key_rule(class, *sub),
+        Verdict::RefusedUnfinished => "sending.unfinished",
+        Verdict::RefusedWorn { .. } => "sending.worn",
+        Verdict::Sealed { .. } => "sending.sealed",
+        _ => other,
+    }
+}
+
+fn fail_rule(verdict: &Verdict) -> &'static str
+    ensures { result.now ≡ fail_rule verdict.now }
+{
+    match verdict {
+        Verdict::Fail { cause, .. } => match cause {
+            FailCause::Key => "arriving.key",
+            FailCause::Unit => "arriving.unit",
+            FailCause::Tag => "arriving.tag",
+            FailCause::Order => "arriving.order",
+        },
+        _ => "lines.none",
+    }
+}
+
+fn arriving_rule(verdict: &Verdict) -> &'static str
+    ensures { result.now ≡ arriving_rule verdict.now }
+{
+    match verdict {
+        Verdict::Malformed { .. } => "arriving.malformed",
+        Verdict::Plain { .. } => "arriving.plain",
+        Verdict::Through { .. } => "hops.through",
+        Verdict::Unknown { .. } => "arriving.stream",
+        Verdict::Insecure { .. } => "arriving.insecure",
+        Verdict::NotKeyed { .. } => "arriving.keyed",
+        Verdict::Held { .. } => "arriving.held",
+        Verdict::Accepted { .. } => "arriving.accepted",
+        _ => fail_rule(verdict),
+    }
+}
+
+// Of an operation on a line; `rule` is that of a link's.
+fn line_rule(line: u64, rule: &'static str) -> &'static str
+    ensures { result.now ≡ line_rule line rule.now }
+{
+    match line {
+        0..=7 => rule,
+        8..=23 => "hops.operations",
+        _ => "peers.operations",
+    }
+}
+
+fn operation_rule(line: u64, refusal: &'static str, verdict: &Verdict) -> &'static str
+    ensures { result.now ≡ operation_rule line refusal.now verdict.now }
+{
+    match verdict {
+        Verdict::Nothing => "lines.none",
+        Verdict::LostRequest { .. } | Verdict::LostReply { .. } => "operations.lost",
+        Verdict::RefusedDevice { .. } => "operations.device",
+        Verdict::RefusedBusy { .. } => line_rule(line, "operations.busy"),
+        Verdict::Established { .. } | Verdict::Refreshed { .. } | Verdict::Stopped { .. } => {
+            line_rule(line, "operations.begin")
+        }
+        _ => line_rule(line, refusal),
+    }
+}
+
+fn asked_rule(event: &InterfaceEvent) -> &'static str
+    ensures { result.now ≡ asked_rule event.now }
+{
+    match event {
+        InterfaceEvent::Lock { .. } => "views.lock",
+        InterfaceEvent::Report { .. } => "views.report",
+        InterfaceEvent::Start { .. } => "views.start",
+        InterfaceEvent::Halt { .. } => "views.halt",
+        InterfaceEvent::State { .. } => "views.state",
+        InterfaceEvent::Bind { .. } => "views.bind",
+        InterfaceEvent::Unbind { .. } => "views.unbind",
+        InterfaceEvent::View { .. } => "views.shown",
+        InterfaceEvent::Write { .. } => "interfaces.write",
+        InterfaceEvent::Flr { .. } => "interfaces.flr",
+        InterfaceEvent::Firmware { .. } => "interfaces.firmware",
+        InterfaceEvent::Memory { .. } => "memory.shown",
+    }
+}
+
+fn unnamed_rule(event: &InterfaceEvent) -> &'static str
+    ensures { result.now ≡ unnamed_rule event.now }
+{
+    match event {
+        InterfaceEvent::Bind { .. } | InterfaceEvent::Unbind { .. } => "views.named",
+        InterfaceEvent::Memory { .. } => "memory.shown",
+        _ => "lines.none",
+    }
+}
+
+fn interface_rule(event: &InterfaceEvent, verdict: &Verdict) -> &'static str
+    ensures { result.now ≡ interface_rule event.now verdict.now }
+{
+    match verdict {
+        Verdict::Nothing => unnamed_rule(event),
+        Verdict::LostRequest { .. } | Verdict::LostReply { .. } => "views.lost",
+        Verdict::RefusedDevice { .. } => "views.device",
+        _ => asked_rule(event),
+    }
+}
+
+fn dropped_rule(cause: BlockCause) -> &'static str
+    ensures { result.now ≡ dropped_rule cause }
+{
+    match cause {
+        BlockCause::NotRunning => "answers.running",
+        BlockCause::WrongStream => "answers.stream",
+        _ => "answers.floor",
+    }
+}
+
+fn answer_rule(verdict: &Verdict) -> &'static str
+    ensures { result.now ≡ answer_rule verdict.now }
+{
+    match verdict {
+        Verdict::Nothing => "answers.link",
+        Verdict::Access {
+            verdict: AccessVerdict::Empty { .. },
+        } => "answers.empty",
+        Verdict::Access {
+            verdict: AccessVerdict::Dropped { cause, .. },
+        } => dropped_rule(*cause),
+        Verdict::Interface {
+            verdict: InterfaceVerdict::RefusedRefreshFirst { .. },
+        } => "answers.refresh",
+        Verdict::Sealed { .. } => "answers.sealed",
+        _ => "answers.refused",
+    }
+}
+
+fn access_rule(event: &AccessEvent, verdict: &Verdict) -> &'static str
+    ensures { result.now ≡ access_rule event.now verdict.now }
+{
+    match event {
+        AccessEvent::Answer { .. } => answer_rule(verdict),
+        AccessEvent::Mmio { .. } => "mmio.shown",
+    }
+}
+
+fn unless_none(rule: &'static str, verdict: &Verdict) -> &'static str
+    ensures { result.now ≡ unless_none rule.now verdict.now }
+{
+    match verdict {
+        Verdict::Nothing => "lines.none",
+        _ => rule,
+    }
+}
+
+// The sub-stream of a fact that a TLP goes out.
+fn class_of(fact: &Fact) -> Option<SubKind>
+    ensures { result ≡ class_of_fact fact.now }
+{
+    match fact {
+        Fact::Stream {
+            fact: StreamFact::Sends { sub, .. },
+        } => Some(*sub),
+        _ => None,
+    }
+}
+
+// Of the first of these facts.
+fn class_in(facts: &[Fact]) -> Option<SubKind>
+    ensures { result ≡ class_in facts.now }
+{
+    match facts {
+        [] => None,
+        [first, ..] => class_of(first),
+    }
+}
+
+// Of the first fact behind that of how many TLPs wait.
+fn class_behind(facts: &[Fact]) -> Option<SubKind>
+    ensures { result ≡ class_behind facts.now }
+{
+    match facts {
+        [] => None,
+        [_, rest @ ..] => class_in(rest),
+    }
+}
+
+/// The rule that answers an event, by the names of docs/RULES.md. The facts of a send or a forward say the TLP's
+/// sub-stream (this profile).
+pub fn rule(event: &Event, verdict: &Verdict, facts: &[Fact]) -> &'static str
+    ensures { result.now ≡ rule_of event.now verdict.now facts.now }
+{
+    match event {
+        Event::Establish { line, .. } => operation_rule(*line, "operations.establish", verdict),
+        Event::Refresh { line, .. } => operation_rule(*line, "operations.refresh", verdict),
+        Event::Stop { line, .. } => operation_rule(*line, "operations.begin", verdict),
+        Event::Send { .. } => sending_rule(class_in(facts), verdict, "lines.none"),
+        Event::Forward { .. } => sending_rule(class_behind(facts), verdict, "hops.forward"),
+        Event::Pass { .. } | Event::Alter { .. } | Event::Cut { .. } | Event::Arrive { .. } => {
+            arriving_rule(verdict)
+        }
+        Event::Dump { .. } => unless_none("packets.shown", verdict),
+        Event::Reset { .. } => unless_none("reset", verdict),
+        Event::Status { .. } => unless_none("slots.status", verdict),
+        Event::Interface { event } => interface_rule(event, verdict),
+        Event::Access { event } => access_rule(event, verdict),
+        Event::Absent => "lines.none",
+    }
+}
+
+fn write_cause_rule(cause: BlockCause) -> &'static str
+    ensures { result.now ≡ write_cause_rule cause }
+{
+    match cause {
+        BlockCause::NotTrusted => "memory.trusted",
+        BlockCause::NotRunning => "memory.running",
+        BlockCause::WrongStream => "memory.stream",
+        BlockCause::Stale => "memory.floor",
+        BlockCause::Outside => "memory.region",
+        BlockCause::Crosses => "memory.page",
+        BlockCause::Full => "reads.full",
+    }
+}
+
+fn read_cause_rule(cause: BlockCause) -> &'static str
+    ensures { result.now ≡ read_cause_rule cause }
+{
+    match cause {
+        BlockCause::Outside | BlockCause::Crosses => "reads.placed",
+        BlockCause::Full => "reads.full",
+        _ => "reads.granted",
+    }
+}
+
+fn mmio_cause_rule(cause: BlockCause) -> &'static str
+    ensures { result.now ≡ mmio_cause_rule cause }
+{
+    match cause {
+        BlockCause::NotTrusted => "mmio.trusted",
+        BlockCause::NotRunning => "mmio.running",
+        BlockCause::WrongStream => "mmio.stream",
+        BlockCause::Stale => "mmio.floor",
+        _ => "mmio.page",
+    }
+}
+
+// A host's port: the near end of a link, or of a segment towards the host.
+fn is_host_end(port: PortName) -> bool
+    ensures { result ≡ is_host_end port }
+{
+    port.side == Side::Host && port.line < 16
+}
+
+// A write is posted, a read is not.
+fn host_cause_rule(sub: SubKind, cause: BlockCause) -> &'static str
+    ensures { result.now ≡ host_cause_rule sub cause }
+{
+    match sub {
+        SubKind::Npr => read_cause_rule(cause),
+        _ => write_cause_rule(cause),
+    }
+}
+
+fn cause_rule(port: PortName, sub: SubKind, cause: BlockCause) -> &'static str
+    ensures { result.now ≡ cause_rule port sub cause }
+{
+    if is_host_end(port) {
+        host_cause_rule(sub, cause)
+    } else {
+        mmio_cause_rule(cause)
+    }
+}
+
+/// The rule of the effect of a packet of a unit that an end accepted in a sub-stream (this profile).
+pub fn effect_rule(port: PortName, sub: SubKind, effect: Effect) -> &'static str
+    ensures { result.now ≡ effect_rule_of port sub effect }
+{
+    match effect {
+        Effect::Applied => "memory.bytes",
+        Effect::Queued => "reads.queued",
+        Effect::Stored => "mmio.bytes",
+        Effect::Waiting => "hops.waiting",
+        Effect::Blocked(cause) => cause_rule(port, sub, cause),
+        Effect::Sync | Effect::Delivered => "arriving.effects",
+    }
+}
