@@ -2,12 +2,12 @@
 -- the manager's streams are as before, since only the interfaces of its device change, and what the manager knows of
 -- it.
 use Rattle.all_links.proofs.Terms.{length-set, ◌≡◌, ℕ, suc, zero, ◌+◌, ◌<◌, List, [], ◌∷◌, length, refl, ap, sym, ◌∙◌}
-use Rattle.all_links.proofs.Terms.{subst, arith, nat_tests, Option, Some, None, IsSome, slice_get, slice_set, PortEnd}
+use Rattle.all_links.proofs.Terms.{subst, arith, nat_tests, Option, Some, None, IsSome, slice_get, slice_set}
 use Rattle.all_links.proofs.Terms.{◌-◌, option_and_then, none-some, same_Some, slice_get_within, Verdict}
 use Rattle.all_links.proofs.Terms.{StreamState, LinkEnds, Links, InterfacesView, KeeperView, ports_in, IsBounded}
 use Rattle.all_links.proofs.Terms.{links_state, EndsWith, Stepped, Interface, answer_of_links, EndsView}
 use Rattle.all_links.proofs.Terms.{peer_live, Plan, AreLinks, Side, Host, Device, port_in, state_of, nat_lt}
-use Rattle.all_links.proofs.Terms.{true, ◌++◌, ◌≤◌, if◌then◌else◌, ◌==◌, Bool, false, true-lt, nat_le}
+use Rattle.all_links.proofs.Terms.{true, ◌++◌, if◌then◌else◌, ◌==◌, Bool, false, true-lt, nat_le}
 use Rattle.line_arrivals.specs.{changed_at, in_sixteen, pair_ports, operated_on, HostKeeper, IsThere}
 use Rattle.line_arrivals.specs.{CallsAt, AsksAt, place_on_links, code_behind, outcome_verdict, report_of}
 use Rattle.all_links.specs.Sides.{with_device}
@@ -19,7 +19,7 @@ use Rattle.ide_port.specs.{receiving_draw_in, UnitsGrow}
 use Rattle.spec_interfaces.specs.Devices.{is_run}
 use Rattle.interface_state.specs.declared.states.TdiState.{TdiState}
 use Rattle.interface_state.specs.declared.states.TdiState.TheVariants.{ConfigUnlocked, ConfigLocked, Run, Error}
-use Rattle.all_links.specs.Accesses.{planned_stream, device_draw, runs_at}
+use Rattle.all_links.specs.Accesses.{planned_stream, device_draw, place_runs}
 use Rattle.link_verdicts.specs.declared.verdict.Verdict.TheVariants as v
 use Rattle.interface_state.specs.Machine.{Tdi, Call, state_code}
 use Rattle.interface_ends.specs.Replies.{DeviceTdis, called_at}
@@ -332,7 +332,7 @@ run_code Error = refl
 
 pub runs_is : (s : Links) (at : ℕ × ℕ) (b : Bool) → IsThere s.ends at.0 at.1
     → IfSome (slice_get s.ends.links at.0) (λ (l : LinkEnds). IfSome (slice_get l.device.interfaces.interfaces at.1)
-    (λ (t : Tdi). b ≡ (state_code t.state == 2))) → b ≡ runs_at s (Some at)
+    (λ (t : Tdi). b ≡ (state_code t.state == 2))) → b ≡ place_runs s (Some at)
 runs_is s at b here says =
     let l = there s.ends.links at.0 here.link_there in
     let t = there l.0.device.interfaces.interfaces at.1 (here.place_there l.0 l.1) in

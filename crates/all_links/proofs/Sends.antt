@@ -16,7 +16,6 @@ use Rattle.tlp_layout.specs.Outgoing.{Outgoing, outgoing_of}
 use Rattle.spec_links.specs.Ports.{at_switch, may_send, port_of, sealing_end}
 use Rattle.link_verdicts.specs.declared.verdict.Verdict.TheVariants as v
 use Rattle.ide_port.specs.declared.answer.Sent.TheVariants.{Sealed}
-use Rattle.ide_port.specs.declared.answer.Sent.TheVariants as sent
 use Rattle.all_links.specs.Links.{Ends, EndsOr, EndsSendingOr}
 use Rattle.ide_types.specs.declared.memory.OutOfMemory.{OutOfMemory}
 use Rattle.all_links.specs.Sides.{SidesKeep}

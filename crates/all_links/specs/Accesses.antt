@@ -28,11 +28,12 @@ device_draw s i link =
     (slice_get s.ends.links link)) 0
 
 -- the interface at a place is in RUN
-abbrev pub runs_at : Links → Option (ℕ × ℕ) → Bool
-runs_at s at = option_map_or (λ (t : Tdi). is_run t.state) (option_and_then (interface_of_ends s.ends.links) at) false
+abbrev pub place_runs : Links → Option (ℕ × ℕ) → Bool
+place_runs s at =
+    option_map_or (λ (t : Tdi). is_run t.state) (option_and_then (interface_of_ends s.ends.links) at) false
 
 abbrev pub runs_in : Links → ℕ → Bool
-runs_in s i = runs_at s (interface_named s.keeper.interfaces s.ends.links i)
+runs_in s i = place_runs s (interface_named s.keeper.interfaces s.ends.links i)
 
 -- ---- sends
 

@@ -24,7 +24,7 @@ impl Links {
     ghost use Rattle.ide_types.specs.declared.plan.Plan.{Plan as PlanView};
     ghost use Rattle.line_arrivals.specs.{IsBounded, IsThere, AsksAt, report_of, outcome_verdict, NoBadInterfaceReply};
     ghost use Rattle.all_links.specs.Links.{EndsWith, EndsOr, EndsAs, EndsAsOr};
-    ghost use Rattle.all_links.specs.Accesses.{runs_at, device_draw};
+    ghost use Rattle.all_links.specs.Accesses.{place_runs, device_draw};
     ghost use Rattle.all_links.specs.Sides.{SidesKeep, SidesAsk, SidesInterface};
     ghost use Rattle.all_links.specs.Besides.{answer_of_links, op_verdict};
     ghost use Rattle.all_links.specs.Interfaces.{interface_named, has_peer_at, managed_peer_stream};
@@ -55,7 +55,7 @@ impl Links {
     /// Whether the interface at a place is in RUN; false if there is none.
     pub fn runs(&self, at: Option<(u8, usize)>) -> bool
         requires { IfSome at (λ p. IsThere self.now.ends p.0 p.1) }
-        ensures { result ≡ runs_at self.now at }
+        ensures { result ≡ place_runs self.now at }
     {
         match at {
             None => false,

@@ -217,10 +217,10 @@ pub fn run<S: Shelf, O: Sink>(
         (run_seen S.seen O.seen words.now shelf.old shelf.new out.old out.new result) }
     ensures stays_secure { InEveryHistory StaysSecure
         (run_seen S.seen O.seen words.now shelf.old shelf.new out.old out.new result) }
-    // A draw is kept in one key set of a place at most and on one stream, an unfinished operation has made its draw On
-    // if its GO came, and each GO that reaches a place finds its draw kept there. A draw that was On at a place and
-    // then kept in neither set is never kept there again. While a stream is failed at a port, nothing of it is sealed,
-    // held, accepted or failed there.
+    // A draw is kept in one key set of a place at most and on one stream, an unfinished establish or refresh has its
+    // draw On where its GO was acknowledged, and each GO that reaches a place finds its draw kept there. A draw that
+    // was On at a place and then kept in neither set is never kept there again. While a stream is failed at a port,
+    // nothing of it is sealed, held, accepted or failed there.
     ensures keys_follow_operations { InEveryHistory KeysFollowOperations
         (run_seen S.seen O.seen words.now shelf.old shelf.new out.old out.new result) }
     ensures set_go_finds_key { InEveryHistory SetGoFindsKey

@@ -1,6 +1,6 @@
 -- A port keeps what always holds of it.
 use Rattle.ide_types.specs.declared.direction.Direction.{Direction}
-use Rattle.ide_port.proofs.Terms.{◌≡◌, ℕ, suc, zero, ◌+◌, ◌<◌, ◌≤◌, List, [], ◌∷◌, length, map, get_or, Option, Some}
+use Rattle.ide_port.proofs.Terms.{◌≡◌, ℕ, suc, zero, ◌<◌, ◌≤◌, List, [], ◌∷◌, length, map, get_or, Option, Some}
 use Rattle.ide_port.proofs.Terms.{None, Result, refl, ap, ◌∙◌, arith, slice_set, slice_get, vec_capacity, nat_tests}
 use Rattle.ide_port.proofs.Terms.{Side, SubKind, StreamPlan, Packet, StreamState, Sending, KeyCall, StreamEnd}
 use Rattle.ide_port.proofs.Terms.{joined_packets, packets_sent, end_outcome, end_taken, called_end, SendRefusal, Inside}

@@ -2,7 +2,7 @@
 -- specs. Streams stand beside their plans one to one, so the stream at the place of an ID is the one that the specs
 -- find, and set back there it alone changes. What its own call gave is supposed, and is read with the fields of its
 -- plan. If no plan has the ID the specs find nothing, and no stream changes.
-use Rattle.ide_port.proofs.Terms.{◌≡◌, ℕ, ◌+◌, ◌<◌, true, List, [], length, map, get_or, Option, Some, None, Result}
+use Rattle.ide_port.proofs.Terms.{◌≡◌, ℕ, ◌<◌, true, List, [], length, map, get_or, Option, Some, None, Result}
 use Rattle.ide_port.proofs.Terms.{Err, refl, sym, ap, ◌∙◌, subst, arith, slice_set, nat_lt, if◌then◌else◌, option_map}
 use Rattle.ide_port.proofs.Terms.{nat_tests, SubKind, StreamPlan, Packet, Tlp, class_of, head_bytes, header, body}
 use Rattle.ide_port.proofs.Terms.{SlotPair, program_answer, PlaceCall, SlotsAfter, shown_pair, program_answer_at}

@@ -1,7 +1,7 @@
 -- No step at a port finishes, or accepts, more than one unit in a sub-stream. A send seals at most one packet of each,
 -- as sync packets go first in the other two; a packet that comes is of one sub-stream; after a call of key management a
 -- count stays or is 0. One stream of the port is called, and the others stay.
-use Rattle.ide_port.proofs.Terms.{◌≡◌, ℕ, ◌+◌, ◌≤◌, true, false, List, [], ◌∷◌, ◌++◌, Option, Some, None, map, refl}
+use Rattle.ide_port.proofs.Terms.{◌≡◌, ℕ, ◌+◌, ◌≤◌, true, false, List, [], ◌∷◌, Option, Some, None, refl}
 use Rattle.ide_port.proofs.Terms.{arith, nat_tests, if◌then◌else◌, SubKind, StreamPlan, Verdict, Sending}
 use Rattle.ide_port.proofs.Terms.{Lanes, StreamState, Three, TxSub, RxSub, at_sub, sealed_all}
 use Rattle.ide_port.proofs.Terms.{sealed_with_syncs, Insecure, NotKeyed, Failed, Held, Accepted}

@@ -103,13 +103,6 @@ impl Stream {
         })
     }
 
-    /// Its ID, which its packets name.
-    pub fn id(&self) -> u8
-        ensures { result ≡ self.now.id }
-    {
-        self.directions.tx.fixed().stream
-    }
-
     /// Seals a TLP's header and payload, of at most 16 and 4,096 bytes, after the sync packets that must go first, and
     /// appends the packets to `out`, which has room for `SEND_ROOM` bytes more. `more` says that its unit goes
     /// on if it has room, `t` that the TLP is trusted. Refused, in this order: Insecure, NoKey of the sub-stream,

@@ -9,7 +9,7 @@ use Rattle.line_runs.specs.declared.ends.Fault.{Fault}
 use Rattle.line_runs.specs.declared.ends.Fault.TheVariants as fault
 use Rattle.line_runs.specs.Front.{GaveOf, bytes_of}
 use Rattle.line_runs.specs.Gain.{Text, Gained}
-use Rattle.line_runs.specs.Gathering.{GainedAt, ReadAsFar, ReadAsFarOf, NoFurther}
+use Rattle.line_runs.specs.Gathering.{GainedAt, ReadAsFar, ReadAsFarOf}
 use Rattle.line_runs.specs.Outcome.{Due, EndsDue, EndsOn}
 use Rattle.line_runs.proofs.Joins.{joined}
 use Rattle.line_runs.proofs.FileNames.{asks_as, asks_more}

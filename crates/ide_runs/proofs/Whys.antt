@@ -10,16 +10,10 @@ use Rattle.link_events.specs.declared.event.Event.{Event}
 use Rattle.link_events.specs.declared.script.ScriptEvent.{ScriptEvent}
 use Rattle.link_events.specs.declared.fault.LineFault.{LineFault}
 use Rattle.link_events.specs.Parse.{line_meaning}
-use Rattle.link_verdicts.specs.declared.verdict.Verdict.{Verdict}
-use Rattle.link_verdicts.specs.Lines.{line_of}
-use Rattle.link_verdicts.specs.Shown.{verdict_by_ports}
 use Rattle.spec_keys.specs.History.{History}
-use Rattle.spec_links.specs.Due.{due}
 use Rattle.script_events.specs.{event_of}
 use Rattle.law_text.specs.Runs.{history_on, history_with}
-use Rattle.ide_why.specs.{IsNewWorld, WorldStandsFor, WorldView, facts_due}
-use Rattle.why_facts.specs.declared.fact.Fact.{Fact}
-use Rattle.why_facts.specs.{why_text_of}
+use Rattle.ide_why.specs.{IsNewWorld, WorldView}
 use Rattle.line_runs.specs.declared.ends.End.TheVariants as end
 use Rattle.line_runs.specs.Gain.{Text}
 use Rattle.line_runs.specs.Gathering.{GoesOn, ended_text}
@@ -29,73 +23,12 @@ use Rattle.line_runs.specs.Pieces.{pieces}
 use Rattle.ide_runs.specs.Reads.{ScriptGoesOn}
 use Rattle.ide_runs.specs.Script.{AtEnd, AtLimit, Refused, Script, Stop, end_of_stop, events_on, script_in, stops}
 use Rattle.ide_runs.specs.Script.{unended_line, with_line}
-use Rattle.ide_runs.specs.Why.{FollowsWhy, WhyCame, WhyPast, WhyView, event_told, ran_why, told_event_due, told_due}
-use Rattle.ide_runs.specs.Why.{EventIsTold, no_event_line, left_line, told_last, numbered_event_text, told_so_far}
+use Rattle.ide_runs.specs.Why.{FollowsWhy, WhyPast, event_told, told_event_due, told_due}
+use Rattle.ide_runs.specs.Why.{no_event_line, left_line, told_last, numbered_event_text, told_so_far}
 use Rattle.ide_runs.specs.Why.{why_by_meaning, why_closing, why_line}
-use Rattle.ide_runs.specs.Works.{Follows, RunningView, ScriptPast, VerdictCame}
-use Rattle.ide_runs.proofs.Scripts.{event_comes, follows_nothing}
+use Rattle.ide_runs.proofs.Scripts.{follows_nothing}
 
 -- ---- what is kept follows the past
-
--- an event before the one that is told
-pub comes_before : (past : WhyPast) (e : Event) (w now : WhyView) (v : Verdict) → FollowsWhy w past
-    → now.number ≡ w.number → w.running.world.steps + 1 < w.number → VerdictCame past.script e now.running v
-    → WhyCame (ran_why past e) now []
-comes_before past e w now v was same less came =
-    let before : nat_lt (length past.script.history + 1) past.number ≡ true =
-    lt-ltb (length past.script.history + 1) past.number
-    (omega (arith, was.follows.steps_are, was.number_is, less)) in
-    rw before (record { text_is = refl; follows = record { number_is = same ∙ was.number_is; follows = came.follows } })
-
-not_before : (past : WhyPast) (w : WhyView) → FollowsWhy w past → w.number ≤ w.running.world.steps + 1
-    → nat_lt (length past.script.history + 1) past.number ≡ false
-not_before past w was le =
-    le-ltb (length past.script.history + 1) past.number
-    (omega (arith, was.follows.steps_are, was.number_is, le))
-
--- one after it
-pub comes_after : (past : WhyPast) (e : Event) (w : WhyView) → FollowsWhy w past
-    → w.number < w.running.world.steps + 1 → WhyCame (ran_why past e) w []
-comes_after past e w was less =
-    let before = not_before past w was (omega (arith, less)) in
-    let behind : nat_lt past.number (length past.script.history + 1) ≡ true =
-    lt-ltb past.number (length past.script.history + 1)
-    (omega (arith, was.follows.steps_are, was.number_is, less)) in
-    rw (before, behind) (record { text_is = refl; follows = was })
-
--- and it itself
-pub comes_told : (past : WhyPast) (e : Event) (w now : WhyView) (text : Text) → FollowsWhy w past
-    → now.number ≡ w.number → w.number ≤ w.running.world.steps + 1 → w.running.world.steps + 1 ≤ w.number
-    → EventIsTold past.script e now.running text → WhyCame (ran_why past e) now text
-comes_told past e w now text was same least most told =
-    let before = not_before past w was least in
-    let behind : nat_lt past.number (length past.script.history + 1) ≡ false =
-    le-ltb past.number (length past.script.history + 1)
-    (omega (arith, was.follows.steps_are, was.number_is, most)) in
-    rw (before, behind) (record {
-      text_is = told.text_is;
-      follows = record { number_is = same ∙ was.number_is; follows = told.follows };
-    })
-
--- the text of the event that is told: what it came from is what the history gives before it
-pub event_tells : (past : ScriptPast) (e : Event) (old r : RunningView) (v : Verdict) (xs : List Fact) (text : Text)
-    → Follows old past → ((h : History) → WorldStandsFor old.world h → xs ≡ facts_due old.world.plan h e)
-    → VerdictCame past e r v
-    → text ≡ line_of r.world.steps (verdict_by_ports r.world.plan.peers v) ++ why_text_of e v xs
-    → EventIsTold past e r text
-event_tells past e old r v xs text was facts came is =
-    let h = past.history in
-    let line : Text = line_of (length h + 1) (verdict_by_ports past.plan.peers (due past.plan h e)) in
-    let shown_is = (event_comes past e r v (line_of r.world.steps (verdict_by_ports r.world.plan.peers v)) came
-    refl).text_is in
-    let told : xs ≡ facts_due past.plan h e = facts h was.stands
-    ∙ ap (λ (p : Plan). facts_due p h e) was.plan_is in
-    record {
-      text_is = is ∙ ap (λ (t : Text). t ++ why_text_of e v xs) shown_is
-          ∙ ap (λ (w : Verdict). line ++ why_text_of e w xs) came.verdict_is
-          ∙ ap (λ (ys : List Fact). line ++ why_text_of e (due past.plan h e) ys) told;
-      follows = came.follows;
-    }
 
 -- the first world follows no events
 pub tells_nothing : (n : ℕ) (plan : Plan) (world : WorldView) → IsNewWorld plan world → FollowsWhy (record {
@@ -103,23 +36,6 @@ pub tells_nothing : (n : ℕ) (plan : Plan) (world : WorldView) → IsNewWorld p
   running = record { world = world; totals = record { sealed = 0; accepted = 0; failed = 0; blocked = 0 } };
 }) (record { number = n; script = record { plan = plan; history = [] } })
 tells_nothing n plan world new = record { number_is = refl; follows = follows_nothing plan world new }
-
--- the end after the last line
-pub lacks_event : (past : WhyPast) (w : WhyView) → FollowsWhy w past → w.running.world.steps < w.number
-    → why_closing past ≡ (end.NoEvent, no_event_line w.number w.running.world.steps)
-lacks_event past w was less =
-    let test : nat_lt (length past.script.history) past.number ≡ true =
-    lt-ltb (length past.script.history) past.number
-    (omega (arith, was.follows.steps_are, was.number_is, less)) in
-    rw (test, was.number_is, was.follows.steps_are) refl
-
-pub has_event : (past : WhyPast) (w : WhyView) → FollowsWhy w past → w.number ≤ w.running.world.steps
-    → why_closing past ≡ (end.Done, [])
-has_event past w was le =
-    let test : nat_lt (length past.script.history) past.number ≡ false =
-    le-ltb (length past.script.history) past.number
-    (omega (arith, was.follows.steps_are, was.number_is, le)) in
-    rw test refl
 
 -- ---- the lines
 

@@ -150,7 +150,8 @@ fn step_on(
     buf: &mut [u8],
     written: &mut usize,
 ) -> Answer
-    ensures { StepCame result (kept_session s.old.held.kept) line.now (kept_session s.new.held.kept) written.new buf.new }
+    ensures { let session = kept_session s.old.held.kept in
+        StepCame result session line.now (kept_session s.new.held.kept) written.new buf.new }
 {
     *written = 0;
     match unhold(s, alloc) {

@@ -91,9 +91,6 @@ impl Reader<'_> {
             then bind_read self.now.plan.now self.now.links.now seen.now line stream else [])) }
     {
         let link = seen.manager.link;
-        if line < FIRST_PEER_LINE || line > 31 || stream > 255 {
-            return Ok(());
-        }
         if !self.links.links.ends.has_peer(link, line, stream) {
             return Ok(());
         }

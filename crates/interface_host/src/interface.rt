@@ -160,13 +160,6 @@ impl HostInterface {
         }
     }
 
-    /// The number of its link.
-    pub(crate) fn link(&self) -> u8
-        ensures { result ≡ self.now.link }
-    {
-        self.link
-    }
-
     /// Its requester ID.
     pub(crate) fn requester(&self) -> u16
         ensures { result ≡ self.now.requester }
@@ -179,13 +172,6 @@ impl HostInterface {
         ensures { result ≡ self.now.stream }
     {
         self.stream
-    }
-
-    /// The least draw that a start wants.
-    pub(crate) fn needs(&self) -> u32
-        ensures { result ≡ self.now.needs }
-    {
-        self.needs
     }
 
     /// The view of it.

@@ -153,36 +153,12 @@ impl Interfaces {
         self.interfaces.len()
     }
 
-    /// The number of an interface's link.
-    pub fn link(&self, interface: usize) -> u8
-        requires { interface < length self.now.interfaces }
-        ensures { IfSome (slice_get self.now.interfaces interface) (λ i. result ≡ i.link) }
-    {
-        self.interfaces[interface].link()
-    }
-
-    /// The requester ID of an interface.
-    pub fn requester(&self, interface: usize) -> u16
-        requires { interface < length self.now.interfaces }
-        ensures { IfSome (slice_get self.now.interfaces interface) (λ i. result ≡ i.requester) }
-    {
-        self.interfaces[interface].requester()
-    }
-
     /// The manager's view of an interface.
     pub fn view(&self, interface: usize) -> View
         requires { interface < length self.now.interfaces }
         ensures { IfSome (slice_get self.now.interfaces interface) (λ i. result ≡ view_of i.seen) }
     {
         self.interfaces[interface].view()
-    }
-
-    /// The least draw that a start of the interface wants.
-    pub fn needs(&self, interface: usize) -> u32
-        requires { interface < length self.now.interfaces }
-        ensures { IfSome (slice_get self.now.interfaces interface) (λ i. result ≡ i.needs) }
-    {
-        self.interfaces[interface].needs()
     }
 
     /// The number of the interface of this link with this requester ID; `None` if there is none.

@@ -10,7 +10,7 @@ use Rattle.ide_types.specs.declared.plan.Region.{Region}
 use Rattle.machine_ports.specs.Machine.{LinkPacket, LinkState}
 use Rattle.link_stores.specs.declared.link.LinkAccesses.{LinkAccesses}
 use Rattle.std.proofs.Common.{Bool, List, [], ap, arith, drop, false, length, refl, subst, sym, take, true}
-use Rattle.std.proofs.Common.{ℕ, ◌++◌, ◌+◌, ◌<◌, ◌≤◌, ◌==◌, ◌∙◌, ◌∷◌, ◌≡◌}
+use Rattle.std.proofs.Common.{ℕ, ◌++◌, ◌+◌, ◌==◌, ◌∙◌, ◌∷◌, ◌≡◌}
 use Rattle.std.proofs.lemmas.Bool.Decides.{nat_tests}
 use Rattle.std.specs.Prelude.{Err, None, Ok, OnErr, Option, Result, Some, if◌then◌else◌, map, not, ◌&&◌}
 use Rattle.std.specs.Prelude.{is_some, slice_get, slice_set}

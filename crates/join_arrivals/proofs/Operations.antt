@@ -5,9 +5,9 @@ use Rattle.join_ends.specs.{AreLinks, IsLink, IsPair, StreamKept, KeptBy, name_o
 use Rattle.join_ends.specs.{IsOperated, IsWalked, KeeperView, Operates, ends_found, IsJoined, KeysKept, OperationsJoin}
 use Rattle.join_ends.specs.{host_of, pool_by, verdict_due, LinkEnds, PairEnds, StreamEnds, WalkedEnds, begun_ends}
 use Rattle.join_ends.specs.{event_walk, walk_on, EndsView, port_on, line_place, pair_port, port_at_place, settled_place}
-use Rattle.join_ends.specs.{OperatesAt, OperatesIn, LinePlace, Link, OperatesOnLink, OperatesOnNear, OperatesOnPair}
+use Rattle.join_ends.specs.{OperatesAt, OperatesIn, LinePlace, Link}
 use Rattle.join_ends.specs.{Near, Pair, port_in, IsAtBoth, IsPairOperated, IsPairWalked, PairOperates, pair_found}
-use Rattle.join_ends.proofs.{IsNamed, named_stands, is_asked, changed_is, each_set, Grows, KeepsEnds, Keeps}
+use Rattle.join_ends.proofs.{IsNamed, named_stands, is_asked, changed_is, each_set, Grows, KeepsEnds}
 use Rattle.join_ends.proofs.{KeepsPair, grows_then, keeper_kept, links_grow, links_kept, near_grow, near_kept}
 use Rattle.join_ends.proofs.{pairs_grow, pairs_kept, place_grows, place_kept, place_rows}
 use Rattle.join_ends.proofs.Operated.{BothHave, IsDone, both_at, names_set, pool_keys, port_operated, rows_link}

@@ -2,12 +2,12 @@
 use Rattle.ide_types.specs.Lines.{is_hosted}
 use Rattle.spec_keys.specs.Places.{KeyPlace, is_host, lane as lane_number}
 use Rattle.spec_keys.specs.History.{program_exchange, program_number}
-use Rattle.spec_keys.specs.Operations.{Establishing, Refreshing, Idle, Up, Stopping}
+use Rattle.spec_keys.specs.Operations.{Establishing, Refreshing}
 use Rattle.join_keys.specs.Calls.{lane_sends, lane_key, key_number}
 use Rattle.join_keys.specs.Paired.{HasPairKeys, PairKeysKeptIn}
 use Rattle.join_keys.proofs.Terms.{◌≡◌, Bool, arith, true, false, ℕ, List, Plan, Operation, ◌≤◌, ◌∙◌, makes_draw, Side}
 use Rattle.join_keys.proofs.Terms.{Host, Device, StreamState, ap, ◌<◌, Some, port_at, slots_at, key_of, ◌%◌, option_map}
-use Rattle.join_keys.proofs.Terms.{work_of, StreamStage, sub_from, History, draws, moments, key_plan, slot_in_set, Pool}
+use Rattle.join_keys.proofs.Terms.{work_of, StreamStage, sub_from, History, draws, moments, key_plan, slot_in_set}
 use Rattle.join_keys.proofs.Terms.{LinkState, find, find_op, PortsStandFor, key_in, draw_of_keyed, Touch, keys}
 use Rattle.join_keys.proofs.Terms.{key_cause, six_keys, StreamView, begun_stream, asked_of_unfinished}
 use Rattle.join_keys.proofs.Terms.{kept_key, last_exchange_of, IsAsked, refl, WireKeys}

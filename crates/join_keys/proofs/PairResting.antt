@@ -6,7 +6,7 @@ use Rattle.join_keys.specs.Calls.{told_call, calls_from}
 use Rattle.join_keys.specs.Paired.{PairEnds, PairExchanged, PairWalked, pair_unless_lost, pair_after, pair_goes_on}
 use Rattle.join_keys.specs.Paired.{pair_walk, HasPairKeys, PairKeysKeptIn}
 use Rattle.join_keys.proofs.Terms.{◌≡◌, Bool, arith, true, false, ℕ, Work, Plan, nat_tests, work, Operation, ◌≤◌, List}
-use Rattle.join_keys.proofs.Terms.{◌∙◌, sym, Reach, makes_draw, Host, Device, StreamState, ◌+◌, ◌==◌, [], StreamCall}
+use Rattle.join_keys.proofs.Terms.{◌∙◌, sym, Reach, makes_draw, Host, Device, StreamState, ◌+◌, ◌==◌, []}
 use Rattle.join_keys.proofs.Terms.{zero, suc, refl, ◌-◌, ap, all_called, ◌<◌, Some, subst, last_exchange_of, Option}
 use Rattle.join_keys.proofs.Terms.{None, reach_of, StreamStage, op_at_exchange, reach, op_after, Loss, Verdict}
 use Rattle.join_keys.proofs.Terms.{PortView, lost_message, cut_at, exchange_judged, option_or, first_from}

@@ -1,9 +1,9 @@
 -- An operation on an interface is carried out by the manager and the device as it is by the machine: exchange by
 -- exchange it is the machine's step (`joined_is`), with what the ends show of the streams that it names. So every event
 -- on an interface has the machine's answer (`answer_is`).
-use Rattle.std.proofs.Common.{◌≡◌, ℕ, ◌+◌, ◌<◌, ◌==◌, Bool, true, false, List, refl, sym, ap, ◌∙◌, subst}
+use Rattle.std.proofs.Common.{◌≡◌, ℕ, Bool, true, false, List, refl, sym, ap, ◌∙◌, subst}
 use Rattle.std.proofs.Common.{arith, Option, Some, None, ⊎_elim, ◌⊎◌}
-use Rattle.std.proofs.lemmas.Bool.{cases_Bool, true≢false}
+use Rattle.std.proofs.lemmas.Bool.{cases_Bool}
 use Rattle.std.specs.List.{slice_index_or}
 use Rattle.std.specs.Option.{option_and_then}
 use Rattle.std.specs.Prelude.{slice_get, if◌then◌else◌}
@@ -15,7 +15,7 @@ use Rattle.link_events.specs.declared.event.InterfaceEvent.TheVariants as ie
 use Rattle.link_events.specs.declared.event.Loss.{Loss}
 use Rattle.link_verdicts.specs.declared.verdict.Verdict.{Verdict}
 use Rattle.link_verdicts.specs.declared.verdict.Verdict.TheVariants as said
-use Rattle.spec_keys.specs.Operations.{StreamStage, Idle, Up, Stopping}
+use Rattle.spec_keys.specs.Operations.{StreamStage}
 use Rattle.tsm_host.specs.Managers.{Named, named_stream, op_named, status_named}
 use Rattle.tsm_host.specs.Streams.{key_status, status_or_idle}
 use Rattle.interface_host.specs.declared.operation.InterfaceOperation.{InterfaceOperation}
@@ -43,9 +43,6 @@ use Rattle.join_world.specs.Whole.{AreDrawn, IsPlaced, IsBeside}
 use Rattle.join_world.proofs.Besides.{answered, due_at, view_is, write_is, flr_is, firmware_is, memory_is}
 use Rattle.join_world.proofs.Sites.{is_at}
 use Rattle.join_world.proofs.Statuses.{host_status_is, live_is, secure_is}
-use Rattle.ide_types.specs.declared.status.StreamStatus.{StreamStatus}
-use Rattle.interface_host.specs.declared.operation.PeerStream.{PeerStream}
-use Rattle.interface_ends.specs.declared.said.StreamSaid.{StreamSaid}
 
 -- ---- what the manager of keys says of a stream
 

@@ -1,7 +1,7 @@
 -- What stands beside the ports after an event that makes no more of an interface than that a stream of its own leaves
 -- Secure. The interfaces of a device are settled by the ends of its streams, or no stream left Secure there. Either way
 -- each is the machine's, which leaves its lock if a stream that it is bound to left Secure (`placed_led`).
-use Rattle.std.proofs.Common.{◌≡◌, ◌⊎◌, ⊎_elim, ℕ, ◌<◌, ◌≤◌, ◌||◌, false, List, Bool, Option}
+use Rattle.std.proofs.Common.{◌≡◌, ◌⊎◌, ⊎_elim, ℕ, ◌<◌, ◌||◌, false, List, Bool, Option}
 use Rattle.std.proofs.Common.{length, Some, option_map, inl, inr, ap, sym, ◌∙◌, arith}
 use Rattle.std.specs.Prelude.{slice_get, is_some}
 use Rattle.std.proofs.lemmas.List.{length-map}
@@ -24,7 +24,7 @@ use Rattle.join_interfaces.specs.Faces.{IsManaged}
 use Rattle.machine_whole.specs.Machine.{Whole, secure_in, live_draw_at_end, ends_in, whole_streams, draw_after}
 use Rattle.machine_whole.specs.Machine.{written_after, whole_after}
 use Rattle.machine_ports.specs.Machine.{LinkPacket, LinkState}
-use Rattle.join_interfaces.specs.Says.{AreSecureStill, Keeps, says_in, is_said_secure, DeviceSays, AreApart}
+use Rattle.join_interfaces.specs.Says.{AreSecureStill, Keeps, says_in, is_said_secure}
 use Rattle.join_interfaces.specs.Says.{leaves_stream}
 use Rattle.join_interfaces.proofs.Settled.{settled_is, stays_is, keeps_after}
 use Rattle.join_interfaces.proofs.Apart.{are_apart}

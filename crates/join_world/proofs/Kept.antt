@@ -1,6 +1,6 @@
 -- Events that leave what stands beside the ports as it is. No stream leaves Secure at them, so the machine's interfaces
 -- rest, and so do the draws, and memory, to which no arrival brings a write.
-use Rattle.std.proofs.Common.{◌≡◌, ℕ, ◌≤◌, ◌&&◌, Bool, true, false, List, [], length, Option, Some, None, refl, ap, sym}
+use Rattle.std.proofs.Common.{◌≡◌, ℕ, ◌≤◌, Bool, true, false, List, [], length, Option, Some, None, refl, ap, sym}
 use Rattle.std.proofs.Common.{◌∙◌, subst, arith, inr}
 use Rattle.std.specs.Prelude.{not, if◌then◌else◌, nat_lt, slice_get}
 use Rattle.ide_types.specs.declared.direction.Direction.{Direction}

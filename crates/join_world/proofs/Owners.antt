@@ -23,7 +23,7 @@ use Rattle.interface_state.specs.declared.states.TdiState.{TdiState}
 use Rattle.interface_state.specs.declared.states.TdiState.TheVariants.{ConfigUnlocked, ConfigLocked, Run, Error}
 use Rattle.interface_state.specs.Bindings.{binds}
 use Rattle.interface_state.specs.Machine.{Tdi, bound_link_stream}
-use Rattle.interface_ends.specs.Replies.{runs_on, runs_bound, DeviceTdis}
+use Rattle.interface_ends.specs.Replies.{runs_on, runs_bound}
 use Rattle.trusted_memory.specs.{MemoryContents}
 use Rattle.spec_interfaces.specs.Cause.{is_peer, owner_id, owners_link}
 use Rattle.spec_interfaces.specs.Devices.{is_run}

@@ -1,7 +1,7 @@
 -- What an end shows of a stream is what the machine has of it, as it keeps the states of each end (`end_found`). So a
 -- device says of its streams what the machine reads of them: of its link's at its port (`secure_is`), of those between
 -- devices at its ends of these (`shows_state`).
-use Rattle.std.proofs.Common.{◌≡◌, ℕ, ◌+◌, ◌-◌, ◌*◌, ◌<◌, ◌≤◌, false, List, [], ◌∷◌, refl, ap, sym, Bool}
+use Rattle.std.proofs.Common.{◌≡◌, ℕ, ◌-◌, ◌<◌, ◌≤◌, false, List, [], ◌∷◌, refl, ap, sym, Bool}
 use Rattle.std.proofs.Common.{◌∙◌, arith, Option, Some, None}
 use Rattle.std.proofs.lemmas.Bool.{lt-ltb, le-ltb}
 use Rattle.std.proofs.lemmas.Option.{slice_get_within}
@@ -29,7 +29,7 @@ use Rattle.spec_interfaces.specs.Devices.{is_secure}
 unfoldable use Rattle.spec_interfaces.specs.Peers.{peer_end}
 use Rattle.spec_interfaces.specs.Peers.{live_by_id}
 use Rattle.machine_whole.specs.Machine.{live_if, live_draw_at_end, secure_in}
-use Rattle.join_interfaces.proofs.PeerEnds.{peer_end_is, IsPeerEnd}
+use Rattle.join_interfaces.proofs.PeerEnds.{peer_end_is}
 use Rattle.whole_links.specs.{EndsView, PairEnds, live_at_port, live_of, peer_live, pair_port, port_on}
 use Rattle.whole_links.proofs.{end_found}
 use Rattle.whole_links.specs.{AreLinks, KeeperView, LinkEnds, port_in, state_of}

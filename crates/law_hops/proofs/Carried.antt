@@ -1,11 +1,11 @@
 -- What was accepted in a sub-stream under a draw is, TLP by TLP with T, a prefix of what was sealed in it: by bytes
 -- that is the law of deliveries, and T is in the packets, of which those that were got are a prefix of those that were
 -- sealed.
-use Rattle.law_sealing.proofs.Terms.{◌≡◌, ℕ, ◌<◌, ◌≤◌, ◌+◌, ◌==◌, ◌&&◌, Bool, true, false, List, [], ◌∷◌, ◌++◌, length}
-use Rattle.law_sealing.proofs.Terms.{Ok, refl, ap, sym, ◌∙◌, arith, inl, inr, if◌then◌else◌, Event, Verdict, Held}
+use Rattle.law_sealing.proofs.Terms.{◌≡◌, ℕ, ◌+◌, ◌==◌, Bool, true, false, List, [], ◌∷◌, ◌++◌, length}
+use Rattle.law_sealing.proofs.Terms.{Ok, refl, ap, sym, ◌∙◌, arith, inl, inr, if◌then◌else◌}
 use Rattle.law_sealing.proofs.Terms.{cases_Bool, AllByRecursion, map, filter, drop, take, append-nil, append_assoc}
-use Rattle.law_sealing.proofs.Terms.{eqb-true, map-append, and_parts, Plan, History, base, Sealed, UnitName, NoForgery}
-use Rattle.law_sealing.proofs.Terms.{Accepted, PortName, SealedPacket, SubKind, SubStream, Packet, StreamsFit}
+use Rattle.law_sealing.proofs.Terms.{eqb-true, map-append, and_parts, Plan, History, base, Sealed}
+use Rattle.law_sealing.proofs.Terms.{Accepted, PortName, SealedPacket, SubKind, SubStream, Packet}
 use Rattle.law_sealing.proofs.Terms.{is_sync_packet, Tlp, header, body, read_of, class_of, CauseLaw}
 use Rattle.law_sealing.proofs.Terms.{IsPrefixOf, DrawFacts, is_received_under, is_same, same_stream}
 use Rattle.law_sealing.proofs.Terms.{received_in, arrived_packet, open_unit, sent_packets, sent_bytes, sub_stream_of}

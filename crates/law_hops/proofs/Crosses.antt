@@ -1,21 +1,21 @@
 -- What is accepted behind a hop is a prefix of what was sealed before it: across the first segment, through the switch,
 -- and across the second.
 use Rattle.law_sealing.proofs.Terms.{◌≡◌, ℕ, ◌<◌, ◌≤◌, ◌+◌, ◌==◌, ◌&&◌, Bool, true, false, List, [], ◌∷◌, ◌++◌, length}
-use Rattle.law_sealing.proofs.Terms.{Option, Some, None, refl, ap, sym, subst, ◌∙◌, arith, nat_tests, inl, inr, Event}
+use Rattle.law_sealing.proofs.Terms.{Option, Some, None, refl, ap, sym, subst, ◌∙◌, arith, nat_tests, inl, inr}
 use Rattle.law_sealing.proofs.Terms.{if◌then◌else◌, cases_Bool, AllByRecursion, map, filter, append_assoc, and_parts}
-use Rattle.law_sealing.proofs.Terms.{eqb-true, is_some, slice_get, Plan, History, Verdict, Sealed, Accepted, UnitName}
+use Rattle.law_sealing.proofs.Terms.{eqb-true, is_some, slice_get, Plan, History, Sealed, Accepted}
 use Rattle.law_sealing.proofs.Terms.{PortName, SealedPacket, SubKind, SubStream, CauseLaw, NoForgery, IsPrefixOf}
 use Rattle.law_sealing.proofs.Terms.{DrawFacts, StreamsFit, is_received_under, is_same, lane_in, lane_out, same_stream}
 use Rattle.law_sealing.proofs.Terms.{Pr, received_in, sub_stream_of, sent_bytes, accepted_packets, nat_lt, not}
 use Rattle.std.proofs.Common.{subst₂, ◌-◌}
-use Rattle.spec_links.proofs.Terms.{Establish, Reset, draws, op_of, begins_keyed, partner, KeyPlace}
+use Rattle.spec_links.proofs.Terms.{Establish, Reset, draws, op_of, begins_keyed, partner}
 use Rattle.spec_links.proofs.Ends.{stream_is_there}
 use Rattle.law_sealing.proofs.OfPlans.{streams_fit}
 use Rattle.law_key_facts.proofs.Draws.{draws as draw_facts}
 use Rattle.ide_types.specs.Ports.{host_port, device_port}
 use Rattle.ide_types.specs.Lines.{is_link_line, near_hop_line, far_hop_line}
 use Rattle.ide_types.specs.declared.direction.Direction.TheVariants.{Downstream, Upstream}
-use Rattle.ide_types.specs.declared.port.Side.TheVariants.{Host, Device}
+use Rattle.ide_types.specs.declared.port.Side.TheVariants.{Host}
 use Rattle.ide_types.specs.Ends.{link_hop, line_has}
 use Rattle.ide_types.specs.Plans.{hop_has_id}
 use Rattle.ide_types.specs.Fits.{FitsPlan}
@@ -23,7 +23,7 @@ use Rattle.ide_types.specs.declared.plan.HopPlan.{HopPlan}
 use Rattle.spec_keys.specs.Places.{is_cut}
 use Rattle.spec_links.specs.Delivered.{is_tlp_under_draw}
 use Rattle.spec_links.specs.Hops.{HopTlp, has_hop, clears_hop}
-use Rattle.spec_links.specs.HopLaws.{sealed_tlp, in_sub, CrossesInOrder, OneDraw}
+use Rattle.spec_links.specs.HopLaws.{sealed_tlp, in_sub, CrossesInOrder}
 unfoldable use Rattle.spec_links.specs.HopLaws.{tlps_since_reset, draws_since}
 use Rattle.spec_links.specs.Memory.{accepted_tlps, unit_ended}
 use Rattle.link_verdicts.specs.declared.verdict.Verdict.TheVariants as v
@@ -31,14 +31,13 @@ use Rattle.law_delivery.proofs.Deliveries.{delivery_law}
 use Rattle.law_delivery.proofs.Prefixes.{got_begins}
 use Rattle.law_hops.specs.Statements.{HopLawHolds}
 use Rattle.law_reads.proofs.Taken.{tlps_of}
-use Rattle.law_hops.proofs.Since.{IsSegment, marked, Marked}
+use Rattle.law_hops.proofs.Since.{IsSegment, marked}
 unfoldable use Rattle.law_hops.proofs.Since.{mark}
 use Rattle.law_hops.proofs.Carried.{InSub, both_begin, bytes_got, bytes_sent, flags, flags-append}
 use Rattle.law_hops.proofs.Carried.{flags_got, flags_sent}
 unfoldable use Rattle.law_hops.proofs.Carried.{hop_got, hop_sent}
 use Rattle.law_hops.proofs.Crossing.{IsLone, OnlyDraw, taken_is, sealed_is, unit_sub, with_sub}
 use Rattle.law_hops.proofs.Forwards.{in_order, each_in_order}
-use Rattle.ide_types.specs.declared.direction.Direction.{Direction}
 
 -- ---- one sub-stream under one draw
 

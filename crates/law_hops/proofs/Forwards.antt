@@ -2,7 +2,7 @@
 -- seals at a switch, an accepted unit adds TLPs at the end, and a reset clears both lists.
 use Rattle.law_sealing.proofs.Terms.{◌≡◌, ℕ, suc, ◌<◌, ◌≤◌, ◌+◌, ◌==◌, ◌&&◌, Bool, true, false, List, [], ◌∷◌, ◌++◌}
 use Rattle.law_sealing.proofs.Terms.{length, drop, take, map, filter, slice_get, Option, Some, Ok, refl, ap, sym, None}
-use Rattle.law_sealing.proofs.Terms.{◌∙◌, arith, nat_tests, if◌then◌else◌, append-nil, not, IsSealing}
+use Rattle.law_sealing.proofs.Terms.{◌∙◌, arith, nat_tests, if◌then◌else◌, append-nil, not}
 use Rattle.law_sealing.proofs.Terms.{take-append-le, take-append-drop, length-append, unwrap_or, AllByRecursion}
 use Rattle.law_sealing.proofs.Terms.{Plan, History, Event, Send, Verdict, Sealed, Accepted, PortName, SealedPacket}
 use Rattle.law_sealing.proofs.Terms.{SubKind, Npr, Cpl, Tlp, header, read_of, class_of, CauseLaw, Sending, Lanes}
@@ -28,7 +28,6 @@ use Rattle.tlp_layout.proofs.Outgoing.{on_stream_reads}
 use Rattle.spec_stream.specs.Sending.{first_that_holds, refusals, sealed_with_syncs}
 use Rattle.link_events.specs.declared.event.Event.TheVariants.{Access, Forward}
 use Rattle.link_events.specs.declared.event.AccessEvent.TheVariants as ae
-use Rattle.link_verdicts.specs.declared.access.AccessVerdict.TheVariants as av
 use Rattle.link_verdicts.specs.declared.verdict.Verdict.TheVariants as v
 use Rattle.spec_links.specs.Terms.{Reset}
 use Rattle.spec_links.specs.Plan.{has_port, streams_of}
@@ -45,7 +44,7 @@ unfoldable use Rattle.spec_links.specs.HopLaws.{tlps_since_reset}
 use Rattle.law_reads.proofs.Oldest.{first_means}
 use Rattle.law_reads.proofs.Forwarded.{Forwarded, forward_means, as_forward}
 use Rattle.law_reads.proofs.Taken.{here_after, taken_accepted, tlps_of}
-use Rattle.law_hops.proofs.TlpsRead.{taken_read, read_at, ReadsAs}
+use Rattle.law_hops.proofs.TlpsRead.{taken_read, read_at}
 
 -- ---- what a sealed send tells: its packets, with T
 

@@ -1,7 +1,7 @@
 -- A forward is a send of the first TLP that waits, on the hop's stream.
-use Rattle.law_sealing.proofs.Terms.{◌≡◌, ℕ, ◌<◌, ◌+◌, false, List, [], ◌∷◌, length, slice_get, Bool, Option, History}
-use Rattle.law_sealing.proofs.Terms.{Some, Ok, ap, ◌∙◌, arith, nat_tests, if◌then◌else◌, is_some, and_parts, CauseLaw}
-use Rattle.law_sealing.proofs.Terms.{Plan, Tlp, read_of, SubKind, PortName, sealed_packets, lanes_at, streams_of}
+use Rattle.law_sealing.proofs.Terms.{◌≡◌, ℕ, ◌<◌, ◌+◌, false, List, [], ◌∷◌, length, slice_get, Bool, Option}
+use Rattle.law_sealing.proofs.Terms.{Some, Ok, ap, ◌∙◌, arith, nat_tests, if◌then◌else◌, is_some, and_parts}
+use Rattle.law_sealing.proofs.Terms.{Plan, Tlp, read_of, sealed_packets, lanes_at, streams_of}
 unfoldable use Rattle.law_sealing.proofs.Terms.{due}
 use Rattle.ide_types.specs.Lines.{is_link_line}
 use Rattle.ide_types.specs.declared.port.Side.{Side}
@@ -12,19 +12,15 @@ use Rattle.ide_types.specs.declared.plan.HopPlan.{HopPlan}
 unfoldable use Rattle.tlp_layout.specs.Choice.{choice_of}
 use Rattle.tlp_layout.specs.Outgoing.{Outgoing, OnStream, outgoing_as}
 unfoldable use Rattle.tlp_layout.specs.Outgoing.{outgoing_of}
-use Rattle.link_verdicts.specs.declared.verdict.Verdict.TheVariants as v
 use Rattle.spec_links.specs.Plan.{lone_stream}
 use Rattle.spec_links.specs.Due.{send_due, verdict_of_send, forward_out, forward_first}
-use Rattle.spec_links.specs.Hops.{entering_end, leaving_end, forwarded_count, HopTlp}
+use Rattle.spec_links.specs.Hops.{entering_end, leaving_end, forwarded_count}
 use Rattle.spec_links.specs.Memory.{accepted_tlps}
 use Rattle.spec_links.proofs.HopFirst.{drop_first, forwarded_bytes}
 use Rattle.spec_links.proofs.HopRows.{near_row, far_row}
 use Rattle.law_hops.specs.Sends.{ForwardSends}
-use Rattle.law_hops.proofs.TlpsRead.{taken_read, read_at, ReadsAs}
+use Rattle.law_hops.proofs.TlpsRead.{taken_read, read_at}
 use Rattle.law_hops.proofs.Forwards.{own_t}
-use Rattle.ide_types.specs.Fits.{FitsPlan}
-use Rattle.ide_types.specs.declared.stream.StreamPlan.{StreamPlan}
-use Rattle.link_events.specs.declared.event.Event.TheVariants.{Forward}
 
 lone_takes : (id : ℕ) (side : Side) (bytes : List ℕ) (t : Tlp) → read_of bytes ≡ Ok t
     → outgoing_of (lone_stream id 1 ∷ []) side bytes ≡ OnStream t id

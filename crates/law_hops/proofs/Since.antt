@@ -1,11 +1,11 @@
 -- The draws under which a segment seals and accepts since its link's last reset were given to it since then: the reset
 -- takes all keys, each later operation has a draw that began after it, and each draw belongs to one line.
-use Rattle.law_sealing.proofs.Terms.{◌≡◌, ℕ, ◌<◌, ◌≤◌, ◌+◌, ◌==◌, ◌&&◌, Bool, true, false, List, [], ◌∷◌, length}
+use Rattle.law_sealing.proofs.Terms.{◌≡◌, ℕ, ◌<◌, ◌≤◌, ◌==◌, ◌&&◌, Bool, true, false, List, [], ◌∷◌, length}
 use Rattle.law_sealing.proofs.Terms.{Option, Some, None, refl, ap, sym, subst, ◌∙◌, arith, nat_tests, if◌then◌else◌}
 use Rattle.law_sealing.proofs.Terms.{is_some, AllByRecursion, Plan, History, Event, Verdict, PortName, SubStream}
 use Rattle.law_sealing.proofs.Terms.{CauseLaw, port_keys, On, key_in, on_in, eqb-true}
 use Rattle.spec_links.proofs.Terms.{Establish, Refresh, Stop, Reset, KeyPlan, KeyPlace, key_plan, place_in_sub_stream}
-use Rattle.spec_links.proofs.Terms.{Begun, Manager, StreamStage, Reach, Work, Operation, draws, op_of, Idle, Loss}
+use Rattle.spec_links.proofs.Terms.{Begun, Manager, StreamStage, Reach, Work, Operation, draws, op_of}
 use Rattle.spec_links.proofs.Terms.{work_of, reach_of, manager_after_operation, touches, touches_after, KeyCauseLaw}
 unfoldable use Rattle.spec_links.proofs.Terms.{manager, moments, key_due}
 unfoldable use Rattle.spec_keys.specs.Keys.{keys}

@@ -1,6 +1,6 @@
 -- An answer `through` changes nothing: each definition passes it over.
-use Rattle.law_sealing.proofs.Terms.{◌≡◌, ℕ, ◌&&◌, Bool, false, List, [], ◌∷◌, refl, ap, ◌∙◌, arith, Event, CauseLaw}
-use Rattle.law_sealing.proofs.Terms.{not, Plan, History, PortName, Pass, Alter, Cut, Arrive, SubStream}
+use Rattle.law_sealing.proofs.Terms.{◌≡◌, ℕ, ◌&&◌, Bool, false, List, [], ◌∷◌, refl, ap, arith}
+use Rattle.law_sealing.proofs.Terms.{not, Plan, History, PortName, Pass, Alter, Cut, Arrive}
 unfoldable use Rattle.law_sealing.proofs.Terms.{sealed_packets, accepted_packets, packets_in_hold}
 use Rattle.ide_types.specs.Ports.{keyed_status}
 use Rattle.ide_types.specs.declared.port.Side.{Side}
@@ -17,11 +17,9 @@ unfoldable use Rattle.spec_interfaces.specs.Devices.{devices}
 use Rattle.spec_interfaces.specs.Terms.{StreamLeft}
 unfoldable use Rattle.spec_links.specs.Guarded.{link_happenings}
 unfoldable use Rattle.spec_links.specs.Hops.{accepted_tlps_in, forwarded_count}
-use Rattle.spec_links.specs.HopLaws.{ThroughLaw, Unchanged}
+use Rattle.spec_links.specs.HopLaws.{ThroughLaw}
 unfoldable use Rattle.spec_links.specs.Memory.{writes}
 unfoldable use Rattle.spec_links.specs.Sent.{queued_in, reads_taken}
-use Rattle.link_verdicts.specs.declared.verdict.Verdict.TheVariants as v
-use Rattle.ide_types.specs.declared.direction.Direction.{Direction}
 
 twice : (a b : Bool) → ((a && b) && b) ≡ (a && b)
 twice a b = grind arith

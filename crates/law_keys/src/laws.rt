@@ -16,8 +16,9 @@ pub fn never_again()
     ensures { (plan : KeyPlan) (h : History) → KeyCauseLaw plan h → NeverAgain h }
 {}
 
-/// If no operation was asked of a stream no key is kept, an unfinished operation has made its draw On at the places
-/// that its GO reached, in an establish no other draw is kept, and a stream that is up has its draw On everywhere.
+/// On an idle stream no key is kept; an unfinished establish or refresh has its draw On at each place whose GO was
+/// acknowledged, and while a stream is being established no other draw is kept; a stream that is up has its draw On
+/// everywhere.
 pub fn keys_follow_operations()
     ensures { (plan : KeyPlan) (h : History) → KeyCauseLaw plan h → KeysFollowOperations h }
 {}

@@ -150,6 +150,8 @@ to_hop_low plan fits end bytes goes = by (slice_get plan.links end.line) refl go
         let most = fits.links_most in
         omega (arith, within, most)
 
+pub ruleset to_hop = (to_hop_is, to_hop_low)
+
 -- ---- what goes through a switch
 
 -- the end at a switch is on a line of a hop
@@ -175,3 +177,5 @@ lacks_is plan end None is = refl
 lacks_is plan end (Some id) is =
     let line = switch_line plan end is in
     ap not (stream_is_there plan end.line id ∙ lacks_id plan end.line id line.0 line.1)
+
+pub ruleset through = (lacks_is, switch_line)

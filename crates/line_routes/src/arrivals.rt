@@ -144,7 +144,7 @@ fn lacks_stream(plan: &Plan, end: PortName, bytes: &[u8]) -> bool
 
 /// Whether bytes that arrive at this end go through a switch unread: they are of another stream than the hop's (PCI
 /// Express Base 6.0 section 6.33, in this profile).
-#[tactic(auto, using(crate::proofs::Rows::lacks_is, crate::proofs::Rows::switch_line), unfolding(spec_links::specs::Ports::goes_through))]
+#[tactic(auto, using(crate::proofs::Rows::through), unfolding(spec_links::specs::Ports::goes_through))]
 pub fn goes_through(plan: &ValidPlan, end: PortName, bytes: &[u8]) -> bool
     ensures { result ≡ is_through plan.now end bytes.now }
 {

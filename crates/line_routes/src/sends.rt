@@ -30,15 +30,15 @@ fn is_left(link: &LinkPlan, side: Side, bytes: &[u8]) -> bool
     ensures { result ≡ (takes_none (outgoing_of link.now.streams side bytes.now)
         && hop_lists link.now.hop (read_of bytes.now)) }
 {
-    match read(bytes) {
-        Err(_) => false,
-        Ok(tlp) => {
-            let head = tlp.head();
-            match (choose(&link.streams, side, &head), &link.hop) {
-                (None, Some(hop)) => lists(hop, head.lead.tc),
-                _ => false,
+    match &link.hop {
+        None => false,
+        Some(hop) => match read(bytes) {
+            Err(_) => false,
+            Ok(tlp) => {
+                let head = tlp.head();
+                lists(hop, head.lead.tc) && choose(&link.streams, side, &head).is_none()
             }
-        }
+        },
     }
 }
 
@@ -68,7 +68,7 @@ pub(crate) fn hop_end(side: Side, link: u8) -> PortName
 /// The end at which a TLP with these bytes is sealed that is sent at this end: that of the hop, if no stream of the
 /// link takes it and the hop lists its traffic class; else this end (PCI Express Base 6.0 section 6.33, in this
 /// profile).
-#[tactic(auto, using(crate::proofs::Rows::to_hop_is, crate::proofs::Rows::to_hop_low), unfolding(spec_links::specs::Ports::sealing_end))]
+#[tactic(auto, using(crate::proofs::Rows::to_hop), unfolding(spec_links::specs::Ports::sealing_end))]
 pub fn sealing_end(plan: &ValidPlan, end: PortName, bytes: &[u8]) -> PortName
     ensures { result ≡ sealing_end_of plan.now end bytes.now }
 {

@@ -45,10 +45,6 @@ secure_with port live stream = secure_at port stream || is_some (live stream)
 abbrev pub settled_device : (ℕ → Option ℕ) → DeviceEnd → DeviceEnd
 settled_device live e = record e { interfaces = settled_interfaces (secure_with e.port live) e.interfaces }
 
--- with another port, they do so by that one
-abbrev pub device_with_port : (ℕ → Option ℕ) → DeviceEnd → PortEnd → DeviceEnd
-device_with_port live e port = settled_device live (record e { port = port })
-
 -- ---- keys
 
 -- as the port takes the call that the request makes, or not

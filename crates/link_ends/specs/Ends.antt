@@ -1,11 +1,11 @@
 -- The two ends of a link.
-use Rattle.std.specs.Prelude.{ℕ, Bool, List, Option}
+use Rattle.std.specs.Prelude.{ℕ, Bool, List}
 use Rattle.ide_types.specs.declared.port.Side.{Side}
 use Rattle.ide_types.specs.declared.port.Side.TheVariants.{Host, Device}
 use Rattle.ide_types.specs.declared.stream.StreamPlan.{StreamPlan}
 use Rattle.ide_types.specs.declared.interface.InterfacePlan.{InterfacePlan}
 use Rattle.ide_port.specs.{PortEnd, Trusting, new_port, reset_port}
-use Rattle.link_ends.specs.DeviceEnds.{new_device, device_with_port as device_with, device_trusting, reset_device}
+use Rattle.link_ends.specs.DeviceEnds.{new_device, device_trusting, reset_device}
 use Rattle.join_keys.specs.{port_at}
 use Rattle.link_ends.specs.declared.ends.LinkEnds.{LinkEnds}
 
@@ -21,15 +21,10 @@ abbrev pub port_in : Side → LinkEnds → PortEnd
 port_in Host l = l.host
 port_in Device l = l.device.port
 
--- with another port of a side, after a send
+-- with another port of a side
 abbrev pub with_port : Side → PortEnd → LinkEnds → LinkEnds
 with_port Host e l = record l { host = e }
 with_port Device e l = record l { device = record l.device { port = e } }
-
--- with another port of a side, after bytes that came
-abbrev pub taken_ends : Side → (ℕ → Option ℕ) → PortEnd → LinkEnds → LinkEnds
-taken_ends Host live e l = record l { host = e }
-taken_ends Device live e l = record l { device = device_with live l.device e }
 
 -- T at the port of a side, if a host is asked for it
 abbrev pub trusting_at : Side → LinkEnds → Bool → Trusting

@@ -6,7 +6,7 @@ ghost use Rattle.interface_state.specs.Held.{FitsTdi};
 ghost use Rattle.ide_prefix.specs.Reading.{cut_of};
 ghost use Rattle.ide_port.specs.{IsSentAtPort, PortUnitsAtMost, take_step};
 
-use crate::{Device, PeerStreams};
+use crate::Device;
 use ide_port::{Arrival, FixedTrust, Port, Sent};
 use ide_types::{InterfacePlan, Items, OutOfMemory, PortName, Side, StreamPlan};
 use std::alloc::Global;
@@ -19,7 +19,7 @@ pub struct LinkEnds {
 }
 
 impl LinkEnds {
-    ghost use Rattle.link_ends.specs.Ends.{new_ends, port_in, with_port, taken_ends, trusting_at, reset_link_ends};
+    ghost use Rattle.link_ends.specs.Ends.{new_ends, port_in, with_port, trusting_at, reset_link_ends};
 
     /// The ends of a link with these streams, without keys; a key seals at most `limit` units. `requester` is the
     /// requester ID that the device gives in its answer to QUERY, 0 if it has no interface; it has these interfaces,
@@ -71,7 +71,7 @@ impl LinkEnds {
     }
 
     /// Takes bytes that arrive at the port of this side. What an accepted unit carries is lent by the port until the
-    /// next arrival. The caller calls `settle` after it.
+    /// next arrival. At the device's port the caller then settles the device.
     pub fn take(&mut self, side: Side, bytes: &[u8]) -> Arrival
         requires { PortUnitsAtMost (2 ^ 40) (port_in side self.old) }
         ensures answer { result ≡ (take_step (port_in side self.old) (cut_of bytes.now)).answer }
@@ -80,18 +80,6 @@ impl LinkEnds {
         match side {
             Side::Host => self.host.take(bytes),
             Side::Device => self.device.port.take(bytes),
-        }
-    }
-
-    /// Ends an arrival at the port of this side: at the device's, each interface in CONFIG_LOCKED or RUN goes to ERROR
-    /// if a stream that it is bound to is not Secure at the device; `peers` says what stands at its ends of streams
-    /// between it and others.
-    pub fn settle<P: PeerStreams>(&mut self, side: Side, peers: &P)
-        ensures { self.new ≡ taken_ends side (P.live peers.now) (port_in side self.old) self.old }
-    {
-        match side {
-            Side::Host => {}
-            Side::Device => self.device.settle(peers),
         }
     }
 

@@ -72,8 +72,8 @@ pub record KeyPlaceFacts (h : History) : Type 0 where
 
 -- ---- the state of a stream
 
--- what the manager's state of a stream says of its places; a GO counts at a place once it is carried there, and at a
--- host's port once the one that makes the port go on is acknowledged
+-- what the manager's state of a stream says of its places; a GO counts at a place once it is acknowledged, and at a
+-- host's port once the exchange that makes the port go on is
 pub record KeysFollowOperations (h : History) : Type 0 where
   pub idle : (p : KeyPlace) → op_of h p.line p.stream ≡ Idle → (set : Bool) → kept_draw h p set ≡ None
   pub establishing : (p : KeyPlace) (j n : ℕ) → op_of h p.line p.stream ≡ Establishing j n

@@ -2,7 +2,7 @@
 -- Sync packets go only before a posted TLP, so it goes by class and, for a posted one, by which of the two go first.
 -- Each packet is that of the rules, as neither its number nor its port is in it and a sync packet has nothing of the
 -- TLP; after sync packets the TLP's own sender is as before, and the joined bytes are only grouped anew.
-use Rattle.std.proofs.Common.{◌≡◌, ℕ, ◌+◌, ◌≤◌, Bool, true, false, ◌&&◌, ◌||◌, if◌then◌else◌, List, [], ◌∷◌, ◌++◌}
+use Rattle.std.proofs.Common.{◌≡◌, ℕ, ◌+◌, Bool, true, false, ◌&&◌, ◌||◌, if◌then◌else◌, List, [], ◌∷◌, ◌++◌}
 use Rattle.std.proofs.Common.{length, is_none, map, Option, Some, None, refl, sym, ap, ◌∙◌, subst, arith}
 use Rattle.std.proofs.Common.{append_assoc, append-nil}
 use Rattle.ide_types.specs.declared.sub.SubKind.{SubKind}

@@ -25,7 +25,7 @@ use Rattle.key_slots.specs.{is_only_live}
 use Rattle.sub_stream.specs.{Receiver, answer_taken, opened_from_byte, opened_unit, key_for, receiver_ahead, unit_ahead}
 use Rattle.sub_stream.specs.{is_tagged_behind, judged_packet, receiver_outcome_by_keys, receiver_outcome, dropped_slots}
 use Rattle.sub_stream.specs.{ahead_held, after_answer, slots_ahead, with_slots, programmed_receiver, slot_pair}
-use Rattle.sub_stream.specs.Receivers.{is_accepted, KeyUnitsAtMost, LaneUnitsAtMost}
+use Rattle.sub_stream.specs.Receivers.{is_accepted}
 use Rattle.sub_stream.specs.declared.answer.Taken.{Taken as Answer}
 use Rattle.sub_stream.specs.declared.answer.Taken.TheVariants as answers
 use Rattle.stream_lanes.specs.Arrivals.{ReceiveEnd, allows, lane_outcome_by_keys, lane_outcome, end_after, HoldsPackets}
@@ -432,22 +432,6 @@ taken-kept rx sub closed sum own total got lent p t a sum' own' total' inv byte 
         let both = accepted_both p.prefix.k rx closed sum own total j inv fits in
         with_both [] (accepted_slots j p.prefix.k rx.slots) (opened_unit (key_for rx p.prefix.k) p.prefix.sub unit)
         (rw next both.0) (rw next both.1)
-
--- ---- how many units
-
-slot_few : (slot : LaneSlot) (ahead : List ℕ) (aggregation : ℕ) (closed : Bool) (total n : ℕ) → total ≤ n
-    → HoldsRight ahead aggregation closed total slot → KeyUnitsAtMost n slot
-slot_few Empty ahead aggregation closed total n le held = tt
-slot_few (Programmed j key) ahead aggregation closed total n le held = tt
-slot_few (Armed j key) ahead aggregation closed total n le held = tt
-slot_few (Live x) ahead aggregation closed total n le held = omega (arith, le, held.few)
-
-pub units-few : (rx : Receiver) (closed : Bool) (sum own total n : ℕ) → IsReceiveLane rx closed sum own total
-    → total ≤ n → LaneUnitsAtMost n rx.slots
-units-few rx closed sum own total n inv le = (
-  slot_few rx.slots.first rx.ahead rx.aggregation closed total n le inv.first,
-  slot_few rx.slots.second rx.ahead rx.aggregation closed total n le inv.second,
-)
 
 -- ---- KEY_PROG
 

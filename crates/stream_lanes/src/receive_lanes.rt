@@ -293,7 +293,8 @@ fn take_in(
     requires npr_order { npr.old.kept.sum ≤ pr.old.kept.got }
     requires cpl_order { cpl.old.kept.sum ≤ pr.old.kept.got }
     ensures answer { let p = packet_of_view packet.now in
-        Some result ≡ answer_taken (lane_outcome (value_of_kind p.prefix.sub pr.old npr.old cpl.old) pr.old.kept.got p) }
+        let lane = value_of_kind p.prefix.sub pr.old npr.old cpl.old in
+        Some result ≡ answer_taken (lane_outcome lane pr.old.kept.got p) }
     ensures pr { let p = packet_of_view packet.now in
         pr.new ≡ (if is_same_sub p.prefix.sub Pr then end_after pr.old p (lane_outcome pr.old pr.old.kept.got p)
         else pr.old) }

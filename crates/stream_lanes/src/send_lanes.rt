@@ -194,7 +194,7 @@ impl SendLane {
         requires unworn { is_spent self.old ≡ false }
         requires few { self.old.kept.total ≤ 2 ^ 40 }
         requires room { vec_len out.old + SYNC_ROOM ≤ vec_capacity out.old }
-        ensures answer { result ≡ measured_packet (sync_said self.old) (packet_said self.old [] [] (sync_said self.old)) }
+        ensures answer { let d = sync_said self.old in result ≡ measured_packet d (packet_said self.old [] [] d) }
         ensures lane { self.new ≡ sealed_end self.old [] [] (sync_said self.old) }
         ensures bytes { out.new.items ≡ out.old.items ++ packet_bytes
             (packet_said self.old [] [] (sync_said self.old)) }
@@ -487,7 +487,8 @@ impl SendLanes {
         requires room { vec_len out.old + PACKET_ROOM ≤ vec_capacity out.old }
         ensures answer { let d = tlp_said (send_end_at self.old Pr) more t in
             result ≡ measured_packet d (packet_said_at self.old head.now payload.now d) }
-        ensures lanes { self.new ≡ sealed_ends self.old head.now payload.now (tlp_said (send_end_at self.old Pr) more t) }
+        ensures lanes { let d = tlp_said (send_end_at self.old Pr) more t in
+            self.new ≡ sealed_ends self.old head.now payload.now d }
         ensures bytes { out.new.items ≡ out.old.items ++ packet_bytes (packet_said_at self.old head.now payload.now
             (tlp_said (send_end_at self.old Pr) more t)) }
         ensures capacity { vec_capacity out.old ≤ vec_capacity out.new }

@@ -1,5 +1,5 @@
 -- The stream of the least ID, and tests of lists, one element at a time.
-use Rattle.std.proofs.Common.{◌≡◌, ℕ, suc, ◌+◌, ◌<◌, length, take, drop, get_or, Bool, false, ◌||◌, ◌==◌, List}
+use Rattle.std.proofs.Common.{◌≡◌, ℕ, suc, ◌+◌, ◌<◌, length, take, get_or, Bool, false, ◌||◌, ◌==◌, List}
 use Rattle.std.proofs.Common.{[], ◌∷◌, ◌++◌, Option, Some, None, refl, sym, ap, ◌∙◌, inl, inr, arith, ◌⊎◌, ◌&&◌}
 use Rattle.std.specs.Prelude.{if◌then◌else◌, nat_lt, IfSome}
 use Rattle.std.specs.List.{list_any, position_or_len}
@@ -7,7 +7,6 @@ use Rattle.std.specs.Option.{option_map}
 use Rattle.std.proofs.Math.Seq.{take-suc}
 use Rattle.std.proofs.lemmas.Bool.{cases_Bool, true≢false}
 use Rattle.std.proofs.lemmas.Bool.Decides.{nat_tests}
-use Rattle.std.proofs.lemmas.List.{drop_more}
 use Rattle.ide_types.specs.declared.stream.StreamPlan.{StreamPlan}
 use Rattle.ide_types.specs.declared.stream.Selector.{Selector}
 use Rattle.tlp_layout.specs.declared.choice.ChosenStream.{ChosenStream}
@@ -21,14 +20,6 @@ use Rattle.tlp_layout.specs.Ways.{one_before}
 abbrev pub least_from : Way → (Selector → Bool) → List StreamPlan → ℕ → Option ChosenStream
 least_from way test [] i = None
 least_from way test (s ∷ ss) i = one_before (test s.selector) way s.id i (least_from way test ss (i + 1))
-
-pub least_from-before : (way : Way) (test : Selector → Bool) (xs : List StreamPlan) (i : ℕ) (d : StreamPlan)
-    → i < length xs
-    → least_from way test (drop i xs) i
-    ≡ one_before (test (get_or xs i d).selector) way (get_or xs i d).id i
-    (least_from way test (drop (i + 1) xs) (i + 1))
-least_from-before way test xs i d less =
-    ap (λ (l : List StreamPlan). least_from way test l i) (drop_more xs i d less)
 
 id_before : (b : Bool) (way : Way) (id i : ℕ) (o : Option ChosenStream) (m : Option ℕ)
     → option_map (λ (c : ChosenStream). c.id) o ≡ m

@@ -1,6 +1,5 @@
 use Rattle.std.proofs.Common.{[], option_map, sym, subst}
 use Rattle.line_runs.specs.declared.ends.End.{End}
-use Rattle.line_runs.specs.declared.ends.End.TheVariants as end
 use Rattle.line_runs.specs.Gain.{Text}
 use Rattle.line_runs.specs.Outcome.{Ran}
 use Rattle.line_runs.proofs.Joins.{later}

@@ -1,4 +1,3 @@
-use Rattle.join_arrivals.proofs.Operations.{operates_grow, operated}
 use Rattle.std.proofs.Common.{sym, subst, ◌≤◌}
 use Rattle.std.specs.Prelude.{IfSome, Option}
 use Rattle.link_stores.specs.declared.link.LinkAccesses.{LinkAccesses}
