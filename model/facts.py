@@ -1,10 +1,11 @@
-"""What a verdict came from, by the second model: the rule that answers (docs/RULES.md), and the facts of the state before
-the event (docs/COMMAND.md, Facts). `told` runs an event and gives its verdict with these lines."""
+"""What a verdict came from, by the second model: the rule that answers (docs/RULES.md), and the facts of the state
+before the event (docs/COMMAND.md, Facts). `told` runs an event and gives its verdict with these lines."""
 
 from typing import List, Optional, Tuple
 
 from interfaces import LOCKED, RUN
-from links import CPL, FAR, HOST, NEAR, NPR, PR, SUB_NAMES, End, Line, Malformed, Operation, cut, kind_of, link_of, number
+from links import CPL, FAR, HOST, NEAR, NPR, PR, SUB_NAMES
+from links import End, Line, Malformed, Operation, cut, kind_of, link_of, number
 from links import read_tlp
 from world import BINDINGS, CHANGES, OPERATIONS, World
 
@@ -65,7 +66,8 @@ def answer_rule(words: List[str]) -> str:
         return {"notrunning": "answers.running", "wrongstream": "answers.stream"}.get(words[2], "answers.floor")
     if words[:2] == ["refused", "refreshfirst"]:
         return "answers.refresh"
-    return {"none": "answers.link", "empty": "answers.empty", "sealed": "answers.sealed"}.get(words[0], "answers.refused")
+    rules = {"none": "answers.link", "empty": "answers.empty", "sealed": "answers.sealed"}
+    return rules.get(words[0], "answers.refused")
 
 
 def rule(event: str, verdict: str, sub: Optional[str]) -> str:
@@ -141,7 +143,8 @@ class Facts:
     # -- interfaces
 
     def face(self, handle) -> List[str]:
-        facts = [f"interface {handle.number} state {handle.interface.state}", f"view {handle.view}", f"needs {handle.needs}"]
+        state = f"interface {handle.number} state {handle.interface.state}"
+        facts = [state, f"view {handle.view}", f"needs {handle.needs}"]
         return facts + ([f"bound {handle.plan.stream} floor {handle.floor}"] if handle.view == "running" else [])
 
     def owner(self, link: int, header: bytes):
@@ -404,7 +407,8 @@ class Facts:
         own = [world.streams[link, stream.id] for stream in world.plan.links[link].streams]
         hop = [world.segments[link, segment] for segment in (0, 1) if (link, segment) in world.segments]
         ends = [line.ends[side] for side in (NEAR, FAR) for line in own] + [end for line in hop for end in line.ends]
-        ends += [next(end for end in line.ends if end.link == link) for line in world.peers if link in map(link_of, line.ports)]
+        peers = [line for line in world.peers if link in map(link_of, line.ports)]
+        ends += [next(end for end in line.ends if end.link == link) for line in peers]
         for end in ends:
             facts += [f"clears {end.port} {end.plan.id} {end.status()}", manager_word(end.line.operation)]
         return facts

@@ -28,13 +28,20 @@ static const char *text_of(dpi_session *d, size_t written) {
     return (const char *)d->buf;
 }
 
-/* the bytes of a file, at most one more than a topology may have; null if it cannot be read */
-static uint8_t *bytes_of(const char *path, size_t *n) {
+/* the bytes of a file, at most one more than a topology may have; null, and the answer that says why, if they cannot be
+ * had */
+static uint8_t *bytes_of(const char *path, size_t *n, int *answer) {
     const size_t most = (1u << 20) + 1;
     FILE *file = fopen(path, "rb");
+    *answer = 5;
     if (!file) return NULL;
     uint8_t *bytes = malloc(most);
+    if (!bytes) *answer = IDE_MEMORY;
     if (bytes) *n = fread(bytes, 1, most, file);
+    if (bytes && ferror(file)) {
+        free(bytes);
+        bytes = NULL;
+    }
     fclose(file);
     return bytes;
 }
@@ -47,9 +54,9 @@ void *ide_dpi_open(const char *path, int *answer, const char **text) {
     *text = "";
     *answer = IDE_MEMORY;
     if (!d) return NULL;
-    uint8_t *topology = bytes_of(path, &n);
+    uint8_t *topology = bytes_of(path, &n, answer);
     if (!topology || !grow(d, 4096)) {
-        if (!topology) *answer = 5;
+        if (topology) *answer = IDE_MEMORY;
         free(topology);
         free(d);
         return NULL;
@@ -57,8 +64,13 @@ void *ide_dpi_open(const char *path, int *answer, const char **text) {
     *answer = (int)ide_open(&d->session, topology, n, d->buf, d->cap, &written);
     if (*answer == IDE_TOPOLOGY && written > d->cap && grow(d, written))
         *answer = (int)ide_open(&d->session, topology, n, d->buf, d->cap, &written);
-    *text = text_of(d, written);
     free(topology);
+    if (*answer == IDE_MEMORY) {
+        free(d->buf);
+        free(d);
+        return NULL;
+    }
+    *text = text_of(d, written);
     return d;
 }
 
@@ -66,6 +78,8 @@ void *ide_dpi_open(const char *path, int *answer, const char **text) {
 int ide_dpi_step(void *handle, const char *line, const char **text) {
     dpi_session *d = handle;
     size_t written = 0;
+    *text = "";
+    if (!d) return IDE_CLOSED;
     uint32_t answer = ide_step(&d->session, (const uint8_t *)line, strlen(line), d->buf, d->cap, &written);
     if (answer == IDE_ROOM && grow(d, written)) answer = ide_text(&d->session, d->buf, d->cap, &written);
     *text = text_of(d, written);
@@ -76,6 +90,8 @@ int ide_dpi_step(void *handle, const char *line, const char **text) {
 int ide_dpi_totals(void *handle, const char **text) {
     dpi_session *d = handle;
     size_t written = 0;
+    *text = "";
+    if (!d) return IDE_CLOSED;
     uint32_t answer = ide_totals(&d->session, d->buf, d->cap, &written);
     if (answer == IDE_ROOM && grow(d, written)) answer = ide_totals(&d->session, d->buf, d->cap, &written);
     *text = text_of(d, written);

@@ -11,30 +11,41 @@ class Pipe:
 
     def step(self, line):
         """The verdict line of the next line of a script, which is given without its line feed. A comment and an empty
-        line are answered by nothing, so they are not sent. A line that is not spelled ends the program."""
-        if not line.strip(b" ") or line.startswith(b"#"):
-            return b""
-        if len(line) > 20000 or b"\n" in line:
+        line are answered by nothing, so none is read. If the program ends, as at a line that is not spelled, EOFError
+        has its last line and its status."""
+        if b"\n" in line:
             raise ValueError("this is no line")
-        self._run.stdin.write(line + b"\n")
-        self._run.stdin.flush()
+        try:
+            self._run.stdin.write(line + b"\n")
+            self._run.stdin.flush()
+        except BrokenPipeError:
+            pass  # it has ended, and its last line says why
+        if len(line) <= 20000 and (not line.strip(b" ") or line.startswith(b"#")):
+            return b""
         text = self._run.stdout.readline()
         if not text or text.startswith((b"refused ", b"topology ")):
-            raise EOFError(text, self._run.wait())
+            rest, status = self.close()
+            raise EOFError(text + rest, status)
         return text
 
     def close(self):
         """The line of the totals, and the status of the program."""
-        self._run.stdin.close()
+        try:
+            self._run.stdin.close()
+        except BrokenPipeError:
+            pass
         return self._run.stdout.read(), self._run.wait()
 
 
 if __name__ == "__main__":
     program, topology, script = sys.argv[1:]
     pipe = Pipe(program, topology)
-    with open(script, "rb") as file:
-        for line in file.read().split(b"\n")[:-1]:
-            sys.stdout.buffer.write(pipe.step(line))
-    totals, status = pipe.close()
-    sys.stdout.buffer.write(totals)
+    try:
+        with open(script, "rb") as file:
+            for line in file:
+                sys.stdout.buffer.write(pipe.step(line.removesuffix(b"\n")))
+        text, status = pipe.close()
+    except EOFError as end:
+        text, status = end.args
+    sys.stdout.buffer.write(text)
     sys.exit(status)

@@ -4,13 +4,17 @@
 #include <stdio.h>
 #include <stdlib.h>
 
+/* how many bytes of a script count, and how many a line may have */
+enum { SCRIPT_LIMIT = 16777216, LINE_LIMIT = 20000 };
+
 /* the bytes of a file, at most one more than a script may have */
 static uint8_t *bytes_of(const char *path, size_t *n) {
-    const size_t most = (16u << 20) + 1;
+    const size_t most = SCRIPT_LIMIT + 1;
     FILE *file = fopen(path, "rb");
     uint8_t *bytes = malloc(most);
     if (!file || !bytes) exit(file ? IDE_MEMORY : 5);
     *n = fread(bytes, 1, most, file);
+    if (ferror(file)) exit(5);
     fclose(file);
     return bytes;
 }
@@ -26,16 +30,22 @@ static void grow(uint8_t **buf, size_t *cap, size_t written) {
 int main(int argc, char **argv) {
     if (argc != 3) return 2;
     ide_session s = {0};
-    size_t topology_len, script_len, written, cap = 64;
-    uint8_t *topology = bytes_of(argv[1], &topology_len), *script = bytes_of(argv[2], &script_len), *buf = malloc(cap);
+    size_t topology_len, script_len = 0, written, cap = 64;
+    uint8_t *topology = bytes_of(argv[1], &topology_len), *script = NULL, *buf = malloc(cap);
     if (!buf) return IDE_MEMORY;
     uint32_t answer = ide_open(&s, topology, topology_len, buf, cap, &written);
     if (answer == IDE_TOPOLOGY && written > cap) {
         grow(&buf, &cap, written);
         answer = ide_open(&s, topology, topology_len, buf, cap, &written);
     }
+    if (answer == IDE_DONE) script = bytes_of(argv[2], &script_len);
     for (size_t at = 0, end; answer == IDE_DONE && at < script_len; at = end + 1) {
         for (end = at; end < script_len && script[end] != '\n';) end++;
+        /* a line that does not end within the limit is not run; one that is too long is refused all the same */
+        if (script_len > SCRIPT_LIMIT && end >= SCRIPT_LIMIT && end - at <= LINE_LIMIT) {
+            answer = IDE_TOO_LONG;
+            break;
+        }
         answer = ide_step(&s, script + at, end - at, buf, cap, &written);
         if (answer == IDE_ROOM) {
             grow(&buf, &cap, written);
@@ -50,6 +60,7 @@ int main(int argc, char **argv) {
     }
     if (answer == IDE_DONE || ((answer == IDE_SCRIPT || answer == IDE_TOPOLOGY) && written <= cap))
         fwrite(buf, 1, written, stdout);
+    if (fflush(stdout) || ferror(stdout)) answer = 6;
     ide_close(&s);
     free(topology);
     free(script);

@@ -108,6 +108,10 @@ async def strings_for_systemverilog(dut):
     assert library.ide_dpi_totals(handle, ctypes.byref(text)) == DONE
     assert [*written, text.value] == lines("first.expected")
     library.ide_dpi_close(handle)
+    assert library.ide_dpi_open(EXAMPLES.encode(), ctypes.byref(answer), ctypes.byref(text)) is None
+    assert answer.value == 5, answer
+    assert library.ide_dpi_step(None, b"", ctypes.byref(text)) == CLOSED
+    assert library.ide_dpi_totals(None, ctypes.byref(text)) == CLOSED
 
 
 if __name__ == "__main__":

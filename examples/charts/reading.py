@@ -382,9 +382,9 @@ def end_of(row: Row, run: Run) -> Optional[Tuple[Line, str]]:
         return run.topology.end_at(port, number(row.verdict[2]) if has_stream else None)
     if row.packets:
         return row.packets[0].line, row.packets[0].side
-    if verb == "psend" and number(words[1]) is not None:
+    if verb == "psend" and len(words) > 2 and number(words[1]) is not None:
         return Line("peer", number(words[1])), HOST if words[2] == "a" else DEVICE
-    if verb == "forward" and None not in numbers(row)[:2]:
+    if verb == "forward" and len(words) > 2 and None not in numbers(row)[:2]:
         link, direction = numbers(row)[:2]
         return Line("hop", link, 1 - direction % 2), DEVICE if direction else HOST
     port = port_of(words[1:2])
