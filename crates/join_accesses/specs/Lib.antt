@@ -16,7 +16,7 @@ pub use Rattle.join_world.specs.{has_peer_in, host_stream, interface_named, is_s
 pub use Rattle.join_world.specs.{leaves_stream, links_state, live_of, peer_live, place_on_links, mmio_at, name_of}
 pub use Rattle.join_world.specs.{names_from, names_of, new_all_ends, new_ends, nothing_happens, operated_on, ops_in}
 pub use Rattle.join_world.specs.{ops_of, managed_peer_stream, peers_drawn, policy_in, port_on, reader_of, reads_at}
-pub use Rattle.join_world.specs.{completion_with_bytes, reply_at_ends, reply_numbered, reply_oldest, reset_link_ends}
+pub use Rattle.join_world.specs.{completion_with_bytes, reply_at_ends, reply_numbered, reply_oldest}
 pub use Rattle.join_world.specs.{reset_happens, runs_in, same_carried, same_floors, same_reads, says_in, sizes_at}
 pub use Rattle.join_world.specs.{small_number, statuses_of_ends, state_of, stopped_if, tdi_named, interface_of_ends}
 pub use Rattle.join_world.specs.{told_on_line, trusting_on, unit_tlps, views_after, waiting_reads_after, writes_by}

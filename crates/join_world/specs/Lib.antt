@@ -14,7 +14,7 @@ pub use Rattle.whole_links.specs.{trusting_on, AllFollow, Ends, HasNoVerdict, Ho
 pub use Rattle.whole_links.specs.{IsSettledOrSame, Links, Sides, SidesArrive, SidesAsk, SidesCall, SidesInterface}
 pub use Rattle.whole_links.specs.{SidesKeep, SidesOperate, SidesPeer, SidesReset, StandsForSome, keyed_if}
 pub use Rattle.whole_links.specs.{place_on_links, name_of, names_from, names_of, new_all_ends, new_ends, operated_on}
-pub use Rattle.whole_links.specs.{ops_in, ops_of, reset_link_ends, state_of, reset_if, stream_named, told_by_link}
+pub use Rattle.whole_links.specs.{ops_in, ops_of, state_of, reset_if, stream_named, told_by_link}
 pub use Rattle.whole_links.specs.{told_by_peer, stopped_if, told_on_line, unit_tlps, views_after, waiting_reads_after}
 pub use Rattle.whole_links.specs.{writes_by}
 pub use Rattle.whole_links.specs.Accesses.{AccessesAfter, AccessesAnswer, AccessesForward, AccessesInterface}

@@ -1,7 +1,6 @@
 //! The two slots of one sub-stream in one direction.
 
 ghost use Rattle.std.specs.Prelude.{◌≡◌, true, false, not, is_ok, if◌then◌else◌, IfOk, ◌||◌};
-ghost use Rattle.std.specs.Option.{option_copied, option_map};
 ghost use Rattle.ide_types.specs.KeySets.{is_one};
 ghost use Rattle.key_slots.specs.Slots.{is_newer_than, live_draw, after_go, after_end};
 
@@ -214,16 +213,6 @@ impl Slots {
         match self.slot_ref(set) {
             Slot::Live(held) => Some((held.cipher(), held.draw())),
             _ => None,
-        }
-    }
-
-    /// The prepared form of a slot's key, lent, if it has one.
-    pub fn cipher(&self, set: KeySet) -> Option<&Gcm>
-        ensures { option_copied result ≡ option_map (λ held. held.key) (held_key (slot_in self.now (is_one set))) }
-    {
-        match self.slot_ref(set).held() {
-            None => None,
-            Some(held) => Some(held.cipher()),
         }
     }
 }

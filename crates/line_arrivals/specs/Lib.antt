@@ -9,7 +9,7 @@ pub use Rattle.join_arrivals.specs.Events.{operation_event}
 pub use Rattle.join_arrivals.specs.{carried_next}
 pub use Rattle.join_interfaces.specs.Verdicts.{NoBadInterfaceReply, outcome_verdict, op_event, report_of}
 pub use Rattle.all_ends.specs.{PairEnds, arrival_of, secure_with, unit_in, unit_tlps, waiting_reads_after, cut_packets}
-pub use Rattle.all_ends.specs.{new_ends, port_in, reset_link_ends, with_port, InterfacesView, keyed_if, live_for}
+pub use Rattle.all_ends.specs.{new_ends, port_in, with_port, InterfacesView, keyed_if, live_for}
 pub use Rattle.all_ends.specs.{operated_on, status_for, stopped_if, manager_told, IsAtBothEnds, IsOperated, IsWalked}
 pub use Rattle.all_ends.specs.{KeeperView, Operates, ends_found, arrival_verdict, end_sent_verdict, grants_in}
 pub use Rattle.all_ends.specs.{packet_effect, packet_write, unit_writes, writes_by, LinkEnds, HostKeeper}

@@ -11,8 +11,8 @@ use Rattle.tlp_layout.specs.declared.head.HeadView.{HeadView}
 use Rattle.tlp_layout.specs.Choice.{id_of}
 use Rattle.key_messages.specs.{PlaceCall, call_of, is_done, reply_bytes}
 use Rattle.interface_ends.specs.Replies.{DeviceTdis, new_tdis, settled_interfaces, interfaces_set_t}
-use Rattle.interface_ends.specs.Replies.{interfaces_set_peer_t, reset_tdis}
-use Rattle.ide_port.specs.{PortEnd, new_port, reset_port, slot_pair_at, called_port, port_stream_status}
+use Rattle.interface_ends.specs.Replies.{interfaces_set_peer_t}
+use Rattle.ide_port.specs.{PortEnd, new_port, slot_pair_at, called_port, port_stream_status}
 use Rattle.link_ends.specs.declared.device.Device.{Device}
 
 -- its port, the requester ID that it is asked for, and its interfaces
@@ -75,8 +75,3 @@ bound_owner_sets d stream (Some requester) = interfaces_set_peer_t d requester s
 -- of one on a stream between two devices
 abbrev pub peer_trusting : DeviceTdis → HeadView → ℕ → Bool
 peer_trusting d head stream = bound_owner_sets d stream (id_of side.Device head.fields)
-
--- ---- a reset of the link
-
-abbrev pub reset_device : DeviceEnd → DeviceEnd
-reset_device e = record e { port = reset_port e.port; interfaces = reset_tdis e.interfaces }

@@ -4,8 +4,8 @@ use Rattle.ide_types.specs.declared.port.Side.{Side}
 use Rattle.ide_types.specs.declared.port.Side.TheVariants.{Host, Device}
 use Rattle.ide_types.specs.declared.stream.StreamPlan.{StreamPlan}
 use Rattle.ide_types.specs.declared.interface.InterfacePlan.{InterfacePlan}
-use Rattle.ide_port.specs.{PortEnd, Trusting, new_port, reset_port}
-use Rattle.link_ends.specs.DeviceEnds.{new_device, device_trusting, reset_device}
+use Rattle.ide_port.specs.{PortEnd, Trusting, new_port}
+use Rattle.link_ends.specs.DeviceEnds.{new_device, device_trusting}
 use Rattle.join_keys.specs.{port_at}
 use Rattle.link_ends.specs.declared.ends.LinkEnds.{LinkEnds}
 
@@ -30,7 +30,3 @@ with_port Device e l = record l { device = record l.device { port = e } }
 abbrev pub trusting_at : Side → LinkEnds → Bool → Trusting
 trusting_at Host l trusted = λ head stream. trusted
 trusting_at Device l trusted = device_trusting l.device.interfaces
-
--- both ports are as they were made, and the device's interfaces but for the nonces that were given
-abbrev pub reset_link_ends : LinkEnds → LinkEnds
-reset_link_ends l = record { host = reset_port l.host; device = reset_device l.device }

@@ -32,7 +32,7 @@ pub struct Device {
 
 impl Device {
     ghost use Rattle.link_ends.specs.DeviceEnds.{new_device, settled_device, asked_device, reply_given};
-    ghost use Rattle.link_ends.specs.DeviceEnds.{device_trusting, reset_device};
+    ghost use Rattle.link_ends.specs.DeviceEnds.{device_trusting};
 
     /// The device of a link with these streams, without keys, and these interfaces, whose locks get these nonces; a key
     /// seals at most `limit` units. `requester` is the requester ID that it gives in its answer to QUERY, 0 if it has
@@ -106,15 +106,6 @@ impl Device {
             interfaces: &self.interfaces,
         };
         self.port.send(tlp, more, &owners)
-    }
-
-    /// Resets its end of the link: drops all keys, open units, held packets, counts and failures of the port; each
-    /// interface is in CONFIG_UNLOCKED, with the topology's registers. No nonce that was given is given again.
-    pub fn reset(&mut self)
-        ensures { self.new ≡ reset_device self.old }
-    {
-        self.port.reset();
-        self.interfaces.reset();
     }
 
     /// How many interfaces it has.

@@ -1,6 +1,6 @@
 //! The two ends of a link.
 
-ghost use Rattle.std.specs.Prelude.{◌≡◌, ◌+◌, ◌<◌, ◌≤◌, ◌^◌, ℕ, IfOk, All, length};
+ghost use Rattle.std.specs.Prelude.{◌≡◌, ◌<◌, ◌^◌, ℕ, IfOk, All};
 ghost use Rattle.ide_types.specs.Fits.{FitsStream};
 ghost use Rattle.interface_state.specs.Held.{FitsTdi};
 ghost use Rattle.ide_prefix.specs.Reading.{cut_of};
@@ -19,7 +19,7 @@ pub struct LinkEnds {
 }
 
 impl LinkEnds {
-    ghost use Rattle.link_ends.specs.Ends.{new_ends, port_in, with_port, trusting_at, reset_link_ends};
+    ghost use Rattle.link_ends.specs.Ends.{new_ends, port_in, with_port, trusting_at};
 
     /// The ends of a link with these streams, without keys; a key seals at most `limit` units. `requester` is the
     /// requester ID that the device gives in its answer to QUERY, 0 if it has no interface; it has these interfaces,
@@ -81,14 +81,5 @@ impl LinkEnds {
             Side::Host => self.host.take(bytes),
             Side::Device => self.device.port.take(bytes),
         }
-    }
-
-    /// Resets the link: both ports drop all keys, open units, held packets, counts and failures, and each interface of
-    /// the device is in CONFIG_UNLOCKED with the topology's registers. No nonce that was given is given again.
-    pub fn reset(&mut self)
-        ensures { self.new ≡ reset_link_ends self.old }
-    {
-        self.host.reset();
-        self.device.reset();
     }
 }

@@ -1,6 +1,6 @@
 //! A short list of the ends of lines.
 
-ghost use Rattle.std.specs.Prelude.{◌≡◌, ◌<◌, ◌≤◌, [], ◌∷◌, ◌++◌, length};
+ghost use Rattle.std.specs.Prelude.{◌≡◌, ◌<◌, [], ◌∷◌, ◌++◌, length};
 
 use arrayvec::ArrayVec;
 use ide_types::PortName;
@@ -45,13 +45,5 @@ impl Ends {
         ensures { result.now ≡ self.now }
     {
         &self.ends
-    }
-
-    /// How many there are, at most 14.
-    pub fn len(&self) -> usize
-        ensures value { result ≡ length self.now }
-        ensures most { result ≤ 14 }
-    {
-        self.ends.len()
     }
 }

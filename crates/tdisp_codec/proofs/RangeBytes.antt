@@ -1,9 +1,9 @@
 -- Ranges and their bytes.
-use Rattle.std.proofs.Common.{◌≡◌, ℕ, zero, suc, ◌+◌, ◌*◌, ◌/◌, ◌%◌, ◌<◌, List, [], ◌∷◌, ◌++◌, length, drop, Some, refl}
+use Rattle.std.proofs.Common.{◌≡◌, ℕ, zero, suc, ◌+◌, ◌*◌, ◌/◌, ◌%◌, List, [], ◌∷◌, ◌++◌, length, drop, refl}
 use Rattle.std.proofs.Common.{sym, ap, ◌∙◌, arith, length-append, length-drop}
-use Rattle.std.specs.Prelude.{All, slice_get}
+use Rattle.std.specs.Prelude.{All}
 use Rattle.std.specs.List.{flat_map, AllByRecursion}
-use Rattle.std.proofs.lemmas.List.{nil_from_length, drop-drop}
+use Rattle.std.proofs.lemmas.List.{nil_from_length}
 use Rattle.std.proofs.lemmas.List.Elements.{All-from_recursion}
 use Rattle.byteorder.specs.Endian.{little_bytes}
 use Rattle.byteorder.specs.Numbers.{little_number-reads_back}
@@ -73,16 +73,6 @@ fits_by (suc n) s f = (range_fits s f, fits_by n (drop 16 s) (drop_octets 16 s f
 
 pub first_fit : (n : ℕ) (s : List ℕ) → IsBytes s → All FitsRange (first_ranges n s)
 first_fit n s f = All-from_recursion FitsRange (first_ranges n s) (fits_by n s f)
-
--- the range of a number, if there are so many
-pub first_at : (n i : ℕ) (s : List ℕ) → i < n → slice_get (first_ranges n s) i ≡ Some (range_from (drop (16 * i) s))
-unfolding first_ranges
-first_at zero i s lt = absurd (omega arith)
-first_at (suc n) zero s lt = refl
-first_at (suc n) (suc i) s lt =
-    let next : 16 + 16 * i ≡ 16 * suc i = omega arith in
-    first_at n i (drop 16 s) (omega arith) ∙ ap (λ (t : List ℕ). Some (range_from t))
-    (drop-drop (16 * i) 16 s ∙ ap (λ (j : ℕ). drop j s) next)
 
 pub range_octets : (rs : List ReportRange) → AreOctets (flat_map range_bytes rs)
 range_octets [] = no_bytes

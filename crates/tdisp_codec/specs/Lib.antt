@@ -19,7 +19,7 @@ pub use Rattle.tdisp_codec.specs.Replies.{Reply, reply_shown, reply_answer, repl
 pub use Rattle.tdisp_codec.specs.Replies.{reply_spelling, IsCountedReply, FitsReply, SpellsReply, is_reply, reply_size}
 pub use Rattle.tdisp_codec.specs.Replies.{reply_of_type, decoded_reply, reply_reading}
 pub use Rattle.tdisp_codec.specs.Ranges.{range_bytes, FitsRange, range_from, ranges_in}
-pub use Rattle.tdisp_codec.specs.Reports.{Report, report_shown, report_answer, report_spelling, IsCountedReport}
+pub use Rattle.tdisp_codec.specs.Reports.{Report, report_shown, report_spelling, IsCountedReport}
 pub use Rattle.tdisp_codec.specs.Reports.{FitsReport, SpellsReport, report_size, report_in, report_reading}
 pub use Rattle.tdisp_codec.specs.Reports.{report_fault_at}
 unfoldable pub use Rattle.tdisp_codec.specs.Ranges.{first_ranges}

@@ -1,6 +1,6 @@
 -- The report of an interface as bytes (TDISP section 11.3, in this profile).
 use Rattle.std.specs.Prelude.{ℕ, ◌≡◌, ◌+◌, ◌*◌, ◌<◌, ◌^◌, ◌==◌, List, ◌++◌, length, take, drop, replicate, All, Result}
-use Rattle.std.specs.Prelude.{Ok, Err, if◌then◌else◌}
+use Rattle.std.specs.Prelude.{if◌then◌else◌}
 use Rattle.std.specs.List.{flat_map}
 use Rattle.byteorder.specs.Endian.{little_bytes, little_number}
 use Rattle.tdisp_codec.specs.declared.fault.TdispFault.{TdispFault}
@@ -28,11 +28,6 @@ report_shown view = record {
   ranges = ranges_in view.ranges.bytes.now;
   device = view.device.now;
 }
-
--- what `report_read` answers, with the value in the view's place
-abbrev pub report_answer : Result ReportView TdispFault → Result Report TdispFault
-report_answer (Ok view) = Ok (report_shown view)
-report_answer (Err fault) = Err fault
 
 -- interface info, two reserved bytes, MSI-X, LNR and TPH control, the ranges after their count, and the device's own
 -- information after its length

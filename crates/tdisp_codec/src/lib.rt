@@ -1,5 +1,5 @@
-//! The messages between a host's security manager and a device's interfaces, and the report of an interface: readers
-//! and writers (TDISP, PCI Express Base 6.0 with the ECN's chapter 11, in this profile).
+//! The messages between a host's security manager and a device's interfaces, read and written, and the report of an
+//! interface, written (TDISP, PCI Express Base 6.0 with the ECN's chapter 11, in this profile).
 #![tactic(auto)]
 
 mod fault;
@@ -8,7 +8,6 @@ mod numbers;
 mod reading;
 mod reply;
 mod report;
-mod report_reading;
 mod request;
 mod writing;
 
@@ -20,6 +19,5 @@ pub use laws::{
 pub use reading::{function_of, reply_read, request_read};
 pub use reply::ReplyView;
 pub use report::{Ranges, ReportRange, ReportView};
-pub use report_reading::report_read;
 pub use request::RequestView;
 pub use writing::{reply_write, report_write, request_write};

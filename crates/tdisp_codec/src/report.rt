@@ -1,8 +1,8 @@
 //! The report of an interface.
 
-ghost use Rattle.std.specs.Prelude.{◌≡◌, ◌%◌, ◌≤◌, length};
+ghost use Rattle.std.specs.Prelude.{◌≡◌, ◌%◌, length};
 ghost use Rattle.std.specs.List.{flat_map};
-ghost use Rattle.tdisp_codec.specs.Ranges.{range_from, range_bytes, ranges_in};
+ghost use Rattle.tdisp_codec.specs.Ranges.{range_bytes, ranges_in};
 
 use byteorder::{ByteOrder, LittleEndian};
 
@@ -37,19 +37,6 @@ pub struct ReportView<'a> {
     pub device: &'a [u8],
 }
 
-/// The range in the first 16 bytes.
-fn range(bytes: &[u8]) -> ReportRange
-    requires { 16 ≤ length bytes.now }
-    ensures { result ≡ range_from bytes.now }
-{
-    ReportRange {
-        first_page: LittleEndian::read_u64(bytes),
-        pages: LittleEndian::read_u32(&bytes[8..]),
-        attributes: LittleEndian::read_u16(&bytes[12..]),
-        id: LittleEndian::read_u16(&bytes[14..]),
-    }
-}
-
 /// The bytes, which are those of the ranges in them.
 fn whole(bytes: &[u8]) -> &[u8]
     requires { length bytes.now % 16 ≡ 0 }
@@ -77,7 +64,7 @@ impl ReportRange {
 }
 
 impl<'a> Ranges<'a> {
-    ghost use Rattle.std.specs.Prelude.{◌≡◌, ◌*◌, ◌%◌, ◌==◌, length, slice_get};
+    ghost use Rattle.std.specs.Prelude.{◌≡◌, ◌%◌, length};
     ghost use Rattle.std.specs.List.{flat_map};
     ghost use Rattle.tdisp_codec.specs.Ranges.{range_bytes, ranges_in};
 
@@ -95,31 +82,5 @@ impl<'a> Ranges<'a> {
         ensures spelled { flat_map range_bytes (ranges_in self.now.bytes.now) ≡ result.now }
     {
         whole(self.bytes)
-    }
-
-    /// How many ranges there are.
-    pub fn len(&self) -> usize
-        ensures count { result ≡ length (ranges_in self.now.bytes.now) }
-        ensures bytes { 16 * result ≡ length self.now.bytes.now }
-    {
-        self.bytes.len() / 16
-    }
-
-    /// Whether there are none.
-    pub fn is_empty(&self) -> bool
-        ensures { result ≡ (length (ranges_in self.now.bytes.now) == 0) }
-    {
-        self.len() == 0
-    }
-
-    /// The range of this number, from 0; none past the last.
-    pub fn get(&self, index: usize) -> Option<ReportRange>
-        ensures { result ≡ slice_get (ranges_in self.now.bytes.now) index }
-    {
-        if index < self.len() {
-            Some(range(&self.bytes[16 * index..]))
-        } else {
-            None
-        }
     }
 }

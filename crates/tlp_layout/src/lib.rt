@@ -1,6 +1,6 @@
-//! The layout of transaction layer packets (TLPs): headers of 3 or 4 double words and their payload
-//! (PCI Express Base 6.0 section 2.2), read with the place of the first fault, and written; and which stream of its
-//! link a TLP takes at a port (section 6.33, in this profile's order).
+//! The layout of transaction layer packets (TLPs): headers of 3 or 4 double words and their payload (PCI Express Base
+//! 6.0 section 2.2), read with the place of the first fault; headers written; and which stream of its link a TLP takes
+//! at a port (section 6.33, in this profile's order).
 //!
 //! These rules are this profile's and not the standard's. A reserved bit that is set is refused, and so are TH, TD and
 //! EP. Of a configuration request only Length is checked, which is 1. AT is kept at every value. No rule is kept on
@@ -31,4 +31,4 @@ pub use laws::{head_reading_is_grammar, one_spelling, parts_of_spelling, reading
 pub use layout::{head_size, kind_at};
 pub use reading::{read, read_head};
 pub use tlp::{Tlp, TlpView};
-pub use writing::{write, write_head};
+pub use writing::write_head;

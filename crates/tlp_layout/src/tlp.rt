@@ -1,6 +1,6 @@
 //! TLPs as values (PCI Express Base 6.0 section 2.2).
 
-use crate::head::{HeadView, TlpKind};
+use crate::head::HeadView;
 use ide_types::{Bytes, SubKind};
 
 /// A TLP (PCI Express Base 6.0 section 2.2): its header and the bytes of its payload, none if the header wants none.
@@ -21,36 +21,9 @@ pub struct TlpView<'a> {
     pub payload: &'a [u8],
 }
 
-impl Tlp {
-    ghost use Rattle.std.specs.Prelude.{◌≡◌};
-    ghost use Rattle.tlp_layout.specs.Class.{class_of, kind_of};
-    ghost use Rattle.tlp_layout.specs.Tlp.{header};
-
-    /// The header.
-    pub fn head(&self) -> HeadView
-        ensures { result ≡ header self.now }
-    {
-        self.head
-    }
-
-    /// The kind of the TLP.
-    pub fn kind(&self) -> TlpKind
-        ensures { result ≡ kind_of (header self.now) }
-    {
-        self.head.kind()
-    }
-
-    /// The sub-stream that the TLP belongs to (PCI Express Base 6.0 section 6.33).
-    pub fn class(&self) -> SubKind
-        ensures { result ≡ class_of (header self.now) }
-    {
-        self.head.class()
-    }
-}
-
 impl TlpView<'_> {
     ghost use Rattle.std.specs.Prelude.{◌≡◌};
-    ghost use Rattle.tlp_layout.specs.Class.{class_of, kind_of};
+    ghost use Rattle.tlp_layout.specs.Class.{class_of};
     ghost use Rattle.tlp_layout.specs.Tlp.{header, viewed_tlp};
 
     /// The header.
@@ -58,13 +31,6 @@ impl TlpView<'_> {
         ensures { result ≡ header (viewed_tlp self.now) }
     {
         self.head
-    }
-
-    /// The kind of the TLP.
-    pub fn kind(&self) -> TlpKind
-        ensures { result ≡ kind_of (header (viewed_tlp self.now)) }
-    {
-        self.head.kind()
     }
 
     /// The sub-stream that the TLP belongs to (PCI Express Base 6.0 section 6.33).

@@ -1,20 +1,17 @@
 //! Writing TLPs.
 
-ghost use Rattle.std.specs.Prelude.{◌≡◌, ◌+◌, ◌<◌, ◌≤◌, ◌++◌, OnOk, OnErr, length, vec_len, vec_capacity};
+ghost use Rattle.std.specs.Prelude.{◌≡◌, ◌+◌, ◌<◌, ◌≤◌, ◌++◌, length, vec_len, vec_capacity};
 ghost use Rattle.arrayvec.specs.ArrayVec.{array_vec_len};
 ghost use Rattle.byteorder.specs.Endian.{big_bytes};
 ghost use Rattle.tlp_layout.specs.Head.{head_bytes, head_length, lead_bytes as lead_bytes_of, field_bytes};
 ghost use Rattle.tlp_layout.specs.Head.{first_byte as first_byte_of, tag_in, FitsLead, FitsFields, FitsHead};
-ghost use Rattle.tlp_layout.specs.Tlp.{tlp_bytes, FitsTlp};
 ghost use Rattle.tlp_layout.specs.declared.head.Fields.TheVariants as variants;
 
 use crate::head::{
     CompletionFields, ConfigFields, Fields, HeadView, Lead, MemoryFields, MessageFields,
 };
-use crate::tlp::Tlp;
 use arrayvec::ArrayVec;
 use byteorder::{BigEndian, ByteOrder};
-use ide_types::OutOfMemory;
 
 /// The bytes of a header, up to 16.
 type Header = ArrayVec<u8, 16>;
@@ -183,22 +180,6 @@ pub fn write_head(head: &HeadView, out: &mut Vec<u8>)
     ensures capacity { vec_capacity out.old ≤ vec_capacity out.new }
 {
     append(out, header_bytes(head).as_slice());
-}
-
-/// Appends the TLP's one spelling to `out` (PCI Express Base 6.0 section 2.2, as this profile has it). That
-/// it has one, its fields in range and its payload as long as Length says, is the caller's condition. After
-/// `OutOfMemory` the bytes of `out` are as before; it comes from this call's one `reserve` alone.
-pub fn write(tlp: &Tlp, out: &mut Vec<u8>) -> Result<(), OutOfMemory>
-    requires { FitsTlp tlp.now }
-    ensures ok { OnOk result (out.new.items ≡ out.old.items ++ tlp_bytes tlp.now) }
-    ensures err { OnErr result (out.new.items ≡ out.old.items) }
-{
-    let head = header_bytes(&tlp.head);
-    let payload = tlp.payload.as_slice();
-    out.reserve(head.len() + payload.len())?;
-    append(out, head.as_slice());
-    append(out, payload);
-    Ok(())
 }
 
 /// Appends the bytes, for which there is room.

@@ -5,7 +5,7 @@ pub mod Whole
 pub use Rattle.all_links.specs.{AreLinks, EndsView, HostKeeper, InterfacesView, IsBounded, IsLink, KeeperView, LinkEnds}
 pub use Rattle.all_links.specs.{code_behind, grants_in, keyed_if, live_of, peer_live, place_on_links, name_of}
 pub use Rattle.all_links.specs.{names_from, names_of, new_all_ends, new_ends, operated_on, ops_in, ops_of, port_in}
-pub use Rattle.all_links.specs.{port_on, reset_link_ends, state_of, stopped_if, trusting_on, unit_tlps, views_after}
+pub use Rattle.all_links.specs.{port_on, state_of, stopped_if, trusting_on, unit_tlps, views_after}
 pub use Rattle.all_links.specs.{PairEnds, bound_on, bound_trust, far_hop_trust, link_trust, live_at_port, live_for}
 pub use Rattle.all_links.specs.{pair_port, status_for, stream_named, waiting_reads_after, writes_by}
 pub use Rattle.all_links.specs.Accesses.{AccessesTurn, AreLeftBy, carried_on_link, device_draw, floors_at, mmio_at}
